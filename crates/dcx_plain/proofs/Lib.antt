@@ -1,0 +1,4 @@
+pub mod Sequences
+pub mod Munch
+pub mod Signs
+pub mod Shapes
