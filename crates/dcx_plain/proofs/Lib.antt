@@ -2,3 +2,4 @@ pub mod Sequences
 pub mod Munch
 pub mod Signs
 pub mod Shapes
+pub mod Whole

@@ -43,8 +43,8 @@ module _ (p : ℕ → Bool) (IsGood : List ℕ → Type 0) (each : (word : List 
   pub word_none : list_all p word ≡ true → text ≡ word ++ rest → Stops p rest → (IsGood word → ⊥) → HasNone (word_phrase p IsGood) text
   word_none a e f n = record {
     none = λ y more h b.
-      let w = munch p word y rest more a (each y b.good) f h (sym e ∙ b.parts) in
-      n (subst IsGood w.0 b.good);
+        let w = munch p word y rest more a (each y b.good) f h (sym e ∙ b.parts) in
+        n (subst IsGood w.0 b.good);
   }
 
 -- ---- fixed words

@@ -36,11 +36,11 @@ module _ {A B : Type 0} (P : Phrase A) (Q : Phrase B) (text : List ℕ) where
       parts = h.begins.parts ∙ ap (λ (t : List ℕ). P.spelled x ++ t) k.begins.parts ∙ sym (append_assoc (P.spelled x) (Q.spelled y) rest);
     };
     only = λ p more f b.
-      let w = second g x mid h p more f b in
-      let v = k.only p.1 more f w.1 in
-      let e : p.0 ≡ x = w.0 in
-      let d : p.1 ≡ y = v.0 in
-      (λ i. (e i, d i), v.1);
+        let w = second g x mid h p more f b in
+        let v = k.only p.1 more f w.1 in
+        let e : p.0 ≡ x = w.0 in
+        let d : p.1 ≡ y = v.0 in
+        (λ i. (e i, d i), v.1);
   }
 
   pub seq_err : Goes P Q → (e : Stop) → Fails P text e → Fails (seq P Q) text e
@@ -61,9 +61,9 @@ module _ {A B : Type 0} (P : Phrase A) (Q : Phrase B) (to : A → B) (text : Lis
   told_only t x rest h = record {
     begins = t.onto x rest h.begins;
     only = λ y more f b.
-      let w = t.from y more f b in
-      let v = h.only w.0 more w.2 w.3 in
-      (sym w.1 ∙ ap to v.0, v.1);
+        let w = t.from y more f b in
+        let v = h.only w.0 more w.2 w.3 in
+        (sym w.1 ∙ ap to v.0, v.1);
   }
 
   pub told_none : Tells P Q to text → HasNone P text → HasNone Q text
@@ -150,9 +150,9 @@ module _ {A : Type 0} (P : Phrase A) (Q : Phrase (List A)) (l : Lists P Q) where
       record {
         begins = subst F (append-nil done) (h.forth [] rest empty);
         only = λ ys more f b.
-          let w = h.back ys more f b in
-          let v = ended rest k w.0 more w.2 in
-          (w.1 ∙ ap (λ (t : List A). done ++ t) v.0 ∙ append-nil done, v.1);
+            let w = h.back ys more f b in
+            let v = ended rest k w.0 more w.2 in
+            (w.1 ∙ ap (λ (t : List A). done ++ t) v.0 ∙ append-nil done, v.1);
       }
 
   stopped : (rest : List ℕ) → HasNone P rest → GoesOnHere rest → (zs : List A) (more : List ℕ) → Q.MayFollow more → Begins Q rest zs more → ⊥

@@ -10,9 +10,9 @@ use Rattle.dcx_plain.specs.declared.script.Constraints.{Constraints}
 use Rattle.dcx_plain.specs.declared.script.Problem.{Problem}
 use Rattle.dcx_plain.specs.declared.script.Ending.{Ending}
 use Rattle.dcx_plain.specs.declared.script.Script.{Script}
-use Rattle.dcx_plain.specs.Reading.{Phrase, Begins, IsOnly, HasNone}
+use Rattle.dcx_plain.specs.Reading.{Phrase, Begins, IsOnly}
 use Rattle.dcx_plain.specs.Words.{is_name_byte, Stops, goes_on}
-use Rattle.dcx_plain.specs.Grammar.{term_text, sign_text, others_text, rows_text, head_text, imports_text, names_text, solve_text, close_text}
+use Rattle.dcx_plain.specs.Grammar.{term_text, sign_text, others_text, rows_text, head_text, imports_text, names_text, solve_text, close_text, script_text}
 use Rattle.dcx_plain.specs.Phrases.{GoesOn, FollowsSum, FollowsConstraint, fixed, number_phrase, name_phrase, first_phrase, further_phrase, others_phrase, sum_phrase, at_most_phrase, row_phrase, rows_phrase, constraints_phrase, declaration_phrase, names_phrase, problem_phrase, ending_phrase, script_phrase}
 use Rattle.dcx_plain.proofs.Sequences.{seq, Goes, Tells, Lists}
 use Rattle.dcx_plain.proofs.Munch.{munch}
@@ -200,6 +200,7 @@ abbrev pub script_of : ((Unit {0} × List (List ℕ)) × Problem) × Ending → 
 script_of p = record { names = p.0.0.1; problem = p.0.1; ending = p.1 }
 
 pub tells_script : (text : List ℕ) → Tells script_whole script_phrase script_of text
+unfolding script_text
 tells_script text = record {
   from = λ y more f b. ((((tt, y.names), y.problem), y.ending), refl, f, record { good = (((tt, b.good.names), b.good.problem), tt); parts = b.parts });
   onto = λ x rest b. record { good = record { names = b.good.0.0.1; problem = b.good.0.1 }; parts = b.parts };
@@ -264,14 +265,11 @@ close_is : (mid rest : List ℕ) (c : Bool) → MatchBool c (mid ≡ codes "\n" 
 close_is mid rest true p q = p
 close_is mid rest false p q = sym q
 
-pub ending_only : (text mid rest : List ℕ) (s c : Bool) → Skipped text mid rest s c → rest ≡ [] → IsOnly ending_phrase text (record { solves = s; closed = c }) rest
-ending_only text mid rest s c h e = record {
+pub ending_only : (text mid rest : List ℕ) (s c : Bool) → Skipped text mid rest s c → IsOnly ending_phrase text (record { solves = s; closed = c }) rest
+ending_only text mid rest s c h = record {
   begins = record {
     good = tt;
     parts = solve_is text mid s h.solve_passed h.solve_stays ∙ ap (λ (t : List ℕ). solve_text s ++ t) (close_is mid rest c h.close_passed h.close_stays) ∙ sym (append_assoc (solve_text s) (close_text c) rest);
   };
   only = λ y more f b. let w = only_ending text mid rest s c h y more f b in (w.0, f ∙ sym w.1);
 }
-
-pub ending_none : (text mid rest : List ℕ) (s c : Bool) → Skipped text mid rest s c → (rest ≡ [] → ⊥) → HasNone ending_phrase text
-ending_none text mid rest s c h n = record { none = λ y more f b. n (only_ending text mid rest s c h y more f b).1 }

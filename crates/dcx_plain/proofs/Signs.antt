@@ -95,11 +95,11 @@ module _ (sign : Bool → List ℕ) (text mid : List ℕ) (b : Bool) (at : SignA
   signed_only t rest h = record {
     begins = record { good = h.begins.good; parts = at.parts ∙ ap (λ (u : List ℕ). sign b ++ u) h.begins.parts ∙ sym (append_assoc (sign b) (term_text t) rest) };
     only = λ y more f g.
-      let w = behind y more g in
-      let v = h.only y.term more f w.1 in
-      let p : y.minus ≡ b = w.0 in
-      let q : y.term ≡ t = v.0 in
-      (λ i. record { minus = p i; term = q i }, v.1);
+        let w = behind y more g in
+        let v = h.only y.term more f w.1 in
+        let p : y.minus ≡ b = w.0 in
+        let q : y.term ≡ t = v.0 in
+        (λ i. record { minus = p i; term = q i }, v.1);
   }
 
   pub signed_err : (e : Stop) → Fails term_phrase mid e → Fails (signed_phrase sign) text e

@@ -68,5 +68,5 @@ problem_text p = head_text ++ sum_text p.objective ++ codes "), [" ++ constraint
 abbrev pub imports_text : List ℕ
 imports_text = codes "import cvxpy as cp\nimport numpy as np\n"
 
-abbrev pub script_text : Script → List ℕ
+unfoldable pub script_text : Script → List ℕ
 script_text s = imports_text ++ names_text s.names ++ problem_text s.problem ++ ending_text s.ending

@@ -18,9 +18,13 @@
 #![tactic(auto)]
 
 mod parser;
+mod plain;
 mod reader;
 mod script;
 mod word;
 
-pub use script::{AtMost, Constraints, Ending, Names, Problem, Rows, Script, Signed, Sum, Term, Terms};
+pub use plain::read;
+pub use script::{
+    AtMost, Constraints, Ending, Names, Problem, Rows, Script, Signed, Sum, Term, Terms,
+};
 pub use word::Word;

@@ -10,7 +10,7 @@ use crate::word::Word;
 use std::alloc::Global;
 
 impl<'a> Reader<'a> {
-    ghost use Rattle.dcx_plain.specs.Reading.{Reads};
+    ghost use Rattle.dcx_plain.specs.Reading.{IsOnly, Reads};
     ghost use Rattle.dcx_plain.specs.Grammar.{sign_text};
     ghost use Rattle.dcx_plain.specs.Phrases.{ReadsSign, term_phrase, first_phrase, further_phrase, others_phrase, sum_phrase, at_most_phrase, row_phrase, rows_phrase, constraints_phrase, declaration_phrase, names_phrase, problem_phrase, ending_phrase, script_phrase};
 
@@ -157,27 +157,23 @@ impl<'a> Reader<'a> {
         })
     }
 
-    /// What stands behind the problem, up to the script's end.
-    fn ending(&mut self) -> Result<Ending, Stop>
-        ensures { Reads ending_phrase self.old result self.new }
+    /// What stands behind the problem.
+    fn ending(&mut self) -> Ending
+        ensures { IsOnly ending_phrase self.old result self.new }
     {
         let solves = self.skip(b"\nprob.solve()");
         let closed = self.skip(b"\n");
-        if self.is_at_end() {
-            Ok(Ending { solves, closed })
-        } else {
-            Err(Stop::NotPlain)
-        }
+        Ending { solves, closed }
     }
 
-    /// A whole script.
+    /// A script, which may be followed by nothing.
     pub fn script(&mut self, alloc: Global) -> Result<Script<'a>, Stop>
         ensures { Reads script_phrase self.old result self.new }
     {
         self.expect(b"import cvxpy as cp\nimport numpy as np\n")?;
         let names = self.names(alloc)?;
         let problem = self.problem(alloc)?;
-        let ending = self.ending()?;
+        let ending = self.ending();
         Ok(Script {
             names,
             problem,

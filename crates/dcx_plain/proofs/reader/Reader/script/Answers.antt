@@ -20,10 +20,5 @@ returns-in_err-problem c =
     let p = err_from_is_err_and c.from_residual-in_err-problem.result c.from_residual-in_err-problem.ensures.1 in
     rw (p.1, p.2) (told_err script_whole script_phrase script_of c.args.self.now (tells_script c.args.self.now) c.in_err-problem.field-0.0 (seq_err script_problem ending_phrase c.args.self.now goes_ending c.in_err-problem.field-0.0 (seq_err_second script_names problem_phrase c.args.self.now goes_problem _ _ c.in_err-problem.field-0.0 (seq_only (fixed imports_text) names_phrase c.args.self.now goes_names _ _ _ _ c.in_ok-expect.ensures c.in_ok-names.ensures) c.in_err-problem.ensures)))
 
-pub returns-in_err-ending : goal.returns-in_err-ending
-returns-in_err-ending c =
-    let p = err_from_is_err_and c.from_residual-in_err-ending.result c.from_residual-in_err-ending.ensures.1 in
-    rw (p.1, p.2) (told_err script_whole script_phrase script_of c.args.self.now (tells_script c.args.self.now) c.in_err-ending.field-0.0 (seq_err_second script_problem ending_phrase c.args.self.now goes_ending _ _ c.in_err-ending.field-0.0 (seq_only script_names problem_phrase c.args.self.now goes_problem _ _ _ _ (seq_only (fixed imports_text) names_phrase c.args.self.now goes_names _ _ _ _ c.in_ok-expect.ensures c.in_ok-names.ensures) c.in_ok-problem.ensures) c.in_err-ending.ensures))
-
 pub returns : goal.returns
-returns c = told_only script_whole script_phrase script_of c.args.self.now (tells_script c.args.self.now) (((tt, c.in_ok-names.names), c.in_ok-problem.problem), c.in_ok-ending.ending) _ (seq_only script_problem ending_phrase c.args.self.now goes_ending _ _ _ _ (seq_only script_names problem_phrase c.args.self.now goes_problem _ _ _ _ (seq_only (fixed imports_text) names_phrase c.args.self.now goes_names _ _ _ _ c.in_ok-expect.ensures c.in_ok-names.ensures) c.in_ok-problem.ensures) c.in_ok-ending.ensures)
+returns c = told_only script_whole script_phrase script_of c.args.self.now (tells_script c.args.self.now) (((tt, c.in_ok-names.names), c.in_ok-problem.problem), c.ending-ending.result) _ (seq_only script_problem ending_phrase c.args.self.now goes_ending _ _ _ _ (seq_only script_names problem_phrase c.args.self.now goes_problem _ _ _ _ (seq_only (fixed imports_text) names_phrase c.args.self.now goes_names _ _ _ _ c.in_ok-expect.ensures c.in_ok-names.ensures) c.in_ok-problem.ensures) c.ending-ending.ensures)
