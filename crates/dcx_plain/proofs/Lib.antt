@@ -3,3 +3,5 @@ pub mod Munch
 pub mod Signs
 pub mod Shapes
 pub mod Whole
+pub mod Numbers
+pub mod ConstraintRows

@@ -8,11 +8,12 @@ use Rattle.dcx_plain.specs.Words.{Stops, goes_on}
 use Rattle.dcx_plain.specs.Reading.{Begins, IsOnly, HasNone}
 use Rattle.dcx_plain.specs.Phrases.{GoesOn, fixed, word_phrase}
 
-true_left : (a b : Bool) → (a && b) ≡ true → a ≡ true
+-- both sides of a test that holds
+pub true_left : (a b : Bool) → (a && b) ≡ true → a ≡ true
 true_left true b h = refl
 true_left false b h = h
 
-true_right : (a b : Bool) → (a && b) ≡ true → b ≡ true
+pub true_right : (a b : Bool) → (a && b) ≡ true → b ≡ true
 true_right true b h = h
 true_right false b h = cc
 

@@ -14,7 +14,7 @@ use Rattle.dcx_plain.specs.Words.{is_name_byte, IsNumber, IsName, Stops, goes_on
 use Rattle.dcx_plain.specs.Grammar.{term_text, times_text, first_sign_text, sign_text}
 use Rattle.dcx_plain.specs.Phrases.{AreTimes, IsTerm, IsSigned, GoesOn, fixed, number_phrase, name_phrase, term_phrase, signed_phrase, further_phrase, SignAt, FollowsSum}
 use Rattle.dcx_plain.proofs.Sequences.{seq, Goes, Tells}
-use Rattle.dcx_plain.proofs.Munch.{apart}
+use Rattle.dcx_plain.proofs.Munch.{apart, true_left}
 
 -- ---- how words begin
 letter_no_digit : (b : ℕ) → is_ascii_alphabetic b ≡ true → is_ascii_digit b ≡ false
@@ -25,10 +25,6 @@ letter_no_minus b h e = grind (arith, nat_tests)
 
 digit_no_minus : (b : ℕ) → is_ascii_digit b ≡ true → b ≡ 45 → ⊥
 digit_no_minus b h e = grind (arith, nat_tests)
-
-true_left : (a b : Bool) → (a && b) ≡ true → a ≡ true
-true_left true b h = refl
-true_left false b h = h
 
 number_goes_on : (digits rest : List ℕ) → IsNumber digits → goes_on is_ascii_digit (digits ++ rest) ≡ true
 number_goes_on [] rest h = let some = h.some in absurd (omega arith)

@@ -3,3 +3,4 @@ pub mod Words
 pub mod Grammar
 pub mod Phrases
 pub mod Plain
+pub mod Meaning

@@ -5,7 +5,7 @@ use Rattle.dcx_plain.specs.declared.script.Sum.{Sum}
 use Rattle.dcx_plain.specs.declared.script.AtMost.{AtMost}
 use Rattle.dcx_plain.specs.declared.script.Script.{Script}
 use Rattle.dcx_plain.specs.Grammar.{script_text}
-use Rattle.dcx_plain.specs.Phrases.{HasWords}
+use Rattle.dcx_plain.specs.Phrases.{HasWords, IsAtMost}
 
 -- words that no variable may have as its name: the modules, the problem, Python's keywords, and `print`
 unfoldable pub reserved_words : List (List ℕ)
@@ -35,6 +35,11 @@ names_sum names s = is_among names s.first.term.name && list_all (λ t. is_among
 -- a sum of at most 64 terms over the names
 abbrev pub is_sum_over : List (List ℕ) → Sum → Bool
 is_sum_over names s = nat_le (length s.others) 63 && names_sum names s
+
+-- a constraint of good words over at most 64 terms
+pub record IsRow (c : AtMost) : Type 0 where
+  pub words : IsAtMost c
+  pub few : length c.left.others ≤ 63
 
 -- a plain script: at most 100 variables of distinct names that are free, and 1 to 100 constraints, over sums of declared names
 pub record IsPlain (s : Script) : Type 0 where

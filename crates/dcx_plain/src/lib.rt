@@ -17,12 +17,14 @@
 //! | a reader answers the one thing that stands next, or says that nothing does | `specs/Reading.antt`, the clause of each function of `parser` |
 #![tactic(auto)]
 
+mod linear;
 mod parser;
 mod plain;
 mod reader;
 mod script;
 mod word;
 
+pub use linear::{Linear, Row, linear_program};
 pub use plain::read;
 pub use script::{
     AtMost, Constraints, Ending, Names, Problem, Rows, Script, Signed, Sum, Term, Terms,
