@@ -5,4 +5,5 @@ pub mod Sums
 pub mod Products
 pub mod Quotients
 pub mod Turns
+pub mod Results
 pub mod Texts

@@ -11,7 +11,7 @@ use Rattle.dcx_math.specs.Divisors.{IsCoprime}
 use Rattle.dcx_math.proofs.LowestTerms.{lowest_terms_unique}
 use Rattle.dcx_math.proofs.FieldLaws.{≡-from_products}
 use Rattle.dcx_frac.specs.declared.fraction.Frac.{Frac}
-use Rattle.dcx_frac.specs.Fits.{Fits, IsRepresentable, signed}
+use Rattle.dcx_frac.specs.Fits.{IsRepresentable, representable, signed}
 use Rattle.dcx_frac.specs.Frac.{num_of, den_of, value}
 use Rattle.dcx_frac.proofs.Signs.{unsigned_abs-signed}
 
@@ -42,12 +42,6 @@ value_injective f g e =
     let l : IsInLowestTerms (value g) (num_of f) (den_of f) = subst (λ x. IsInLowestTerms x (num_of f) (den_of f)) e (value_lowest f) in
     let p = lowest_terms_unique (value g) (num_of f) (den_of f) (num_of g) (den_of g) l (value_lowest g) in
     frac_from_parts f g p.0 p.1
-
--- a number whose parts in lowest terms fit is representable
-pub representable : (x : ℚ) (n d : ℤ) → IsInLowestTerms x n d → Fits n → Fits d → IsRepresentable x
-representable x n d l fn fd = record {
-  fits = λ m e k. let p = lowest_terms_unique x n d m e l k in (subst Fits p.0 fn, subst Fits p.1 fd);
-}
 
 -- the value of a fraction is representable
 pub value_representable : (f : Frac) → IsRepresentable (value f)

@@ -16,15 +16,15 @@ use Rattle.dcx_math.proofs.Ratios.{ratio-*ℚ-ratio, ratio-<ℚ-ratio, ratio-≡
 use Rattle.dcx_math.proofs.Denominators.{ratio-neg_ℚ}
 use Rattle.dcx_math.proofs.LowestTerms.{lowest_terms_unique}
 use Rattle.dcx_math.proofs.FieldLaws.{whole_injective, *ℚ-inverse, +ℚ_idl}
-use Rattle.dcx_math.proofs.Orders.{+ℚ_idr}
+use Rattle.dcx_math.proofs.Orders.{+ℚ_idr, neg_ℚ-zero}
 use Rattle.dcx_math.proofs.Products.{/ℚ-unique, *ℚ_cancel}
 use Rattle.dcx_math.proofs.Ring.{/ℚ-is, -ℚ-is}
 use Rattle.dcx_frac.specs.declared.fraction.Frac.{Frac}
-use Rattle.dcx_frac.specs.Fits.{Fits, IsRepresentable, signed}
+use Rattle.dcx_frac.specs.Fits.{Fits, IsRepresentable, representable, signed}
 use Rattle.dcx_frac.specs.Frac.{num_of, den_of, value}
 use Rattle.dcx_frac.specs.Formed.{IsZero, shared_divisor, left_term, right_term, FormsSum, FormsDifference, SumFits, DifferenceFits}
 use Rattle.dcx_frac.proofs.Signs.{is_negative, lt_zero, signed-abs, unsigned_abs-signed, abs-pos}
-use Rattle.dcx_frac.proofs.Parts.{value_lowest}
+use Rattle.dcx_frac.proofs.Parts.{value_lowest, value_representable}
 
 -- ---- the quotient of two integers
 crossed : (s t : Bool) (p q g : ℕ) → signed (not (beq s t)) p *ℤ signed t (q * g) ≡ signed s (p * g) *ℤ pos q
@@ -129,6 +129,12 @@ zero_left x y z = sym (ap (λ u. u +ℚ value y) z ∙ +ℚ_idl (value y))
 pub zero_right : (x y : Frac) → IsZero y → value x ≡ value x +ℚ value y
 zero_right x y z = sym (ap (λ u. value x +ℚ u) z ∙ +ℚ_idr (value x))
 
+-- a sum that fits is representable
+pub sum_representable : (x y : Frac) → SumFits x y → IsRepresentable (value x +ℚ value y)
+sum_representable x y (inl z) = subst IsRepresentable (zero_left x y z) (value_representable y)
+sum_representable x y (inr (inl z)) = subst IsRepresentable (zero_right x y z) (value_representable x)
+sum_representable x y (inr (inr h)) = h.parts
+
 -- a turned sign keeps the size
 pub neg_size : (z : ℤ) → unsigned_abs (neg_ℤ z) ≡ unsigned_abs z
 neg_size (pos zero) = refl
@@ -189,6 +195,17 @@ module _ (x y f : Frac) (is : value f ≡ neg_ℚ (value y)) where
     (λ h. ⊎_elim (λ z. inl z) (λ k. ⊎_elim (λ z. inr (inl (zero_turned.0 z))) (λ s. inr (inr (forms_difference.0 s))) k) h),
     (λ h. ⊎_elim (λ z. inl z) (λ k. ⊎_elim (λ z. inr (inl (zero_turned.1 z))) (λ s. inr (inr (forms_difference.1 s))) k) h),
   )
+
+-- a difference that fits is representable
+pub difference_representable : (x y : Frac) → DifferenceFits x y → IsRepresentable (value x -ℚ value y)
+difference_representable x y (inl z) =
+    let e : neg_ℚ (value y) ≡ value x -ℚ value y = sym (-ℚ-is (value x) (value y) ∙ ap (λ u. u +ℚ neg_ℚ (value y)) z ∙ +ℚ_idl (neg_ℚ (value y))) in
+    let l = neg_lowest y in
+    subst IsRepresentable e (representable (neg_ℚ (value y)) (neg_ℤ (num_of y)) (den_of y) l (subst (λ m. m < 2 ^ 127) (sym (neg_size (num_of y))) y.num_fits) y.den_fits)
+difference_representable x y (inr (inl z)) =
+    let e : value x ≡ value x -ℚ value y = sym (-ℚ-is (value x) (value y) ∙ ap (λ u. value x +ℚ neg_ℚ u) z ∙ ap (λ u. value x +ℚ u) neg_ℚ-zero ∙ +ℚ_idr (value x)) in
+    subst IsRepresentable e (value_representable x)
+difference_representable x y (inr (inr h)) = h.parts
 
 -- ---- the order
 module _ (f g : Frac) (r : Ordering) (is : r ≡ int_cmp (num_of f *ℤ den_of g) (num_of g *ℤ den_of f)) where
