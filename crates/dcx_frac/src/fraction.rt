@@ -48,6 +48,13 @@ pub struct Passes {
     pub right: Frac,
 }
 
+/// That this operation on these operands passes 128 bits.
+fn passing(op: Op, left: Frac, right: Frac) -> Passes
+    ensures { result ≡ record { op = op; left = left; right = right } }
+{
+    Passes { op, left, right }
+}
+
 /// The number of this size and sign.
 fn with_sign(is_negative: bool, size: u128) -> i128
     requires { size < 2 ^ 127 }
@@ -177,11 +184,7 @@ impl Frac {
         ensures told { IfErr result (λ p. p ≡ record { op = Op.Add; left = self; right = other }) }
         ensures answer { result ≡ sum_of self other }
     {
-        self.sum(other).ok_or(Passes {
-            op: Op::Add,
-            left: self,
-            right: other,
-        })
+        self.sum(other).ok_or(passing(Op::Add, self, other))
     }
 
     /// The exact difference, or what was subtracted where a number formed passes 2^127 - 1.
@@ -191,11 +194,7 @@ impl Frac {
         ensures told { IfErr result (λ p. p ≡ record { op = Op.Sub; left = self; right = other }) }
         ensures answer { result ≡ difference_of self other }
     {
-        self.sum(other.neg()).ok_or(Passes {
-            op: Op::Sub,
-            left: self,
-            right: other,
-        })
+        self.sum(other.neg()).ok_or(passing(Op::Sub, self, other))
     }
 
     /// The exact product, or what was multiplied where a number formed passes 2^127 - 1.
@@ -205,11 +204,7 @@ impl Frac {
         ensures told { IfErr result (λ p. p ≡ record { op = Op.Mul; left = self; right = other }) }
         ensures answer { result ≡ product_of self other }
     {
-        self.product(other).ok_or(Passes {
-            op: Op::Mul,
-            left: self,
-            right: other,
-        })
+        self.product(other).ok_or(passing(Op::Mul, self, other))
     }
 
     /// The exact quotient, or what was divided where a number formed passes 2^127 - 1.
@@ -220,11 +215,8 @@ impl Frac {
         ensures told { IfErr result (λ p. p ≡ record { op = Op.Div; left = self; right = other }) }
         ensures answer { result ≡ quotient_of self other }
     {
-        self.product(other.turned_over()).ok_or(Passes {
-            op: Op::Div,
-            left: self,
-            right: other,
-        })
+        self.product(other.turned_over())
+            .ok_or(passing(Op::Div, self, other))
     }
 
     /// The number with its sign turned.

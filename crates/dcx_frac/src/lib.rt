@@ -15,3 +15,6 @@ pub use divisor::gcd;
 pub use fraction::{Frac, LARGEST, Op, Passes};
 pub use list::Fracs;
 pub use text::write_frac;
+
+#[cfg(test)]
+mod tests;
