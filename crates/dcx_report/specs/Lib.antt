@@ -1,2 +1,10 @@
+pub mod AnswerText
 pub mod Faults
 pub mod Files
+pub mod NodeStops
+pub mod OutcomeText
+pub mod Pieces
+pub mod RefusalText
+pub mod Refusals
+pub mod ReportText
+pub mod StopText
