@@ -1,0 +1,5 @@
+pub mod Fits
+pub mod Frac
+pub mod Formed
+pub mod Results
+pub mod Text
