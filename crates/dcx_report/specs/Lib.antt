@@ -1,6 +1,7 @@
 pub mod AnswerText
 pub mod Faults
 pub mod Files
+pub mod Negated
 pub mod NodeStops
 pub mod OutcomeText
 pub mod Pieces

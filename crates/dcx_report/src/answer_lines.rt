@@ -1,34 +1,46 @@
 //! Appends the lines of an answer.
 ghost use Rattle.std.specs.Prelude.{◌≡◌, ◌++◌, OnOk, codes};
 ghost use Rattle.std.specs.List.{flat_map};
-ghost use Rattle.dcx_frac.specs.Text.{frac_text};
-ghost use Rattle.dcx_report.specs.AnswerText.{user_text, number_line, named_line, var_lines, ray_lines, dual_line, dual_lines, answer_text};
+ghost use Rattle.dcx_report.specs.Negated.{negated};
+ghost use Rattle.dcx_report.specs.AnswerText.{user_number, number_line, named_line, var_lines, ray_lines, dual_line, dual_lines, answer_text};
 
 use crate::pieces::{put_array, put_bytes, put_frac, put_number};
-use crate::{Answer, Array, Named, Sense};
+use crate::{Answer, Array, Named, Point, Sense};
 use dcx_frac::Frac;
 use std::alloc::AllocError;
 
-/// A number of the minimized objective, as the user's objective has it.
-#[tactic(auto, unfolding(crate::specs::AnswerText::user_text))]
-fn user_number(sense: Sense, number: Frac) -> Frac
-    ensures { frac_text result ≡ user_text sense number }
+/// The number with its sign turned.
+fn turned(number: Frac) -> Frac
+    ensures { result ≡ negated number }
 {
-    match sense {
-        Sense::Minimize => number,
-        Sense::Maximize => number.neg(),
-    }
+    number.neg()
 }
 
 /// Appends a line of a word and a number.
 #[tactic(auto, unfolding(crate::specs::AnswerText::number_line))]
 fn put_number_line(out: &mut Vec<u8>, word: &[u8], number: Frac) -> Result<(), AllocError>
-    ensures { OnOk result (out.new.items ≡ out.old.items ++ number_line word.now (frac_text number)) }
+    ensures { OnOk result (out.new.items ≡ out.old.items ++ number_line word.now number) }
 {
     put_bytes(out, word)?;
     put_bytes(out, b" ")?;
     put_frac(out, &number)?;
     put_bytes(out, b"\n")
+}
+
+/// Appends a line of a word and a number of the minimized objective, as the user's objective has it.
+#[tactic(auto, unfolding(crate::specs::AnswerText::user_number))]
+fn put_user_line(
+    out: &mut Vec<u8>,
+    word: &[u8],
+    sense: Sense,
+    number: Frac,
+) -> Result<(), AllocError>
+    ensures { OnOk result (out.new.items ≡ out.old.items ++ number_line word.now (user_number sense number)) }
+{
+    match sense {
+        Sense::Minimize => put_number_line(out, word, number),
+        Sense::Maximize => put_number_line(out, word, turned(number)),
+    }
 }
 
 /// Appends a line of a variable under a word.
@@ -52,6 +64,22 @@ fn put_named_lines(out: &mut Vec<u8>, word: &[u8], items: &[Named]) -> Result<()
         put_named_line(out, word, named)?;
     }
     Ok(())
+}
+
+/// Appends a line of each variable's value.
+#[tactic(auto, unfolding(crate::specs::AnswerText::var_lines))]
+fn put_var_lines(out: &mut Vec<u8>, point: &Point) -> Result<(), AllocError>
+    ensures { OnOk result (out.new.items ≡ out.old.items ++ var_lines point.now) }
+{
+    put_named_lines(out, b"var", point.as_slice())
+}
+
+/// Appends a line of each variable's part of a ray.
+#[tactic(auto, unfolding(crate::specs::AnswerText::ray_lines))]
+fn put_ray_lines(out: &mut Vec<u8>, ray: &Point) -> Result<(), AllocError>
+    ensures { OnOk result (out.new.items ≡ out.old.items ++ ray_lines ray.now) }
+{
+    put_named_lines(out, b"ray", ray.as_slice())
 }
 
 /// Appends the line of a constraint's multipliers under its number.
@@ -79,8 +107,27 @@ fn put_dual_lines(out: &mut Vec<u8>, duals: &[Array]) -> Result<(), AllocError>
     Ok(())
 }
 
+/// Appends an unbounded answer, behind the number of its setting.
+#[tactic(auto, unfolding(crate::specs::AnswerText::answer_text))]
+fn put_unbounded(
+    out: &mut Vec<u8>,
+    sense: Sense,
+    point: &Point,
+    ray: &Point,
+    bound: Frac,
+    slope: Frac,
+) -> Result<(), AllocError>
+    ensures { OnOk result (out.new.items ≡ out.old.items ++ answer_text sense (Answer.Unbounded point.now ray.now bound slope)) }
+{
+    put_bytes(out, b" unbounded\n")?;
+    put_user_line(out, b"bound", sense, bound)?;
+    put_number_line(out, b"slope", slope)?;
+    put_var_lines(out, point)?;
+    put_ray_lines(out, ray)
+}
+
 /// Appends an answer, behind the number of its setting.
-#[tactic(auto, unfolding(crate::specs::AnswerText::answer_text, crate::specs::AnswerText::var_lines, crate::specs::AnswerText::ray_lines))]
+#[tactic(auto, unfolding(crate::specs::AnswerText::answer_text))]
 pub(crate) fn put_answer(out: &mut Vec<u8>, sense: Sense, answer: &Answer) -> Result<(), AllocError>
     ensures { OnOk result (out.new.items ≡ out.old.items ++ answer_text sense answer.now) }
 {
@@ -91,8 +138,8 @@ pub(crate) fn put_answer(out: &mut Vec<u8>, sense: Sense, answer: &Answer) -> Re
             duals,
         } => {
             put_bytes(out, b" optimal\n")?;
-            put_number_line(out, b"value", user_number(sense, *value))?;
-            put_named_lines(out, b"var", point.as_slice())?;
+            put_user_line(out, b"value", sense, *value)?;
+            put_var_lines(out, point)?;
             put_dual_lines(out, duals.as_slice())
         }
         Answer::Infeasible { duals, gap } => {
@@ -105,12 +152,6 @@ pub(crate) fn put_answer(out: &mut Vec<u8>, sense: Sense, answer: &Answer) -> Re
             ray,
             bound,
             slope,
-        } => {
-            put_bytes(out, b" unbounded\n")?;
-            put_number_line(out, b"bound", user_number(sense, *bound))?;
-            put_number_line(out, b"slope", *slope)?;
-            put_named_lines(out, b"var", point.as_slice())?;
-            put_named_lines(out, b"ray", ray.as_slice())
-        }
+        } => put_unbounded(out, sense, point, ray, *bound, *slope),
     }
 }
