@@ -20,8 +20,8 @@ use crate::words::operand;
 use crate::write::write_all;
 use dcx_plain::{Script, read};
 use dcx_report::{
-    Carried, FetchFault, Library, Outcome, OutcomeEnd, Outcomes, Refusal, RefusalSource, Run, Sense,
-    Sink, SinkFault, Stop, Word, report_text,
+    Carried, FetchFault, Library, Outcome, OutcomeEnd, Outcomes, Refusal, RefusalSource, Run,
+    Sense, Sink, SinkFault, Stop, Word, report_text,
 };
 use dcx_shape::Place;
 use dcx_steps::Steps;
@@ -115,9 +115,7 @@ fn has_stop(outcomes: &[Outcome]) -> bool
 fn has_want_of_memory(outcomes: &[Outcome]) -> bool
     ensures { result ≡ list_any (λ o. wants_memory o.end) outcomes.now }
 {
-    outcomes
-        .iter()
-        .any(|outcome| matches!(&outcome.end, OutcomeEnd::Stop(Stop::Memory)))
+    outcomes.iter().any(|outcome| matches!(&outcome.end, OutcomeEnd::Stop(Stop::Memory)))
 }
 
 /// The status of outcomes.
@@ -177,3 +175,6 @@ pub fn run<L: Library, K: Sink, S: Ledger>(
         Err(SinkFault::Memory) => Ended { status: 5, run },
     }
 }
+
+#[cfg(test)]
+mod tests;

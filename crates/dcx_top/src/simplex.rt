@@ -26,11 +26,7 @@ pub enum End {
     /// The column may grow for ever.
     Unbounded(usize),
     /// A pivot passes 128 bits.
-    Wide {
-        pivots: u64,
-        row: u32,
-        column: u32,
-    },
+    Wide { pivots: u64, row: u32, column: u32 },
     /// The limit is reached.
     PivotLimit,
 }
@@ -81,13 +77,22 @@ fn divide(row: &mut [Frac], by: Frac) -> Result<(), usize> {
 }
 
 /// The coefficients of a row, then those of the slacks, 1 at the row's own, and then the right side.
-fn first_row(alloc: Global, row: &Row, slack: usize, slacks: usize) -> Result<Vec<Frac>, AllocError> {
+fn first_row(
+    alloc: Global,
+    row: &Row,
+    slack: usize,
+    slacks: usize,
+) -> Result<Vec<Frac>, AllocError> {
     let mut numbers = Vec::new(alloc);
     for coefficient in &row.left {
         numbers.push(whole(*coefficient))?;
     }
     for other in 0..slacks {
-        numbers.push(if other == slack { Frac::one() } else { Frac::zero() })?;
+        numbers.push(if other == slack {
+            Frac::one()
+        } else {
+            Frac::zero()
+        })?;
     }
     numbers.push(whole(row.right))?;
     Ok(numbers)
