@@ -53,6 +53,7 @@ module _ (x : ℚ) (s : Bool) (n d : ℕ) (low : IsInLowestTerms x (signed s n) 
   pub sizes_fit : IsRepresentable x → (n < 2 ^ 127) × (d < 2 ^ 127)
   sizes_fit h = let k = h.fits (signed s n) (pos d) low in (subst (λ m. m < 2 ^ 127) (unsigned_abs-signed s n) k.0, k.1)
 
+  -- a fraction that is there exactly where the sizes fit is there exactly where the number is representable
   pub exists_exactly : (r : Option Frac) → (IsSome r ↔ ((n < 2 ^ 127) × (d < 2 ^ 127))) → IsSome r ↔ IsRepresentable x
   exists_exactly r h = (
     (λ some. let k = h.0 some in representable x (signed s n) (pos d) low (subst (λ m. m < 2 ^ 127) (sym (unsigned_abs-signed s n)) k.0) k.1),
@@ -63,6 +64,7 @@ module _ (x : ℚ) (s : Bool) (n d : ℕ) (low : IsInLowestTerms x (signed s n) 
   parts_value f en ed =
       ≡-from_products (num_of f) (den_of f) (signed s n) (pos d) f.positive low.positive (ap₂ ◌*ℤ◌ en (sym ed)) ∙ sym low.is
 
+  -- a fraction with these parts has the value
   pub has_value : (r : Option Frac) → IfSome r (λ f. f.num ≡ signed s n) → IfSome r (λ f. f.den ≡ pos d) → IfSome r (λ f. value f ≡ x)
   has_value None en ed = tt
   has_value (Some f) en ed = parts_value f en ed

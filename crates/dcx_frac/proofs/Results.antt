@@ -25,7 +25,9 @@ pub record IsAnswer (op : Op) (x y : Frac) (z : ℚ) (Fit : Type 0) (r : Result 
   pub fits : IsOk r ↔ Fit
   pub told : IfErr r (λ p. p ≡ record { op = op; left = x; right = y })
 
+-- the answers of one operation on x and y, where what fits is representable
 module _ {Fit : Type 0} (op : Op) (x y : Frac) (z : ℚ) (holds : Fit → IsRepresentable z) where
+  -- the defined answer is one
   pub answer_is : (d : Dec Fit) (e : Dec (IsRepresentable z)) → IsAnswer op x y z Fit (answer op x y z d e)
   answer_is (yes h) (yes r) = record { exact = value-frac_of z r; fits = ((λ s. h), (λ k. refl)); told = tt }
   answer_is (yes h) (no n) = absurd (n (holds h))

@@ -1,3 +1,4 @@
+-- The words that contracts cite.
 pub mod Fits
 pub mod Frac
 pub mod Formed

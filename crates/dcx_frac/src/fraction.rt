@@ -1,4 +1,7 @@
 //! Fractions in lowest terms, with a positive denominator and parts of at most 2^127 - 1 in magnitude.
+//!
+//! Each operation says its answer twice: by facts, and as a function of its operands (`specs/Results.antt`), by which
+//! other crates define what several operations in a row answer.
 ghost use Rattle.std.specs.Prelude.{neg_ℤ, ◌≡◌, ◌<◌, ◌^◌, ◌*ℤ◌, ◌+ℤ◌, ◌<ℤ◌, ◌↔◌, pos, unsigned_abs, IsSome, IfSome, SomeIff};
 ghost use Rattle.dcx_math.specs.Divisors.{IsCoprime};
 ghost use Rattle.dcx_frac.specs.Fits.{Fits, IsRepresentable, signed};
@@ -238,6 +241,7 @@ impl Frac {
         self.order(*other)
     }
 
+    /// How the cross products compare, with no product formed.
     fn order(self, other: Frac) -> Ordering
         ensures { result ≡ int_cmp (self.num *ℤ other.den) (other.num *ℤ self.den) }
     {
