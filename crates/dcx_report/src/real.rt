@@ -12,12 +12,15 @@ use std::rt::Files;
 #[derive(Drop)]
 pub struct FileLibrary<'a, R: Files> {
     rt: &'a R,
-    faults: u64,
+    /// How many fetches have answered an `Err`.
+    pub faults: u64,
 }
 
 impl<'a, R: Files> FileLibrary<'a, R> {
     /// The files of the host, with no fault counted yet.
-    pub fn new(rt: &'a R) -> Self {
+    pub fn new(rt: &'a R) -> Self
+        ensures { result.faults ≡ 0 }
+    {
         FileLibrary { rt, faults: 0 }
     }
 }
@@ -74,13 +77,18 @@ impl<'a, R: Files> Library for FileLibrary<'a, R> {
 /// A writer as a sink, such as standard output.
 #[derive(Drop)]
 pub struct OutSink<W: Write> {
-    writer: W,
-    faults: u64,
+    /// Where the bytes go.
+    pub writer: W,
+    /// How many writes have answered an `Err`.
+    pub faults: u64,
 }
 
 impl<W: Write> OutSink<W> {
     /// The writer as a sink, with no fault counted yet.
-    pub fn new(writer: W) -> Self {
+    pub fn new(writer: W) -> Self
+        ensures writer { result.writer ≡ writer }
+        ensures faults { result.faults ≡ 0 }
+    {
         OutSink { writer, faults: 0 }
     }
 }

@@ -1,7 +1,6 @@
 -- Fractions of equal value are equal.
-use Rattle.std.proofs.Common.{refl, sym, ◌∙◌}
+use Rattle.std.proofs.Common.{sym, ◌∙◌}
 use Rattle.dcx_frac.proofs.Parts.{value_injective}
-use Rattle.dcx_report.specs.Negated.{negated}
 use Rattle.dcx_report.proofs.Negation.{value-negated}
 use Rattle.dcx_report.proofs.answer_lines.turned.Goals as goal
 
