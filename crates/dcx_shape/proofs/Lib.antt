@@ -1,0 +1,4 @@
+pub mod Broadcasts
+pub mod Entries
+pub mod Reshapes
+pub mod Permutations

@@ -1,2 +1,6 @@
 pub mod Sides
 pub mod Shape
+pub mod Places
+pub mod Broadcast
+pub mod Product
+pub mod Reshape

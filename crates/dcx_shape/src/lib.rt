@@ -2,11 +2,19 @@
 #![tactic(auto)]
 
 mod bytes;
+mod combine;
+mod fault;
 mod name;
 mod place;
+mod places;
+mod reshape;
 mod shape;
 
 pub use bytes::Bytes;
+pub use combine::{broadcast, matmul_shape};
+pub use fault::ShapeFault;
 pub use name::Name;
 pub use place::Place;
+pub use places::Places;
+pub use reshape::reshape_map;
 pub use shape::{MOST_ENTRIES, Shape, Sides};

@@ -1,0 +1,65 @@
+-- Reshapes: what their places are, that they are a permutation, and the way back.
+use Rattle.std.proofs.Common.{◌≡◌, ℕ, zero, suc, ◌+◌, ◌*◌, ◌/◌, ◌%◌, ◌<◌, ◌≤◌, Bool, true, false, List, length, get_or, refl, sym, ◌∙◌, ap, subst, arith}
+use Rattle.std.specs.List.{All, Contains}
+use Rattle.std.specs.List.Sorted.{IsPermutation}
+use Rattle.dcx_shape.specs.declared.shape.Sides.{Sides}
+use Rattle.dcx_shape.specs.Sides.{rows_of, cols_of, entries_of}
+use Rattle.dcx_shape.specs.Places.{HasEntry, row_place, column_place, place_of, places_below}
+use Rattle.dcx_shape.specs.Reshape.{IsReshape, IsSource}
+use Rattle.std.proofs.lemmas.List.{get_or_default}
+use Rattle.dcx_shape.proofs.Entries.{Entry, entry_at, entry_along, place_below, same_entry}
+use Rattle.dcx_shape.proofs.Permutations.{permutation_from_each}
+
+-- by rows entry k is entry k
+pub same_place : (c : Bool) (from to : Sides) (k : ℕ) → c ≡ false → entries_of from ≡ entries_of to → k < entries_of to → IsSource c from to k k
+same_place true from to k e sizes h = absurd (cc)
+same_place false from to k e sizes h =
+    let f : HasEntry from (k / cols_of from) (k % cols_of from) × (k ≡ row_place from (k / cols_of from) (k % cols_of from)) = entry_along from k (omega arith) in
+    let t : HasEntry to (k / cols_of to) (k % cols_of to) × (k ≡ row_place to (k / cols_of to) (k % cols_of to)) = entry_along to k h in
+    record {
+      row = k / cols_of from;
+      column = k % cols_of from;
+      to_row = k / cols_of to;
+      to_column = k % cols_of to;
+      entry = f.0;
+      to_entry = t.0;
+      same = sym f.1 ∙ t.1;
+      is_to = t.1;
+      is_from = f.1;
+    }
+
+-- an entry of the source at the same place is the one that was found
+pub source_is : (c : Bool) (from to : Sides) (k p : ℕ) → IsSource c from to k p → (i j a b : ℕ) → HasEntry from i j → HasEntry to a b → place_of c from i j ≡ place_of c to a b → k ≡ row_place to a b → p ≡ row_place from i j
+source_is c from to k p s i j a b e f same is_to =
+    let t : (s.to_row ≡ a) × (s.to_column ≡ b) = same_entry false to s.to_row s.to_column a b s.to_entry f (sym s.is_to ∙ is_to) in
+    let w : place_of c from s.row s.column ≡ place_of c from i j = s.same ∙ rw (t.0, t.1) (sym same) in
+    let u : (s.row ≡ i) × (s.column ≡ j) = same_entry c from s.row s.column i j s.entry e w in
+    s.is_from ∙ rw (u.0, u.1) refl
+
+-- the sources of all entries make the reshape
+pub reshape_from_sources : (c : Bool) (from to : Sides) (places : List ℕ) → entries_of from ≡ entries_of to → length places ≡ entries_of to → ((k : ℕ) → k < entries_of to → IsSource c from to k (get_or places k 0)) → IsReshape c from to places
+reshape_from_sources c from to places sizes count each = record {
+  sizes = sizes;
+  count = count;
+  entries = λ i j k l e f same. source_is c from to (row_place to k l) (get_or places (row_place to k l) 0) (each (row_place to k l) (place_below false to k l f)) i j k l e f same refl;
+}
+
+-- each place of the source stands in a reshape
+reshape_contains : (c : Bool) (from to : Sides) (places : List ℕ) → IsReshape c from to places → (p : ℕ) → p < entries_of from → Contains places p
+reshape_contains c from to places r p h =
+    let e : HasEntry from (p / cols_of from) (p % cols_of from) × (p ≡ row_place from (p / cols_of from) (p % cols_of from)) = entry_along from p h in
+    let t : Entry c to (place_of c from (p / cols_of from) (p % cols_of from)) = entry_at c to _ (subst (λ n. place_of c from (p / cols_of from) (p % cols_of from) < n) r.sizes (place_below c from _ _ e.0)) in
+    let below : row_place to t.row t.column < length places = omega (arith, r.count, place_below false to t.row t.column t.entry) in
+    (row_place to t.row t.column, below, get_or_default places _ p 0 below ∙ r.entries _ _ _ _ e.0 t.entry t.is_place ∙ sym e.1)
+
+-- a reshape is a permutation of the places
+pub reshape_permutes : (c : Bool) (from to : Sides) (places : List ℕ) → IsReshape c from to places → IsPermutation (places_below (entries_of from)) places
+reshape_permutes c from to places r = permutation_from_each (entries_of from) places (r.count ∙ sym r.sizes) (reshape_contains c from to places r)
+
+-- a reshape and the way back leave each place where it was
+pub reshape_back : (c : Bool) (from to : Sides) (there back : List ℕ) → IsReshape c from to there → IsReshape c to from back → (k : ℕ) → k < entries_of from → get_or there (get_or back k 0) 0 ≡ k
+reshape_back c from to there back r s k h =
+    let e : HasEntry from (k / cols_of from) (k % cols_of from) × (k ≡ row_place from (k / cols_of from) (k % cols_of from)) = entry_along from k h in
+    let t : Entry c to (place_of c from (k / cols_of from) (k % cols_of from)) = entry_at c to _ (subst (λ n. place_of c from (k / cols_of from) (k % cols_of from) < n) r.sizes (place_below c from _ _ e.0)) in
+    let way : get_or back k 0 ≡ row_place to t.row t.column = ap (λ x. get_or back x 0) e.1 ∙ s.entries _ _ _ _ t.entry e.0 (sym t.is_place) in
+    ap (λ x. get_or there x 0) way ∙ r.entries _ _ _ _ e.0 t.entry t.is_place ∙ sym e.1
