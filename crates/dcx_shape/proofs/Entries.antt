@@ -22,17 +22,19 @@ factor_pos k (suc m) (suc n) h = (omega arith, omega arith)
 pub entry_along : (s : Sides) (k : ℕ) → k < entries_of s → HasEntry s (k / cols_of s) (k % cols_of s) × (k ≡ row_place s (k / cols_of s) (k % cols_of s))
 entry_along s k h =
     let below : k < rows_of s * cols_of s = omega (arith, h, entries_are s) in
-    let wide : 0 < cols_of s = (factor_pos k (rows_of s) (cols_of s) below).1 in
-    ( record { row = div_below k (cols_of s) (rows_of s) wide below; column = mod_below k (cols_of s) wide }
-    , sym (div-add-mod' k (cols_of s)) )
+    let wide : 0 < cols_of s = (factor_pos k (rows_of s) (cols_of s) below).1 in (
+      record { row = div_below k (cols_of s) (rows_of s) wide below; column = mod_below k (cols_of s) wide },
+      sym (div-add-mod' k (cols_of s)),
+    )
 
 -- the entry at a place down the columns
 pub entry_down : (s : Sides) (k : ℕ) → k < entries_of s → HasEntry s (k % rows_of s) (k / rows_of s) × (k ≡ column_place s (k % rows_of s) (k / rows_of s))
 entry_down s k h =
     let below : k < cols_of s * rows_of s = omega (arith, h, entries_are s, mul_comm (rows_of s) (cols_of s)) in
-    let high : 0 < rows_of s = (factor_pos k (cols_of s) (rows_of s) below).1 in
-    ( record { row = mod_below k (rows_of s) high; column = div_below k (rows_of s) (cols_of s) high below }
-    , sym (div-add-mod' k (rows_of s)) )
+    let high : 0 < rows_of s = (factor_pos k (cols_of s) (rows_of s) below).1 in (
+      record { row = mod_below k (rows_of s) high; column = div_below k (rows_of s) (cols_of s) high below },
+      sym (div-add-mod' k (rows_of s)),
+    )
 
 -- a place is below the number of entries
 pub place_below : (c : Bool) (s : Sides) (i j : ℕ) → HasEntry s i j → place_of c s i j < entries_of s

@@ -2,3 +2,5 @@ pub mod Broadcasts
 pub mod Entries
 pub mod Reshapes
 pub mod Permutations
+pub mod Slices
+pub mod Faults

@@ -27,7 +27,7 @@ permutation_from_each (suc n) xs e each =
     let before : IsPermutation (places_below n) rest = permutation_from_each n rest shorter (λ p h. contains_rest n p rest h (Contains-permutation xs (n ∷ rest) p moved (each p (omega arith)))) in
     let front : IsPermutation (places_below n ++ n ∷ []) (n ∷ places_below n) = IsPermutation-to_front (places_below n) n in
     let all : IsPermutation (places_below n ++ n ∷ []) xs =
-      IsPermutation-trans _ _ _ front (IsPermutation-trans _ _ _ (IsPermutation-cons n _ _ before) (IsPermutation-sym _ _ moved)) in
+    IsPermutation-trans _ _ _ front (IsPermutation-trans _ _ _ (IsPermutation-cons n _ _ before) (IsPermutation-sym _ _ moved)) in
     rw (range-more 0 n, zero-add n) all
 
 -- each place of a permutation of the places is below their number

@@ -4,3 +4,5 @@ pub mod Places
 pub mod Broadcast
 pub mod Product
 pub mod Reshape
+pub mod Slice
+pub mod Run

@@ -8,7 +8,9 @@ mod name;
 mod place;
 mod places;
 mod reshape;
+mod run;
 mod shape;
+mod slice;
 
 pub use bytes::Bytes;
 pub use combine::{broadcast, matmul_shape};
@@ -18,3 +20,4 @@ pub use place::Place;
 pub use places::Places;
 pub use reshape::reshape_map;
 pub use shape::{MOST_ENTRIES, Shape, Sides};
+pub use slice::{Slice, slice_places};

@@ -7,16 +7,20 @@ ghost use Rattle.dcx_shape.specs.Shape.{sides_of};
 ghost use Rattle.dcx_shape.specs.Places.{places_below, TurnsPlace};
 ghost use Rattle.dcx_shape.specs.Reshape.{IsReshape, IsSource};
 
-use std::alloc::Global;
-
 use crate::fault::ShapeFault;
 use crate::places::Places;
 use crate::shape::Shape;
+use std::alloc::Global;
 
 /// The places of a reshape from `from` to `to`, which reads and writes the entries row by row, or column by column.
 ///
 /// `Clash` where the sizes differ.
-pub fn reshape_map(alloc: Global, from: Shape, to: Shape, by_columns: bool) -> Result<Places, ShapeFault>
+pub fn reshape_map(
+    alloc: Global,
+    from: Shape,
+    to: Shape,
+    by_columns: bool,
+) -> Result<Places, ShapeFault>
     ensures ok { IfOk result (IsReshape by_columns (sides_of from) (sides_of to)) }
     ensures permutation { IfOk result (IsPermutation (places_below (entries_of (sides_of from)))) }
     ensures within { IfOk result (All (λ p. p < entries_of (sides_of from))) }
@@ -30,7 +34,9 @@ pub fn reshape_map(alloc: Global, from: Shape, to: Shape, by_columns: bool) -> R
     }
     let mut places = Vec::with_capacity(alloc, size as usize).map_err(|_| ShapeFault::Memory)?;
     for k in 0..size {
-        places.push(source(from, to, by_columns, k)).map_err(|_| ShapeFault::Memory)?;
+        places
+            .push(source(from, to, by_columns, k))
+            .map_err(|_| ShapeFault::Memory)?;
     }
     Ok(Places::from_vec(places))
 }

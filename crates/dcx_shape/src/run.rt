@@ -1,0 +1,43 @@
+//! Runs of places at equal steps: what a pick takes of one side.
+ghost use Rattle.std.specs.Prelude.{◌<◌, ℕ, pos, ◌+ℤ◌, ◌*ℤ◌};
+ghost use Rattle.std.specs.Int.{w32, FitsUnsigned};
+
+use crate::fault::ShapeFault;
+use crate::places::Places;
+use std::alloc::Global;
+
+/// So many places from the first on, each a step from the one before.
+#[derive(Clone, Copy)]
+pub struct Run {
+    pub first: u32,
+    pub step: i64,
+    pub count: u32,
+    ghost fits: { (k : ℕ) → k < count → FitsUnsigned w32 (pos first +ℤ pos k *ℤ step) },
+}
+
+impl Run {
+    ghost use Rattle.std.specs.Prelude.{◌≡◌, ◌<◌, IfOk, IsOkUnless};
+    ghost use Rattle.dcx_shape.specs.Run.{run_place, places_of};
+
+    /// Place `k` of the run.
+    pub fn place(&self, k: u32) -> u32
+        requires { k < self.now.count }
+        ensures { result ≡ run_place self.now k }
+    {
+        (self.first as i64 + k as i64 * self.step) as u32
+    }
+
+    /// The places of the run, in order.
+    pub fn places(&self, alloc: Global) -> Result<Places, ShapeFault>
+        ensures ok { IfOk result (λ places. places ≡ places_of self.now) }
+        ensures fault { IsOkUnless result ShapeFault.Memory }
+    {
+        let mut places = Vec::with_capacity(alloc, self.count as usize).map_err(
+            |_| ShapeFault::Memory,
+        )?;
+        for k in 0..self.count {
+            places.push(self.place(k)).map_err(|_| ShapeFault::Memory)?;
+        }
+        Ok(Places::from_vec(places))
+    }
+}
