@@ -6,3 +6,4 @@ pub mod Product
 pub mod Reshape
 pub mod Slice
 pub mod Run
+pub mod Index

@@ -4,6 +4,7 @@
 mod bytes;
 mod combine;
 mod fault;
+mod index;
 mod name;
 mod place;
 mod places;
@@ -15,6 +16,7 @@ mod slice;
 pub use bytes::Bytes;
 pub use combine::{broadcast, matmul_shape};
 pub use fault::ShapeFault;
+pub use index::Pick;
 pub use name::Name;
 pub use place::Place;
 pub use places::Places;

@@ -16,8 +16,19 @@ pub struct Run {
 }
 
 impl Run {
-    ghost use Rattle.std.specs.Prelude.{◌≡◌, ◌<◌, IfOk, IsOkUnless};
+    ghost use Rattle.std.specs.Prelude.{◌≡◌, ◌<◌, [], ◌∷◌, IfOk, IsOkUnless};
     ghost use Rattle.dcx_shape.specs.Run.{run_place, places_of};
+
+    /// The run of one place.
+    pub fn one(place: u32) -> Run
+        ensures { places_of result ≡ place ∷ [] }
+    {
+        Run {
+            first: place,
+            step: 1,
+            count: 1,
+        }
+    }
 
     /// Place `k` of the run.
     pub fn place(&self, k: u32) -> u32
