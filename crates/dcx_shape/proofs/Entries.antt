@@ -13,7 +13,7 @@ entries_are (Vector n) = omega arith
 entries_are (Matrix m n) = refl
 
 -- a factor of a product above 0
-factor_pos : (k m n : ℕ) → k < m * n → (0 < m) × (0 < n)
+pub factor_pos : (k m n : ℕ) → k < m * n → (0 < m) × (0 < n)
 factor_pos k zero n h = absurd (omega arith)
 factor_pos k (suc m) zero h = absurd (omega arith)
 factor_pos k (suc m) (suc n) h = (omega arith, omega arith)

@@ -4,3 +4,4 @@ pub mod Reshapes
 pub mod Permutations
 pub mod Slices
 pub mod Faults
+pub mod Indices

@@ -1,5 +1,5 @@
 -- Slices: how many places one has, and where they lie.
-use Rattle.std.proofs.Common.{◌≡◌, ◌≢◌, ℕ, zero, suc, ◌+◌, ◌-◌, ◌*◌, ◌/◌, ◌%◌, ◌<◌, ◌≤◌, ◌^◌, min, Bool, true, false, List, [], ◌∷◌, length, get_or, Option, Some, None, refl, sym, ◌∙◌, ap, subst, arith, zero-add, zero-mul, lt_of_mul-lt-mul_right, le_antisymm, inl, inr}
+use Rattle.std.proofs.Common.{◌≡◌, ◌≢◌, ℕ, zero, suc, ◌+◌, ◌-◌, ◌*◌, ◌/◌, ◌%◌, ◌<◌, ◌≤◌, ◌^◌, min, Bool, true, false, List, [], ◌∷◌, length, get_or, Option, Some, None, refl, sym, ◌∙◌, ap, subst, arith, zero-add, zero-mul, mul-suc, lt_of_mul-lt-mul_right, le_antisymm, inl, inr}
 use Rattle.std.specs.Prelude.{ℤ, pos, negsuc, neg_ℤ, ◌+ℤ◌, ◌-ℤ◌, ◌*ℤ◌, ◌≤ℤ◌, ◌<ℤ◌, ◌↔◌, unsigned_abs}
 use Rattle.std.specs.Int.{w32, FitsUnsigned, div_ceil, int_max, int_min}
 use Rattle.std.proofs.lemmas.List.FromFn.{length-map-range_with_len, get_or-map-range_with_len}
@@ -131,3 +131,25 @@ slice_shorter n s xs ys r t = elim (cases_lt (length ys) (length xs)) [ inl h �
 
 pub slice_length : (n : ℕ) (s : Slice) (xs ys : List ℕ) → IsSlice n s xs → IsSlice n s ys → length xs ≡ length ys
 slice_length n s xs ys r t = le_antisymm (slice_shorter n s xs ys r t) (slice_shorter n s ys xs t r)
+
+-- a slice has at most as many places as the side
+most_places : (n : ℕ) (step : ℤ) (start : Option ℤ) (k : ℕ) → step ≢ pos 0 → (pos 0 ≤ℤ (start_for n step start +ℤ pos k *ℤ step)) → ((start_for n step start +ℤ pos k *ℤ step) <ℤ pos n) → k < n
+most_places n (pos zero) start k ne low high = absurd (ne refl)
+most_places n (pos (suc s)) start k ne low high =
+    let first : (pos 0 ≤ℤ start_for n (pos (suc s)) start) × (start_for n (pos (suc s)) start ≤ℤ pos n) = end_within n (pos 0) (pos n) (pos 0) start (omega (arith, ints)) (omega (arith, ints)) (omega (arith, ints)) in
+    omega (arith, ints, mul-suc k s)
+most_places n (negsuc s) start k ne low high =
+    let first : (negsuc 0 ≤ℤ start_for n (negsuc s) start) × (start_for n (negsuc s) start ≤ℤ (pos n -ℤ pos 1)) = end_within n (negsuc 0) (pos n -ℤ pos 1) (pos n -ℤ pos 1) start (omega (arith, ints)) (omega (arith, ints)) (omega (arith, ints)) in
+    omega (arith, ints, mul-suc k s)
+
+pub slice_most : (n : ℕ) (s : Slice) (places : List ℕ) → s.step ≢ pos 0 → IsSlice n s places → length places ≤ n
+slice_most n s [] ne r = omega arith
+slice_most n s (p ∷ places) ne r =
+    let in' = slice_within n s (length places) ne ((r.some (length places)).0 (omega arith)) in
+    most_places n s.step s.start (length places) ne in'.0 in'.1
+
+-- a bound on the places of a run
+pub run_below : (first : ℕ) (step : ℤ) (count bound k : ℕ) → All (λ p. p < bound) (places_from first step count) → k < count → place_from first step k < bound
+run_below first step count bound k h b =
+    let at : get_or (places_from first step count) k 0 < bound = h k 0 (omega (arith, b, length-places_from first step count)) in
+    rw (get_or-places_from first step count k 0 b) at at

@@ -49,16 +49,24 @@ kept_sides (At i) m (Range s) n = Vector n
 kept_sides (Range s) m (At j) n = Vector m
 kept_sides (Range s) m (Range t) n = Matrix m n
 
--- an index gives these sides and places: entry (i, j) is the entry in the i-th row and the j-th column that are taken
-pub record IsIndex (from : Sides) (picks : List Pick) (to : Sides) (places : List ℕ) : Type 0 where
+-- the picks are no more than the sides, and take these rows and columns
+pub record TakesBoth (from : Sides) (picks : List Pick) (rows columns : List ℕ) : Type 0 where
   pub few : length picks ≤ rank_of from
-  pub rows : List ℕ
-  pub columns : List ℕ
   pub takes_rows : Takes (rows_of from) (row_pick from picks) rows
   pub takes_columns : Takes (cols_of from) (column_pick from picks) columns
-  pub sides : to ≡ kept_sides (row_pick from picks) (length rows) (column_pick from picks) (length columns)
+
+-- the places of the entries in these rows and columns, row by row
+pub record IsCrossed (from : Sides) (rows columns : List ℕ) (places : List ℕ) : Type 0 where
   pub count : length places ≡ length rows * length columns
   pub entries : (i j : ℕ) → i < length rows → j < length columns → slice_index places (i * length columns + j) ≡ row_place from (slice_index rows i) (slice_index columns j)
+
+-- an index gives these sides and places: those of the rows and columns that the picks take
+pub record IsIndex (from : Sides) (picks : List Pick) (to : Sides) (places : List ℕ) : Type 0 where
+  pub rows : List ℕ
+  pub columns : List ℕ
+  pub takes : TakesBoth from picks rows columns
+  pub sides : to ≡ kept_sides (row_pick from picks) (length rows) (column_pick from picks) (length columns)
+  pub crossed : IsCrossed from rows columns places
 
 -- the picks are no more than the sides, and this is the fault of the first pick that has one
 pub record IsFirstFault (from : Sides) (picks : List Pick) (fault : ShapeFault) : Type 0 where
@@ -71,9 +79,3 @@ IsIndexFault from picks Clash = rank_of from < length picks
 IsIndexFault from picks OutOfRange = IsFirstFault from picks OutOfRange
 IsIndexFault from picks Empty = IsFirstFault from picks Empty
 IsIndexFault from picks Memory = ⊥
-
--- the picks take these rows and columns
-pub record TakesBoth (from : Sides) (picks : List Pick) (rows columns : List ℕ) : Type 0 where
-  pub few : length picks ≤ rank_of from
-  pub takes_rows : Takes (rows_of from) (row_pick from picks) rows
-  pub takes_columns : Takes (cols_of from) (column_pick from picks) columns

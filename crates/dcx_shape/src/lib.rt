@@ -16,7 +16,7 @@ mod slice;
 pub use bytes::Bytes;
 pub use combine::{broadcast, matmul_shape};
 pub use fault::ShapeFault;
-pub use index::Pick;
+pub use index::{Pick, index_map};
 pub use name::Name;
 pub use place::Place;
 pub use places::Places;
