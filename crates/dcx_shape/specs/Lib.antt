@@ -7,3 +7,4 @@ pub mod Reshape
 pub mod Slice
 pub mod Run
 pub mod Index
+pub mod Laws

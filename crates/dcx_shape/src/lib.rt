@@ -1,10 +1,14 @@
-//! What every crate speaks of: shapes of arrays, places in a script, names and bytes.
+//! What every crate speaks of: shapes of arrays, places in a script, names and bytes; and NumPy's rules of shapes:
+//! broadcasting, matrix products, slices, indices and reshapes.
+//!
+//! The rules stand in `specs/` as relations, and the calls are exact against them. `laws` says what follows from them.
 #![tactic(auto)]
 
 mod bytes;
 mod combine;
 mod fault;
 mod index;
+pub mod laws;
 mod name;
 mod place;
 mod places;
