@@ -5,3 +5,4 @@ pub mod Permutations
 pub mod Slices
 pub mod Faults
 pub mod Indices
+pub mod SliceLaws

@@ -1,11 +1,14 @@
 -- Reshapes: what their places are, that they are a permutation, and the way back.
-use Rattle.std.proofs.Common.{◌≡◌, ℕ, zero, suc, ◌+◌, ◌*◌, ◌/◌, ◌%◌, ◌<◌, ◌≤◌, Bool, true, false, List, length, get_or, refl, sym, ◌∙◌, ap, subst, arith}
+use Rattle.std.proofs.Common.{◌≡◌, ℕ, zero, suc, ◌+◌, ◌*◌, ◌/◌, ◌%◌, ◌<◌, ◌≤◌, Bool, true, false, List, length, get_or, refl, sym, ◌∙◌, ap, subst, arith, zero-add}
 use Rattle.std.specs.List.{All, Contains}
 use Rattle.std.specs.List.Sorted.{IsPermutation}
 use Rattle.dcx_shape.specs.declared.shape.Sides.{Sides}
 use Rattle.dcx_shape.specs.Sides.{rows_of, cols_of, entries_of}
 use Rattle.dcx_shape.specs.Places.{HasEntry, row_place, column_place, place_of, places_below}
 use Rattle.dcx_shape.specs.Reshape.{IsReshape, IsSource}
+use Rattle.dcx_shape.specs.Laws.{HoldsForReshapes}
+use Rattle.std.proofs.lemmas.Grind.{same_number_lists}
+use Rattle.std.proofs.lemmas.List.FromFn.{length-range_with_len, get_or-range_with_len}
 use Rattle.std.proofs.lemmas.List.{get_or_default}
 use Rattle.dcx_shape.proofs.Entries.{Entry, entry_at, entry_along, place_below, same_entry}
 use Rattle.dcx_shape.proofs.Permutations.{permutation_from_each}
@@ -63,3 +66,24 @@ reshape_back c from to there back r s k h =
     let t : Entry c to (place_of c from (k / cols_of from) (k % cols_of from)) = entry_at c to _ (subst (λ n. place_of c from (k / cols_of from) (k % cols_of from) < n) r.sizes (place_below c from _ _ e.0)) in
     let way : get_or back k 0 ≡ row_place to t.row t.column = ap (λ x. get_or back x 0) e.1 ∙ s.entries _ _ _ _ t.entry e.0 (sym t.is_place) in
     ap (λ x. get_or there x 0) way ∙ r.entries _ _ _ _ e.0 t.entry t.is_place ∙ sym e.1
+
+-- ---- laws
+
+pub reshape_one : (c : Bool) (from to : Sides) (xs ys : List ℕ) → IsReshape c from to xs → IsReshape c from to ys → xs ≡ ys
+reshape_one c from to xs ys r s =
+    same_number_lists xs ys (r.count ∙ sym s.count) (λ k h.
+      let e : HasEntry to (k / cols_of to) (k % cols_of to) × (k ≡ row_place to (k / cols_of to) (k % cols_of to)) = entry_along to k (omega (arith, h, r.count)) in
+      let f : Entry c from (place_of c to (k / cols_of to) (k % cols_of to)) = entry_at c from _ (subst (λ n. place_of c to (k / cols_of to) (k % cols_of to) < n) (sym r.sizes) (place_below c to _ _ e.0)) in
+      let x : get_or xs k 0 ≡ row_place from f.row f.column = ap (λ q. get_or xs q 0) e.1 ∙ r.entries _ _ _ _ f.entry e.0 (sym f.is_place) in
+      let y : get_or ys k 0 ≡ row_place from f.row f.column = ap (λ q. get_or ys q 0) e.1 ∙ s.entries _ _ _ _ f.entry e.0 (sym f.is_place) in
+      x ∙ sym y)
+
+-- by rows no entry moves
+reshape_rows : (from to : Sides) (xs : List ℕ) → IsReshape false from to xs → xs ≡ places_below (entries_of to)
+reshape_rows from to xs r =
+    reshape_one false from to xs (places_below (entries_of to)) r
+      (reshape_from_sources false from to (places_below (entries_of to)) r.sizes (length-range_with_len 0 (entries_of to)) (λ k h.
+        rw (get_or-range_with_len 0 (entries_of to) k 0 h, zero-add k) (same_place false from to k refl r.sizes h)))
+
+pub reshapes_hold : HoldsForReshapes
+reshapes_hold = record { one = reshape_one; permutes = reshape_permutes; back = reshape_back; rows = reshape_rows }
