@@ -6,3 +6,4 @@ pub mod Slices
 pub mod Faults
 pub mod Indices
 pub mod SliceLaws
+pub mod IndexLaws
