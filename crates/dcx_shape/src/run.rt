@@ -8,10 +8,10 @@ use std::alloc::Global;
 
 /// So many places from the first on, each a step from the one before.
 #[derive(Clone, Copy)]
-pub struct Run {
-    pub first: u32,
-    pub step: i64,
-    pub count: u32,
+pub(crate) struct Run {
+    pub(crate) first: u32,
+    pub(crate) step: i64,
+    pub(crate) count: u32,
     ghost fits: { (k : ℕ) → k < count → FitsUnsigned w32 (pos first +ℤ pos k *ℤ step) },
 }
 
@@ -20,7 +20,7 @@ impl Run {
     ghost use Rattle.dcx_shape.specs.Run.{run_place, places_of};
 
     /// The run of one place.
-    pub fn one(place: u32) -> Run
+    pub(crate) fn one(place: u32) -> Run
         ensures { places_of result ≡ place ∷ [] }
     {
         Run {
@@ -31,7 +31,7 @@ impl Run {
     }
 
     /// Place `k` of the run.
-    pub fn place(&self, k: u32) -> u32
+    pub(crate) fn place(&self, k: u32) -> u32
         requires { k < self.now.count }
         ensures { result ≡ run_place self.now k }
     {
@@ -39,7 +39,7 @@ impl Run {
     }
 
     /// The places of the run, in order.
-    pub fn places(&self, alloc: Global) -> Result<Places, ShapeFault>
+    pub(crate) fn places(&self, alloc: Global) -> Result<Places, ShapeFault>
         ensures ok { IfOk result (λ places. places ≡ places_of self.now) }
         ensures fault { IsOkUnless result ShapeFault.Memory }
     {

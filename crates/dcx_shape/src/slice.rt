@@ -37,7 +37,7 @@ pub fn slice_places(alloc: Global, size: u32, slice: Slice) -> Result<Places, Sh
 }
 
 /// The places that a slice takes, as a run.
-pub fn slice_run(size: u32, slice: Slice) -> Run
+pub(crate) fn slice_run(size: u32, slice: Slice) -> Run
     requires { slice.step ≢ pos 0 }
     ensures { IsSlice size slice (places_of result) }
 {
@@ -90,7 +90,7 @@ fn slice_end(size: u32, low: i64, high: i64, default: i64, end: Option<i64>) -> 
 }
 
 /// A whole number as it counts on a side: from the end where it is negative.
-pub fn count_on(size: u32, i: i64) -> i64
+pub(crate) fn count_on(size: u32, i: i64) -> i64
     ensures { result ≡ counted size i }
 {
     if i < 0 { i + size as i64 } else { i }
