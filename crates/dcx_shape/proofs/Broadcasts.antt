@@ -1,6 +1,6 @@
 -- Broadcasting by rows and columns.
-use Rattle.std.proofs.Common.{◌≡◌, ℕ, zero, suc, max, Option, Some, None, IsSome, false, true, refl, sym, ◌∙◌, ap, arith, inl, inr, mul-pos, ◌⊎◌, ◌<◌, ◌≤◌}
-use Rattle.std.specs.Prelude.{IfSome, IfNone, ◌↔◌}
+use Rattle.std.proofs.Common.{◌≡◌, ℕ, zero, suc, max, Option, None, IsSome, false, true, refl, sym, ◌∙◌, ap, arith, inl, inr, mul-pos, ◌⊎◌, ◌<◌, ◌≤◌}
+use Rattle.std.specs.Prelude.{◌↔◌}
 use Rattle.dcx_shape.specs.declared.shape.Sides.{Sides}
 use Rattle.dcx_shape.specs.declared.shape.Sides.TheVariants.{Scalar, Vector, Matrix}
 use Rattle.std.proofs.lemmas.Bool.{false≢true}
@@ -149,10 +149,11 @@ broadcast_regroups a b c d p q r (x, first, second) =
     let outer : IsBroadcast a y.0 d = record {
       rank = omega (arith, second.is.rank, first.is.rank, y.1.is_rank);
       sides = joined a y.0 d (rw y.1.is_columns all_columns) (rw y.1.is_rows all_rows);
-    } in
-    ( y.0
-    , record { is = inner; few = fewer y.0 d (omega (arith, y.1.is_rows)) (omega (arith, y.1.is_columns)) (omega (arith, y.1.is_rows, all_rows.greater)) (omega (arith, y.1.is_columns, all_columns.greater)) second.few }
-    , record { is = outer; few = second.few } )
+    } in (
+      y.0,
+      record { is = inner; few = fewer y.0 d (omega (arith, y.1.is_rows)) (omega (arith, y.1.is_columns)) (omega (arith, y.1.is_rows, all_rows.greater)) (omega (arith, y.1.is_columns, all_columns.greater)) second.few },
+      record { is = outer; few = second.few },
+    )
 
 turned : (a b c : Sides) → Broadcasts a b c → Broadcasts b a c
 turned a b c h = record { is = broadcast_commutes a b c h.is; few = h.few }
@@ -161,9 +162,10 @@ pub broadcasts_hold : HoldsForBroadcasts
 broadcasts_hold = record {
   one = broadcast_one;
   commutes = broadcast_commutes;
-  associates = λ a b c d p q r.
-    ( broadcast_regroups a b c d p q r
-    , (λ (y, first, second).
+  associates = λ a b c d p q r. (
+    broadcast_regroups a b c d p q r,
+    (λ (y, first, second).
         let other = broadcast_regroups c b a d r q p (y, turned b c y first, turned a y d second) in
-        (other.0, turned b a other.0 other.1, turned c other.0 d other.2)) );
+        (other.0, turned b a other.0 other.1, turned c other.0 d other.2)),
+  );
 }

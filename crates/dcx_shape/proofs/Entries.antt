@@ -1,5 +1,5 @@
 -- Entries and their places: each place is that of one entry.
-use Rattle.std.proofs.Common.{◌≡◌, ℕ, zero, suc, ◌+◌, ◌*◌, ◌/◌, ◌%◌, ◌<◌, ◌≤◌, Bool, true, false, refl, sym, ◌∙◌, ap, arith, mul_comm}
+use Rattle.std.proofs.Common.{◌≡◌, ℕ, zero, suc, ◌+◌, ◌*◌, ◌/◌, ◌%◌, ◌<◌, Bool, true, false, refl, sym, arith, mul_comm}
 use Rattle.std.proofs.lemmas.Nat.{div-add-mod', div_below, mod_below, mul-add-lt, same_from_place}
 use Rattle.dcx_shape.specs.declared.shape.Sides.{Sides}
 use Rattle.dcx_shape.specs.declared.shape.Sides.TheVariants.{Scalar, Vector, Matrix}
@@ -19,7 +19,7 @@ factor_pos k (suc m) zero h = absurd (omega arith)
 factor_pos k (suc m) (suc n) h = (omega arith, omega arith)
 
 -- the entry at a place along the rows
-pub entry_along : (s : Sides) (k : ℕ) → k < entries_of s → HasEntry s (k / cols_of s) (k % cols_of s) × (k ≡ row_place s (k / cols_of s) (k % cols_of s))
+entry_along : (s : Sides) (k : ℕ) → k < entries_of s → HasEntry s (k / cols_of s) (k % cols_of s) × (k ≡ row_place s (k / cols_of s) (k % cols_of s))
 entry_along s k h =
     let below : k < rows_of s * cols_of s = omega (arith, h, entries_are s) in
     let wide : 0 < cols_of s = (factor_pos k (rows_of s) (cols_of s) below).1 in (
@@ -28,7 +28,7 @@ entry_along s k h =
     )
 
 -- the entry at a place down the columns
-pub entry_down : (s : Sides) (k : ℕ) → k < entries_of s → HasEntry s (k % rows_of s) (k / rows_of s) × (k ≡ column_place s (k % rows_of s) (k / rows_of s))
+entry_down : (s : Sides) (k : ℕ) → k < entries_of s → HasEntry s (k % rows_of s) (k / rows_of s) × (k ≡ column_place s (k % rows_of s) (k / rows_of s))
 entry_down s k h =
     let below : k < cols_of s * rows_of s = omega (arith, h, entries_are s, mul_comm (rows_of s) (cols_of s)) in
     let high : 0 < rows_of s = (factor_pos k (cols_of s) (rows_of s) below).1 in (

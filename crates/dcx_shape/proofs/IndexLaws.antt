@@ -1,6 +1,6 @@
 -- The laws of indices.
-use Rattle.std.proofs.Common.{◌≡◌, ℕ, zero, suc, ◌+◌, ◌-◌, ◌*◌, ◌/◌, ◌%◌, ◌<◌, ◌≤◌, List, [], ◌∷◌, length, get_or, refl, sym, ◌∙◌, ap, subst, arith, inl, inr, zero-add}
-use Rattle.std.specs.Prelude.{ℤ, pos}
+use Rattle.std.proofs.Common.{◌≡◌, ℕ, ◌+◌, ◌*◌, ◌/◌, ◌%◌, ◌<◌, List, [], ◌∷◌, length, get_or, refl, sym, ◌∙◌, ap, subst, arith, inl, inr}
+use Rattle.std.specs.Prelude.{pos}
 use Rattle.std.specs.List.{All}
 use Rattle.std.proofs.lemmas.Bool.{cases_lt}
 use Rattle.std.proofs.lemmas.List.{get_or_past}
@@ -13,8 +13,7 @@ use Rattle.dcx_shape.specs.declared.index.Pick.{Pick}
 use Rattle.dcx_shape.specs.declared.index.Pick.TheVariants.{At, Range}
 use Rattle.dcx_shape.specs.Sides.{rows_of, cols_of, entries_of}
 use Rattle.dcx_shape.specs.Places.{row_place, places_below}
-use Rattle.dcx_shape.specs.Slice.{IsSlice}
-use Rattle.dcx_shape.specs.Index.{whole_slice, Takes, row_pick, column_pick, kept_sides, TakesBoth, IsCrossed, IsIndex}
+use Rattle.dcx_shape.specs.Index.{whole_slice, Takes, row_pick, column_pick, kept_sides, IsCrossed, IsIndex}
 use Rattle.dcx_shape.specs.Laws.{HoldsForIndices}
 use Rattle.dcx_shape.proofs.Entries.{entries_are, factor_pos}
 use Rattle.dcx_shape.proofs.SliceLaws.{slice_one, whole_is}
@@ -32,9 +31,10 @@ crossed_one from rows columns xs ys c d =
 index_one : (from to other : Sides) (picks : List Pick) (xs ys : List ℕ) → IsIndex from picks to xs → IsIndex from picks other ys → (to ≡ other) × (xs ≡ ys)
 index_one from to other picks xs ys x y =
     let rows : x.rows ≡ y.rows = takes_one _ (row_pick from picks) x.rows y.rows x.takes.takes_rows y.takes.takes_rows in
-    let columns : x.columns ≡ y.columns = takes_one _ (column_pick from picks) x.columns y.columns x.takes.takes_columns y.takes.takes_columns in
-    ( x.sides ∙ rw (rows, columns) (sym y.sides)
-    , crossed_one from x.rows x.columns xs ys x.crossed (rw (rows, columns) y.crossed) )
+    let columns : x.columns ≡ y.columns = takes_one _ (column_pick from picks) x.columns y.columns x.takes.takes_columns y.takes.takes_columns in (
+      x.sides ∙ rw (rows, columns) (sym y.sides),
+      crossed_one from x.rows x.columns xs ys x.crossed (rw (rows, columns) y.crossed),
+    )
 
 -- ---- whole slices
 
@@ -67,20 +67,21 @@ crossed_whole : (from : Sides) (xs : List ℕ) → IsCrossed from (places_below 
 crossed_whole from xs c =
     let size : length xs ≡ rows_of from * cols_of from = rw (length-range_with_len 0 (rows_of from), length-range_with_len 0 (cols_of from)) at c.count in
     same_number_lists xs (places_below (entries_of from)) (size ∙ sym (entries_are from) ∙ sym (length-range_with_len 0 (entries_of from))) (λ k h.
-      let below : k < rows_of from * cols_of from = omega (arith, h, size) in
-      let wide : 0 < cols_of from = (factor_pos k (rows_of from) (cols_of from) below).1 in
-      let here : get_or xs k 0 ≡ row_place from (get_or (places_below (rows_of from)) (k / cols_of from) 0) (get_or (places_below (cols_of from)) (k % cols_of from) 0) = rw (length-range_with_len 0 (cols_of from)) at (crossed_at from (places_below (rows_of from)) (places_below (cols_of from)) xs c k h) in
-      let row = get_or-range_with_len 0 (rows_of from) (k / cols_of from) 0 (div_below k (cols_of from) (rows_of from) wide below) in
-      let column = get_or-range_with_len 0 (cols_of from) (k % cols_of from) 0 (mod_below k (cols_of from) wide) in
-      let at : get_or (places_below (entries_of from)) k 0 ≡ 0 + k = get_or-range_with_len 0 (entries_of from) k 0 (omega (arith, below, entries_are from)) in
-      here ∙ rw (row, column, at) (omega (arith, div-add-mod' k (cols_of from))))
+    let below : k < rows_of from * cols_of from = omega (arith, h, size) in
+    let wide : 0 < cols_of from = (factor_pos k (rows_of from) (cols_of from) below).1 in
+    let here : get_or xs k 0 ≡ row_place from (get_or (places_below (rows_of from)) (k / cols_of from) 0) (get_or (places_below (cols_of from)) (k % cols_of from) 0) = rw (length-range_with_len 0 (cols_of from)) at (crossed_at from (places_below (rows_of from)) (places_below (cols_of from)) xs c k h) in
+    let row = get_or-range_with_len 0 (rows_of from) (k / cols_of from) 0 (div_below k (cols_of from) (rows_of from) wide below) in
+    let column = get_or-range_with_len 0 (cols_of from) (k % cols_of from) 0 (mod_below k (cols_of from) wide) in
+    let at : get_or (places_below (entries_of from)) k 0 ≡ 0 + k = get_or-range_with_len 0 (entries_of from) k 0 (omega (arith, below, entries_are from)) in
+    here ∙ rw (row, column, at) (omega (arith, div-add-mod' k (cols_of from))))
 
 index_whole : (from to : Sides) (picks : List Pick) (xs : List ℕ) → All (λ p. p ≡ Range whole_slice) picks → IsIndex from picks to xs → (to ≡ from) × (xs ≡ places_below (entries_of from))
 index_whole from to picks xs h x =
     let rows : x.rows ≡ places_below (rows_of from) = whole_rows from picks x.rows h x.takes.takes_rows in
-    let columns : x.columns ≡ places_below (cols_of from) = whole_columns from picks x.columns h x.takes.takes_columns in
-    ( x.sides ∙ rw (rows, columns, length-range_with_len 0 (rows_of from), length-range_with_len 0 (cols_of from)) (whole_sides from picks h)
-    , crossed_whole from xs (rw (rows, columns) at x.crossed) )
+    let columns : x.columns ≡ places_below (cols_of from) = whole_columns from picks x.columns h x.takes.takes_columns in (
+      x.sides ∙ rw (rows, columns, length-range_with_len 0 (rows_of from), length-range_with_len 0 (cols_of from)) (whole_sides from picks h),
+      crossed_whole from xs (rw (rows, columns) at x.crossed),
+    )
 
 pub indices_hold : HoldsForIndices
 indices_hold = record { one = index_one; whole = index_whole }

@@ -1,21 +1,19 @@
 -- Indices: how much the picks take, and that they have one fault at most.
-use Rattle.std.proofs.Common.{◌≡◌, ◌≢◌, ℕ, zero, suc, ◌+◌, ◌-◌, ◌*◌, ◌/◌, ◌%◌, ◌<◌, ◌≤◌, List, [], ◌∷◌, length, get_or, Option, Some, None, Result, Ok, Err, refl, sym, ◌∙◌, ap, subst, arith, inl, inr, mul_comm, mul-pos, Bool, true, false}
-use Rattle.std.specs.Prelude.{ℤ, pos, negsuc, ◌+ℤ◌, ◌-ℤ◌, ◌*ℤ◌, ◌≤ℤ◌, ◌<ℤ◌, ◌↔◌}
+use Rattle.std.proofs.Common.{◌≡◌, ℕ, zero, suc, ◌+◌, ◌*◌, ◌/◌, ◌%◌, ◌<◌, ◌≤◌, List, [], ◌∷◌, length, get_or, Result, Err, refl, sym, ◌∙◌, ap, arith, inl, inr, mul_comm, mul-pos, false}
+use Rattle.std.specs.Prelude.{◌↔◌}
 use Rattle.std.specs.List.{All}
 use Rattle.std.proofs.lemmas.Int.{ints}
 use Rattle.std.proofs.lemmas.Nat.{div-add-mod', div_below, mod_below, mul-le, mul-add-lt, div-mul-add, mod-mul-add}
 use Rattle.std.proofs.lemmas.List.{get_or_default}
 use Rattle.dcx_shape.specs.declared.shape.Sides.{Sides}
 use Rattle.dcx_shape.specs.declared.shape.Sides.TheVariants.{Scalar, Vector, Matrix}
-use Rattle.dcx_shape.specs.declared.slice.Slice.{Slice}
 use Rattle.dcx_shape.specs.declared.index.Pick.{Pick}
 use Rattle.dcx_shape.specs.declared.index.Pick.TheVariants.{At, Range}
 use Rattle.dcx_shape.specs.declared.fault.ShapeFault.{ShapeFault}
 use Rattle.dcx_shape.specs.declared.fault.ShapeFault.TheVariants.{Clash, Range as OutOfRange, Empty, Memory}
 use Rattle.dcx_shape.specs.Sides.{HasFewEntries, rank_of, rows_of, cols_of, entries_of}
-use Rattle.dcx_shape.specs.Places.{HasEntry, row_place}
-use Rattle.dcx_shape.specs.Slice.{counted, start_for, stop_for, slice_place, IsSlice}
-use Rattle.dcx_shape.specs.Index.{HasStep, whole_slice, Takes, IsPickFault, row_pick, column_pick, kept_sides, TakesBoth, IsCrossed, IsIndex, IsFirstFault, IsIndexFault}
+use Rattle.dcx_shape.specs.Places.{row_place}
+use Rattle.dcx_shape.specs.Index.{HasStep, Takes, IsPickFault, row_pick, column_pick, kept_sides, TakesBoth, IsCrossed, IsIndex, IsFirstFault, IsIndexFault}
 use Rattle.dcx_shape.proofs.Entries.{entries_are, factor_pos, place_below}
 use Rattle.dcx_shape.specs.declared.run.Run.{Run}
 use Rattle.dcx_shape.specs.Run.{run_place, places_of}

@@ -1,34 +1,34 @@
 -- Reshapes: what their places are, that they are a permutation, and the way back.
-use Rattle.std.proofs.Common.{◌≡◌, ℕ, zero, suc, ◌+◌, ◌*◌, ◌/◌, ◌%◌, ◌<◌, ◌≤◌, Bool, true, false, List, length, get_or, refl, sym, ◌∙◌, ap, subst, arith, zero-add}
-use Rattle.std.specs.List.{All, Contains}
+use Rattle.std.proofs.Common.{◌≡◌, ℕ, ◌<◌, Bool, true, false, List, length, get_or, refl, sym, ◌∙◌, ap, subst, arith, zero-add}
+use Rattle.std.specs.List.{Contains}
 use Rattle.std.specs.List.Sorted.{IsPermutation}
 use Rattle.dcx_shape.specs.declared.shape.Sides.{Sides}
-use Rattle.dcx_shape.specs.Sides.{rows_of, cols_of, entries_of}
-use Rattle.dcx_shape.specs.Places.{HasEntry, row_place, column_place, place_of, places_below}
+use Rattle.dcx_shape.specs.Sides.{entries_of}
+use Rattle.dcx_shape.specs.Places.{HasEntry, row_place, place_of, places_below}
 use Rattle.dcx_shape.specs.Reshape.{IsReshape, IsSource}
 use Rattle.dcx_shape.specs.Laws.{HoldsForReshapes}
 use Rattle.std.proofs.lemmas.Grind.{same_number_lists}
 use Rattle.std.proofs.lemmas.List.FromFn.{length-range_with_len, get_or-range_with_len}
 use Rattle.std.proofs.lemmas.List.{get_or_default}
-use Rattle.dcx_shape.proofs.Entries.{Entry, entry_at, entry_along, place_below, same_entry}
+use Rattle.dcx_shape.proofs.Entries.{Entry, entry_at, place_below, same_entry}
 use Rattle.dcx_shape.proofs.Permutations.{permutation_from_each}
 
 -- by rows entry k is entry k
 pub same_place : (c : Bool) (from to : Sides) (k : ℕ) → c ≡ false → entries_of from ≡ entries_of to → k < entries_of to → IsSource c from to k k
 same_place true from to k e sizes h = absurd (cc)
 same_place false from to k e sizes h =
-    let f : HasEntry from (k / cols_of from) (k % cols_of from) × (k ≡ row_place from (k / cols_of from) (k % cols_of from)) = entry_along from k (omega arith) in
-    let t : HasEntry to (k / cols_of to) (k % cols_of to) × (k ≡ row_place to (k / cols_of to) (k % cols_of to)) = entry_along to k h in
+    let f : Entry false from k = entry_at false from k (omega arith) in
+    let t : Entry false to k = entry_at false to k h in
     record {
-      row = k / cols_of from;
-      column = k % cols_of from;
-      to_row = k / cols_of to;
-      to_column = k % cols_of to;
-      entry = f.0;
-      to_entry = t.0;
-      same = sym f.1 ∙ t.1;
-      is_to = t.1;
-      is_from = f.1;
+      row = f.row;
+      column = f.column;
+      to_row = t.row;
+      to_column = t.column;
+      entry = f.entry;
+      to_entry = t.entry;
+      same = sym f.is_place ∙ t.is_place;
+      is_to = t.is_place;
+      is_from = f.is_place;
     }
 
 -- an entry of the source at the same place is the one that was found
@@ -47,43 +47,49 @@ reshape_from_sources c from to places sizes count each = record {
   entries = λ i j k l e f same. source_is c from to (row_place to k l) (get_or places (row_place to k l) 0) (each (row_place to k l) (place_below false to k l f)) i j k l e f same refl;
 }
 
+-- the entry of one array that has the same place as an entry of the other
+counterpart : (c : Bool) (from to : Sides) → entries_of from ≡ entries_of to → (i j : ℕ) → HasEntry from i j → Entry c to (place_of c from i j)
+counterpart c from to sizes i j e = entry_at c to (place_of c from i j) (subst (λ n. place_of c from i j < n) sizes (place_below c from i j e))
+
 -- each place of the source stands in a reshape
 reshape_contains : (c : Bool) (from to : Sides) (places : List ℕ) → IsReshape c from to places → (p : ℕ) → p < entries_of from → Contains places p
 reshape_contains c from to places r p h =
-    let e : HasEntry from (p / cols_of from) (p % cols_of from) × (p ≡ row_place from (p / cols_of from) (p % cols_of from)) = entry_along from p h in
-    let t : Entry c to (place_of c from (p / cols_of from) (p % cols_of from)) = entry_at c to _ (subst (λ n. place_of c from (p / cols_of from) (p % cols_of from) < n) r.sizes (place_below c from _ _ e.0)) in
+    let e : Entry false from p = entry_at false from p h in
+    let t : Entry c to (place_of c from e.row e.column) = counterpart c from to r.sizes e.row e.column e.entry in
     let below : row_place to t.row t.column < length places = omega (arith, r.count, place_below false to t.row t.column t.entry) in
-    (row_place to t.row t.column, below, get_or_default places _ p 0 below ∙ r.entries _ _ _ _ e.0 t.entry t.is_place ∙ sym e.1)
+    (row_place to t.row t.column, below, get_or_default places _ p 0 below ∙ r.entries _ _ _ _ e.entry t.entry t.is_place ∙ sym e.is_place)
 
 -- a reshape is a permutation of the places
 pub reshape_permutes : (c : Bool) (from to : Sides) (places : List ℕ) → IsReshape c from to places → IsPermutation (places_below (entries_of from)) places
 reshape_permutes c from to places r = permutation_from_each (entries_of from) places (r.count ∙ sym r.sizes) (reshape_contains c from to places r)
 
--- a reshape and the way back leave each place where it was
-pub reshape_back : (c : Bool) (from to : Sides) (there back : List ℕ) → IsReshape c from to there → IsReshape c to from back → (k : ℕ) → k < entries_of from → get_or there (get_or back k 0) 0 ≡ k
-reshape_back c from to there back r s k h =
-    let e : HasEntry from (k / cols_of from) (k % cols_of from) × (k ≡ row_place from (k / cols_of from) (k % cols_of from)) = entry_along from k h in
-    let t : Entry c to (place_of c from (k / cols_of from) (k % cols_of from)) = entry_at c to _ (subst (λ n. place_of c from (k / cols_of from) (k % cols_of from) < n) r.sizes (place_below c from _ _ e.0)) in
-    let way : get_or back k 0 ≡ row_place to t.row t.column = ap (λ x. get_or back x 0) e.1 ∙ s.entries _ _ _ _ t.entry e.0 (sym t.is_place) in
-    ap (λ x. get_or there x 0) way ∙ r.entries _ _ _ _ e.0 t.entry t.is_place ∙ sym e.1
-
 -- ---- laws
 
-pub reshape_one : (c : Bool) (from to : Sides) (xs ys : List ℕ) → IsReshape c from to xs → IsReshape c from to ys → xs ≡ ys
+-- a reshape and the way back leave each place where it was
+reshape_back : (c : Bool) (from to : Sides) (there back : List ℕ) → IsReshape c from to there → IsReshape c to from back → (k : ℕ) → k < entries_of from → get_or there (get_or back k 0) 0 ≡ k
+reshape_back c from to there back r s k h =
+    let e : Entry false from k = entry_at false from k h in
+    let t : Entry c to (place_of c from e.row e.column) = counterpart c from to r.sizes e.row e.column e.entry in
+    let way : get_or back k 0 ≡ row_place to t.row t.column = ap (λ x. get_or back x 0) e.is_place ∙ s.entries _ _ _ _ t.entry e.entry (sym t.is_place) in
+    ap (λ x. get_or there x 0) way ∙ r.entries _ _ _ _ e.entry t.entry t.is_place ∙ sym e.is_place
+
+-- place k of a reshape, by the entry that has the same place
+reshape_at : (c : Bool) (from to : Sides) (places : List ℕ) → IsReshape c from to places → (k : ℕ) (e : Entry false to k) (f : Entry c from (place_of c to e.row e.column)) → get_or places k 0 ≡ row_place from f.row f.column
+reshape_at c from to places r k e f = ap (λ q. get_or places q 0) e.is_place ∙ r.entries _ _ _ _ f.entry e.entry (sym f.is_place)
+
+reshape_one : (c : Bool) (from to : Sides) (xs ys : List ℕ) → IsReshape c from to xs → IsReshape c from to ys → xs ≡ ys
 reshape_one c from to xs ys r s =
     same_number_lists xs ys (r.count ∙ sym s.count) (λ k h.
-      let e : HasEntry to (k / cols_of to) (k % cols_of to) × (k ≡ row_place to (k / cols_of to) (k % cols_of to)) = entry_along to k (omega (arith, h, r.count)) in
-      let f : Entry c from (place_of c to (k / cols_of to) (k % cols_of to)) = entry_at c from _ (subst (λ n. place_of c to (k / cols_of to) (k % cols_of to) < n) (sym r.sizes) (place_below c to _ _ e.0)) in
-      let x : get_or xs k 0 ≡ row_place from f.row f.column = ap (λ q. get_or xs q 0) e.1 ∙ r.entries _ _ _ _ f.entry e.0 (sym f.is_place) in
-      let y : get_or ys k 0 ≡ row_place from f.row f.column = ap (λ q. get_or ys q 0) e.1 ∙ s.entries _ _ _ _ f.entry e.0 (sym f.is_place) in
-      x ∙ sym y)
+    let e : Entry false to k = entry_at false to k (omega (arith, h, r.count)) in
+    let f : Entry c from (place_of c to e.row e.column) = counterpart c to from (sym r.sizes) e.row e.column e.entry in
+    reshape_at c from to xs r k e f ∙ sym (reshape_at c from to ys s k e f))
 
 -- by rows no entry moves
 reshape_rows : (from to : Sides) (xs : List ℕ) → IsReshape false from to xs → xs ≡ places_below (entries_of to)
 reshape_rows from to xs r =
     reshape_one false from to xs (places_below (entries_of to)) r
-      (reshape_from_sources false from to (places_below (entries_of to)) r.sizes (length-range_with_len 0 (entries_of to)) (λ k h.
-        rw (get_or-range_with_len 0 (entries_of to) k 0 h, zero-add k) (same_place false from to k refl r.sizes h)))
+    (reshape_from_sources false from to (places_below (entries_of to)) r.sizes (length-range_with_len 0 (entries_of to)) (λ k h.
+    rw (get_or-range_with_len 0 (entries_of to) k 0 h, zero-add k) (same_place false from to k refl r.sizes h)))
 
 pub reshapes_hold : HoldsForReshapes
 reshapes_hold = record { one = reshape_one; permutes = reshape_permutes; back = reshape_back; rows = reshape_rows }

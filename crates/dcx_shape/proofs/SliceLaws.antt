@@ -1,15 +1,14 @@
 -- The laws of slices.
-use Rattle.std.proofs.Common.{◌≡◌, ◌≢◌, ℕ, zero, suc, ◌+◌, ◌-◌, ◌*◌, ◌<◌, ◌≤◌, List, [], ◌∷◌, length, get_or, Option, Some, None, refl, sym, ◌∙◌, ap, subst, arith, add-mul}
-use Rattle.std.specs.Prelude.{ℤ, pos, negsuc, neg_ℤ, ◌+ℤ◌, ◌-ℤ◌, ◌*ℤ◌, ◌≤ℤ◌, ◌<ℤ◌, ◌↔◌, reverse}
-use Rattle.std.specs.List.{range_with_len}
+use Rattle.std.proofs.Common.{◌≡◌, ℕ, suc, ◌+◌, ◌-◌, ◌<◌, List, length, get_or, arith, add-mul}
+use Rattle.std.specs.Prelude.{ℤ, pos, negsuc, ◌+ℤ◌, ◌*ℤ◌, ◌<ℤ◌, reverse}
 use Rattle.std.specs.List.Sorted.{IsStrictlyIncreasing}
-use Rattle.std.proofs.lemmas.Int.{ints, clamps}
+use Rattle.std.proofs.lemmas.Int.{ints}
 use Rattle.std.proofs.lemmas.List.{length-reverse, get_or-reverse}
 use Rattle.std.proofs.lemmas.List.FromFn.{length-range_with_len, get_or-range_with_len}
 use Rattle.std.proofs.lemmas.Grind.{same_number_lists}
 use Rattle.dcx_shape.specs.declared.slice.Slice.{Slice}
 use Rattle.dcx_shape.specs.Places.{places_below}
-use Rattle.dcx_shape.specs.Slice.{start_for, stop_for, IsBefore, slice_place, IsSlice}
+use Rattle.dcx_shape.specs.Slice.{start_for, slice_place, IsSlice}
 use Rattle.dcx_shape.specs.Index.{whole_slice}
 use Rattle.dcx_shape.specs.Laws.{reversing_slice, HoldsForSlices}
 use Rattle.dcx_shape.proofs.Slices.{slice_length}
@@ -18,9 +17,9 @@ pub slice_one : (n : ℕ) (s : Slice) (xs ys : List ℕ) → IsSlice n s xs → 
 slice_one n s xs ys r t =
     let same : length xs ≡ length ys = slice_length n s xs ys r t in
     same_number_lists xs ys same (λ k h.
-      let x : pos (get_or xs k 0) ≡ slice_place n s k = r.are k h in
-      let y : pos (get_or ys k 0) ≡ slice_place n s k = t.are k (omega arith) in
-      cc)
+    let x : pos (get_or xs k 0) ≡ slice_place n s k = r.are k h in
+    let y : pos (get_or ys k 0) ≡ slice_place n s k = t.are k (omega arith) in
+    cc)
 
 -- one step further
 step_up : (step z : ℤ) (k : ℕ) → pos 0 <ℤ step → (z +ℤ pos k *ℤ step) <ℤ (z +ℤ pos (k + 1) *ℤ step)
@@ -41,17 +40,17 @@ pub whole_is : (n : ℕ) → IsSlice n whole_slice (places_below n)
 whole_is n = record {
   some = λ k. rw (length-range_with_len 0 n) ((λ b. omega (arith, ints)), (λ b. omega (arith, ints)));
   are = λ k h.
-    let below : k < n = omega (arith, h, length-range_with_len 0 n) in
-    rw (get_or-range_with_len 0 n k 0 below) (omega (arith, ints));
+      let below : k < n = omega (arith, h, length-range_with_len 0 n) in
+      rw (get_or-range_with_len 0 n k 0 below) (omega (arith, ints));
 }
 
 pub reversal_is : (n : ℕ) → IsSlice n reversing_slice (reverse (places_below n))
 reversal_is n = record {
   some = λ k. rw (length-reverse (places_below n), length-range_with_len 0 n) ((λ b. omega (arith, ints)), (λ b. omega (arith, ints)));
   are = λ k h.
-    let below : k < length (places_below n) = omega (arith, h, length-reverse (places_below n)) in
-    let last : length (places_below n) - 1 - k < n = omega (arith, below, length-range_with_len 0 n) in
-    rw (get_or-reverse (places_below n) k 0 below, get_or-range_with_len 0 n (length (places_below n) - 1 - k) 0 last) (omega (arith, ints, below, length-range_with_len 0 n));
+      let below : k < length (places_below n) = omega (arith, h, length-reverse (places_below n)) in
+      let last : length (places_below n) - 1 - k < n = omega (arith, below, length-range_with_len 0 n) in
+      rw (get_or-reverse (places_below n) k 0 below, get_or-range_with_len 0 n (length (places_below n) - 1 - k) 0 last) (omega (arith, ints, below, length-range_with_len 0 n));
 }
 
 pub slices_hold : HoldsForSlices

@@ -1,7 +1,7 @@
 -- Slices: how many places one has, and where they lie.
-use Rattle.std.proofs.Common.{◌≡◌, ◌≢◌, ℕ, zero, suc, ◌+◌, ◌-◌, ◌*◌, ◌/◌, ◌%◌, ◌<◌, ◌≤◌, ◌^◌, min, Bool, true, false, List, [], ◌∷◌, length, get_or, Option, Some, None, refl, sym, ◌∙◌, ap, subst, arith, zero-add, zero-mul, mul-suc, lt_of_mul-lt-mul_right, le_antisymm, inl, inr}
+use Rattle.std.proofs.Common.{◌≡◌, ◌≢◌, ℕ, zero, suc, ◌+◌, ◌*◌, ◌<◌, ◌≤◌, ◌^◌, List, [], ◌∷◌, length, get_or, Option, Some, None, refl, ◌∙◌, ap, arith, zero-add, zero-mul, mul-suc, lt_of_mul-lt-mul_right, le_antisymm, inl, inr}
 use Rattle.std.specs.Prelude.{ℤ, pos, negsuc, neg_ℤ, ◌+ℤ◌, ◌-ℤ◌, ◌*ℤ◌, ◌≤ℤ◌, ◌<ℤ◌, ◌↔◌, unsigned_abs}
-use Rattle.std.specs.Int.{w32, FitsUnsigned, div_ceil, int_max, int_min}
+use Rattle.std.specs.Int.{w32, FitsUnsigned, div_ceil, int_max}
 use Rattle.std.proofs.lemmas.List.FromFn.{length-map-range_with_len, get_or-map-range_with_len}
 use Rattle.std.proofs.lemmas.Int.{ints, clamps}
 use Rattle.std.specs.List.{All}
@@ -11,7 +11,7 @@ use Rattle.std.proofs.lemmas.Grind.{div_ceil_times}
 use Rattle.std.proofs.Math.Nat.{mul-le-mul_right}
 use Rattle.dcx_shape.specs.declared.slice.Slice.{Slice}
 use Rattle.dcx_shape.specs.Run.{place_from, places_from}
-use Rattle.dcx_shape.specs.Slice.{counted, clipped, end_of, start_for, stop_for, IsBefore, slice_place, IsSlice, moved}
+use Rattle.dcx_shape.specs.Slice.{end_of, start_for, stop_for, IsBefore, slice_place, IsSlice, moved}
 
 -- so many steps of s stay below d
 pub ceil_steps : (d s k : ℕ) → 0 < s → (k < div_ceil d s) ↔ (k * s < d)

@@ -1,5 +1,5 @@
 -- The laws of broadcasting, slices, indices and reshapes, as the clauses of the law functions say them.
-use Rattle.std.specs.Prelude.{◌≡◌, ◌↔◌, ℕ, ◌+◌, ◌<◌, ℤ, pos, negsuc, ◌<ℤ◌, Bool, false, None, List, length, reverse, slice_index}
+use Rattle.std.specs.Prelude.{◌≡◌, ◌↔◌, ℕ, ◌+◌, ◌<◌, pos, negsuc, ◌<ℤ◌, Bool, false, None, List, length, reverse, slice_index}
 use Rattle.std.specs.List.{All}
 use Rattle.std.specs.List.Sorted.{IsPermutation, IsStrictlyIncreasing}
 use Rattle.dcx_shape.specs.declared.shape.Sides.{Sides}

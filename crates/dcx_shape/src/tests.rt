@@ -3,17 +3,16 @@ ghost use Rattle.std.specs.Prelude.{◌≢◌, pos};
 ghost use Rattle.std.specs.List.{All};
 ghost use Rattle.dcx_shape.specs.Index.{HasStep};
 
-use std::alloc::Global;
-use std::process::Abort;
-use std::test::Fail;
-
+use crate::Sides::{Matrix, Scalar, Vector};
 use crate::combine::{broadcast, matmul_shape};
 use crate::fault::ShapeFault;
 use crate::index::{Pick, index_map};
 use crate::reshape::reshape_map;
 use crate::shape::{Shape, Sides};
 use crate::slice::{Slice, slice_places};
-use crate::Sides::{Matrix, Scalar, Vector};
+use std::alloc::Global;
+use std::process::Abort;
+use std::test::Fail;
 
 /// The shape with these sides, if there is one.
 fn shape(sides: Sides) -> Option<Shape> {
@@ -139,7 +138,13 @@ fn slices_take_the_places_of_python(rt: HostRuntime) -> Result<(), Fail> {
         (5, Some(least), None, most, [0].as_slice()),
         (5, Some(most), Some(least), least, [4].as_slice()),
         (4_294_967_295, Some(-1), None, 1, [4_294_967_294].as_slice()),
-        (4_294_967_295, None, Some(0), -2_147_483_647, [4_294_967_294, 2_147_483_647].as_slice()),
+        (
+            4_294_967_295,
+            None,
+            Some(0),
+            -2_147_483_647,
+            [4_294_967_294, 2_147_483_647].as_slice(),
+        ),
         (5, Some(2), Some(2), 1, [].as_slice()),
         (5, Some(3), Some(1), 1, [].as_slice()),
         (5, Some(1), Some(3), -1, [].as_slice()),
@@ -173,7 +178,13 @@ fn range(start: Option<i64>, stop: Option<i64>, step: i64) -> Pick
 }
 
 /// An index of the array with these sides gives these sides and places, or this fault.
-fn indexes(rt: &impl Abort, alloc: Global, from: Sides, picks: &[Pick], wanted: Result<(Sides, &[u32]), ShapeFault>)
+fn indexes(
+    rt: &impl Abort,
+    alloc: Global,
+    from: Sides,
+    picks: &[Pick],
+    wanted: Result<(Sides, &[u32]), ShapeFault>,
+)
     requires { All HasStep picks.now }
 {
     let Some(array) = shape(from) else {
@@ -185,7 +196,11 @@ fn indexes(rt: &impl Abort, alloc: Global, from: Sides, picks: &[Pick], wanted: 
             assert_eq!(rt; to.sides(), to_wanted, "{picks:?} of {from:?}");
             assert_eq!(rt; places.as_slice(), places_wanted, "{picks:?} of {from:?}");
         }
-        (Err(fault), Err(fault_wanted)) => assert_eq!(rt; fault, fault_wanted, "{picks:?} of {from:?}"),
+        (Err(fault), Err(fault_wanted)) => assert_eq!(rt;
+            fault,
+            fault_wanted,
+            "{picks:?} of {from:?}"
+        ),
         _ => assert!(rt; false, "{picks:?} of {from:?}"),
     }
 }
@@ -198,16 +213,64 @@ fn indices_of_vectors_take_the_entries_of_numpy(rt: HostRuntime) {
     indexes(&rt, alloc, Scalar, &[Pick::At(0)], Err(ShapeFault::Clash));
     indexes(&rt, alloc, Vector(3), &[], Ok((Vector(3), &[0, 1, 2])));
     indexes(&rt, alloc, Vector(3), &[all], Ok((Vector(3), &[0, 1, 2])));
-    indexes(&rt, alloc, Vector(3), &[range(None, None, -1)], Ok((Vector(3), &[2, 1, 0])));
-    indexes(&rt, alloc, Vector(3), &[range(Some(1), Some(2), 1)], Ok((Vector(1), &[1])));
+    indexes(
+        &rt,
+        alloc,
+        Vector(3),
+        &[range(None, None, -1)],
+        Ok((Vector(3), &[2, 1, 0])),
+    );
+    indexes(
+        &rt,
+        alloc,
+        Vector(3),
+        &[range(Some(1), Some(2), 1)],
+        Ok((Vector(1), &[1])),
+    );
     indexes(&rt, alloc, Vector(3), &[Pick::At(-1)], Ok((Scalar, &[2])));
     indexes(&rt, alloc, Vector(3), &[Pick::At(-3)], Ok((Scalar, &[0])));
-    indexes(&rt, alloc, Vector(3), &[Pick::At(3)], Err(ShapeFault::Range));
-    indexes(&rt, alloc, Vector(3), &[Pick::At(5)], Err(ShapeFault::Range));
-    indexes(&rt, alloc, Vector(3), &[Pick::At(-4)], Err(ShapeFault::Range));
-    indexes(&rt, alloc, Vector(3), &[Pick::At(i64::MIN)], Err(ShapeFault::Range));
-    indexes(&rt, alloc, Vector(3), &[range(Some(2), Some(2), 1)], Err(ShapeFault::Empty));
-    indexes(&rt, alloc, Vector(3), &[Pick::At(5), Pick::At(0)], Err(ShapeFault::Clash));
+    indexes(
+        &rt,
+        alloc,
+        Vector(3),
+        &[Pick::At(3)],
+        Err(ShapeFault::Range),
+    );
+    indexes(
+        &rt,
+        alloc,
+        Vector(3),
+        &[Pick::At(5)],
+        Err(ShapeFault::Range),
+    );
+    indexes(
+        &rt,
+        alloc,
+        Vector(3),
+        &[Pick::At(-4)],
+        Err(ShapeFault::Range),
+    );
+    indexes(
+        &rt,
+        alloc,
+        Vector(3),
+        &[Pick::At(i64::MIN)],
+        Err(ShapeFault::Range),
+    );
+    indexes(
+        &rt,
+        alloc,
+        Vector(3),
+        &[range(Some(2), Some(2), 1)],
+        Err(ShapeFault::Empty),
+    );
+    indexes(
+        &rt,
+        alloc,
+        Vector(3),
+        &[Pick::At(5), Pick::At(0)],
+        Err(ShapeFault::Clash),
+    );
 }
 
 #[test]
@@ -220,31 +283,103 @@ fn indices_of_matrices_take_the_entries_of_numpy(rt: HostRuntime) {
     indexes(&rt, alloc, x, &[], Ok((x, &[0, 1, 2, 3, 4, 5])));
     indexes(&rt, alloc, x, &[all, all], Ok((x, &[0, 1, 2, 3, 4, 5])));
     indexes(&rt, alloc, x, &[Pick::At(1)], Ok((Vector(3), &[3, 4, 5])));
-    indexes(&rt, alloc, x, &[Pick::At(-1), Pick::At(0)], Ok((Scalar, &[3])));
+    indexes(
+        &rt,
+        alloc,
+        x,
+        &[Pick::At(-1), Pick::At(0)],
+        Ok((Scalar, &[3])),
+    );
     indexes(&rt, alloc, x, &[all, Pick::At(1)], Ok((Vector(2), &[1, 4])));
-    indexes(&rt, alloc, x, &[Pick::At(0), range(Some(1), None, 1)], Ok((Vector(2), &[1, 2])));
+    indexes(
+        &rt,
+        alloc,
+        x,
+        &[Pick::At(0), range(Some(1), None, 1)],
+        Ok((Vector(2), &[1, 2])),
+    );
     indexes(&rt, alloc, x, &[back], Ok((x, &[3, 4, 5, 0, 1, 2])));
     indexes(&rt, alloc, x, &[back, back], Ok((x, &[5, 4, 3, 2, 1, 0])));
-    indexes(&rt, alloc, x, &[range(Some(1), None, 1), range(None, None, 2)], Ok((Matrix(1, 2), &[3, 5])));
-    indexes(&rt, alloc, x, &[all, range(Some(-1), None, 1)], Ok((Matrix(2, 1), &[2, 5])));
+    indexes(
+        &rt,
+        alloc,
+        x,
+        &[range(Some(1), None, 1), range(None, None, 2)],
+        Ok((Matrix(1, 2), &[3, 5])),
+    );
+    indexes(
+        &rt,
+        alloc,
+        x,
+        &[all, range(Some(-1), None, 1)],
+        Ok((Matrix(2, 1), &[2, 5])),
+    );
     indexes(&rt, alloc, x, &[Pick::At(2), none], Err(ShapeFault::Range));
     indexes(&rt, alloc, x, &[none, Pick::At(3)], Err(ShapeFault::Empty));
-    indexes(&rt, alloc, x, &[Pick::At(1), Pick::At(3)], Err(ShapeFault::Range));
-    indexes(&rt, alloc, x, &[all, range(Some(3), None, 1)], Err(ShapeFault::Empty));
-    indexes(&rt, alloc, x, &[Pick::At(2), none, all], Err(ShapeFault::Clash));
+    indexes(
+        &rt,
+        alloc,
+        x,
+        &[Pick::At(1), Pick::At(3)],
+        Err(ShapeFault::Range),
+    );
+    indexes(
+        &rt,
+        alloc,
+        x,
+        &[all, range(Some(3), None, 1)],
+        Err(ShapeFault::Empty),
+    );
+    indexes(
+        &rt,
+        alloc,
+        x,
+        &[Pick::At(2), none, all],
+        Err(ShapeFault::Clash),
+    );
 }
 
 #[test]
 fn reshapes_keep_the_order_by_rows_or_by_columns(rt: HostRuntime) -> Result<(), Fail> {
     for (from, to, by_columns, wanted) in [
-        (Matrix(2, 3), Matrix(3, 2), false, [0u32, 1, 2, 3, 4, 5].as_slice()),
-        (Matrix(2, 3), Matrix(3, 2), true, [0, 4, 3, 2, 1, 5].as_slice()),
-        (Matrix(2, 3), Vector(6), false, [0, 1, 2, 3, 4, 5].as_slice()),
+        (
+            Matrix(2, 3),
+            Matrix(3, 2),
+            false,
+            [0u32, 1, 2, 3, 4, 5].as_slice(),
+        ),
+        (
+            Matrix(2, 3),
+            Matrix(3, 2),
+            true,
+            [0, 4, 3, 2, 1, 5].as_slice(),
+        ),
+        (
+            Matrix(2, 3),
+            Vector(6),
+            false,
+            [0, 1, 2, 3, 4, 5].as_slice(),
+        ),
         (Matrix(2, 3), Vector(6), true, [0, 3, 1, 4, 2, 5].as_slice()),
         (Vector(6), Matrix(2, 3), true, [0, 2, 4, 1, 3, 5].as_slice()),
-        (Vector(6), Matrix(2, 3), false, [0, 1, 2, 3, 4, 5].as_slice()),
-        (Matrix(2, 4), Matrix(4, 2), true, [0, 2, 4, 6, 1, 3, 5, 7].as_slice()),
-        (Matrix(2, 3), Matrix(2, 3), true, [0, 1, 2, 3, 4, 5].as_slice()),
+        (
+            Vector(6),
+            Matrix(2, 3),
+            false,
+            [0, 1, 2, 3, 4, 5].as_slice(),
+        ),
+        (
+            Matrix(2, 4),
+            Matrix(4, 2),
+            true,
+            [0, 2, 4, 6, 1, 3, 5, 7].as_slice(),
+        ),
+        (
+            Matrix(2, 3),
+            Matrix(2, 3),
+            true,
+            [0, 1, 2, 3, 4, 5].as_slice(),
+        ),
         (Vector(1), Scalar, true, [0].as_slice()),
         (Scalar, Matrix(1, 1), false, [0].as_slice()),
         (Matrix(2, 3), Vector(5), true, [].as_slice()),

@@ -1,7 +1,6 @@
 -- What `broadcast` answers, by the joined rows and columns.
-use Rattle.std.proofs.Common.{◌≡◌, sym, ◌∙◌}
 use Rattle.std.proofs.lemmas.Option.{IfSome_then}
-use Rattle.dcx_shape.specs.Sides.{rank_of, rows_of, cols_of}
+use Rattle.dcx_shape.specs.Sides.{rows_of, cols_of}
 use Rattle.dcx_shape.specs.Shape.{sides_of}
 use Rattle.dcx_shape.specs.Broadcast.{IsJoinedSide}
 use Rattle.dcx_shape.proofs.Broadcasts.{not_joined_rows, not_joined_columns, shared_from_form, broadcast_from_form}

@@ -1,11 +1,9 @@
 -- Each entry is one of the array's, and all of them make the crossing.
-use Rattle.std.proofs.Common.{◌≡◌, ◌+◌, ◌*◌, ◌/◌, ◌%◌, ◌<◌, ◌≤◌, length, get_or, arith, sym, ◌∙◌}
+use Rattle.std.proofs.Common.{◌<◌, arith}
 use Rattle.std.proofs.lemmas.Nat.{div_below, mod_below}
-use Rattle.dcx_shape.specs.Sides.{rows_of, cols_of}
 use Rattle.dcx_shape.specs.Shape.{sides_of}
-use Rattle.dcx_shape.specs.Run.{run_place, places_of}
 use Rattle.dcx_shape.proofs.Entries.{factor_pos}
-use Rattle.dcx_shape.proofs.Slices.{run_below, length-places_from, get_or-places_from}
+use Rattle.dcx_shape.proofs.Slices.{run_below}
 use Rattle.dcx_shape.proofs.Indices.{crossed_from_runs}
 use Rattle.dcx_shape.proofs.index.crossed.Goals as goal
 

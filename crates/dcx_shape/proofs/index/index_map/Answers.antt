@@ -1,13 +1,10 @@
 -- What the picks take makes the index, and then there is no fault.
-use Rattle.std.proofs.Common.{◌≡◌, ◌*◌, ◌<◌, ◌≤◌, length, arith, sym, ◌∙◌, ap}
+use Rattle.std.proofs.Common.{◌≡◌, arith}
 use Rattle.std.proofs.lemmas.Result.{err_from_is_err_and}
 use Rattle.dcx_shape.specs.declared.fault.ShapeFault.TheVariants.{Empty, Memory}
 use Rattle.dcx_shape.specs.declared.run.Run.{Run}
-use Rattle.dcx_shape.specs.Sides.{HasFewEntries, entries_of}
 use Rattle.dcx_shape.specs.Shape.{sides_of}
 use Rattle.dcx_shape.specs.Run.{places_of}
-use Rattle.dcx_shape.specs.Index.{kept_sides, row_pick, column_pick, TakesBoth, IsCrossed}
-use Rattle.dcx_shape.proofs.Faults.{only_memory}
 use Rattle.dcx_shape.proofs.Slices.{length-places_from}
 use Rattle.dcx_shape.proofs.Indices.{kept_few, rows_below, columns_below, takes_few, index_count, index_within, never_fault}
 use Rattle.dcx_shape.proofs.index.index_map.Goals as goal

@@ -1,6 +1,6 @@
 -- The numbers between start and stop, upward and downward.
-use Rattle.std.proofs.Common.{◌≡◌, arith, sym, ◌∙◌}
-use Rattle.std.specs.Prelude.{pos, ◌-ℤ◌, ◌≤ℤ◌, ◌<ℤ◌, unsigned_abs}
+use Rattle.std.proofs.Common.{◌≡◌, arith}
+use Rattle.std.specs.Prelude.{pos, ◌-ℤ◌, unsigned_abs}
 use Rattle.std.specs.Int.{int_max, w64, cast_signed, cast_unsigned}
 use Rattle.std.proofs.lemmas.Int.{ints, clamps}
 use Rattle.dcx_shape.proofs.Slices.{ahead_up, ahead_down}

@@ -1,5 +1,5 @@
 -- The run's places are the slice's, and where the run has some the slice isn't empty.
-use Rattle.std.proofs.Common.{◌≡◌, ◌<◌, length, [], arith, rules}
+use Rattle.std.proofs.Common.{◌≡◌, ◌<◌, [], arith}
 use Rattle.std.proofs.lemmas.Result.{IfOk-weaker}
 use Rattle.std.specs.List.{All}
 use Rattle.dcx_shape.specs.Run.{places_of}

@@ -1,7 +1,7 @@
 -- The steps that fit into the gap.
-use Rattle.std.proofs.Common.{◌≡◌, arith, sym, ◌∙◌, ap}
+use Rattle.std.proofs.Common.{◌∙◌, ap}
 use Rattle.std.specs.Int.{w64, div_ceil}
-use Rattle.std.specs.Prelude.{unsigned_abs, FitsSigned}
+use Rattle.std.specs.Prelude.{FitsSigned}
 use Rattle.std.proofs.lemmas.Int.{to_z-of_z}
 use Rattle.dcx_shape.proofs.Slices.{steps_before}
 use Rattle.dcx_shape.proofs.slice.steps.Goals as goal

@@ -1,5 +1,5 @@
 -- One place more of the run.
-use Rattle.std.proofs.Common.{◌≡◌, ◌+◌, map, [], ◌∷◌, ◌++◌, arith, sym, ◌∙◌, ap, le_antisymm}
+use Rattle.std.proofs.Common.{◌≡◌, ◌+◌, map, [], ◌∷◌, ◌++◌, arith, ◌∙◌, ap}
 use Rattle.std.proofs.lemmas.List.FromFn.{map-range_with_len_more}
 use Rattle.dcx_shape.specs.Places.{places_below}
 use Rattle.dcx_shape.specs.Run.{run_place}
