@@ -1,3 +1,4 @@
+-- The lemmas by which the functions and the laws of this crate are proved.
 pub mod Broadcasts
 pub mod Entries
 pub mod Reshapes

@@ -1,18 +1,20 @@
 -- The laws of slices.
-use Rattle.std.proofs.Common.{◌≡◌, ℕ, suc, ◌+◌, ◌-◌, ◌<◌, List, length, get_or, arith, add-mul}
-use Rattle.std.specs.Prelude.{ℤ, pos, negsuc, ◌+ℤ◌, ◌*ℤ◌, ◌<ℤ◌, reverse}
+use Rattle.std.proofs.Common.{◌≡◌, ℕ, suc, ◌+◌, ◌-◌, ◌<◌, List, length, get_or, ap, sym, ◌∙◌, arith, add-mul}
+use Rattle.std.specs.Prelude.{ℤ, pos, negsuc, ◌+ℤ◌, ◌*ℤ◌, ◌<ℤ◌, ◌↔◌, reverse}
+use Rattle.std.specs.List.{Contains}
 use Rattle.std.specs.List.Sorted.{IsStrictlyIncreasing}
 use Rattle.std.proofs.lemmas.Int.{ints}
-use Rattle.std.proofs.lemmas.List.{length-reverse, get_or-reverse}
+use Rattle.std.proofs.lemmas.List.{get_or_default, length-reverse, get_or-reverse}
 use Rattle.std.proofs.lemmas.List.FromFn.{length-range_with_len, get_or-range_with_len}
 use Rattle.std.proofs.lemmas.Grind.{same_number_lists}
 use Rattle.dcx_shape.specs.declared.slice.Slice.{Slice}
 use Rattle.dcx_shape.specs.Places.{places_below}
-use Rattle.dcx_shape.specs.Slice.{start_for, slice_place, IsSlice}
+use Rattle.dcx_shape.specs.Slice.{start_for, stop_for, IsBefore, slice_place, IsSlice}
 use Rattle.dcx_shape.specs.Index.{whole_slice}
 use Rattle.dcx_shape.specs.Laws.{reversing_slice, HoldsForSlices}
 use Rattle.dcx_shape.proofs.Slices.{slice_length}
 
+-- a slice has one list of places
 pub slice_one : (n : ℕ) (s : Slice) (xs ys : List ℕ) → IsSlice n s xs → IsSlice n s ys → xs ≡ ys
 slice_one n s xs ys r t =
     let same : length xs ≡ length ys = slice_length n s xs ys r t in
@@ -20,6 +22,18 @@ slice_one n s xs ys r t =
     let x : pos (get_or xs k 0) ≡ slice_place n s k = r.are k h in
     let y : pos (get_or ys k 0) ≡ slice_place n s k = t.are k (omega arith) in
     cc)
+
+-- what stands in a slice
+slice_set : (n : ℕ) (s : Slice) (xs : List ℕ) → IsSlice n s xs → (p : ℕ) → Contains xs p ↔ ((k : ℕ) × (pos p ≡ slice_place n s k) × IsBefore s.step (pos p) (stop_for n s.step s.stop))
+slice_set n s xs r p = (
+  (λ (k, below, same).
+      let e : pos p ≡ slice_place n s k = ap pos (sym same ∙ get_or_default xs k p 0 below) ∙ r.are k below in
+      (k, e, rw e ((r.some k).0 below))),
+  (λ (k, e, before).
+      let below : k < length xs = (r.some k).1 (rw (← e) before) in
+      let same : pos (get_or xs k 0) ≡ pos p = r.are k below ∙ sym e in
+      (k, below, get_or_default xs k p 0 below ∙ cc)),
+)
 
 -- one step further
 step_up : (step z : ℤ) (k : ℕ) → pos 0 <ℤ step → (z +ℤ pos k *ℤ step) <ℤ (z +ℤ pos (k + 1) *ℤ step)
@@ -56,6 +70,7 @@ reversal_is n = record {
 pub slices_hold : HoldsForSlices
 slices_hold = record {
   one = slice_one;
+  set = slice_set;
   rises = slice_rises;
   falls = slice_falls;
   whole = λ n xs. ((λ r. slice_one n whole_slice xs (places_below n) r (whole_is n)), (λ e. rw e (whole_is n)));

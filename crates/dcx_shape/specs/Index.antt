@@ -20,7 +20,8 @@ HasStep (Range s) = s.step ≢ pos 0
 abbrev pub whole_slice : Slice
 whole_slice = record { start = None; stop = None; step = pos 1 }
 
--- a pick takes these places of a side of n entries, in this order: a whole number the one it counts to, a slice its own, if there are any
+-- a pick takes these places of a side of n entries, in this order: a whole number the one that it counts to, a slice
+-- its own, if there are any
 abbrev pub Takes : ℕ → Pick → List ℕ → Type 0
 Takes n (At i) places = (p : ℕ) × (p < n) × (counted n i ≡ pos p) × (places ≡ p ∷ [])
 Takes n (Range s) places = IsSlice n s places × (places ≢ [])
@@ -58,7 +59,8 @@ pub record TakesBoth (from : Sides) (picks : List Pick) (rows columns : List ℕ
 -- the places of the entries in these rows and columns, row by row
 pub record IsCrossed (from : Sides) (rows columns : List ℕ) (places : List ℕ) : Type 0 where
   pub count : length places ≡ length rows * length columns
-  pub entries : (i j : ℕ) → i < length rows → j < length columns → slice_index places (i * length columns + j) ≡ row_place from (slice_index rows i) (slice_index columns j)
+  pub entries : (i j : ℕ) → i < length rows → j < length columns →
+      slice_index places (i * length columns + j) ≡ row_place from (slice_index rows i) (slice_index columns j)
 
 -- an index gives these sides and places: those of the rows and columns that the picks take
 pub record IsIndex (from : Sides) (picks : List Pick) (to : Sides) (places : List ℕ) : Type 0 where
@@ -68,10 +70,12 @@ pub record IsIndex (from : Sides) (picks : List Pick) (to : Sides) (places : Lis
   pub sides : to ≡ kept_sides (row_pick from picks) (length rows) (column_pick from picks) (length columns)
   pub crossed : IsCrossed from rows columns places
 
--- the picks are no more than the sides, and this is the fault of the first pick that has one
+-- the picks are no more than the sides, and this is the fault of the first that has one: of the rows' pick, or of the
+-- columns' where the rows' takes something
 pub record IsFirstFault (from : Sides) (picks : List Pick) (fault : ShapeFault) : Type 0 where
   pub few : length picks ≤ rank_of from
-  pub first : IsPickFault (rows_of from) (row_pick from picks) fault ⊎ (((rows : List ℕ) × Takes (rows_of from) (row_pick from picks) rows) × IsPickFault (cols_of from) (column_pick from picks) fault)
+  pub first : IsPickFault (rows_of from) (row_pick from picks) fault
+      ⊎ (((rows : List ℕ) × Takes (rows_of from) (row_pick from picks) rows) × IsPickFault (cols_of from) (column_pick from picks) fault)
 
 -- the fault of an index: too many picks, else that of the first pick that has one
 abbrev pub IsIndexFault : Sides → List Pick → ShapeFault → Type 0

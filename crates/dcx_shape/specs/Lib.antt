@@ -1,3 +1,4 @@
+-- What the contracts of this crate cite.
 pub mod Sides
 pub mod Shape
 pub mod Places

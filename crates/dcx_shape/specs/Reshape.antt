@@ -8,7 +8,9 @@ use Rattle.dcx_shape.specs.Places.{HasEntry, row_place, place_of}
 pub record IsReshape (by_columns : Bool) (from to : Sides) (places : List ℕ) : Type 0 where
   pub sizes : entries_of from ≡ entries_of to
   pub count : length places ≡ entries_of to
-  pub entries : (i j k l : ℕ) → HasEntry from i j → HasEntry to k l → place_of by_columns from i j ≡ place_of by_columns to k l → slice_index places (row_place to k l) ≡ row_place from i j
+  pub entries : (i j k l : ℕ) → HasEntry from i j → HasEntry to k l →
+      place_of by_columns from i j ≡ place_of by_columns to k l →
+      slice_index places (row_place to k l) ≡ row_place from i j
 
 -- entry k of the result is entry p of the source
 pub record IsSource (by_columns : Bool) (from to : Sides) (k p : ℕ) : Type 0 where
