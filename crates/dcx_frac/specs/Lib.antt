@@ -1,0 +1,4 @@
+pub mod Fits
+pub mod Frac
+pub mod Formed
+pub mod Text
