@@ -1,7 +1,8 @@
 //! The cells and the basis of a program's first tableau.
 ghost use Rattle.std.specs.Prelude.{◌≡◌, ◌+◌, ◌*◌, ◌<◌, ◌≤◌, ◌++◌, ◌∷◌, [], map, length, pos, OnOk, IfOk, ◌^◌};
 ghost use Rattle.dcx_tab.specs.Cells.{joined};
-ghost use Rattle.dcx_tab.specs.Program.{tableau_row, first_table, plain_count, first_basic_of};
+ghost use Rattle.dcx_tab.specs.First.{first_tableau};
+ghost use Rattle.dcx_tab.specs.Program.{tableau_row, plain_count, first_basic_of};
 
 use crate::program::Program;
 use crate::rows::{ColumnKind, IntRow};
@@ -50,7 +51,7 @@ fn push_rows(cells: &mut Vec<i128>, rows: &[IntRow]) -> Result<(), AllocError>
 
 /// All rows of the first tableau, one after the other.
 pub(crate) fn first_cells(alloc: Global, program: &Program) -> Result<Vec<i128>, AllocError>
-    ensures { IfOk result (λ cells. cells.items ≡ joined (first_table program.now.rows program.now.columns program.now.objective program.now.phase).rows) }
+    ensures { IfOk result (λ cells. cells.items ≡ joined (first_tableau program.now).rows) }
 {
     let rows = program.rows.as_slice();
     let width = program.columns.as_slice().len() + 3;
@@ -89,7 +90,7 @@ fn row_basis(alloc: Global, rows: &[IntRow]) -> Result<Vec<u32>, AllocError>
 
 /// The first basic columns, z and w at the last two rows.
 pub(crate) fn first_basis(alloc: Global, program: &Program) -> Result<Vec<u32>, AllocError>
-    ensures { IfOk result (λ basis. basis.items ≡ (first_table program.now.rows program.now.columns program.now.objective program.now.phase).basis) }
+    ensures { IfOk result (λ basis. basis.items ≡ (first_tableau program.now).basis) }
 {
     let mut basis = row_basis(alloc, program.rows.as_slice())?;
     let columns = program.columns.as_slice().len() as u32;
