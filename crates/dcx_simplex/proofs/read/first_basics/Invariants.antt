@@ -1,0 +1,6 @@
+use Rattle.std.proofs.Common.{◌≡◌, map, take}
+use Rattle.dcx_tab.specs.Program.{first_basic_of}
+use Rattle.dcx_simplex.proofs.read.first_basics.Given as goal
+
+abbrev pub invariant-rows : goal.invariant-rows
+invariant-rows l = l.basis.items ≡ take l.row-index (map first_basic_of l.rows)

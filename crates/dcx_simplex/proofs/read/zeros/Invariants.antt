@@ -1,0 +1,8 @@
+use Rattle.std.proofs.Common.{◌≡◌, ℕ, pos, length}
+use Rattle.dcx_math.specs.Rational.{whole}
+use Rattle.dcx_math.specs.Sums.{rat_at}
+use Rattle.dcx_simplex.specs.Reading.{numbers}
+use Rattle.dcx_simplex.proofs.read.zeros.Given as goal
+
+abbrev pub invariant-columns : goal.invariant-columns
+invariant-columns l = record { count : length l.xs.items ≡ l.counter; zeros : (j : ℕ) → rat_at (numbers l.xs.items) j ≡ whole (pos 0) }

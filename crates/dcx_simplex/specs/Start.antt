@@ -1,0 +1,58 @@
+-- The tableau from which a whole run begins.
+use Rattle.std.specs.Prelude.{◌≡◌, ℕ, ◌+◌, ◌-◌, ◌^◌, ◌<◌, ◌≤◌, List, length, pos, negsuc}
+use Rattle.dcx_math.specs.IntegerSums.{int_dot, int_scaled, int_added}
+use Rattle.dcx_tab.specs.Rows.{entry, Row, Assignment, basic_at, Solves}
+use Rattle.dcx_tab.specs.Table.{Table, IsOf}
+use Rattle.dcx_simplex.specs.Whole.{objective_row, phase_row, RunEnds}
+use Rattle.dcx_simplex.specs.declared.solve.LpEnd.{LpEnd}
+use Rattle.dcx_simplex.specs.declared.solve.LpEnd.TheVariants as lp
+use Rattle.dcx_simplex.specs.Basis.{IsFeasible}
+
+-- the row that says that w is the sum of the artificial columns, and it holds at all solutions
+pub record IsSumRow (equations : List Row) (t : Table) (row : Row) : Type 0 where
+  pub width : length row ≡ t.columns + 3
+  pub zeros : (j : ℕ) → j < t.plain → entry row j ≡ pos 0
+  pub ones : (j : ℕ) → t.plain ≤ j → j < t.columns → entry row j ≡ pos 1
+  pub z : entry row t.columns ≡ pos 0
+  pub w : entry row (t.columns + 1) ≡ negsuc 0
+  pub right : entry row (t.columns + 2) ≡ pos 0
+  pub holds : (x : Assignment) → Solves equations x → int_dot row x ≡ pos 0
+
+-- the feasible tableau of a program, with z and w basic in the last two rows, and w the sum of the artificials
+pub record IsStart (equations : List Row) (t : Table) : Type 0 where
+  pub tableau : IsOf equations t
+  pub feasible : IsFeasible t
+  pub enough : 2 ≤ length t.rows
+  pub basics : (i : ℕ) → i + 2 < length t.rows → basic_at t.basis i < t.columns
+  pub plain_below : t.plain ≤ t.columns
+  pub objective : basic_at t.basis (objective_row t) ≡ t.columns
+  pub phase : basic_at t.basis (phase_row t) ≡ t.columns + 1
+  pub sum : (row : Row) × IsSumRow equations t row
+
+-- more pivots than any run makes
+abbrev pub enough_pivots : Table → ℕ
+enough_pivots t = 2 ^ (t.columns + 1) + (length t.rows - 2)
+
+-- a run that ends at the limit has a small limit
+abbrev pub EndsBelow : Type 0
+EndsBelow = (equations : List Row) (limit : ℕ) (t u : Table) (n : ℕ) → IsStart equations t → RunEnds limit t u (lp.PivotLimit n) → limit < enough_pivots t
+
+-- the pivots that a run has made at its end
+abbrev pub pivots_of : LpEnd → ℕ
+pivots_of (lp.Optimal n) = n
+pivots_of (lp.Infeasible n) = n
+pivots_of (lp.Unbounded n c) = n
+pivots_of (lp.Wide n r c) = n
+pivots_of (lp.PivotLimit n) = n
+
+-- a run makes few pivots
+abbrev pub MakesFewInAll : Type 0
+MakesFewInAll = (equations : List Row) (limit : ℕ) (t u : Table) (e : LpEnd) → IsStart equations t → RunEnds limit t u e → pivots_of e < enough_pivots t
+
+-- the end isn't the limit, or the limit is small
+abbrev pub HasSmallLimit : Table → ℕ → LpEnd → Type 0
+HasSmallLimit t limit (lp.Optimal n) = Unit {0}
+HasSmallLimit t limit (lp.Infeasible n) = Unit {0}
+HasSmallLimit t limit (lp.Unbounded n c) = Unit {0}
+HasSmallLimit t limit (lp.Wide n r c) = Unit {0}
+HasSmallLimit t limit (lp.PivotLimit n) = (equations : List Row) → IsStart equations t → limit < enough_pivots t
