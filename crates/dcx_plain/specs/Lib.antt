@@ -4,3 +4,4 @@ pub mod Grammar
 pub mod Phrases
 pub mod Plain
 pub mod Meaning
+pub mod Answers
