@@ -1,11 +1,11 @@
 -- A word with as many bytes of a class as there are is the only one that can stand there.
-use Rattle.std.proofs.Common.{◌≡◌, ℕ, List, [], ◌∷◌, ◌++◌, Bool, true, false, ◌&&◌, Option, None, Some, Bor, refl, sym, ap, ◌∙◌, subst}
+use Rattle.std.proofs.Common.{◌≡◌, ℕ, List, [], ◌∷◌, ◌++◌, Bool, true, false, ◌&&◌, Option, None, Some, Bor, refl, sym, ◌∙◌, subst}
 use Rattle.std.proofs.lemmas.List.{append_cancel_left}
-use Rattle.std.specs.Prelude.{IsTrue, MatchOption, MatchBool, ◌≢◌}
+use Rattle.std.specs.Prelude.{MatchOption, MatchBool, ◌≢◌}
 use Rattle.std.specs.Option.{is_some}
 use Rattle.std.specs.List.{list_all}
 use Rattle.dcx_plain.specs.Words.{Stops, goes_on}
-use Rattle.dcx_plain.specs.Reading.{Begins, IsOnly, HasNone}
+use Rattle.dcx_plain.specs.Reading.{IsOnly, HasNone}
 use Rattle.dcx_plain.specs.Phrases.{GoesOn, fixed, word_phrase}
 
 -- both sides of a test that holds

@@ -1,5 +1,5 @@
 -- The number that digits write, and how large it is.
-use Rattle.std.proofs.Common.{◌≡◌, ℕ, zero, suc, ◌+◌, ◌-◌, ◌*◌, ◌^◌, ◌<◌, ◌≤◌, List, [], ◌∷◌, ◌++◌, length, take, get_or, refl, sym, ap, ◌∙◌, arith, add-one, true}
+use Rattle.std.proofs.Common.{◌≡◌, ℕ, ◌+◌, ◌-◌, ◌*◌, ◌^◌, ◌<◌, ◌≤◌, List, [], ◌∷◌, ◌++◌, length, take, get_or, refl, sym, ap, ◌∙◌, arith, add-one, true}
 use Rattle.std.proofs.Math.Nat.{pow-le-pow_right, pow-suc}
 use Rattle.std.proofs.lemmas.List.{take_more}
 use Rattle.std.proofs.lemmas.List.Sums.{AllPass-from_list_all}
@@ -37,6 +37,7 @@ below_limit n i h k = let q : 10 ^ i ≤ 10 ^ 9 = pow-le-pow_right (omega arith)
 -- below the first nine digits there is room for one more
 pub room : (n i : ℕ) → n < 10 ^ i → i < 9 → n * 10 < 4294967296 - 10
 room n i h k = let q : 10 ^ i ≤ 10 ^ 8 = pow-le-pow_right {n = 10} (omega arith) {i = i} {j = 8} (omega arith) in omega arith
+
 -- one more share keeps a sum within its bounds
 pub sum_bounds : (a b : ℤ) (i : ℕ) → i < 63 → neg_ℤ (pos (1000000000 * (i + 1))) ≤ℤ a → a ≤ℤ pos (1000000000 * (i + 1)) → neg_ℤ (pos 1000000000) ≤ℤ b → b ≤ℤ pos 1000000000
     → (neg_ℤ (pos (1000000000 * (i + 1 + 1))) ≤ℤ (a +ℤ b)) × ((a +ℤ b) ≤ℤ pos (1000000000 * (i + 1 + 1))) × (to_z w64 (of_z w64 (a +ℤ to_z w64 (of_z w64 b))) ≡ a +ℤ b) × FitsSigned w64 (a +ℤ to_z w64 (of_z w64 b))

@@ -1,5 +1,5 @@
 -- How each phrase of a plain script is made of others, and what may follow what.
-use Rattle.std.proofs.Common.{◌≡◌, ℕ, List, [], ◌∷◌, ◌++◌, Bool, true, false, ◌⊎◌, inl, inr, refl, sym, ap, ◌∙◌, subst, append_assoc, get_or, length, length-append, ◌<◌, arith}
+use Rattle.std.proofs.Common.{◌≡◌, ℕ, List, [], ◌∷◌, ◌++◌, Bool, true, false, inl, inr, refl, sym, ap, ◌∙◌, subst, append_assoc, get_or, length, length-append, ◌<◌, arith}
 use Rattle.std.proofs.lemmas.List.{append-nil, append_cancel_left}
 use Rattle.std.specs.Prelude.{codes, MatchBool}
 use Rattle.std.specs.Char.{is_ascii_digit}
@@ -12,7 +12,7 @@ use Rattle.dcx_plain.specs.declared.script.Ending.{Ending}
 use Rattle.dcx_plain.specs.declared.script.Script.{Script}
 use Rattle.dcx_plain.specs.Reading.{Phrase, Begins, IsOnly}
 use Rattle.dcx_plain.specs.Words.{is_name_byte, Stops, goes_on}
-use Rattle.dcx_plain.specs.Grammar.{term_text, sign_text, others_text, rows_text, head_text, imports_text, names_text, solve_text, close_text, script_text}
+use Rattle.dcx_plain.specs.Grammar.{term_text, sign_text, others_text, rows_text, head_text, imports_text, solve_text, close_text, script_text}
 use Rattle.dcx_plain.specs.Phrases.{GoesOn, FollowsSum, FollowsConstraint, fixed, number_phrase, name_phrase, first_phrase, further_phrase, others_phrase, sum_phrase, at_most_phrase, row_phrase, rows_phrase, constraints_phrase, declaration_phrase, names_phrase, problem_phrase, ending_phrase, script_phrase}
 use Rattle.dcx_plain.proofs.Sequences.{seq, Goes, Tells, Lists}
 use Rattle.dcx_plain.proofs.Munch.{munch}

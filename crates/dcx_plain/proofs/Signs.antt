@@ -1,5 +1,5 @@
 -- Terms and signed terms: which of their forms can stand at a text.
-use Rattle.std.proofs.Common.{◌≡◌, ℕ, List, [], ◌∷◌, ◌++◌, Bool, true, false, ◌&&◌, Option, None, Some, eqb, eq-eqb, ◌⊎◌, inl, inr, refl, sym, ap, ◌∙◌, subst, append_assoc, length, length-append, get_or, ◌<◌, arith}
+use Rattle.std.proofs.Common.{◌≡◌, ℕ, List, [], ◌∷◌, ◌++◌, Bool, true, false, Option, None, Some, eqb, eq-eqb, ◌⊎◌, inl, inr, refl, sym, ap, ◌∙◌, subst, append_assoc, length, length-append, get_or, ◌<◌, arith}
 use Rattle.std.proofs.lemmas.List.{append_cancel_left}
 use Rattle.std.proofs.lemmas.Bool.Decides.{nat_tests}
 use Rattle.std.specs.Prelude.{codes, MatchBool}
@@ -10,9 +10,9 @@ use Rattle.dcx_plain.specs.declared.script.Signed.{Signed}
 use Rattle.dcx_plain.specs.declared.reader.Stop.{Stop}
 use Rattle.dcx_plain.specs.declared.reader.Stop.TheVariants.{NotPlain, Memory}
 use Rattle.dcx_plain.specs.Reading.{Phrase, Begins, IsOnly, HasNone, Fails}
-use Rattle.dcx_plain.specs.Words.{is_name_byte, IsNumber, IsName, Stops, goes_on, begins_with_letter}
+use Rattle.dcx_plain.specs.Words.{is_name_byte, IsNumber, IsName, Stops, goes_on}
 use Rattle.dcx_plain.specs.Grammar.{term_text, times_text, first_sign_text, sign_text}
-use Rattle.dcx_plain.specs.Phrases.{AreTimes, IsTerm, IsSigned, GoesOn, fixed, number_phrase, name_phrase, term_phrase, signed_phrase, further_phrase, SignAt, FollowsSum}
+use Rattle.dcx_plain.specs.Phrases.{AreTimes, IsTerm, GoesOn, fixed, number_phrase, name_phrase, term_phrase, signed_phrase, further_phrase, SignAt, FollowsSum}
 use Rattle.dcx_plain.proofs.Sequences.{seq, Goes, Tells}
 use Rattle.dcx_plain.proofs.Munch.{apart, true_left}
 

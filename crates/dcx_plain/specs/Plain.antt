@@ -1,5 +1,5 @@
 -- Which scripts are plain: their words, names and counts.
-use Rattle.std.specs.Prelude.{◌≡◌, ℕ, Bool, true, false, not, ◌&&◌, List, [], ◌∷◌, length, ◌≤◌, nat_le, codes, IsTrue, bytes_eq, Option, None, Some}
+use Rattle.std.specs.Prelude.{◌≡◌, ℕ, Bool, true, not, ◌&&◌, List, [], ◌∷◌, length, ◌≤◌, nat_le, codes, IsTrue, bytes_eq, Option, None, Some}
 use Rattle.std.specs.List.{list_all, list_any}
 use Rattle.dcx_plain.specs.declared.script.Sum.{Sum}
 use Rattle.dcx_plain.specs.declared.script.AtMost.{AtMost}

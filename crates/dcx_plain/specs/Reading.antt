@@ -1,5 +1,5 @@
 -- What it means to read a thing at the front of a text: the one thing that is spelled there, or that nothing is.
-use Rattle.std.specs.Prelude.{◌≡◌, ℕ, List, [], ◌∷◌, ◌++◌, Result, Ok, Err, ⊤}
+use Rattle.std.specs.Prelude.{◌≡◌, ℕ, List, ◌++◌, Result, Ok, Err, ⊤}
 use Rattle.dcx_plain.specs.declared.reader.Stop.{Stop}
 use Rattle.dcx_plain.specs.declared.reader.Stop.TheVariants.{NotPlain, Memory}
 

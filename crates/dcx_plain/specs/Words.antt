@@ -1,5 +1,5 @@
 -- The words of plain scripts: numbers and names, and what may follow them.
-use Rattle.std.specs.Prelude.{◌≡◌, ℕ, Bool, true, false, List, [], ◌∷◌, length, ◌<◌, ◌≤◌, ⊤, IsTrue, ◌==◌, ◌||◌}
+use Rattle.std.specs.Prelude.{◌≡◌, ℕ, Bool, false, List, [], ◌∷◌, length, ◌<◌, ◌≤◌, IsTrue, ◌==◌, ◌||◌}
 use Rattle.std.specs.Char.{is_ascii_digit, is_ascii_alphabetic, is_ascii_alphanumeric}
 use Rattle.std.specs.List.{list_all}
 use Rattle.dcx_plain.specs.declared.reader.Class.{Class}

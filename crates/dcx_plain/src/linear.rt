@@ -103,7 +103,12 @@ fn bound(alloc: Global, names: &[Word], constraint: &AtMost) -> Result<Row, Allo
 }
 
 /// The bounds that the constraints are, in order.
-fn rows(alloc: Global, names: &[Word], first: &AtMost, others: &[AtMost]) -> Result<Vec<Row>, AllocError>
+fn rows(
+    alloc: Global,
+    names: &[Word],
+    first: &AtMost,
+    others: &[AtMost],
+) -> Result<Vec<Row>, AllocError>
     requires first { IsRow first.now }
     requires others { Every IsRow others.now }
     ensures { IfOk result (λ v. map kept_bound v.items ≡ bound_of names.now first.now ∷ map (bound_of names.now) others.now) }

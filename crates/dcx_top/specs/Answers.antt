@@ -1,6 +1,5 @@
 -- What a run answers, with the cause of each answer.
 use Rattle.std.specs.Prelude.{◌≡◌, ℕ, ◌⊎◌, List, [], ◌∷◌, Option, None, Some, ⊤}
-use Rattle.dcx_shape.specs.declared.place.Place.{Place}
 use Rattle.dcx_report.specs.Files.{Files, IsTold, Lacks, HasMore}
 use Rattle.dcx_report.specs.declared.run.Run.{Run}
 use Rattle.dcx_report.specs.declared.run.Run.TheVariants.{Usage, Refused, Solved, ReadFault, Memory}

@@ -1,9 +1,7 @@
 -- How the problem of a plain script may end.
 use Rattle.std.specs.Prelude.{◌≡◌, ℕ, ◌+◌, List, length, map, ⊤}
 use Rattle.dcx_report.specs.declared.tree.Named.{Named}
-use Rattle.dcx_report.specs.declared.graph.Answer.{Answer}
-use Rattle.dcx_report.specs.declared.graph.Answer.TheVariants.{Optimal, Infeasible, Unbounded}
-use Rattle.dcx_report.specs.declared.graph.Stop.{Stop}
+use Rattle.dcx_report.specs.declared.graph.Answer.TheVariants.{Optimal, Unbounded}
 use Rattle.dcx_report.specs.declared.graph.Stop.TheVariants.{Wide, PivotLimit, Memory}
 use Rattle.dcx_report.specs.declared.graph.Site.TheVariants as site
 use Rattle.dcx_report.specs.declared.outcome.OutcomeEnd.{OutcomeEnd}

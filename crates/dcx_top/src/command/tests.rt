@@ -49,10 +49,7 @@ fn files(alloc: Global, script: &str) -> Result<BTreeMap<String, Bytes>, AllocEr
     bytes.extend_from_slice(b"import cvxpy as cp\nimport numpy as np\n")?;
     bytes.extend_from_slice(script.as_bytes())?;
     let mut files = BTreeMap::new(alloc);
-    files.insert(
-        String::from_str(alloc, "model.py")?,
-        Bytes::from_vec(bytes),
-    )?;
+    files.insert(String::from_str(alloc, "model.py")?, Bytes::from_vec(bytes))?;
     Ok(files)
 }
 
@@ -163,7 +160,10 @@ fn script_case(index: usize) -> (&'static str, u8, &'static str) {
 fn scripts_give_their_reports(rt: HostRuntime) -> Result<(), Fail> {
     for index in 0..SCRIPTS {
         let (script, status, report) = script_case(index);
-        assert!(rt; gives(rt.alloc(), "solve model.py", script, status, report)?, "script {index}");
+        assert!(rt;
+            gives(rt.alloc(), "solve model.py", script, status, report)?,
+            "script {index}"
+        );
     }
     Ok(())
 }
@@ -173,7 +173,8 @@ const WORDS: usize = 7;
 
 /// Words, the status and the report, where `model.py` is half a script.
 fn word_case(index: usize) -> (&'static str, u8, &'static str) {
-    let usage = "usage: dcx check SCRIPT | solve SCRIPT | resolve SCRIPT SETTINGS | certificate SCRIPT SETTINGS | certify SCRIPT SETTINGS CERT | trial N\n";
+    let usage =
+        "usage: dcx check SCRIPT | solve SCRIPT | resolve SCRIPT SETTINGS | certificate SCRIPT SETTINGS | certify SCRIPT SETTINGS CERT | trial N\n";
     match index {
         0 => ("", 2, usage),
         1 => ("solve", 2, usage),
@@ -189,7 +190,10 @@ fn word_case(index: usize) -> (&'static str, u8, &'static str) {
 fn words_give_their_reports(rt: HostRuntime) -> Result<(), Fail> {
     for index in 0..WORDS {
         let (text, status, report) = word_case(index);
-        assert!(rt; gives(rt.alloc(), text, "x = ", status, report)?, "words {index}");
+        assert!(rt;
+            gives(rt.alloc(), text, "x = ", status, report)?,
+            "words {index}"
+        );
     }
     Ok(())
 }

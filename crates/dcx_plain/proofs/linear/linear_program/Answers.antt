@@ -1,4 +1,4 @@
-use Rattle.dcx_plain.proofs.ConstraintRows.{few_terms, is_row, are_rows}
+use Rattle.dcx_plain.proofs.ConstraintRows.{few_terms, are_rows}
 use Rattle.dcx_plain.proofs.linear.linear_program.Goals as goal
 
 pub coefficients-requires-clause-few : goal.coefficients-requires-clause-few

@@ -1,4 +1,4 @@
-use Rattle.std.proofs.Common.{ap, not, refl, ◌∙◌}
+use Rattle.std.proofs.Common.{refl}
 use Rattle.dcx_plain.specs.Plain.{reserved_words}
 use Rattle.dcx_plain.proofs.plain.is_free.Goals as goal
 

@@ -1,6 +1,6 @@
 use Rattle.std.specs.Prelude.{codes}
 use Rattle.std.proofs.lemmas.Result.{err_from_is_err_and}
-use Rattle.dcx_plain.proofs.Sequences.{seq, seq_err, seq_err_second, seq_only, told_only, told_err}
+use Rattle.dcx_plain.proofs.Sequences.{seq_err, seq_err_second, seq_only, told_only, told_err}
 use Rattle.dcx_plain.specs.Grammar.{head_text}
 use Rattle.dcx_plain.specs.Phrases.{fixed, sum_phrase, constraints_phrase, problem_phrase}
 use Rattle.dcx_plain.proofs.Shapes.{problem_head, problem_middle, problem_rows, problem_whole, goes_objective, goes_middle, goes_constraints, goes_close, problem_of, tells_problem}

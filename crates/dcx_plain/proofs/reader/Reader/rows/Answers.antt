@@ -1,4 +1,3 @@
-use Rattle.std.proofs.Common.{inl, inr}
 use Rattle.std.proofs.lemmas.Result.{err_from_is_err_and}
 use Rattle.dcx_plain.proofs.Sequences.{loop_begins, loop_steps, loop_ends, loop_err, shorter}
 use Rattle.dcx_plain.specs.Phrases.{row_phrase, rows_phrase}

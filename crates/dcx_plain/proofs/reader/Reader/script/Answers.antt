@@ -1,5 +1,5 @@
 use Rattle.std.proofs.lemmas.Result.{err_from_is_err_and}
-use Rattle.dcx_plain.proofs.Sequences.{seq, seq_err, seq_err_second, seq_only, told_only, told_err}
+use Rattle.dcx_plain.proofs.Sequences.{seq_err, seq_err_second, seq_only, told_only, told_err}
 use Rattle.dcx_plain.specs.Grammar.{imports_text}
 use Rattle.dcx_plain.specs.Phrases.{fixed, names_phrase, problem_phrase, ending_phrase, script_phrase}
 use Rattle.dcx_plain.proofs.Shapes.{script_names, script_problem, script_whole, goes_names, goes_problem, goes_ending, script_of, tells_script}
