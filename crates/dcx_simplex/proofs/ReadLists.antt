@@ -49,14 +49,14 @@ module _ (t : Table) (xs : List Frac) where
   }
 
 -- ---- own columns
-same_nat : (a b : ℕ) → nat_eq a b ≡ true → a ≡ b
+pub same_nat : (a b : ℕ) → nat_eq a b ≡ true → a ≡ b
 same_nat a b h = grind (arith, nat_tests)
 
-both_true : (a b : Bool) → a && b ≡ true → a ≡ true
+pub both_true : (a b : Bool) → a && b ≡ true → a ≡ true
 both_true true b h = refl
 both_true false b h = cc
 
-starts_by : (kinds : List ColumnKind) (i j : ℕ) (negated : Bool) (k : ColumnKind) → kind_at kinds j ≡ k → may_start i negated k ≡ true → ¬ (kind_at kinds j ≡ Slack i) → kind_at kinds j ≡ Artificial i
+pub starts_by : (kinds : List ColumnKind) (i j : ℕ) (negated : Bool) (k : ColumnKind) → kind_at kinds j ≡ k → may_start i negated k ≡ true → ¬ (kind_at kinds j ≡ Slack i) → kind_at kinds j ≡ Artificial i
 starts_by kinds i j negated (Unknown u n) e h none = cc
 starts_by kinds i j negated (Slack r) e h none = absurd (none (e ∙ ap Slack (same_nat r i (both_true (nat_eq r i) (not negated) h))))
 starts_by kinds i j negated (Artificial r) e h none = e ∙ ap Artificial (same_nat r i h)
