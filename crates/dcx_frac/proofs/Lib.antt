@@ -1,8 +1,12 @@
+-- The lemmas.
 pub mod Bits
 pub mod Signs
 pub mod Parts
 pub mod Sums
 pub mod Products
 pub mod Quotients
+pub mod Reduced
 pub mod Turns
+pub mod Orders
+pub mod Results
 pub mod Texts

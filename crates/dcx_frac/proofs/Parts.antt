@@ -11,7 +11,7 @@ use Rattle.dcx_math.specs.Divisors.{IsCoprime}
 use Rattle.dcx_math.proofs.LowestTerms.{lowest_terms_unique}
 use Rattle.dcx_math.proofs.FieldLaws.{≡-from_products}
 use Rattle.dcx_frac.specs.declared.fraction.Frac.{Frac}
-use Rattle.dcx_frac.specs.Fits.{Fits, IsRepresentable, signed}
+use Rattle.dcx_frac.specs.Fits.{IsRepresentable, representable, signed}
 use Rattle.dcx_frac.specs.Frac.{num_of, den_of, value}
 use Rattle.dcx_frac.proofs.Signs.{unsigned_abs-signed}
 
@@ -43,12 +43,6 @@ value_injective f g e =
     let p = lowest_terms_unique (value g) (num_of f) (den_of f) (num_of g) (den_of g) l (value_lowest g) in
     frac_from_parts f g p.0 p.1
 
--- a number whose parts in lowest terms fit is representable
-pub representable : (x : ℚ) (n d : ℤ) → IsInLowestTerms x n d → Fits n → Fits d → IsRepresentable x
-representable x n d l fn fd = record {
-  fits = λ m e k. let p = lowest_terms_unique x n d m e l k in (subst Fits p.0 fn, subst Fits p.1 fd);
-}
-
 -- the value of a fraction is representable
 pub value_representable : (f : Frac) → IsRepresentable (value f)
 value_representable f = representable (value f) (num_of f) (den_of f) (value_lowest f) f.num_fits f.den_fits
@@ -59,6 +53,7 @@ module _ (x : ℚ) (s : Bool) (n d : ℕ) (low : IsInLowestTerms x (signed s n) 
   pub sizes_fit : IsRepresentable x → (n < 2 ^ 127) × (d < 2 ^ 127)
   sizes_fit h = let k = h.fits (signed s n) (pos d) low in (subst (λ m. m < 2 ^ 127) (unsigned_abs-signed s n) k.0, k.1)
 
+  -- a fraction that is there exactly where the sizes fit is there exactly where the number is representable
   pub exists_exactly : (r : Option Frac) → (IsSome r ↔ ((n < 2 ^ 127) × (d < 2 ^ 127))) → IsSome r ↔ IsRepresentable x
   exists_exactly r h = (
     (λ some. let k = h.0 some in representable x (signed s n) (pos d) low (subst (λ m. m < 2 ^ 127) (sym (unsigned_abs-signed s n)) k.0) k.1),
@@ -69,6 +64,7 @@ module _ (x : ℚ) (s : Bool) (n d : ℕ) (low : IsInLowestTerms x (signed s n) 
   parts_value f en ed =
       ≡-from_products (num_of f) (den_of f) (signed s n) (pos d) f.positive low.positive (ap₂ ◌*ℤ◌ en (sym ed)) ∙ sym low.is
 
+  -- a fraction with these parts has the value
   pub has_value : (r : Option Frac) → IfSome r (λ f. f.num ≡ signed s n) → IfSome r (λ f. f.den ≡ pos d) → IfSome r (λ f. value f ≡ x)
   has_value None en ed = tt
   has_value (Some f) en ed = parts_value f en ed

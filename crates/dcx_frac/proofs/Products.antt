@@ -24,24 +24,30 @@ coprime_below a b a' b' h p q d da db = h d (dvd_trans d da p) (dvd_trans d db q
 
 -- the sizes of a / b * c / d
 module _ (a b c d : ℕ) (ha : IsCoprime a b) (hc : IsCoprime c d) (pb : 0 < b) (pd : 0 < d) where
+  -- what comes out of a and d
   abbrev pub across : ℕ
   across = gcd a d
 
+  -- what comes out of c and b
   abbrev pub back_across : ℕ
   back_across = gcd c b
 
+  -- both are positive
   pub across_pos : 0 < across
   across_pos = gcd-pos a d pd
 
   pub back_across_pos : 0 < back_across
   back_across_pos = gcd-pos c b pb
 
+  -- the size of the numerator
   abbrev pub upper_size : ℕ
   upper_size = a / across * (c / back_across)
 
+  -- the size of the denominator
   abbrev pub lower_size : ℕ
   lower_size = b / back_across * (d / across)
 
+  -- the sizes are coprime
   pub sizes_coprime : IsCoprime upper_size lower_size
   sizes_coprime =
       let a' = a / across in
@@ -56,9 +62,11 @@ module _ (a b c d : ℕ) (ha : IsCoprime a b) (hc : IsCoprime c d) (pb : 0 < b) 
       let right = IsCoprime-mul c' b' d' cb cd in
       IsCoprime-swap lower_size upper_size (IsCoprime-mul lower_size a' c' (IsCoprime-swap a' lower_size left) (IsCoprime-swap c' lower_size right))
 
+  -- the denominator is positive
   pub lower_size_pos : 0 < lower_size
   lower_size_pos = mul-pos (quotient-pos b back_across pb (gcd-dvd_right c b)) (quotient-pos d across pd (gcd-dvd_right a d))
 
+  -- what came out gives the product of the numerators again
   pub upper_whole : upper_size * (across * back_across) ≡ a * c
   upper_whole =
       let ea = div-mul_cancel across (gcd-dvd_left a d) in
@@ -66,6 +74,7 @@ module _ (a b c d : ℕ) (ha : IsCoprime a b) (hc : IsCoprime c d) (pb : 0 < b) 
       let split : upper_size * (across * back_across) ≡ (a / across * across) * (c / back_across * back_across) = omega arith in
       split ∙ ap₂ ◌*◌ ea ec
 
+  -- and that of the denominators
   pub lower_whole : lower_size * (across * back_across) ≡ b * d
   lower_whole =
       let eb = div-mul_cancel back_across (gcd-dvd_right c b) in
@@ -78,24 +87,30 @@ cross n d a b g hn hd = rw (← hn, ← hd) (simp ring)
 
 -- the same of two fractions
 module _ (x y : Frac) where
+  -- the size of the numerator
   abbrev pub upper : ℕ
   upper = upper_size (unsigned_abs (num_of x)) (unsigned_abs (den_of x)) (unsigned_abs (num_of y)) (unsigned_abs (den_of y)) x.lowest y.lowest (abs-positive (den_of x) x.positive) (abs-positive (den_of y) y.positive)
 
+  -- the size of the denominator
   abbrev pub lower : ℕ
   lower = lower_size (unsigned_abs (num_of x)) (unsigned_abs (den_of x)) (unsigned_abs (num_of y)) (unsigned_abs (den_of y)) x.lowest y.lowest (abs-positive (den_of x) x.positive) (abs-positive (den_of y) y.positive)
 
+  -- whether the product is negative
   abbrev pub sign : Bool
   sign = not (beq (lt_z (num_of x) (pos 0)) (lt_z (num_of y) (pos 0)))
 
+  -- what comes out is positive
   pub left_pos : 0 < gcd (unsigned_abs (num_of x)) (unsigned_abs (den_of y))
   left_pos = gcd-pos (unsigned_abs (num_of x)) (unsigned_abs (den_of y)) (abs-positive (den_of y) y.positive)
 
   pub right_pos : 0 < gcd (unsigned_abs (num_of y)) (unsigned_abs (den_of x))
   right_pos = gcd-pos (unsigned_abs (num_of y)) (unsigned_abs (den_of x)) (abs-positive (den_of x) x.positive)
 
+  -- the parts are coprime
   pub parts_coprime : IsCoprime upper lower
   parts_coprime = sizes_coprime (unsigned_abs (num_of x)) (unsigned_abs (den_of x)) (unsigned_abs (num_of y)) (unsigned_abs (den_of y)) x.lowest y.lowest (abs-positive (den_of x) x.positive) (abs-positive (den_of y) y.positive)
 
+  -- the denominator is positive
   pub lower_pos : 0 < lower
   lower_pos = lower_size_pos (unsigned_abs (num_of x)) (unsigned_abs (den_of x)) (unsigned_abs (num_of y)) (unsigned_abs (den_of y)) x.lowest y.lowest (abs-positive (den_of x) x.positive) (abs-positive (den_of y) y.positive)
 

@@ -57,6 +57,7 @@ replaced n d a c x y x' y' ex ey h = rw (ex, ey) h
 
 -- a / b + c / d, where both are in lowest terms
 module _ (a c : ℤ) (b d : ℕ) (ha : IsCoprime (unsigned_abs a) b) (hc : IsCoprime (unsigned_abs c) d) (pb : 0 < b) (pd : 0 < d) where
+  -- the shared part of the denominators
   abbrev pub shared : ℕ
   shared = gcd b d
 
@@ -68,12 +69,15 @@ module _ (a c : ℤ) (b d : ℕ) (ha : IsCoprime (unsigned_abs a) b) (hc : IsCop
   abbrev pub taken : ℕ
   taken = gcd (unsigned_abs total) shared
 
+  -- the denominator of the sum
   abbrev pub lower : ℕ
   lower = b / shared * (d / taken)
 
+  -- the shared part is positive
   pub shared_pos : 0 < shared
   shared_pos = gcd-pos b d pd
 
+  -- so is what comes out
   pub taken_pos : 0 < taken
   taken_pos = gcd-pos (unsigned_abs total) shared shared_pos
 
@@ -110,12 +114,15 @@ module _ (a c : ℤ) (b d : ℕ) (ha : IsCoprime (unsigned_abs a) b) (hc : IsCop
   whole_lower_pos : 0 < b / shared * d
   whole_lower_pos = mul-pos (quotient-pos b shared pb (gcd-dvd_left b d)) pd
 
+  -- the parts are coprime
   pub sum_coprime : IsCoprime (unsigned_abs total / taken) lower
   sum_coprime = rw (gcd-total, lower_is) at (IsCoprime-quotients (unsigned_abs total) (b / shared * d) (gcd-pos (unsigned_abs total) (b / shared * d) whole_lower_pos))
 
+  -- the denominator is positive
   pub lower_pos : 0 < lower
   lower_pos = rw lower_is at (quotient-pos (b / shared * d) taken whole_lower_pos (dvd-mul_left_of_dvd taken taken_divides (b / shared)))
 
+  -- the cross products with a / b + c / d
   pub sum_cross : signed (lt_z total (pos 0)) (unsigned_abs total / taken) *ℤ (pos b *ℤ pos d) ≡ (a *ℤ pos d +ℤ c *ℤ pos b) *ℤ pos lower
   sum_cross =
       let k = taken in
@@ -136,12 +143,15 @@ module _ (a c : ℤ) (b d : ℕ) (ha : IsCoprime (unsigned_abs a) b) (hc : IsCop
 
 -- the same of two fractions
 module _ (x y : Frac) where
+  -- the numerator over the least common denominator
   abbrev pub top : ℤ
   top = left_term x y +ℤ right_term x y
 
+  -- what comes out of it
   abbrev pub out : ℕ
   out = gcd (unsigned_abs top) (shared_divisor x y)
 
+  -- the denominator of the sum
   abbrev pub bottom : ℕ
   bottom = unsigned_abs (den_of x) / shared_divisor x y * (unsigned_abs (den_of y) / out)
 
@@ -152,18 +162,22 @@ module _ (x y : Frac) where
   pub right_is : num_of y *ℤ pos (unsigned_abs (den_of x) / shared_divisor x y) ≡ right_term x y
   right_is = ap (λ z. num_of y *ℤ z) (sym (divided-positive (shared_divisor x y) (den_of x) x.positive))
 
+  -- the shared part is positive
   pub shared_divisor_pos : 0 < shared_divisor x y
   shared_divisor_pos = gcd-pos (unsigned_abs (den_of x)) (unsigned_abs (den_of y)) (abs-positive (den_of y) y.positive)
 
+  -- so is what comes out
   pub out_pos : 0 < out
   out_pos = gcd-pos (unsigned_abs top) (shared_divisor x y) shared_divisor_pos
 
   top_is : total (num_of x) (num_of y) (unsigned_abs (den_of x)) (unsigned_abs (den_of y)) x.lowest y.lowest (abs-positive (den_of x) x.positive) (abs-positive (den_of y) y.positive) ≡ top
   top_is = ap₂ ◌+ℤ◌ left_is right_is
 
+  -- the parts are coprime
   pub parts_coprime : IsCoprime (unsigned_abs top / out) bottom
   parts_coprime = rw top_is at (sum_coprime (num_of x) (num_of y) (unsigned_abs (den_of x)) (unsigned_abs (den_of y)) x.lowest y.lowest (abs-positive (den_of x) x.positive) (abs-positive (den_of y) y.positive))
 
+  -- the denominator is positive
   pub bottom_pos : 0 < bottom
   bottom_pos = rw top_is at (lower_pos (num_of x) (num_of y) (unsigned_abs (den_of x)) (unsigned_abs (den_of y)) x.lowest y.lowest (abs-positive (den_of x) x.positive) (abs-positive (den_of y) y.positive))
 

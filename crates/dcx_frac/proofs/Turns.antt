@@ -1,82 +1,22 @@
--- Quotients of machine numbers, negatives, inverses and the order.
-use Rattle.std.proofs.Common.{◌≡◌, ◌≢◌, ⊎_elim, inl, inr, ◌↔◌, ℕ, zero, suc, ◌*◌, ◌/◌, ◌<◌, ◌^◌, ℤ, pos, negsuc, ◌+ℤ◌, ◌*ℤ◌, ◌<ℤ◌, neg_ℤ, unsigned_abs, Bool, true, false, not, arith, refl, sym, ap, ap₂, ◌∙◌, subst, Ordering, Less, Equal, Greater}
-use Rattle.std.specs.Ordering.{int_cmp}
+-- Zero, negatives, inverses, and what follows for sums with a zero operand, differences and quotients.
+use Rattle.std.proofs.Common.{◌≡◌, ⊎_elim, inl, inr, ◌↔◌, zero, suc, ◌<◌, ◌^◌, ℤ, pos, negsuc, ◌+ℤ◌, ◌*ℤ◌, ◌<ℤ◌, neg_ℤ, unsigned_abs, arith, refl, sym, ap, ap₂, ◌∙◌, subst}
 use Rattle.std.proofs.lemmas.Int.{ints}
-use Rattle.std.proofs.lemmas.Cmp.{int_ranked}
-use Rattle.std.specs.Cmp.{int_cmp_is}
-use mathlib.Core.Bool.{beq}
-use lib.Signed.{lt_z}
-use native.Mathlib.Nat.{div-mul_cancel}
 use Rattle.dcx_math.specs.Integers.{ring, units, *ℤ-neg_ℤ_left}
 use Rattle.dcx_math.specs.Divisors.{gcd, IsCoprime, divided}
-use Rattle.dcx_math.specs.Rational.{ratio, whole, ◌+ℚ◌, ◌-ℚ◌, ◌*ℚ◌, ◌/ℚ◌, neg_ℚ, inverse, ◌<ℚ◌}
+use Rattle.dcx_math.specs.Rational.{ratio, whole, ◌+ℚ◌, ◌-ℚ◌, ◌*ℚ◌, ◌/ℚ◌, neg_ℚ, inverse}
 use Rattle.dcx_math.specs.LowestTerms.{IsInLowestTerms}
-use Rattle.dcx_math.proofs.Divisors.{gcd-pos, gcd-dvd_left, gcd-dvd_right, IsCoprime-quotients, quotient-pos}
-use Rattle.dcx_math.proofs.Ratios.{ratio-*ℚ-ratio, ratio-<ℚ-ratio, ratio-≡-ratio, ≡-from_products, ≡-products, ratio-one}
+use Rattle.dcx_math.proofs.Ratios.{ratio-*ℚ-ratio, ≡-from_products, ≡-products, ratio-one}
 use Rattle.dcx_math.proofs.Denominators.{ratio-neg_ℚ}
 use Rattle.dcx_math.proofs.LowestTerms.{lowest_terms_unique}
-use Rattle.dcx_math.proofs.FieldLaws.{whole_injective, *ℚ-inverse, +ℚ_idl}
-use Rattle.dcx_math.proofs.Orders.{+ℚ_idr}
-use Rattle.dcx_math.proofs.Products.{/ℚ-unique, *ℚ_cancel}
+use Rattle.dcx_math.proofs.FieldLaws.{*ℚ-inverse, +ℚ_idl}
+use Rattle.dcx_math.proofs.Orders.{+ℚ_idr, neg_ℚ-zero}
+use Rattle.dcx_math.proofs.Products.{*ℚ_cancel}
 use Rattle.dcx_math.proofs.Ring.{/ℚ-is, -ℚ-is}
 use Rattle.dcx_frac.specs.declared.fraction.Frac.{Frac}
-use Rattle.dcx_frac.specs.Fits.{Fits, IsRepresentable, signed}
+use Rattle.dcx_frac.specs.Fits.{Fits, IsRepresentable, representable}
 use Rattle.dcx_frac.specs.Frac.{num_of, den_of, value}
 use Rattle.dcx_frac.specs.Formed.{IsZero, shared_divisor, left_term, right_term, FormsSum, FormsDifference, SumFits, DifferenceFits}
-use Rattle.dcx_frac.proofs.Signs.{is_negative, lt_zero, signed-abs, unsigned_abs-signed, abs-pos}
-use Rattle.dcx_frac.proofs.Parts.{value_lowest}
-
--- ---- the quotient of two integers
-crossed : (s t : Bool) (p q g : ℕ) → signed (not (beq s t)) p *ℤ signed t (q * g) ≡ signed s (p * g) *ℤ pos q
-crossed true true p q g = simp ring (omega (arith, ints))
-crossed true false p q g = simp ring (omega (arith, ints))
-crossed false true p q g = simp ring (omega (arith, ints))
-crossed false false p q g = omega (arith, ints)
-
-module _ (n d : ℤ) (some : d ≢ pos 0) where
-  abbrev pub sign : Bool
-  sign = not (beq (lt_z n (pos 0)) (lt_z d (pos 0)))
-
-  abbrev pub common : ℕ
-  common = gcd (unsigned_abs n) (unsigned_abs d)
-
-  pub common_pos : 0 < common
-  common_pos = gcd-pos (unsigned_abs n) (unsigned_abs d) (abs-pos d some)
-
-  pub lower_pos : 0 < unsigned_abs d / common
-  lower_pos = quotient-pos (unsigned_abs d) common (abs-pos d some) (gcd-dvd_right (unsigned_abs n) (unsigned_abs d))
-
-  pub parts_coprime : IsCoprime (unsigned_abs n / common) (unsigned_abs d / common)
-  parts_coprime = IsCoprime-quotients (unsigned_abs n) (unsigned_abs d) common_pos
-
-  quotient_cross : signed sign (unsigned_abs n / common) *ℤ d ≡ n *ℤ pos (unsigned_abs d / common)
-  quotient_cross =
-      let g = common in
-      let p = unsigned_abs n / g in
-      let q = unsigned_abs d / g in
-      let sn : signed (is_negative n) (p * g) ≡ n = ap (signed (is_negative n)) (div-mul_cancel g (gcd-dvd_left (unsigned_abs n) (unsigned_abs d))) ∙ signed-abs n in
-      let sd : signed (is_negative d) (q * g) ≡ d = ap (signed (is_negative d)) (div-mul_cancel g (gcd-dvd_right (unsigned_abs n) (unsigned_abs d))) ∙ signed-abs d in
-      let flag = ap₂ (λ s t. signed (not (beq s t)) p) (lt_zero n) (lt_zero d) in
-      ap₂ ◌*ℤ◌ flag (sym sd) ∙ crossed (is_negative n) (is_negative d) p q g ∙ ap (λ z. z *ℤ pos q) sn
-
-  -- the quotient in lowest terms
-  pub quotient_lowest : IsInLowestTerms (whole n /ℚ whole d) (signed sign (unsigned_abs n / common)) (pos (unsigned_abs d / common))
-  quotient_lowest =
-      let m = signed sign (unsigned_abs n / common) in
-      let e = pos (unsigned_abs d / common) in
-      let low = lower_pos in
-      let positive : pos 0 <ℤ e = omega (arith, ints) in
-      record {
-        positive = positive;
-        coprime = subst (λ k. IsCoprime k (unsigned_abs d / common)) (sym (unsigned_abs-signed sign (unsigned_abs n / common))) parts_coprime;
-        is = /ℚ-unique (whole n) (whole d) (ratio m e positive) (λ z. some (whole_injective d (pos 0) z)) (times m e positive quotient_cross);
-      }
-    where
-      times : (m e : ℤ) (p : pos 0 <ℤ e) → m *ℤ d ≡ n *ℤ e → ratio m e p *ℚ whole d ≡ whole n
-      times m e p h =
-          let one : pos 0 <ℤ pos 1 = omega (arith, ints) in
-          ap (λ u. ratio m e p *ℚ u) (sym (ratio-one d one)) ∙ ratio-*ℚ-ratio m e d (pos 1) p one
-          ∙ ≡-from_products (m *ℤ d) (e *ℤ pos 1) n (pos 1) _ one (simp units h) ∙ ratio-one n one
+use Rattle.dcx_frac.proofs.Parts.{value_lowest, value_representable}
 
 -- ---- zero, one, negatives, inverses
 -- a fraction is 0 exactly where its numerator is
@@ -123,11 +63,19 @@ pub quotient_value : (x y t : Frac) → value t ≡ inverse (value y) → value 
 quotient_value x y t is = ap (λ u. value x *ℚ u) is ∙ sym (/ℚ-is (value x) (value y))
 
 -- ---- sums with a zero operand, and differences
+-- 0 on the left
 pub zero_left : (x y : Frac) → IsZero x → value y ≡ value x +ℚ value y
 zero_left x y z = sym (ap (λ u. u +ℚ value y) z ∙ +ℚ_idl (value y))
 
+-- 0 on the right
 pub zero_right : (x y : Frac) → IsZero y → value x ≡ value x +ℚ value y
 zero_right x y z = sym (ap (λ u. value x +ℚ u) z ∙ +ℚ_idr (value x))
+
+-- a sum that fits is representable
+pub sum_representable : (x y : Frac) → SumFits x y → IsRepresentable (value x +ℚ value y)
+sum_representable x y (inl z) = subst IsRepresentable (zero_left x y z) (value_representable y)
+sum_representable x y (inr (inl z)) = subst IsRepresentable (zero_right x y z) (value_representable x)
+sum_representable x y (inr (inr h)) = h.parts
 
 -- a turned sign keeps the size
 pub neg_size : (z : ℤ) → unsigned_abs (neg_ℤ z) ≡ unsigned_abs z
@@ -135,6 +83,7 @@ neg_size (pos zero) = refl
 neg_size (pos (suc n)) = refl
 neg_size (negsuc n) = refl
 
+-- the negative in lowest terms
 neg_lowest : (y : Frac) → IsInLowestTerms (neg_ℚ (value y)) (neg_ℤ (num_of y)) (den_of y)
 neg_lowest y = record {
   positive = y.positive;
@@ -142,6 +91,7 @@ neg_lowest y = record {
   is = ratio-neg_ℚ (den_of y) y.positive (num_of y);
 }
 
+-- f is the negative of y
 module _ (x y f : Frac) (is : value f ≡ neg_ℚ (value y)) where
   turned_parts : (num_of f ≡ neg_ℤ (num_of y)) × (den_of f ≡ den_of y)
   turned_parts = lowest_terms_unique (value f) (num_of f) (den_of f) (neg_ℤ (num_of y)) (den_of y) (value_lowest f) (subst (λ u. IsInLowestTerms u (neg_ℤ (num_of y)) (den_of y)) (sym is) (neg_lowest y))
@@ -184,28 +134,20 @@ module _ (x y f : Frac) (is : value f ≡ neg_ℚ (value y)) where
     }),
   )
 
+  -- and fits exactly where the sum does
   pub difference_fits : SumFits x f ↔ DifferenceFits x y
   difference_fits = (
     (λ h. ⊎_elim (λ z. inl z) (λ k. ⊎_elim (λ z. inr (inl (zero_turned.0 z))) (λ s. inr (inr (forms_difference.0 s))) k) h),
     (λ h. ⊎_elim (λ z. inl z) (λ k. ⊎_elim (λ z. inr (inl (zero_turned.1 z))) (λ s. inr (inr (forms_difference.1 s))) k) h),
   )
 
--- ---- the order
-module _ (f g : Frac) (r : Ordering) (is : r ≡ int_cmp (num_of f *ℤ den_of g) (num_of g *ℤ den_of f)) where
-  pub less_exactly : (r ≡ Less) ↔ (value f <ℚ value g)
-  less_exactly = (
-    (λ e. (ratio-<ℚ-ratio (num_of f) (den_of f) (num_of g) (den_of g) f.positive g.positive).1 (int_ranked (num_of f *ℤ den_of g) (num_of g *ℤ den_of f) Less (sym e ∙ is))),
-    (λ h. is ∙ sym (int_cmp_is (num_of f *ℤ den_of g) (num_of g *ℤ den_of f) Less ((ratio-<ℚ-ratio (num_of f) (den_of f) (num_of g) (den_of g) f.positive g.positive).0 h))),
-  )
-
-  pub equal_exactly : (r ≡ Equal) ↔ (value f ≡ value g)
-  equal_exactly = (
-    (λ e. (ratio-≡-ratio (num_of f) (den_of f) (num_of g) (den_of g) f.positive g.positive).1 (int_ranked (num_of f *ℤ den_of g) (num_of g *ℤ den_of f) Equal (sym e ∙ is))),
-    (λ h. is ∙ sym (int_cmp_is (num_of f *ℤ den_of g) (num_of g *ℤ den_of f) Equal ((ratio-≡-ratio (num_of f) (den_of f) (num_of g) (den_of g) f.positive g.positive).0 h))),
-  )
-
-  pub greater_exactly : (r ≡ Greater) ↔ (value g <ℚ value f)
-  greater_exactly = (
-    (λ e. (ratio-<ℚ-ratio (num_of g) (den_of g) (num_of f) (den_of f) g.positive f.positive).1 (int_ranked (num_of f *ℤ den_of g) (num_of g *ℤ den_of f) Greater (sym e ∙ is))),
-    (λ h. is ∙ sym (int_cmp_is (num_of f *ℤ den_of g) (num_of g *ℤ den_of f) Greater ((ratio-<ℚ-ratio (num_of g) (den_of g) (num_of f) (den_of f) g.positive f.positive).0 h))),
-  )
+-- a difference that fits is representable
+pub difference_representable : (x y : Frac) → DifferenceFits x y → IsRepresentable (value x -ℚ value y)
+difference_representable x y (inl z) =
+    let e : neg_ℚ (value y) ≡ value x -ℚ value y = sym (-ℚ-is (value x) (value y) ∙ ap (λ u. u +ℚ neg_ℚ (value y)) z ∙ +ℚ_idl (neg_ℚ (value y))) in
+    let l = neg_lowest y in
+    subst IsRepresentable e (representable (neg_ℚ (value y)) (neg_ℤ (num_of y)) (den_of y) l (subst (λ m. m < 2 ^ 127) (sym (neg_size (num_of y))) y.num_fits) y.den_fits)
+difference_representable x y (inr (inl z)) =
+    let e : value x ≡ value x -ℚ value y = sym (-ℚ-is (value x) (value y) ∙ ap (λ u. value x +ℚ neg_ℚ u) z ∙ ap (λ u. value x +ℚ u) neg_ℚ-zero ∙ +ℚ_idr (value x)) in
+    subst IsRepresentable e (value_representable x)
+difference_representable x y (inr (inr h)) = h.parts

@@ -44,7 +44,7 @@ SumFits x y = IsZero x ⊎ IsZero y ⊎ FormsSum x y
 abbrev pub DifferenceFits : Frac → Frac → Type 0
 DifferenceFits x y = IsZero x ⊎ IsZero y ⊎ FormsDifference x y
 
--- a product forms the parts of the result in lowest terms; one with 0, 1 or -1 has parts that stand already, and fits
+-- a product forms the parts of the result in lowest terms; with 0, 1 or -1 they are those of 0 or of the other operand up to sign, so it always fits
 abbrev pub ProductFits : Frac → Frac → Type 0
 ProductFits x y = IsRepresentable (value x *ℚ value y)
 

@@ -1,4 +1,7 @@
 //! Fractions in lowest terms, with a positive denominator and parts of at most 2^127 - 1 in magnitude.
+//!
+//! Each operation says its answer twice: by facts, and as a function of its operands (`specs/Results.antt`), by which
+//! other crates define what several operations in a row answer.
 ghost use Rattle.std.specs.Prelude.{neg_ℤ, ◌≡◌, ◌<◌, ◌^◌, ◌*ℤ◌, ◌+ℤ◌, ◌<ℤ◌, ◌↔◌, pos, unsigned_abs, IsSome, IfSome, SomeIff};
 ghost use Rattle.dcx_math.specs.Divisors.{IsCoprime};
 ghost use Rattle.dcx_frac.specs.Fits.{Fits, IsRepresentable, signed};
@@ -46,6 +49,13 @@ pub struct Passes {
     pub left: Frac,
     /// The right operand, as it was given.
     pub right: Frac,
+}
+
+/// That this operation on these operands passes 128 bits.
+fn passing(op: Op, left: Frac, right: Frac) -> Passes
+    ensures { result ≡ record { op = op; left = left; right = right } }
+{
+    Passes { op, left, right }
 }
 
 /// The number of this size and sign.
@@ -119,6 +129,7 @@ impl Frac {
     ghost use Rattle.std.specs.Ordering.{int_cmp};
     ghost use Rattle.dcx_frac.specs.Frac.{num_of, den_of, value};
     ghost use Rattle.dcx_frac.specs.Formed.{FormsSum, SumFits, DifferenceFits, ProductFits, QuotientFits};
+    ghost use Rattle.dcx_frac.specs.Results.{sum_of, difference_of, product_of, quotient_of};
 
     /// `num / den` in lowest terms, or `None` where `den` is 0 or a part in lowest terms passes 2^127 - 1 in magnitude.
     pub fn of(num: i128, den: i128) -> Option<Frac>
@@ -174,15 +185,9 @@ impl Frac {
         ensures sum { IfOk result (λ f. value f ≡ value self +ℚ value other) }
         ensures fits { IsOk result ↔ SumFits self other }
         ensures told { IfErr result (λ p. p ≡ record { op = Op.Add; left = self; right = other }) }
+        ensures answer { result ≡ sum_of self other }
     {
-        match self.sum(other) {
-            Some(sum) => Ok(sum),
-            None => Err(Passes {
-                op: Op::Add,
-                left: self,
-                right: other,
-            }),
-        }
+        self.sum(other).ok_or(passing(Op::Add, self, other))
     }
 
     /// The exact difference, or what was subtracted where a number formed passes 2^127 - 1.
@@ -190,15 +195,9 @@ impl Frac {
         ensures difference { IfOk result (λ f. value f ≡ value self -ℚ value other) }
         ensures fits { IsOk result ↔ DifferenceFits self other }
         ensures told { IfErr result (λ p. p ≡ record { op = Op.Sub; left = self; right = other }) }
+        ensures answer { result ≡ difference_of self other }
     {
-        match self.sum(other.neg()) {
-            Some(difference) => Ok(difference),
-            None => Err(Passes {
-                op: Op::Sub,
-                left: self,
-                right: other,
-            }),
-        }
+        self.sum(other.neg()).ok_or(passing(Op::Sub, self, other))
     }
 
     /// The exact product, or what was multiplied where a number formed passes 2^127 - 1.
@@ -206,15 +205,9 @@ impl Frac {
         ensures product { IfOk result (λ f. value f ≡ value self *ℚ value other) }
         ensures fits { IsOk result ↔ ProductFits self other }
         ensures told { IfErr result (λ p. p ≡ record { op = Op.Mul; left = self; right = other }) }
+        ensures answer { result ≡ product_of self other }
     {
-        match self.product(other) {
-            Some(product) => Ok(product),
-            None => Err(Passes {
-                op: Op::Mul,
-                left: self,
-                right: other,
-            }),
-        }
+        self.product(other).ok_or(passing(Op::Mul, self, other))
     }
 
     /// The exact quotient, or what was divided where a number formed passes 2^127 - 1.
@@ -223,15 +216,10 @@ impl Frac {
         ensures quotient { IfOk result (λ f. value f ≡ value self /ℚ value other) }
         ensures fits { IsOk result ↔ QuotientFits self other }
         ensures told { IfErr result (λ p. p ≡ record { op = Op.Div; left = self; right = other }) }
+        ensures answer { result ≡ quotient_of self other }
     {
-        match self.product(other.turned_over()) {
-            Some(quotient) => Ok(quotient),
-            None => Err(Passes {
-                op: Op::Div,
-                left: self,
-                right: other,
-            }),
-        }
+        self.product(other.turned_over())
+            .ok_or(passing(Op::Div, self, other))
     }
 
     /// The number with its sign turned.
@@ -253,6 +241,7 @@ impl Frac {
         self.order(*other)
     }
 
+    /// How the cross products compare, with no product formed.
     fn order(self, other: Frac) -> Ordering
         ensures { result ≡ int_cmp (self.num *ℤ other.den) (other.num *ℤ self.den) }
     {

@@ -1,4 +1,4 @@
--- The invariant of the steps, for the caller: each divisor of the rest is one of both numbers.
+-- A step of Euclid keeps the greatest common divisors.
 use Rattle.std.proofs.Common.{arith}
 use Rattle.std.proofs.lemmas.Nat.Gcd.{IsGcd-from_zero, IsGcd-from_mod}
 use Rattle.dcx_math.proofs.Divisors.{gcd_unique}

@@ -1,5 +1,5 @@
 -- Fractions compare as their cross products do.
-use Rattle.dcx_frac.proofs.Turns.{less_exactly, equal_exactly, greater_exactly}
+use Rattle.dcx_frac.proofs.Orders.{less_exactly, equal_exactly, greater_exactly}
 use Rattle.dcx_frac.proofs.fraction.Frac.cmp_exact.Goals as goal
 
 pub returns : goal.returns

@@ -4,7 +4,7 @@ use Rattle.std.specs.Int.{w128}
 use Rattle.dcx_math.specs.Divisors.{gcd}
 use Rattle.dcx_math.specs.Rational.{whole, ◌/ℚ◌}
 use Rattle.dcx_frac.proofs.Parts.{exists_exactly, has_value}
-use Rattle.dcx_frac.proofs.Turns.{sign, common, common_pos, lower_pos, parts_coprime, quotient_lowest}
+use Rattle.dcx_frac.proofs.Reduced.{sign, common, common_pos, lower_pos, parts_coprime, quotient_lowest}
 use Rattle.dcx_frac.proofs.fraction.Frac.of.Goals as goal
 use Rattle.dcx_frac.proofs.fraction.Frac.of.Goals.{After-gcd-g}
 

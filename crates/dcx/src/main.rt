@@ -1,0 +1,44 @@
+//! Hands the words, the files of the host and standard output to the top call, and ends with its status.
+#![tactic(auto)]
+
+ghost use Rattle.std.specs.Prelude.{◌≡◌, ◌<◌};
+
+use dcx_report::{FileLibrary, OutSink};
+use dcx_steps::Steps;
+use std::alloc::AllocError;
+use std::marker::Brand;
+use std::process::ExitCode;
+use std::rt::{Env, Files};
+use std::sync::ledger::{Blank, Ledger};
+use std::{env, io};
+
+/// The words after the program's name. Where they aren't text there are none.
+fn words(rt: &(impl Env + AllocGlobal)) -> Result<Vec<String>, AllocError> {
+    let mut words = Vec::new(rt.alloc());
+    if let Ok(args) = env::args(rt) {
+        for word in args.skip(1) {
+            words.push(word)?;
+        }
+    }
+    Ok(words)
+}
+
+/// Runs with a counter of its own, for the ledger that the caller names.
+fn counted<R: Files + Print + AllocGlobal, S: Ledger>(rt: &R, words: &[String], blank: Blank) -> u8
+    requires name { blank.name ≡ S.name }
+    requires parts { blank.parts ≡ S.parts }
+    requires some { 0 < blank.parts }
+{
+    let mut steps = Steps::<S>::new(blank);
+    let mut library = FileLibrary::new(rt);
+    let mut sink = OutSink::new(io::writer(rt));
+    let ended = dcx_top::run(rt.alloc(), words, &mut library, &mut sink, &mut steps);
+    ended.status
+}
+
+fn main(rt: HostRuntime) -> ExitCode {
+    match words(&rt) {
+        Ok(words) => ExitCode::from(counted::<HostRuntime, Brand>(&rt, &words, Blank::new(1))),
+        Err(_) => ExitCode::from(5),
+    }
+}

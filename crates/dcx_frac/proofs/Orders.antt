@@ -1,0 +1,35 @@
+-- Fractions compare as their cross products do.
+use Rattle.std.proofs.Common.{◌≡◌, ◌↔◌, ℤ, ◌*ℤ◌, sym, ◌∙◌, Ordering, Less, Equal, Greater}
+use Rattle.std.specs.Ordering.{int_cmp}
+use Rattle.std.proofs.lemmas.Cmp.{int_ranked}
+use Rattle.std.specs.Cmp.{int_cmp_is}
+use Rattle.dcx_math.specs.Rational.{◌<ℚ◌}
+use Rattle.dcx_math.proofs.Ratios.{ratio-<ℚ-ratio, ratio-≡-ratio}
+use Rattle.dcx_frac.specs.declared.fraction.Frac.{Frac}
+use Rattle.dcx_frac.specs.Frac.{num_of, den_of, value}
+
+-- r is how f and g compare by cross products
+module _ (f g : Frac) (r : Ordering) (is : r ≡ int_cmp (num_of f *ℤ den_of g) (num_of g *ℤ den_of f)) where
+  abbrev left : ℤ
+  left = num_of f *ℤ den_of g
+
+  abbrev right : ℤ
+  right = num_of g *ℤ den_of f
+
+  -- less exactly where f is less
+  pub less_exactly : (r ≡ Less) ↔ (value f <ℚ value g)
+  less_exactly =
+      let crossed = ratio-<ℚ-ratio (num_of f) (den_of f) (num_of g) (den_of g) f.positive g.positive in
+      (λ e. crossed.1 (int_ranked left right Less (sym e ∙ is)), λ h. is ∙ sym (int_cmp_is left right Less (crossed.0 h)))
+
+  -- equal exactly where the numbers are
+  pub equal_exactly : (r ≡ Equal) ↔ (value f ≡ value g)
+  equal_exactly =
+      let crossed = ratio-≡-ratio (num_of f) (den_of f) (num_of g) (den_of g) f.positive g.positive in
+      (λ e. crossed.1 (int_ranked left right Equal (sym e ∙ is)), λ h. is ∙ sym (int_cmp_is left right Equal (crossed.0 h)))
+
+  -- greater exactly where g is less
+  pub greater_exactly : (r ≡ Greater) ↔ (value g <ℚ value f)
+  greater_exactly =
+      let crossed = ratio-<ℚ-ratio (num_of g) (den_of g) (num_of f) (den_of f) g.positive f.positive in
+      (λ e. crossed.1 (int_ranked left right Greater (sym e ∙ is)), λ h. is ∙ sym (int_cmp_is left right Greater (crossed.0 h)))

@@ -1,0 +1,7 @@
+pub mod Sequences
+pub mod Munch
+pub mod Signs
+pub mod Shapes
+pub mod Whole
+pub mod Numbers
+pub mod ConstraintRows

@@ -1,0 +1,8 @@
+-- The lines so far are appended.
+use Rattle.std.proofs.Common.{◌≡◌, ◌++◌, take}
+use Rattle.std.specs.List.{flat_map}
+use Rattle.dcx_report.specs.AnswerText.{named_line}
+use Rattle.dcx_report.proofs.answer_lines.put_named_lines.Given as goal
+
+abbrev pub invariant-loop-named : goal.invariant-loop-named
+invariant-loop-named l = l.out.items ≡ l.fn.out.items ++ flat_map (named_line l.word) (take l.named-index l.items)

@@ -1,0 +1,50 @@
+-- The lines of the outcomes of a run.
+use Rattle.std.specs.Prelude.{ℕ, Bool, true, false, not, List, ◌++◌, codes, decimal, count_by}
+use Rattle.std.specs.List.{flat_map, enumerate_from}
+use Rattle.std.specs.declared.option.Option.{Option}
+use Rattle.dcx_shape.specs.declared.place.Place.{Place}
+use Rattle.dcx_report.specs.declared.tree.Sense.{Sense}
+use Rattle.dcx_report.specs.declared.outcome.Outcome.{Outcome}
+use Rattle.dcx_report.specs.declared.outcome.OutcomeEnd.{OutcomeEnd}
+use Rattle.dcx_report.specs.declared.outcome.OutcomeEnd.TheVariants.{Answer, Stop}
+use Rattle.dcx_report.specs.declared.run.Word.{Word}
+use Rattle.dcx_report.specs.declared.run.Word.TheVariants.{Solve, Setting}
+use Rattle.dcx_report.specs.AnswerText.{answer_text}
+use Rattle.dcx_report.specs.StopText.{stop_name, stop_details}
+
+-- the word that an outcome's first line begins with
+unfoldable pub word_text : Word → List ℕ
+word_text Solve = codes "solve"
+word_text Setting = codes "setting"
+
+-- what stands behind the number of a setting
+unfoldable pub end_text : Sense → Option Place → OutcomeEnd → List ℕ
+end_text sense place (Answer answer) = answer_text sense answer
+end_text sense place (Stop stop) = codes " stopped " ++ stop_name stop ++ stop_details place stop ++ codes "\n"
+
+-- the lines of one outcome, with its number
+unfoldable pub outcome_text : Word → Sense → ℕ × Outcome → List ℕ
+outcome_text word sense numbered =
+    word_text word ++ codes " " ++ decimal numbered.0 ++ end_text sense numbered.1.place numbered.1.end
+
+-- the lines of the outcomes, numbered from 1
+unfoldable pub outcome_lines : Word → Sense → List Outcome → List ℕ
+outcome_lines word sense outcomes = flat_map (outcome_text word sense) (enumerate_from 1 outcomes)
+
+-- whether a setting is answered, and not stopped
+abbrev pub is_answer : OutcomeEnd → Bool
+is_answer (Answer answer) = true
+is_answer (Stop stop) = false
+
+-- how many settings are answered
+abbrev pub count_of_answers : List Outcome → ℕ
+count_of_answers outcomes = count_by (λ o. is_answer o.end) outcomes
+
+-- how many settings are stopped
+abbrev pub count_of_stops : List Outcome → ℕ
+count_of_stops outcomes = count_by (λ o. not (is_answer o.end)) outcomes
+
+-- how many settings are answered, and how many are stopped
+unfoldable pub count_line : List Outcome → List ℕ
+count_line outcomes =
+    codes "answered " ++ decimal (count_of_answers outcomes) ++ codes " stopped " ++ decimal (count_of_stops outcomes) ++ codes "\n"

@@ -1,0 +1,48 @@
+-- The line of a refusal.
+use Rattle.std.specs.Prelude.{ℕ, List, [], ◌++◌, codes, decimal}
+use Rattle.dcx_report.specs.declared.refusal.Refusal.{Refusal}
+use Rattle.dcx_report.specs.declared.refusal.RefusalSource.{RefusalSource}
+use Rattle.dcx_report.specs.declared.refusal.RefusalSource.TheVariants.{Script, Settings, Certificate}
+use Rattle.dcx_report.specs.declared.refusal.Carried.{Carried}
+use Rattle.dcx_report.specs.declared.refusal.Carried.TheVariants as carried
+use Rattle.dcx_report.specs.declared.tree.Count.{Count}
+use Rattle.dcx_report.specs.declared.tree.Count.TheVariants.{Nodes, Entries, Items, Steps, Events}
+use Rattle.dcx_report.specs.declared.rules.Rule.{Rule}
+use Rattle.dcx_report.specs.declared.rules.Rule.TheVariants.{Composition, Minimize, Maximize, Equal, AtMost}
+use Rattle.dcx_report.specs.Pieces.{place_text, passes_text}
+use Rattle.dcx_report.specs.Refusals.{refusal_name}
+
+-- the file that is refused
+unfoldable pub source_text : RefusalSource → List ℕ
+source_text Script = codes "script"
+source_text Settings = codes "settings"
+source_text Certificate = codes "certificate"
+
+-- what was counted
+unfoldable pub count_text : Count → List ℕ
+count_text Nodes = codes "nodes"
+count_text Entries = codes "entries"
+count_text Items = codes "items"
+count_text Steps = codes "steps"
+count_text Events = codes "events"
+
+-- the rule that is broken
+unfoldable pub rule_text : Rule → List ℕ
+rule_text Composition = codes "composition"
+rule_text Minimize = codes "minimize"
+rule_text Maximize = codes "maximize"
+rule_text Equal = codes "equal"
+rule_text AtMost = codes "at_most"
+
+-- what stands behind the place
+unfoldable pub carried_text : Carried → List ℕ
+carried_text carried.Nothing = []
+carried_text (carried.Count what count) = codes " " ++ count_text what ++ codes " " ++ decimal count
+carried_text (carried.Rule rule) = codes " rule " ++ rule_text rule
+carried_text (carried.Passes passes) = passes_text passes
+
+-- refused SOURCE NUMBER NAME at PLACE, and what the refusal carries
+unfoldable pub refusal_text : Refusal → List ℕ
+refusal_text r =
+    codes "refused " ++ source_text r.source ++ codes " " ++ decimal r.number ++ codes " " ++ refusal_name r.number
+    ++ codes " at " ++ place_text r.place ++ carried_text r.carried ++ codes "\n"

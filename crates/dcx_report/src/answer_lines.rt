@@ -1,0 +1,157 @@
+//! Appends the lines of an answer.
+ghost use Rattle.std.specs.Prelude.{◌≡◌, ◌++◌, OnOk, codes};
+ghost use Rattle.std.specs.List.{flat_map};
+ghost use Rattle.dcx_report.specs.Negated.{negated};
+ghost use Rattle.dcx_report.specs.AnswerText.{user_number, number_line, named_line, var_lines, ray_lines, dual_line, dual_lines, answer_text};
+
+use crate::pieces::{put_array, put_bytes, put_frac, put_number};
+use crate::{Answer, Array, Named, Point, Sense};
+use dcx_frac::Frac;
+use std::alloc::AllocError;
+
+/// The number with its sign turned.
+fn turned(number: Frac) -> Frac
+    ensures { result ≡ negated number }
+{
+    number.neg()
+}
+
+/// Appends a line of a word and a number.
+#[tactic(auto, unfolding(crate::specs::AnswerText::number_line))]
+fn put_number_line(out: &mut Vec<u8>, word: &[u8], number: Frac) -> Result<(), AllocError>
+    ensures { OnOk result (out.new.items ≡ out.old.items ++ number_line word.now number) }
+{
+    put_bytes(out, word)?;
+    put_bytes(out, b" ")?;
+    put_frac(out, &number)?;
+    put_bytes(out, b"\n")
+}
+
+/// Appends a line of a word and a number of the minimized objective, as the user's objective has it.
+#[tactic(auto, unfolding(crate::specs::AnswerText::user_number))]
+fn put_user_line(
+    out: &mut Vec<u8>,
+    word: &[u8],
+    sense: Sense,
+    number: Frac,
+) -> Result<(), AllocError>
+    ensures { OnOk result (out.new.items ≡ out.old.items ++ number_line word.now (user_number sense number)) }
+{
+    match sense {
+        Sense::Minimize => put_number_line(out, word, number),
+        Sense::Maximize => put_number_line(out, word, turned(number)),
+    }
+}
+
+/// Appends a line of a variable under a word.
+#[tactic(auto, unfolding(crate::specs::AnswerText::named_line))]
+fn put_named_line(out: &mut Vec<u8>, word: &[u8], named: &Named) -> Result<(), AllocError>
+    ensures { OnOk result (out.new.items ≡ out.old.items ++ named_line word.now named.now) }
+{
+    put_bytes(out, word)?;
+    put_bytes(out, b" ")?;
+    put_bytes(out, named.name.as_slice())?;
+    put_bytes(out, b" ")?;
+    put_array(out, &named.array)?;
+    put_bytes(out, b"\n")
+}
+
+/// Appends a line of each variable under a word.
+fn put_named_lines(out: &mut Vec<u8>, word: &[u8], items: &[Named]) -> Result<(), AllocError>
+    ensures { OnOk result (out.new.items ≡ out.old.items ++ flat_map (named_line word.now) items.now) }
+{
+    for named in items {
+        put_named_line(out, word, named)?;
+    }
+    Ok(())
+}
+
+/// Appends a line of each variable's value.
+#[tactic(auto, unfolding(crate::specs::AnswerText::var_lines))]
+fn put_var_lines(out: &mut Vec<u8>, point: &Point) -> Result<(), AllocError>
+    ensures { OnOk result (out.new.items ≡ out.old.items ++ var_lines point.now) }
+{
+    put_named_lines(out, b"var", point.as_slice())
+}
+
+/// Appends a line of each variable's part of a ray.
+#[tactic(auto, unfolding(crate::specs::AnswerText::ray_lines))]
+fn put_ray_lines(out: &mut Vec<u8>, ray: &Point) -> Result<(), AllocError>
+    ensures { OnOk result (out.new.items ≡ out.old.items ++ ray_lines ray.now) }
+{
+    put_named_lines(out, b"ray", ray.as_slice())
+}
+
+/// Appends the line of a constraint's multipliers under its number.
+#[tactic(auto, unfolding(crate::specs::AnswerText::dual_line))]
+fn put_dual_line(out: &mut Vec<u8>, number: u64, duals: &Array) -> Result<(), AllocError>
+    ensures { OnOk result (out.new.items ≡ out.old.items ++ dual_line (number, duals.now)) }
+{
+    put_bytes(out, b"dual ")?;
+    put_number(out, number)?;
+    put_bytes(out, b" ")?;
+    put_array(out, duals)?;
+    put_bytes(out, b"\n")
+}
+
+/// Appends a line of each constraint's multipliers.
+#[tactic(auto, using(crate::proofs::Numbered::numbered_more), unfolding(crate::specs::AnswerText::dual_lines))]
+fn put_dual_lines(out: &mut Vec<u8>, duals: &[Array]) -> Result<(), AllocError>
+    ensures { OnOk result (out.new.items ≡ out.old.items ++ dual_lines duals.now) }
+{
+    let mut number = 0;
+    for array in duals {
+        number += 1;
+        put_dual_line(out, number, array)?;
+    }
+    Ok(())
+}
+
+/// Appends an unbounded answer, behind the number of its setting.
+#[tactic(auto, unfolding(crate::specs::AnswerText::answer_text))]
+fn put_unbounded(
+    out: &mut Vec<u8>,
+    sense: Sense,
+    point: &Point,
+    ray: &Point,
+    bound: Frac,
+    slope: Frac,
+) -> Result<(), AllocError>
+    ensures { OnOk result (out.new.items ≡ out.old.items ++ answer_text sense (Answer.Unbounded point.now ray.now bound slope)) }
+{
+    put_bytes(out, b" unbounded\n")?;
+    put_user_line(out, b"bound", sense, bound)?;
+    put_number_line(out, b"slope", slope)?;
+    put_var_lines(out, point)?;
+    put_ray_lines(out, ray)
+}
+
+/// Appends an answer, behind the number of its setting.
+#[tactic(auto, unfolding(crate::specs::AnswerText::answer_text))]
+pub(crate) fn put_answer(out: &mut Vec<u8>, sense: Sense, answer: &Answer) -> Result<(), AllocError>
+    ensures { OnOk result (out.new.items ≡ out.old.items ++ answer_text sense answer.now) }
+{
+    match answer {
+        Answer::Optimal {
+            value,
+            point,
+            duals,
+        } => {
+            put_bytes(out, b" optimal\n")?;
+            put_user_line(out, b"value", sense, *value)?;
+            put_var_lines(out, point)?;
+            put_dual_lines(out, duals.as_slice())
+        }
+        Answer::Infeasible { duals, gap } => {
+            put_bytes(out, b" infeasible\n")?;
+            put_number_line(out, b"gap", *gap)?;
+            put_dual_lines(out, duals.as_slice())
+        }
+        Answer::Unbounded {
+            point,
+            ray,
+            bound,
+            slope,
+        } => put_unbounded(out, sense, point, ray, *bound, *slope),
+    }
+}

@@ -1,0 +1,34 @@
+//! Where files come from and where a report goes, how a run ends, and the bytes of its report.
+#![tactic(auto)]
+
+mod answer_lines;
+mod array;
+mod graph;
+mod library;
+mod memory;
+mod outcome;
+mod outcomes;
+mod pieces;
+mod real;
+mod refusal;
+mod refusal_line;
+mod report;
+mod rules;
+mod run;
+mod sink;
+mod stop_line;
+mod tree;
+
+pub use array::Array;
+pub use graph::{Answer, Duals, Site, Stop};
+pub use library::{FetchFault, Library};
+pub use memory::{MemoryLibrary, MemorySink, SteadyLibrary, SteadySink};
+pub use outcome::{Outcome, OutcomeEnd};
+pub use outcomes::Outcomes;
+pub use real::{FileLibrary, OutSink};
+pub use refusal::{Carried, Refusal, RefusalSource};
+pub use report::report_text;
+pub use rules::Rule;
+pub use run::{Run, Word};
+pub use sink::{Sink, SinkFault};
+pub use tree::{Count, Named, NodeId, Point, Sense};

@@ -1,0 +1,206 @@
+//! The files of the host as a library, and a writer of the host as a sink. What they hold is not told.
+ghost use Rattle.std.specs.Prelude.{◌≡◌, ◌<◌, ◌≤◌, length, IfOk, IfSome, OnOk, IsErrOf, None, vec_len};
+
+use crate::{FetchFault, Library, Sink, SinkFault};
+use dcx_shape::Bytes;
+use std::alloc::Global;
+use std::fs;
+use std::io::{Read, Write};
+use std::rt::Files;
+
+/// The files of the host, by their paths. A file that is missing, or no file, is `Failed`.
+#[derive(Drop)]
+pub struct FileLibrary<'a, R: Files> {
+    rt: &'a R,
+    /// How many fetches have answered an `Err`.
+    pub faults: u64,
+}
+
+impl<'a, R: Files> FileLibrary<'a, R> {
+    /// The files of the host, with no fault counted yet.
+    pub fn new(rt: &'a R) -> Self
+        ensures { result.faults ≡ 0 }
+    {
+        FileLibrary { rt, faults: 0 }
+    }
+}
+
+// How many bytes one read asks for at most.
+const BUFFER: usize = 4096;
+
+// All that the reader has left, if that is not more than `most` bytes. At most one byte more is read.
+fn read_at_most<F: Read>(alloc: Global, file: &mut F, most: usize) -> Result<Bytes, FetchFault>
+    ensures size { IfOk result (λ bytes. length bytes ≤ most) }
+    ensures whole { IfOk result (λ bytes. IfSome (F.remaining file.old) (λ all. bytes ≡ all)) }
+    ensures too_long { IsErrOf result FetchFault.TooLong → IfSome (F.remaining file.old) (λ all. most < length all) }
+    ensures present { IsErrOf result FetchFault.Absent → ⊥ }
+{
+    let mut buffer = [0u8; BUFFER];
+    let mut bytes = Vec::new(alloc);
+    'reads: while bytes.len() <= most {
+        let room = (most - bytes.len()).min(BUFFER - 1) + 1;
+        let Ok(count) = file.read(&mut buffer[..room]) else {
+            return Err(FetchFault::Failed);
+        };
+        if count == 0 {
+            return Ok(Bytes::from_vec(bytes));
+        }
+        bytes.extend_from_slice(&buffer[..count])?;
+    }
+    Err(FetchFault::TooLong)
+}
+
+fn read_file<R: Files>(rt: &R, alloc: Global, name: &str, most: usize) -> Result<Bytes, FetchFault>
+    ensures size { IfOk result (λ bytes. length bytes ≤ most) }
+    ensures present { IsErrOf result FetchFault.Absent → ⊥ }
+{
+    match fs::open(rt, name) {
+        Ok(mut file) => read_at_most(alloc, &mut file, most),
+        Err(_) => Err(FetchFault::Failed),
+    }
+}
+
+impl<'a, R: Files> Library for FileLibrary<'a, R> {
+    ghost told = { λ _. None };
+
+    ghost faults = { λ s. s.faults };
+
+    fn fetch(&mut self, alloc: Global, name: &str, most: usize) -> Result<Bytes, FetchFault> {
+        let result = read_file(self.rt, alloc, name, most);
+        if result.is_err() {
+            self.faults = self.faults.saturating_add(1);
+        }
+        result
+    }
+}
+
+/// A writer as a sink, such as standard output.
+#[derive(Drop)]
+pub struct OutSink<W: Write> {
+    /// Where the bytes go.
+    pub writer: W,
+    /// How many writes have answered an `Err`.
+    pub faults: u64,
+}
+
+impl<W: Write> OutSink<W> {
+    /// The writer as a sink, with no fault counted yet.
+    pub fn new(writer: W) -> Self
+        ensures writer { result.writer ≡ writer }
+        ensures faults { result.faults ≡ 0 }
+    {
+        OutSink { writer, faults: 0 }
+    }
+}
+
+impl<W: Write> Sink for OutSink<W> {
+    ghost written = { λ s. W.contents s.writer };
+
+    ghost faults = { λ s. s.faults };
+
+    fn write(&mut self, piece: &[u8]) -> Result<usize, SinkFault> {
+        match self.writer.write(piece) {
+            Ok(count) if count > 0 || piece.is_empty() => Ok(count),
+            _ => {
+                self.faults = self.faults.saturating_add(1);
+                Err(SinkFault::Failed)
+            }
+        }
+    }
+}
+
+#[cfg(test)]
+mod tests {
+    use super::*;
+    use std::io;
+    use std::test::Fail;
+
+    /// Gives its parts one after another, and then fails.
+    #[derive(Drop)]
+    struct Broken<'a> {
+        parts: &'a [u8],
+    }
+
+    impl Read for Broken<'_> {
+        fn read(&mut self, buf: &mut [u8]) -> io::Result<usize> {
+            match (self.parts.split_first(), buf.first_mut()) {
+                (Some((first, rest)), Some(place)) => {
+                    *place = *first;
+                    self.parts = rest;
+                    Ok(1)
+                }
+                _ => Err(io::Error::from(io::ErrorKind::Other)),
+            }
+        }
+    }
+
+    #[test]
+    fn a_reader_is_read_to_its_end_or_to_its_limit(rt: HostRuntime) -> Result<(), Fail> {
+        let alloc = rt.alloc();
+        for (given, most, wanted) in [
+            (b"abc".as_slice(), 3, Ok(b"abc".as_slice())),
+            (b"abc", 2, Err(FetchFault::TooLong)),
+            (b"", 0, Ok(b"")),
+            (b"a", 0, Err(FetchFault::TooLong)),
+            (b"abc", usize::MAX, Ok(b"abc")),
+        ] {
+            let mut reader = given;
+            let got = read_at_most(alloc, &mut reader, most);
+            match got {
+                Ok(bytes) => assert_eq!(rt; Ok(bytes.as_slice()), wanted),
+                Err(fault) => assert_eq!(rt; Err(fault), wanted),
+            }
+        }
+        let mut broken = Broken { parts: b"ab" };
+        let got = read_at_most(alloc, &mut broken, 9);
+        assert_eq!(rt; got.err(), Some(FetchFault::Failed));
+        Ok(())
+    }
+
+    fn fetched<L: Library>(
+        alloc: Global,
+        library: &mut L,
+        name: &str,
+        most: usize,
+    ) -> Result<Bytes, FetchFault> {
+        library.fetch(alloc, name, most)
+    }
+
+    #[test]
+    fn files_of_the_host(rt: HostRuntime) -> Result<(), Fail> {
+        let alloc = rt.alloc();
+        let mut library = FileLibrary::new(&rt);
+        let empty = fetched(alloc, &mut library, "/dev/null", 0)?;
+        assert!(rt; empty.as_slice().is_empty());
+        assert_eq!(rt; library.faults, 0);
+        for (name, fault) in [
+            ("/dev/zero", FetchFault::TooLong),
+            (".", FetchFault::Failed),
+            ("/no/such/file", FetchFault::Failed),
+        ] {
+            let got = fetched(alloc, &mut library, name, 5000);
+            assert_eq!(rt; got.err(), Some(fault), "{name}");
+        }
+        assert_eq!(rt; library.faults, 3);
+        fs::write(&rt, "fetched", b"abc")?;
+        let whole = fetched(alloc, &mut library, "fetched", 3)?;
+        assert_eq!(rt; whole.as_slice(), b"abc".as_slice());
+        fs::remove_file(&rt, "fetched")?;
+        Ok(())
+    }
+
+    fn written<K: Sink>(sink: &mut K, piece: &[u8]) -> Result<usize, SinkFault> {
+        sink.write(piece)
+    }
+
+    #[test]
+    fn a_writer_that_fills_up(rt: HostRuntime) {
+        let mut place = [0u8; 3];
+        let mut sink = OutSink::new(place.as_mut_slice());
+        assert_eq!(rt; written(&mut sink, b"ab"), Ok(2));
+        assert_eq!(rt; written(&mut sink, b"cd"), Ok(1));
+        assert_eq!(rt; written(&mut sink, b""), Ok(0));
+        assert_eq!(rt; written(&mut sink, b"d"), Err(SinkFault::Failed));
+        assert_eq!(rt; sink.faults, 1);
+    }
+}

@@ -1,0 +1,117 @@
+//! Appends the line of a refusal.
+ghost use Rattle.std.specs.Prelude.{◌≡◌, ◌++◌, OnOk};
+ghost use Rattle.dcx_report.specs.Refusals.{refusal_name};
+ghost use Rattle.dcx_report.specs.RefusalText.{source_text, count_text, rule_text, carried_text, refusal_text};
+
+use crate::pieces::{put_bytes, put_number, put_passes, put_place};
+use crate::{Carried, Count, Refusal, RefusalSource, Rule};
+use std::alloc::AllocError;
+
+/// The name of the refusal of a number.
+#[tactic(auto, unfolding(crate::specs::Refusals::refusal_name))]
+fn name_of_refusal(number: u8) -> &'static [u8]
+    ensures { result.now ≡ refusal_name number }
+{
+    match number {
+        1 => b"NotText",
+        2 => b"BadChar",
+        3 => b"BadNumber",
+        4 => b"Unclosed",
+        5 => b"Indent",
+        6 => b"Unexpected",
+        7 => b"TooDeep",
+        8 => b"TooLong",
+        9 => b"UnknownName",
+        10 => b"UnknownCall",
+        11 => b"BadArgument",
+        12 => b"NotOffered",
+        13 => b"ShapeClash",
+        14 => b"IndexRange",
+        15 => b"EmptyResult",
+        16 => b"NoProblem",
+        17 => b"TwoProblems",
+        18 => b"TooMany",
+        19 => b"NotDcp",
+        20 => b"PlainWide",
+        29 => b"NotYet",
+        _ => b"",
+    }
+}
+
+/// The word for a file.
+#[tactic(auto, unfolding(crate::specs::RefusalText::source_text))]
+fn word_of_source(source: RefusalSource) -> &'static [u8]
+    ensures { result.now ≡ source_text source }
+{
+    match source {
+        RefusalSource::Script => b"script",
+        RefusalSource::Settings => b"settings",
+        RefusalSource::Certificate => b"certificate",
+    }
+}
+
+/// The word for what was counted.
+#[tactic(auto, unfolding(crate::specs::RefusalText::count_text))]
+fn word_of_count(what: Count) -> &'static [u8]
+    ensures { result.now ≡ count_text what }
+{
+    match what {
+        Count::Nodes => b"nodes",
+        Count::Entries => b"entries",
+        Count::Items => b"items",
+        Count::Steps => b"steps",
+        Count::Events => b"events",
+    }
+}
+
+/// The word for a rule.
+#[tactic(auto, unfolding(crate::specs::RefusalText::rule_text))]
+fn word_of_rule(rule: Rule) -> &'static [u8]
+    ensures { result.now ≡ rule_text rule }
+{
+    match rule {
+        Rule::Composition => b"composition",
+        Rule::Minimize => b"minimize",
+        Rule::Maximize => b"maximize",
+        Rule::Equal => b"equal",
+        Rule::AtMost => b"at_most",
+    }
+}
+
+/// Appends what a refusal carries, behind its place.
+#[tactic(auto, unfolding(crate::specs::RefusalText::carried_text))]
+fn put_carried(out: &mut Vec<u8>, carried: &Carried) -> Result<(), AllocError>
+    ensures { OnOk result (out.new.items ≡ out.old.items ++ carried_text carried.now) }
+{
+    match carried {
+        Carried::Nothing => Ok(()),
+        Carried::Count { what, count } => {
+            put_bytes(out, b" ")?;
+            put_bytes(out, word_of_count(*what))?;
+            put_bytes(out, b" ")?;
+            put_number(out, u64::from(*count))
+        }
+        Carried::Rule(rule) => {
+            put_bytes(out, b" rule ")?;
+            put_bytes(out, word_of_rule(*rule))
+        }
+        Carried::Passes(passes) => put_passes(out, passes),
+    }
+}
+
+/// Appends the line of a refusal.
+#[tactic(auto, unfolding(crate::specs::RefusalText::refusal_text))]
+pub(crate) fn put_refusal(out: &mut Vec<u8>, refusal: &Refusal) -> Result<(), AllocError>
+    ensures { OnOk result (out.new.items ≡ out.old.items ++ refusal_text refusal.now) }
+{
+    put_bytes(out, b"refused ")?;
+    put_bytes(out, word_of_source(refusal.source))?;
+    put_bytes(out, b" ")?;
+    put_number(out, u64::from(refusal.number))?;
+    put_bytes(out, b" ")?;
+    put_bytes(out, name_of_refusal(refusal.number))?;
+    put_bytes(out, b" at ")?;
+    put_place(out, refusal.place)?;
+    put_carried(out, &refusal.carried)?;
+    put_bytes(out, b"\n")
+}

@@ -1,0 +1,152 @@
+//! The bytes of the report of a run.
+ghost use Rattle.std.specs.Prelude.{◌≡◌, ◌++◌, IfOk, OnOk};
+ghost use Rattle.dcx_report.specs.OutcomeText.{word_text, end_text, outcome_text, outcome_lines, is_answer, count_of_answers, count_of_stops, count_line};
+ghost use Rattle.dcx_report.specs.ReportText.{text_of, usage_text};
+
+use crate::answer_lines::put_answer;
+use crate::pieces::{put_bytes, put_number};
+use crate::refusal_line::put_refusal;
+use crate::stop_line::{name_of_stop, put_details};
+use crate::{Outcome, OutcomeEnd, Run, Sense, Word};
+use dcx_shape::{Bytes, Place};
+use std::alloc::{AllocError, Global};
+
+/// The word that each outcome's first line begins with.
+#[tactic(auto, unfolding(crate::specs::OutcomeText::word_text))]
+fn word_of_outcomes(word: Word) -> &'static [u8]
+    ensures { result.now ≡ word_text word }
+{
+    match word {
+        Word::Solve => b"solve",
+        Word::Setting => b"setting",
+    }
+}
+
+/// Appends how a setting ends, behind its number.
+#[tactic(auto, unfolding(crate::specs::OutcomeText::end_text))]
+fn put_end(
+    out: &mut Vec<u8>,
+    sense: Sense,
+    place: Option<Place>,
+    end: &OutcomeEnd,
+) -> Result<(), AllocError>
+    ensures { OnOk result (out.new.items ≡ out.old.items ++ end_text sense place end.now) }
+{
+    match end {
+        OutcomeEnd::Answer(answer) => put_answer(out, sense, answer),
+        OutcomeEnd::Stop(stop) => {
+            put_bytes(out, b" stopped ")?;
+            put_bytes(out, name_of_stop(stop))?;
+            put_details(out, place, stop)?;
+            put_bytes(out, b"\n")
+        }
+    }
+}
+
+/// Appends the lines of an outcome under its number.
+#[tactic(auto, unfolding(crate::specs::OutcomeText::outcome_text))]
+fn put_outcome(
+    out: &mut Vec<u8>,
+    word: Word,
+    sense: Sense,
+    number: u64,
+    outcome: &Outcome,
+) -> Result<(), AllocError>
+    ensures { OnOk result (out.new.items ≡ out.old.items ++ outcome_text word sense (number, outcome.now)) }
+{
+    put_bytes(out, word_of_outcomes(word))?;
+    put_bytes(out, b" ")?;
+    put_number(out, number)?;
+    put_end(out, sense, outcome.place, &outcome.end)
+}
+
+/// Appends the lines of the outcomes.
+#[tactic(auto, using(crate::proofs::Numbered::numbered_more), unfolding(crate::specs::OutcomeText::outcome_lines))]
+fn put_outcomes(
+    out: &mut Vec<u8>,
+    word: Word,
+    sense: Sense,
+    outcomes: &[Outcome],
+) -> Result<(), AllocError>
+    ensures { OnOk result (out.new.items ≡ out.old.items ++ outcome_lines word sense outcomes.now) }
+{
+    let mut number = 0;
+    for outcome in outcomes {
+        number += 1;
+        put_outcome(out, word, sense, number, outcome)?;
+    }
+    Ok(())
+}
+
+/// Whether a setting is answered, and not stopped.
+fn is_answered(outcome: &Outcome) -> bool
+    ensures { result ≡ is_answer outcome.now.end }
+{
+    match outcome.end {
+        OutcomeEnd::Answer(_) => true,
+        OutcomeEnd::Stop(_) => false,
+    }
+}
+
+/// How many settings are answered.
+fn answers(outcomes: &[Outcome]) -> usize
+    ensures { result ≡ count_of_answers outcomes.now }
+{
+    outcomes.iter().filter(|o| is_answered(o)).count()
+}
+
+/// How many settings are stopped.
+fn stops(outcomes: &[Outcome]) -> usize
+    ensures { result ≡ count_of_stops outcomes.now }
+{
+    outcomes.iter().filter(|o| !is_answered(o)).count()
+}
+
+/// Appends the line that counts the outcomes.
+#[tactic(auto, unfolding(crate::specs::OutcomeText::count_line))]
+fn put_counts(out: &mut Vec<u8>, outcomes: &[Outcome]) -> Result<(), AllocError>
+    ensures { OnOk result (out.new.items ≡ out.old.items ++ count_line outcomes.now) }
+{
+    put_bytes(out, b"answered ")?;
+    put_number(out, answers(outcomes) as u64)?;
+    put_bytes(out, b" stopped ")?;
+    put_number(out, stops(outcomes) as u64)?;
+    put_bytes(out, b"\n")
+}
+
+/// The commands, with their operands.
+const USAGE: &[u8] =
+    b"usage: dcx check SCRIPT | solve SCRIPT | resolve SCRIPT SETTINGS | certificate SCRIPT SETTINGS | certify SCRIPT SETTINGS CERT | trial N\n";
+
+/// Appends the report of a run.
+#[tactic(auto, unfolding(crate::specs::ReportText::text_of))]
+fn put_run(out: &mut Vec<u8>, run: &Run) -> Result<(), AllocError>
+    ensures { OnOk result (out.new.items ≡ out.old.items ++ text_of run.now) }
+{
+    match run {
+        Run::Usage => put_bytes(out, USAGE),
+        Run::Refused(refusal) => put_refusal(out, refusal),
+        Run::Solved {
+            word,
+            sense,
+            outcomes,
+        } => {
+            put_outcomes(out, *word, *sense, outcomes.as_slice())?;
+            put_counts(out, outcomes.as_slice())
+        }
+        Run::ReadFault => put_bytes(out, b"fault read\n"),
+        Run::Memory => put_bytes(out, b"want of memory\n"),
+    }
+}
+
+/// The bytes of the report of a run. Each line ends with a line feed. Fails only for want of memory.
+pub fn report_text(alloc: Global, run: &Run) -> Result<Bytes, AllocError>
+    ensures { IfOk result (λ bytes. bytes ≡ text_of run.now) }
+{
+    let mut out = Vec::new(alloc);
+    put_run(&mut out, run)?;
+    Ok(Bytes::from_vec(out))
+}
+
+#[cfg(test)]
+mod tests;

@@ -1,0 +1,34 @@
+//! How a run ends.
+
+use crate::{Outcomes, Refusal, Sense};
+
+/// The word that a run's outcomes stand under.
+#[derive(Clone, Copy, Debug, PartialEq, Eq)]
+pub enum Word {
+    /// Each outcome is of a `solve` of the script.
+    Solve,
+    /// Each outcome is of a setting of the settings file.
+    Setting,
+}
+
+/// How a run ends.
+#[derive(Drop)]
+pub enum Run {
+    /// The words of the command line are of no command.
+    Usage,
+    /// A file is refused.
+    Refused(Refusal),
+    /// The problem was solved, or stopped, at each setting.
+    Solved {
+        /// What the outcomes stand under.
+        word: Word,
+        /// Which way the script's objective goes.
+        sense: Sense,
+        /// The outcomes, in order.
+        outcomes: Outcomes,
+    },
+    /// A file could not be had.
+    ReadFault,
+    /// Memory ran out.
+    Memory,
+}

@@ -1,0 +1,131 @@
+//! Appends why a setting is stopped.
+ghost use Rattle.std.specs.Prelude.{◌≡◌, ◌++◌, OnOk, codes, decimal};
+ghost use Rattle.dcx_report.specs.Pieces.{passes_text};
+ghost use Rattle.dcx_report.specs.StopText.{entry_at_text, site_text, stop_name, stop_details};
+
+use crate::pieces::{put_bytes, put_frac, put_number, put_passes, put_place, put_shape};
+use crate::{Site, Stop};
+use dcx_frac::Passes;
+use dcx_shape::Place;
+use std::alloc::AllocError;
+
+/// Appends the place of a node, where there is one, and an entry.
+#[tactic(auto, unfolding(crate::specs::StopText::entry_at_text))]
+fn put_entry_at(out: &mut Vec<u8>, place: Option<Place>, entry: u32) -> Result<(), AllocError>
+    ensures { OnOk result (out.new.items ≡ out.old.items ++ entry_at_text place entry) }
+{
+    if let Some(place) = place {
+        put_bytes(out, b" at ")?;
+        put_place(out, place)?;
+    }
+    put_bytes(out, b" entry ")?;
+    put_number(out, u64::from(entry))
+}
+
+/// Appends a blank and a word.
+fn put_word(out: &mut Vec<u8>, word: &[u8]) -> Result<(), AllocError>
+    ensures { OnOk result (out.new.items ≡ out.old.items ++ (codes " " ++ word.now)) }
+{
+    put_bytes(out, b" ")?;
+    put_bytes(out, word)
+}
+
+/// Appends a word, a row, and an operation that passes 128 bits there.
+fn put_row(out: &mut Vec<u8>, word: &[u8], row: u32, passes: &Passes) -> Result<(), AllocError>
+    ensures { OnOk result (out.new.items ≡ out.old.items ++ (word.now ++ decimal row ++ passes_text passes.now)) }
+{
+    put_bytes(out, word)?;
+    put_number(out, u64::from(row))?;
+    put_passes(out, passes)
+}
+
+/// Appends where an operation passes 128 bits, and which.
+#[tactic(auto, unfolding(crate::specs::StopText::site_text))]
+fn put_site(out: &mut Vec<u8>, place: Option<Place>, site: &Site) -> Result<(), AllocError>
+    ensures { OnOk result (out.new.items ≡ out.old.items ++ site_text place site.now) }
+{
+    match site {
+        Site::Node { entry, passes, .. } => {
+            put_entry_at(out, place, *entry)?;
+            put_passes(out, passes)
+        }
+        Site::Row { row, passes } => put_row(out, b" row ", *row, passes),
+        Site::Map { row, passes } => put_row(out, b" map ", *row, passes),
+        Site::Answer { row, passes } => put_row(out, b" answer ", *row, passes),
+        Site::Pivot {
+            pivots,
+            row,
+            column,
+        } => {
+            put_bytes(out, b" pivot ")?;
+            put_number(out, *pivots)?;
+            put_bytes(out, b" row ")?;
+            put_number(out, u64::from(*row))?;
+            put_bytes(out, b" column ")?;
+            put_number(out, u64::from(*column))
+        }
+    }
+}
+
+/// The number and the name of a stop.
+#[tactic(auto, unfolding(crate::specs::StopText::stop_name))]
+pub(crate) fn name_of_stop(stop: &Stop) -> &'static [u8]
+    ensures { result.now ≡ stop_name stop.now }
+{
+    match stop {
+        Stop::UnknownParam { .. } => b"21 UnknownParam",
+        Stop::MissingParam { .. } => b"22 MissingParam",
+        Stop::ParamShape { .. } => b"23 ParamShape",
+        Stop::ParamSign { .. } => b"24 ParamSign",
+        Stop::ZeroDivisor { .. } => b"25 ZeroDivisor",
+        Stop::Wide(_) => b"26 Wide",
+        Stop::PivotLimit { .. } => b"27 PivotLimit",
+        Stop::TooLarge { .. } => b"28 TooLarge",
+        Stop::Memory => b"31 Memory",
+    }
+}
+
+/// Appends what a stop carries, with the place of the node that it names.
+#[tactic(auto, unfolding(crate::specs::StopText::stop_details))]
+pub(crate) fn put_details(
+    out: &mut Vec<u8>,
+    place: Option<Place>,
+    stop: &Stop,
+) -> Result<(), AllocError>
+    ensures { OnOk result (out.new.items ≡ out.old.items ++ stop_details place stop.now) }
+{
+    match stop {
+        Stop::UnknownParam { name } | Stop::MissingParam { name } => put_word(out, name.as_slice()),
+        Stop::ParamShape {
+            name,
+            declared,
+            given,
+        } => {
+            put_word(out, name.as_slice())?;
+            put_bytes(out, b" ")?;
+            put_shape(out, declared)?;
+            put_bytes(out, b" ")?;
+            put_shape(out, given)
+        }
+        Stop::ParamSign { name, entry, value } => {
+            put_word(out, name.as_slice())?;
+            put_bytes(out, b" entry ")?;
+            put_number(out, u64::from(*entry))?;
+            put_bytes(out, b" value ")?;
+            put_frac(out, value)
+        }
+        Stop::ZeroDivisor { entry, .. } => put_entry_at(out, place, *entry),
+        Stop::Wide(site) => put_site(out, place, site),
+        Stop::PivotLimit { count } => {
+            put_bytes(out, b" ")?;
+            put_number(out, *count)
+        }
+        Stop::TooLarge { rows, columns } => {
+            put_bytes(out, b" rows ")?;
+            put_number(out, u64::from(*rows))?;
+            put_bytes(out, b" columns ")?;
+            put_number(out, u64::from(*columns))
+        }
+        Stop::Memory => Ok(()),
+    }
+}

@@ -1,0 +1,81 @@
+//! What names a node of a problem, its variables' values, and which way its objective goes.
+ghost use Rattle.std.specs.Prelude.{◌≡◌};
+
+use crate::Array;
+use dcx_shape::Name;
+use std::marker::Model;
+
+/// The number of a node of a problem, counted from 0.
+#[derive(Clone, Copy, Debug, PartialEq, Eq)]
+pub struct NodeId(pub u32);
+
+/// What was counted where a script is refused for too many.
+#[derive(Clone, Copy, Debug, PartialEq, Eq)]
+pub enum Count {
+    /// The nodes of a tree.
+    Nodes,
+    /// The entries over all nodes of a tree.
+    Entries,
+    /// The items of a list, or the entries of a plain array.
+    Items,
+    /// The statements that were carried out, and the turns of comprehensions.
+    Steps,
+    /// The times that the script asks for a solution.
+    Events,
+}
+
+/// Whether an objective is to be small or large.
+#[derive(Clone, Copy, Debug, PartialEq, Eq)]
+pub enum Sense {
+    /// The objective is to be small.
+    Minimize,
+    /// The objective is to be large.
+    Maximize,
+}
+
+/// A variable's name and an array of its shape.
+#[derive(Drop)]
+pub struct Named {
+    /// The name, as it stands in the script.
+    pub name: Name,
+    /// The numbers of its entries.
+    pub array: Array,
+}
+
+/// Variables in order of declaration, each with its value.
+#[derive(Drop)]
+pub struct Point {
+    items: Vec<Named>,
+}
+
+impl Model for Point {
+    ghost use Rattle.std.specs.Prelude.{List};
+    ghost use Rattle.dcx_report.specs.declared.tree.Named.{Named};
+
+    ghost Value = { List Named };
+
+    ghost view = { λ p. p.items.items };
+}
+
+impl Point {
+    /// The list with these items. Takes no memory.
+    pub fn from_vec(items: Vec<Named>) -> Point
+        ensures { result ≡ items.items }
+    {
+        Point { items }
+    }
+
+    /// The items of the list. Takes no memory.
+    pub fn into_vec(self) -> Vec<Named>
+        ensures { result.items ≡ self }
+    {
+        self.items
+    }
+
+    /// The items of the list.
+    pub fn as_slice(&self) -> &[Named]
+        ensures { result.now ≡ self.now }
+    {
+        self.items.as_slice()
+    }
+}

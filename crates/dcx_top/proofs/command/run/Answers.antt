@@ -1,0 +1,11 @@
+use Rattle.std.proofs.Common.{Err, refl, inl, inr, ap, ◌∙◌}
+use Rattle.dcx_top.proofs.Writing.{ends_early}
+use Rattle.dcx_top.proofs.command.run.Goals as goal
+
+pub returns-in-Err-Failed-clause-reports : goal.returns-in-Err-Failed-clause-reports
+returns-in-Err-Failed-clause-reports g c =
+    ends_early _ _ _ _ _ (c.as_slice.ensures ∙ c.in-Ok.ensures) (inl (refl, c.in-Err-Failed.ensures.failed (ap Err c.in-Err-Failed.field-0-is))) c.in-Err-Failed.ensures.err
+
+pub returns-clause-reports : goal.returns-clause-reports
+returns-clause-reports g c =
+    ends_early _ _ _ _ _ (c.as_slice.ensures ∙ c.in-Ok.ensures) (inr refl) c.in-Err-Memory.ensures.err

@@ -1,0 +1,74 @@
+-- What a run answers, with the cause of each answer.
+use Rattle.std.specs.Prelude.{◌≡◌, ℕ, ◌⊎◌, List, [], ◌∷◌, Option, None, Some, ⊤}
+use Rattle.dcx_shape.specs.declared.place.Place.{Place}
+use Rattle.dcx_report.specs.Files.{Files, IsTold, Lacks, HasMore}
+use Rattle.dcx_report.specs.declared.run.Run.{Run}
+use Rattle.dcx_report.specs.declared.run.Run.TheVariants.{Usage, Refused, Solved, ReadFault, Memory}
+use Rattle.dcx_report.specs.declared.run.Word.TheVariants as word_is
+use Rattle.dcx_report.specs.declared.tree.Sense.TheVariants as sense_is
+use Rattle.dcx_report.specs.declared.outcome.Outcome.{Outcome}
+use Rattle.dcx_report.specs.declared.refusal.Refusal.{Refusal}
+use Rattle.dcx_report.specs.declared.refusal.RefusalSource.TheVariants as source_is
+use Rattle.dcx_report.specs.declared.refusal.Carried.TheVariants as carried_is
+use Rattle.dcx_plain.specs.declared.script.Script.{Script}
+use Rattle.dcx_plain.specs.Grammar.{script_text}
+use Rattle.dcx_plain.specs.Plain.{IsPlain, Spells}
+use Rattle.dcx_top.specs.Words.{operand_of}
+use Rattle.dcx_top.specs.Outcome.{IsEndOf}
+
+-- how many bytes a script has at most
+abbrev pub script_limit : ℕ
+script_limit = 1048576
+
+-- the refusal of this number at the script's first byte
+pub record IsRefusedAs (number : ℕ) (r : Refusal) : Type 0 where
+  pub source : r.source ≡ source_is.Script
+  pub number_is : r.number ≡ number
+  pub place : r.place ≡ record { line = 1; column = 1 }
+  pub carried : r.carried ≡ carried_is.Nothing
+
+-- the bytes spell no plain script
+abbrev pub SpellsNone : List ℕ → Type 0
+SpellsNone bytes = (s : Script) → IsPlain s → script_text s ≡ bytes → ⊥
+
+-- there is one outcome, for the one time that the script's problem is solved
+abbrev pub HasOneEnd : Script → List Outcome → Type 0
+HasOneEnd s [] = ⊥
+HasOneEnd s (o ∷ []) = IsEndOf s o.end
+HasOneEnd s (o ∷ more ∷ os) = ⊥
+
+-- what the bytes of a script give; want of memory is free
+abbrev pub SolvesBytes : List ℕ → Run → Type 0
+SolvesBytes bytes (Refused r) = IsRefusedAs 29 r × SpellsNone bytes
+SolvesBytes bytes (Solved word sense outcomes) = (word ≡ word_is.Solve) × (sense ≡ sense_is.Minimize) × ((s : Script) × Spells bytes s × HasOneEnd s outcomes)
+SolvesBytes bytes Memory = ⊤
+SolvesBytes bytes Usage = ⊥
+SolvesBytes bytes ReadFault = ⊥
+
+-- the script is too long
+pub record IsTooLong (words : List (List ℕ)) (told : Option Files) : Type 0 where
+  pub name : List ℕ
+  pub operand : operand_of words ≡ Some name
+  pub more : HasMore told name script_limit
+
+-- the script has bytes that give this run
+pub record IsRead (words : List (List ℕ)) (told : Option Files) (run : Run) : Type 0 where
+  pub name : List ℕ
+  pub operand : operand_of words ≡ Some name
+  pub bytes : List ℕ
+  pub are_told : IsTold told name bytes
+  pub solves : SolvesBytes bytes run
+
+-- the script could not be had
+pub record IsReadFault (words : List (List ℕ)) (told : Option Files) (risen : Type 0) : Type 0 where
+  pub name : List ℕ
+  pub operand : operand_of words ≡ Some name
+  pub cause : Lacks told name ⊎ risen
+
+-- Each answer with its cause. `risen` says that the library's count of faults rose in this run. Want of memory alone is free.
+abbrev pub Answers : List (List ℕ) → Option Files → Type 0 → Run → Type 0
+Answers words told risen Usage = operand_of words ≡ None
+Answers words told risen (Refused r) = IsRead words told (Refused r) ⊎ (IsRefusedAs 8 r × IsTooLong words told)
+Answers words told risen (Solved word sense outcomes) = IsRead words told (Solved word sense outcomes)
+Answers words told risen ReadFault = IsReadFault words told risen
+Answers words told risen Memory = ⊤

@@ -1,0 +1,48 @@
+-- How a run ends: its status, and what of its report is written.
+use Rattle.std.specs.Prelude.{◌≡◌, ℕ, Bool, true, false, ◌⊎◌, List, [], ◌∷◌, ◌++◌, if◌then◌else◌}
+use Rattle.std.specs.List.{list_any}
+use Rattle.std.specs.declared.option.Option.{Option}
+use Rattle.std.specs.Io.KnownBytes.{Appends}
+use Rattle.dcx_report.specs.ReportText.{text_of}
+use Rattle.dcx_report.specs.declared.graph.Stop.TheVariants.{Memory as StopMemory}
+use Rattle.dcx_report.specs.declared.run.Run.{Run}
+use Rattle.dcx_report.specs.declared.run.Run.TheVariants.{Usage, Refused, Solved, ReadFault, Memory}
+use Rattle.dcx_report.specs.declared.outcome.Outcome.{Outcome}
+use Rattle.dcx_report.specs.declared.outcome.OutcomeEnd.{OutcomeEnd}
+use Rattle.dcx_report.specs.declared.outcome.OutcomeEnd.TheVariants.{Answer, Stop}
+use Rattle.dcx_top.specs.declared.ended.Ended.{Ended}
+
+-- the setting stopped
+abbrev pub is_stop : OutcomeEnd → Bool
+is_stop (Answer answer) = false
+is_stop (Stop stop) = true
+
+-- the setting stopped for want of memory
+abbrev pub wants_memory : OutcomeEnd → Bool
+wants_memory (Stop StopMemory) = true
+wants_memory _ = false
+
+-- the status of outcomes: 5 where one stopped for want of memory, 6 where another one stopped, else 0
+abbrev pub outcomes_status : List Outcome → ℕ
+outcomes_status outcomes = if list_any (λ o. wants_memory o.end) outcomes then 5 else (if list_any (λ o. is_stop o.end) outcomes then 6 else 0)
+
+-- the status where the whole report is written
+abbrev pub status_of : Run → ℕ
+status_of Usage = 2
+status_of (Refused refusal) = 1
+status_of (Solved word sense outcomes) = outcomes_status outcomes
+status_of ReadFault = 3
+status_of Memory = 5
+
+-- the whole report is written, with the status of the run
+abbrev pub EndsWhole : Option (List ℕ) → Option (List ℕ) → Ended → Type 0
+EndsWhole old new ended = (ended.status ≡ status_of ended.run) × Appends old new (text_of ended.run)
+
+-- a front of the report is written, since a write failed or memory ran out
+abbrev pub EndsEarly : Option (List ℕ) → Option (List ℕ) → Type 0 → Ended → Type 0
+EndsEarly old new risen ended =
+    (((ended.status ≡ 4) × risen) ⊎ (ended.status ≡ 5)) × ((front rest : List ℕ) × (text_of ended.run ≡ front ++ rest) × Appends old new front)
+
+-- `risen` says that the sink's count of faults rose in this run
+abbrev pub Reports : Option (List ℕ) → Option (List ℕ) → Type 0 → Ended → Type 0
+Reports old new risen ended = EndsWhole old new ended ⊎ EndsEarly old new risen ended

@@ -1,0 +1,180 @@
+//! The top call.
+//!
+//! | what must hold | the clause of `run` |
+//! |---|---|
+//! | each answer has its cause, the script's bytes among it | `answers` |
+//! | the usage line comes exactly where the words are no plain form | `usage` |
+//! | the report's text or a front of it is written, with its status | `reports` |
+//! | no file changes, and no step is counted | `same`, `counted` |
+ghost use Rattle.std.specs.Prelude.{◌≡◌, ◌↔◌, map, string_bytes, None, IfOk};
+ghost use Rattle.std.specs.List.{list_any};
+ghost use Rattle.dcx_report.specs.Faults.{Rose};
+ghost use Rattle.dcx_plain.specs.Plain.{IsPlain};
+ghost use Rattle.dcx_top.specs.Words.{operand_of};
+ghost use Rattle.dcx_top.specs.Answers.{Answers, IsRefusedAs, HasOneEnd, SolvesBytes};
+ghost use Rattle.dcx_top.specs.Ended.{Reports, outcomes_status as outcomes_status_of, status_of, is_stop, wants_memory};
+
+use crate::ended::Ended;
+use crate::outcome::end_of;
+use crate::words::operand;
+use crate::write::write_all;
+use dcx_plain::{Script, read};
+use dcx_report::{
+    Carried, FetchFault, Library, Outcome, OutcomeEnd, Outcomes, Refusal, RefusalSource, Run,
+    Sense, Sink, SinkFault, Stop, Word, report_text,
+};
+use dcx_shape::Place;
+use dcx_steps::Steps;
+use std::alloc::{AllocError, Global};
+use std::sync::ledger::Ledger;
+
+/// How many bytes a script has at most.
+const SCRIPT_LIMIT: usize = 1_048_576;
+
+/// The refusal of the whole script for its length.
+fn too_long() -> Refusal
+    ensures { IsRefusedAs 8 result }
+{
+    Refusal {
+        source: RefusalSource::Script,
+        number: 8,
+        place: Place { line: 1, column: 1 },
+        carried: Carried::Nothing,
+    }
+}
+
+/// The refusal of the whole script for its form.
+fn not_yet() -> Refusal
+    ensures { IsRefusedAs 29 result }
+{
+    Refusal {
+        source: RefusalSource::Script,
+        number: 29,
+        place: Place { line: 1, column: 1 },
+        carried: Carried::Nothing,
+    }
+}
+
+/// The one outcome of a plain script.
+fn outcomes(alloc: Global, script: &Script) -> Result<Outcomes, AllocError>
+    requires { IsPlain script.now }
+    ensures { IfOk result (HasOneEnd script.now) }
+{
+    let end = end_of(alloc, script);
+    let outcome = Outcome { end, place: None };
+    let items = vec![in alloc; outcome]?;
+    Ok(Outcomes::from_vec(items))
+}
+
+/// What the bytes of a script give.
+fn solved(alloc: Global, bytes: &[u8]) -> Run
+    ensures { SolvesBytes bytes.now result }
+{
+    match read(alloc, bytes) {
+        Ok(None) => Run::Refused(not_yet()),
+        Ok(Some(script)) => match outcomes(alloc, &script) {
+            Ok(outcomes) => Run::Solved {
+                word: Word::Solve,
+                sense: Sense::Minimize,
+                outcomes,
+            },
+            Err(_) => Run::Memory,
+        },
+        Err(_) => Run::Memory,
+    }
+}
+
+/// What the words give.
+fn answer<L: Library>(alloc: Global, words: &[String], library: &mut L) -> Run
+    ensures answers { Answers (map string_bytes words.now) (L.told library.old) (Rose (L.faults library.old) (L.faults library.new)) result }
+    ensures usage { (result ≡ Run.Usage) ↔ (operand_of (map string_bytes words.now) ≡ None) }
+    ensures same { L.told library.new ≡ L.told library.old }
+{
+    let Some(name) = operand(words) else {
+        return Run::Usage;
+    };
+    match library.fetch(alloc, name, SCRIPT_LIMIT) {
+        Ok(bytes) => solved(alloc, bytes.as_slice()),
+        Err(FetchFault::TooLong) => Run::Refused(too_long()),
+        Err(FetchFault::Absent) => Run::ReadFault,
+        Err(FetchFault::Failed) => Run::ReadFault,
+        Err(FetchFault::Memory) => Run::Memory,
+    }
+}
+
+/// Whether a setting stopped.
+fn has_stop(outcomes: &[Outcome]) -> bool
+    ensures { result ≡ list_any (λ o. is_stop o.end) outcomes.now }
+{
+    outcomes
+        .iter()
+        .any(|outcome| matches!(&outcome.end, OutcomeEnd::Stop(_)))
+}
+
+/// Whether a setting stopped for want of memory.
+fn has_want_of_memory(outcomes: &[Outcome]) -> bool
+    ensures { result ≡ list_any (λ o. wants_memory o.end) outcomes.now }
+{
+    outcomes.iter().any(|outcome| matches!(&outcome.end, OutcomeEnd::Stop(Stop::Memory)))
+}
+
+/// The status of outcomes.
+fn outcomes_status(outcomes: &[Outcome]) -> u8
+    ensures { result ≡ outcomes_status_of outcomes.now }
+{
+    if has_want_of_memory(outcomes) {
+        5
+    } else if has_stop(outcomes) {
+        6
+    } else {
+        0
+    }
+}
+
+/// The status of a run whose whole report is written.
+fn status(run: &Run) -> u8
+    ensures { result ≡ status_of run.now }
+{
+    match run {
+        Run::Usage => 2,
+        Run::Refused(_) => 1,
+        Run::Solved { outcomes, .. } => outcomes_status(outcomes.as_slice()),
+        Run::ReadFault => 3,
+        Run::Memory => 5,
+    }
+}
+
+/// All that the program does: it carries out the words and writes the report of the run to the sink.
+///
+/// `words` are the words after the program's name. The script is fetched from `library`, and `steps` counts the
+/// nodes that are reduced, which are none yet. Want of memory is the one free answer: as `Run::Memory`, as the stop
+/// of an outcome, or in place of the report, and each has the status 5.
+pub fn run<L: Library, K: Sink, S: Ledger>(
+    alloc: Global,
+    words: &[String],
+    library: &mut L,
+    sink: &mut K,
+    steps: &mut Steps<S>,
+) -> Ended
+    ensures answers { Answers (map string_bytes words.now) (L.told library.old) (Rose (L.faults library.old) (L.faults library.new)) result.run }
+    ensures usage { (result.run ≡ Run.Usage) ↔ (operand_of (map string_bytes words.now) ≡ None) }
+    ensures reports { Reports (K.written sink.old) (K.written sink.new) (Rose (K.faults sink.old) (K.faults sink.new)) result }
+    ensures same { L.told library.new ≡ L.told library.old }
+    ensures counted { steps.new ≡ steps.old }
+{
+    let run = answer(alloc, words, library);
+    let Ok(text) = report_text(alloc, &run) else {
+        return Ended { status: 5, run };
+    };
+    match write_all(text.as_slice(), sink) {
+        Ok(()) => Ended {
+            status: status(&run),
+            run,
+        },
+        Err(SinkFault::Failed) => Ended { status: 4, run },
+        Err(SinkFault::Memory) => Ended { status: 5, run },
+    }
+}
+
+#[cfg(test)]
+mod tests;

@@ -1,0 +1,207 @@
+//! Scripts and words, each with the bytes and the status that they give.
+ghost use Rattle.std.specs.Prelude.{◌≡◌, ◌<◌};
+
+use super::*;
+use dcx_report::{MemoryLibrary, MemorySink, SteadyLibrary, SteadySink};
+use dcx_shape::Bytes;
+use std::collections::BTreeMap;
+use std::marker::Brand;
+use std::sync::ledger::Blank;
+use std::test::Fail;
+
+fn run_with<L: Library, K: Sink, S: Ledger>(
+    alloc: Global,
+    words: &[String],
+    library: &mut L,
+    sink: &mut K,
+    blank: Blank,
+) -> u8
+    requires name { blank.name ≡ S.name }
+    requires parts { blank.parts ≡ S.parts }
+    requires some { 0 < blank.parts }
+{
+    let mut steps = Steps::<S>::new(blank);
+    run(alloc, words, library, sink, &mut steps).status
+}
+
+/// The status for a library and a sink of any kind, with a counter of its own.
+fn status_with<L: Library, K: Sink>(
+    alloc: Global,
+    words: &[String],
+    library: &mut L,
+    sink: &mut K,
+) -> u8 {
+    run_with::<L, K, Brand>(alloc, words, library, sink, Blank::new(1))
+}
+
+/// The words that are separated by blanks.
+fn words(alloc: Global, text: &str) -> Result<Vec<String>, AllocError> {
+    let mut words = Vec::new(alloc);
+    for word in text.split_whitespace() {
+        words.push(String::from_str(alloc, word)?)?;
+    }
+    Ok(words)
+}
+
+/// A map in which `model.py` has the lines that each script begins with, and then these.
+fn files(alloc: Global, script: &str) -> Result<BTreeMap<String, Bytes>, AllocError> {
+    let mut bytes = Vec::new(alloc);
+    bytes.extend_from_slice(b"import cvxpy as cp\nimport numpy as np\n")?;
+    bytes.extend_from_slice(script.as_bytes())?;
+    let mut files = BTreeMap::new(alloc);
+    files.insert(
+        String::from_str(alloc, "model.py")?,
+        Bytes::from_vec(bytes),
+    )?;
+    Ok(files)
+}
+
+/// Whether the words give the status and the report, over a library and a sink that never fail.
+fn gives(
+    alloc: Global,
+    text: &str,
+    script: &str,
+    status: u8,
+    report: &str,
+) -> Result<bool, AllocError> {
+    let mut library = SteadyLibrary::new(files(alloc, script)?);
+    let mut sink = SteadySink::new(alloc);
+    let words = words(alloc, text)?;
+    let ended = status_with(alloc, &words, &mut library, &mut sink);
+    Ok(ended == status && sink.bytes.as_slice() == report.as_bytes())
+}
+
+/// Whether the first script gives the status and the report, where the calls of these numbers fail.
+fn gives_with_faults(
+    alloc: Global,
+    most: usize,
+    reads: Vec<u64>,
+    writes: Vec<u64>,
+    status: u8,
+    report: &str,
+) -> Result<bool, AllocError> {
+    let (script, _, _) = script_case(0);
+    let mut library = MemoryLibrary::new(files(alloc, script)?, reads);
+    let mut sink = MemorySink::new(alloc, most, writes);
+    let words = words(alloc, "solve model.py")?;
+    let ended = status_with(alloc, &words, &mut library, &mut sink);
+    Ok(ended == status && sink.bytes.as_slice() == report.as_bytes())
+}
+
+const NOT_YET: &str = "refused script 29 NotYet at 1:1\n";
+
+/// How many scripts there are.
+const SCRIPTS: usize = 10;
+
+/// A script behind its first lines, the status and the report.
+fn script_case(index: usize) -> (&'static str, u8, &'static str) {
+    match index {
+        // An optimal vertex with its duals.
+        0 => (
+            "x = cp.Variable(nonneg=True)\ny = cp.Variable(nonneg=True)\nprob = cp.Problem(cp.Minimize(-3*x - 2*y), [x + y <= 4, x <= 3])\nprob.solve()\n",
+            0,
+            "solve 1 optimal\nvalue -11\nvar x () = 3\nvar y () = 1\ndual 1 () = 2\ndual 2 () = 1\nanswered 1 stopped 0\n",
+        ),
+        // An unbounded problem, with no `solve` line.
+        1 => (
+            "x = cp.Variable(nonneg=True)\ny = cp.Variable(nonneg=True)\nprob = cp.Problem(cp.Minimize(-1*x), [y <= 1])\n",
+            0,
+            "solve 1 unbounded\nbound 0\nslope 1\nvar x () = 0\nvar y () = 0\nray x () = 1\nray y () = 0\nanswered 1 stopped 0\n",
+        ),
+        // A name twice in a sum, a number with a zero in front, and fractions in the answer.
+        2 => (
+            "ab_1 = cp.Variable(nonneg=True)\nprob = cp.Problem(cp.Minimize(-ab_1 - ab_1), [04*ab_1 - ab_1 <= 5])\nprob.solve()",
+            0,
+            "solve 1 optimal\nvalue -10/3\nvar ab_1 () = 5/3\ndual 1 () = 2/3\nanswered 1 stopped 0\n",
+        ),
+        // The origin is optimal.
+        3 => (
+            "x = cp.Variable(nonneg=True)\nprob = cp.Problem(cp.Minimize(x), [x <= 0, x <= 0])",
+            0,
+            "solve 1 optimal\nvalue 0\nvar x () = 0\ndual 1 () = 0\ndual 2 () = 0\nanswered 1 stopped 0\n",
+        ),
+        // A blank too many.
+        4 => (
+            "x = cp.Variable(nonneg=True)\nprob = cp.Problem(cp.Minimize(x), [x  <= 1])\n",
+            1,
+            NOT_YET,
+        ),
+        // A name that isn't declared.
+        5 => (
+            "x = cp.Variable(nonneg=True)\nprob = cp.Problem(cp.Minimize(y), [x <= 1])\n",
+            1,
+            NOT_YET,
+        ),
+        // A name that is declared twice.
+        6 => (
+            "x = cp.Variable(nonneg=True)\nx = cp.Variable(nonneg=True)\nprob = cp.Problem(cp.Minimize(x), [x <= 1])\n",
+            1,
+            NOT_YET,
+        ),
+        // A keyword as a name.
+        7 => (
+            "lambda = cp.Variable(nonneg=True)\nprob = cp.Problem(cp.Minimize(lambda), [lambda <= 1])\n",
+            1,
+            NOT_YET,
+        ),
+        // Ten digits.
+        8 => (
+            "x = cp.Variable(nonneg=True)\nprob = cp.Problem(cp.Minimize(x), [x <= 1234567890])\n",
+            1,
+            NOT_YET,
+        ),
+        // A line behind the last.
+        _ => (
+            "x = cp.Variable(nonneg=True)\nprob = cp.Problem(cp.Minimize(x), [x <= 1])\nprob.solve()\n\n",
+            1,
+            NOT_YET,
+        ),
+    }
+}
+
+#[test]
+fn scripts_give_their_reports(rt: HostRuntime) -> Result<(), Fail> {
+    for index in 0..SCRIPTS {
+        let (script, status, report) = script_case(index);
+        assert!(rt; gives(rt.alloc(), "solve model.py", script, status, report)?, "script {index}");
+    }
+    Ok(())
+}
+
+/// How many lists of words there are.
+const WORDS: usize = 7;
+
+/// Words, the status and the report, where `model.py` is half a script.
+fn word_case(index: usize) -> (&'static str, u8, &'static str) {
+    let usage = "usage: dcx check SCRIPT | solve SCRIPT | resolve SCRIPT SETTINGS | certificate SCRIPT SETTINGS | certify SCRIPT SETTINGS CERT | trial N\n";
+    match index {
+        0 => ("", 2, usage),
+        1 => ("solve", 2, usage),
+        2 => ("solve -model.py", 2, usage),
+        3 => ("Solve model.py", 2, usage),
+        4 => ("solve model.py model.py", 2, usage),
+        5 => ("solve model.py", 1, NOT_YET),
+        _ => ("solve other.py", 3, "fault read\n"),
+    }
+}
+
+#[test]
+fn words_give_their_reports(rt: HostRuntime) -> Result<(), Fail> {
+    for index in 0..WORDS {
+        let (text, status, report) = word_case(index);
+        assert!(rt; gives(rt.alloc(), text, "x = ", status, report)?, "words {index}");
+    }
+    Ok(())
+}
+
+#[test]
+fn faults_have_their_status(rt: HostRuntime) -> Result<(), Fail> {
+    let alloc = rt.alloc();
+    let none = Vec::new(alloc);
+    let second = vec![in alloc; 1u64]?;
+    assert!(rt; gives_with_faults(alloc, 5, none, second, 4, "solve")?);
+    let first = vec![in alloc; 0u64]?;
+    let none = Vec::new(alloc);
+    assert!(rt; gives_with_faults(alloc, 100, first, none, 3, "fault read\n")?);
+    Ok(())
+}

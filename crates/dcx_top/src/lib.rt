@@ -1,0 +1,12 @@
+//! What the program does: it reads its words, fetches a script, solves it, and writes a report and a status.
+#![tactic(auto)]
+
+mod command;
+mod ended;
+mod outcome;
+mod simplex;
+mod words;
+mod write;
+
+pub use command::run;
+pub use ended::Ended;

@@ -1,0 +1,19 @@
+//! A report is written in as many calls as the sink wants.
+ghost use Rattle.std.specs.Prelude.{◌≡◌, ◌≤◌, ℕ, take, length, OnOk, OnErr, IsErrOf};
+ghost use Rattle.std.specs.Io.KnownBytes.{Appends};
+ghost use Rattle.dcx_report.specs.Faults.{Rose};
+
+use dcx_report::{Sink, SinkFault};
+
+/// Hands the sink the whole rest at each call. After an `Err` a front is written.
+pub fn write_all<K: Sink>(text: &[u8], sink: &mut K) -> Result<(), SinkFault>
+    ensures ok { OnOk result (Appends (K.written sink.old) (K.written sink.new) text.now) }
+    ensures err { OnErr result ((n : ℕ) × Appends (K.written sink.old) (K.written sink.new) (take n text.now)) }
+    ensures failed { IsErrOf result SinkFault.Failed → Rose (K.faults sink.old) (K.faults sink.new) }
+{
+    let mut done = 0;
+    while done < text.len() {
+        done += sink.write(&text[done..])?;
+    }
+    Ok(())
+}
