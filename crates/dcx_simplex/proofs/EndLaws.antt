@@ -6,8 +6,8 @@ use Rattle.dcx_simplex.specs.Run.{right_at, NoneLeaves, IsEntering, NoneEnters}
 use Rattle.dcx_simplex.specs.Whole.{objective_row, phase_row, InFirst, InSecond, RunEnds}
 use Rattle.dcx_simplex.specs.declared.phase.PhaseEnd.{PhaseEnd}
 use Rattle.dcx_simplex.specs.declared.phase.PhaseEnd.TheVariants as phase
-use Rattle.dcx_simplex.specs.declared.solve.LpEnd.{LpEnd}
-use Rattle.dcx_simplex.specs.declared.solve.LpEnd.TheVariants as lp
+use Rattle.dcx_simplex.specs.declared.run.LpEnd.{LpEnd}
+use Rattle.dcx_simplex.specs.declared.run.LpEnd.TheVariants as lp
 use Rattle.dcx_simplex.specs.Drive.{Drives}
 use Rattle.dcx_simplex.proofs.Driving.{driven, drive_rows}
 use Rattle.dcx_simplex.specs.Basis.{IsReady, IsFeasible, lead_at}

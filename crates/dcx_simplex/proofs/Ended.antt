@@ -9,8 +9,8 @@ use Rattle.dcx_simplex.specs.Run.{IsEntering, NoneEnters, NoneLeaves, right_at}
 use Rattle.dcx_simplex.specs.Whole.{objective_row, phase_row, InFirst, InSecond, RunEnds}
 use Rattle.dcx_simplex.specs.declared.phase.PhaseEnd.{PhaseEnd}
 use Rattle.dcx_simplex.specs.declared.phase.PhaseEnd.TheVariants as phase
-use Rattle.dcx_simplex.specs.declared.solve.LpEnd.{LpEnd}
-use Rattle.dcx_simplex.specs.declared.solve.LpEnd.TheVariants as lp
+use Rattle.dcx_simplex.specs.declared.run.LpEnd.{LpEnd}
+use Rattle.dcx_simplex.specs.declared.run.LpEnd.TheVariants as lp
 use Rattle.dcx_simplex.specs.declared.answer.LpStatus.TheVariants as status
 use Rattle.dcx_simplex.specs.declared.answer.LpAnswer.{LpAnswer}
 use Rattle.dcx_simplex.specs.Basis.{IsBasic}

@@ -4,8 +4,8 @@ use Rattle.dcx_tab.specs.declared.program.Program.{Program}
 use Rattle.dcx_tab.specs.First.{first_tableau}
 use Rattle.dcx_tab.specs.Table.{Table}
 use Rattle.dcx_simplex.specs.Whole.{RunEnds}
-use Rattle.dcx_simplex.specs.declared.solve.LpEnd.{LpEnd}
-use Rattle.dcx_simplex.specs.declared.solve.LpEnd.TheVariants as lp
+use Rattle.dcx_simplex.specs.declared.run.LpEnd.{LpEnd}
+use Rattle.dcx_simplex.specs.declared.run.LpEnd.TheVariants as lp
 
 -- the run on the program, for some limit, ends so at tableau t: optimal, infeasible or unbounded
 abbrev pub IsFinished : Program → Table → LpEnd → Type 0

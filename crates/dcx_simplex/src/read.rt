@@ -14,7 +14,7 @@ ghost use Rattle.dcx_simplex.specs.Right.{turned_if, IsRight};
 ghost use Rattle.dcx_simplex.specs.Finished.{IsFinished};
 
 use crate::answer::{LpAnswer, LpStatus, RowNote, RowNotes};
-use crate::solve::LpEnd;
+use crate::run::LpEnd;
 use dcx_frac::{Frac, Fracs};
 use dcx_tab::{ColumnKind, IntRow, Program, Tableau};
 use std::alloc::{AllocError, Global};
