@@ -14,6 +14,7 @@ mod text;
 pub use divisor::gcd;
 pub use fraction::{Frac, LARGEST, Op, Passes};
 pub use list::Fracs;
+pub use order::compare;
 pub use text::write_frac;
 
 #[cfg(test)]

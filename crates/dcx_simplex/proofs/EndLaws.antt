@@ -6,8 +6,8 @@ use Rattle.dcx_simplex.specs.Run.{right_at, NoneLeaves, IsEntering, NoneEnters}
 use Rattle.dcx_simplex.specs.Whole.{objective_row, phase_row, InFirst, InSecond, RunEnds}
 use Rattle.dcx_simplex.specs.declared.phase.PhaseEnd.{PhaseEnd}
 use Rattle.dcx_simplex.specs.declared.phase.PhaseEnd.TheVariants as phase
-use Rattle.dcx_simplex.specs.declared.solve.LpEnd.{LpEnd}
-use Rattle.dcx_simplex.specs.declared.solve.LpEnd.TheVariants as lp
+use Rattle.dcx_simplex.specs.declared.run.LpEnd.{LpEnd}
+use Rattle.dcx_simplex.specs.declared.run.LpEnd.TheVariants as lp
 use Rattle.dcx_simplex.specs.Drive.{Drives}
 use Rattle.dcx_simplex.proofs.Driving.{driven, drive_rows}
 use Rattle.dcx_simplex.specs.Basis.{IsReady, IsFeasible, lead_at}
@@ -72,7 +72,7 @@ module _ (equations : List Row) (t : Table) (start : IsStart equations t) where
     pub ready : IsReady equations (objective_row u) u.plain u
     pub zeros : (k : ℕ) → k + 2 < length u.rows → u.plain ≤ basic_at u.basis k → right_at u k ≡ pos 0
 
-  second : (limit : ℕ) (u : Table) (m : ℕ) (e : PhaseEnd) → InSecond limit t u m e → Second u
+  pub second : (limit : ℕ) (u : Table) (m : ℕ) (e : PhaseEnd) → InSecond limit t u m e → Second u
   second limit u m e s =
       let b = begun equations t start limit s.1 s.0 s.2 in
       let r = stays_ready equations (objective_row s.0) s.0.plain limit s.0 s.1 u m b.ready s.3 in

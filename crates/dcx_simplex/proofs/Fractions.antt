@@ -12,8 +12,7 @@ use Rattle.dcx_math.proofs.Ratios.{ratio-is-/ℚ}
 use Rattle.dcx_math.proofs.Sums.{rat_at-get_or}
 use Rattle.dcx_frac.specs.declared.fraction.Frac.{Frac}
 use Rattle.dcx_frac.specs.Frac.{value}
-use Rattle.dcx_frac.specs.Fits.{Fits, IsRepresentable}
-use Rattle.dcx_frac.proofs.Parts.{representable}
+use Rattle.dcx_frac.specs.Fits.{Fits, IsRepresentable, representable}
 use Rattle.dcx_simplex.specs.Reading.{numbers}
 
 divided_fits : (g : ℕ) (z : ℤ) → Fits z → Fits (divided g z)

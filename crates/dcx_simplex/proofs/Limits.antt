@@ -9,8 +9,8 @@ use Rattle.dcx_simplex.specs.Whole.{objective_row, phase_row, InFirst, InDrive, 
 use Rattle.dcx_simplex.specs.declared.phase.PhaseEnd.{PhaseEnd}
 use Rattle.dcx_simplex.specs.declared.phase.PhaseEnd.TheVariants as phase
 use Rattle.dcx_simplex.specs.declared.drive.DriveEnd.TheVariants as drive
-use Rattle.dcx_simplex.specs.declared.solve.LpEnd.{LpEnd}
-use Rattle.dcx_simplex.specs.declared.solve.LpEnd.TheVariants as lp
+use Rattle.dcx_simplex.specs.declared.run.LpEnd.{LpEnd}
+use Rattle.dcx_simplex.specs.declared.run.LpEnd.TheVariants as lp
 use Rattle.dcx_simplex.specs.Basis.{IsReady}
 use Rattle.dcx_simplex.specs.Start.{IsSumRow, IsStart, enough_pivots, pivots_of, HasSmallLimit}
 use Rattle.dcx_simplex.proofs.Chains.{IsKin}

@@ -1,5 +1,5 @@
 -- What the lists are that are filled while an end is read.
-use Rattle.std.proofs.Common.{◌≡◌, ◌≢◌, ℕ, zero, suc, ◌+◌, ◌<◌, List, [], ◌∷◌, ◌++◌, length, set, get_or, map, take, ap₂, Bool, true, false, not, nat_eq, arith, refl, sym, ap, ◌∙◌, subst, pos}
+use Rattle.std.proofs.Common.{◌≡◌, ◌≢◌, ℕ, zero, suc, ◌+◌, ◌<◌, List, [], ◌∷◌, ◌++◌, length, set, get_or, map, take, ap₂, Bool, true, false, not, nat_eq, arith, refl, sym, ap, ◌∙◌, subst, pos, Result, Ok, Err, IfOk}
 use Rattle.std.specs.Prelude.{◌&&◌}
 use Rattle.std.proofs.lemmas.Bool.Decides.{nat_tests}
 use Rattle.std.proofs.lemmas.List.{get_or_append_left, get_or_at, get_or-map, map-append, take_more, length-map}
@@ -49,14 +49,14 @@ module _ (t : Table) (xs : List Frac) where
   }
 
 -- ---- own columns
-same_nat : (a b : ℕ) → nat_eq a b ≡ true → a ≡ b
+pub same_nat : (a b : ℕ) → nat_eq a b ≡ true → a ≡ b
 same_nat a b h = grind (arith, nat_tests)
 
-both_true : (a b : Bool) → a && b ≡ true → a ≡ true
+pub both_true : (a b : Bool) → a && b ≡ true → a ≡ true
 both_true true b h = refl
 both_true false b h = cc
 
-starts_by : (kinds : List ColumnKind) (i j : ℕ) (negated : Bool) (k : ColumnKind) → kind_at kinds j ≡ k → may_start i negated k ≡ true → ¬ (kind_at kinds j ≡ Slack i) → kind_at kinds j ≡ Artificial i
+pub starts_by : (kinds : List ColumnKind) (i j : ℕ) (negated : Bool) (k : ColumnKind) → kind_at kinds j ≡ k → may_start i negated k ≡ true → ¬ (kind_at kinds j ≡ Slack i) → kind_at kinds j ≡ Artificial i
 starts_by kinds i j negated (Unknown u n) e h none = cc
 starts_by kinds i j negated (Slack r) e h none = absurd (none (e ∙ ap Slack (same_nat r i (both_true (nat_eq r i) (not negated) h))))
 starts_by kinds i j negated (Artificial r) e h none = e ∙ ap Artificial (same_nat r i h)
@@ -90,3 +90,8 @@ rat_at-more xs y i f e h last = below_more (λ k. rat_at (xs ++ y ∷ []) k ≡ 
 pub along_more : {A B C : Type 0} (f : A → C) (g : B → C) (xs : List A) (ys : List B) (x : A) (y : B) (i : ℕ) → i < length ys → y ≡ get_or ys i y → map f xs ≡ take i (map g ys) → f x ≡ g y → map f (xs ++ x ∷ []) ≡ take (i + 1) (map g ys)
 along_more f g xs ys x y i h e m s =
     map-append f xs (x ∷ []) ∙ ap₂ (λ zs z. zs ++ z ∷ []) m (s ∙ ap g e ∙ sym (get_or-map g ys i y (g y) h)) ∙ sym (take_more (map g ys) i (g y) (omega (arith, length-map ys g)))
+
+-- ---- results
+pub if_ok_both : {A E : Type 0} (P Q : A → Type 0) (r : Result A E) → IfOk r P → IfOk r Q → IfOk r (λ a. P a × Q a)
+if_ok_both P Q (Ok a) p q = (p, q)
+if_ok_both P Q (Err e) p q = tt

@@ -5,8 +5,8 @@ use Rattle.dcx_tab.specs.Table.{Table, IsOf}
 use Rattle.dcx_simplex.specs.Run.{right_at}
 use Rattle.dcx_simplex.specs.Whole.{objective_row, InFirst, RunEnds}
 use Rattle.dcx_simplex.specs.declared.phase.PhaseEnd.TheVariants as phase
-use Rattle.dcx_simplex.specs.declared.solve.LpEnd.{LpEnd}
-use Rattle.dcx_simplex.specs.declared.solve.LpEnd.TheVariants as lp
+use Rattle.dcx_simplex.specs.declared.run.LpEnd.{LpEnd}
+use Rattle.dcx_simplex.specs.declared.run.LpEnd.TheVariants as lp
 use Rattle.dcx_simplex.specs.Basis.{IsFeasible, lead_at}
 use Rattle.dcx_simplex.specs.Start.{IsStart}
 

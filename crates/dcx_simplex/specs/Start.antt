@@ -4,8 +4,8 @@ use Rattle.dcx_math.specs.IntegerSums.{int_dot, int_scaled, int_added}
 use Rattle.dcx_tab.specs.Rows.{entry, Row, Assignment, basic_at, Solves}
 use Rattle.dcx_tab.specs.Table.{Table, IsOf}
 use Rattle.dcx_simplex.specs.Whole.{objective_row, phase_row, RunEnds}
-use Rattle.dcx_simplex.specs.declared.solve.LpEnd.{LpEnd}
-use Rattle.dcx_simplex.specs.declared.solve.LpEnd.TheVariants as lp
+use Rattle.dcx_simplex.specs.declared.run.LpEnd.{LpEnd}
+use Rattle.dcx_simplex.specs.declared.run.LpEnd.TheVariants as lp
 use Rattle.dcx_simplex.specs.Basis.{IsFeasible}
 
 -- the row that says that w is the sum of the artificial columns, and it holds at all solutions

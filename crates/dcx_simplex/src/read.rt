@@ -9,10 +9,12 @@ ghost use Rattle.dcx_tab.specs.Program.{kind_at, first_basic_of, is_negated};
 ghost use Rattle.dcx_tab.specs.declared.rows.ColumnKind.TheVariants.{Slack};
 ghost use Rattle.dcx_simplex.specs.Basis.{IsBasic, lead_at};
 ghost use Rattle.dcx_simplex.specs.Readable.{IsReadable};
-ghost use Rattle.dcx_simplex.specs.Reading.{numbers, IsColumnNumber, IsColumnChange, IsOwnColumn, reduced_cost_at, reduced_cost_of, factor_of, was_negated, row_factor, read_row, IsReading, IsRayReading, HasNoRay};
-ghost use Rattle.dcx_simplex.specs.Right.{turned_if};
+ghost use Rattle.dcx_simplex.specs.Reading.{numbers, IsColumnNumber, IsColumnChange, IsOwnColumn, reduced_cost_at, reduced_cost_of, factor_of, was_negated, row_factor, read_row, IsReading, IsRayReading, HasNoRay, IsRead};
+ghost use Rattle.dcx_simplex.specs.Right.{turned_if, IsRight};
+ghost use Rattle.dcx_simplex.specs.Finished.{IsFinished};
 
 use crate::answer::{LpAnswer, LpStatus, RowNote, RowNotes};
+use crate::run::LpEnd;
 use dcx_frac::{Frac, Fracs};
 use dcx_tab::{ColumnKind, IntRow, Program, Tableau};
 use std::alloc::{AllocError, Global};
@@ -241,4 +243,24 @@ fn read_ray<T: Tableau>(
     );
     answer.ray = Fracs::from_vec(changes);
     Ok(answer)
+}
+
+/// The answer at an optimal, infeasible or unbounded end of the run on the program: the numbers that the tableau of
+/// the last basis shows, which are right for the program.
+pub fn read_end<T: Tableau>(
+    alloc: Global,
+    tableau: &T,
+    program: &Program,
+    end: &LpEnd,
+) -> Result<LpAnswer, AllocError>
+    requires { IsFinished program.now (T.table tableau.now) end.now }
+    ensures numbers { IfOk result (IsRead program.now.rows program.now.columns (T.table tableau.now) end.now) }
+    ensures right { IfOk result (IsRight program.now) }
+{
+    match *end {
+        LpEnd::Optimal { .. } => read_costs(alloc, tableau, program, LpStatus::Optimal),
+        LpEnd::Infeasible { .. } => read_costs(alloc, tableau, program, LpStatus::Infeasible),
+        LpEnd::Unbounded { column, .. } => read_ray(alloc, tableau, program, column),
+        LpEnd::Wide { .. } | LpEnd::PivotLimit { .. } => unreachable!(),
+    }
 }

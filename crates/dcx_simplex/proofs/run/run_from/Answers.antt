@@ -1,5 +1,5 @@
 use Rattle.std.proofs.Common.{arith, ◌≤◌, inl, inr, refl}
-use Rattle.dcx_simplex.proofs.solve.run_from.Goals as goal
+use Rattle.dcx_simplex.proofs.run.run_from.Goals as goal
 
 pub returns-then-plain-columns : goal.returns-then-plain-columns
 returns-then-plain-columns g c =

@@ -1,0 +1,218 @@
+-- Any numbers of the unknowns' columns are put out by slacks and artificials to a solution of the rows, and so bound the cost.
+use Rattle.std.proofs.Common.{◌≡◌, ◌≢◌, ℕ, zero, suc, ◌+◌, ◌<◌, ◌≤◌, Bool, true, false, not, List, [], ◌∷◌, ◌++◌, length, map, ℤ, pos, negsuc, ◌*ℤ◌, ◌<ℤ◌, ◌≤ℤ◌, arith, refl, sym, ap, ap₂, ◌∙◌, subst, ◌⊎◌, inl, inr}
+use Rattle.std.specs.Prelude.{◌&&◌, Some, slice_get, if◌then◌else◌}
+use Rattle.std.proofs.lemmas.Int.{ints}
+use Rattle.std.proofs.lemmas.Bool.{cases_lt, cases_eq}
+use Rattle.dcx_math.specs.Rational.{ℚ, whole, ◌+ℚ◌, ◌-ℚ◌, ◌*ℚ◌, ◌/ℚ◌, neg_ℚ, inverse, ◌≤ℚ◌, ◌<ℚ◌}
+use Rattle.dcx_math.specs.Sums.{rat_dot, rat_at, rat_added, rat_scaled, rat_sum_below}
+use Rattle.dcx_math.proofs.Points.{wholes}
+use Rattle.dcx_math.proofs.Ring.{ring, reads}
+use Rattle.dcx_math.proofs.Orders.{linear, ≤ℚ-from_≡, ≤ℚ_trans, ≤ℚ_refl, <ℚ-≢, *ℚ-zero, zero-*ℚ, +ℚ_idr, +ℚ_idl, whole-≤ℤ, whole-*ℤ, *ℚ_comm, *ℚ_idl}
+use Rattle.dcx_math.proofs.Products.{/ℚ-*ℚ, *ℚ-nonnegative, *ℚ-≤ℚ_cancel, *ℚ-nonpositive, whole-<ℤ, inverse-positive, *ℚ-/ℚ}
+use Rattle.dcx_math.proofs.Sums.{rat_sum_below-same, rat_sum_below-one, rat_sum_below-zero, rat_sum_below-*ℚ_right, rat_sum_below-monotone, rat_sum_below-+ℚ}
+use Rattle.dcx_math.proofs.Vectors.{rat_dot-added_right, rat_dot-rat_sum_below}
+use Rattle.dcx_frac.specs.Frac.{value}
+use Rattle.dcx_tab.specs.declared.rows.IntRow.{IntRow}
+use Rattle.dcx_tab.specs.declared.rows.ColumnKind.TheVariants.{Slack, Artificial}
+use Rattle.dcx_tab.specs.declared.program.Program.{Program}
+use Rattle.dcx_tab.specs.First.{first_tableau}
+use Rattle.dcx_tab.specs.Rows.{Row, entry, row_at, Solves}
+use Rattle.dcx_tab.specs.Program.{kind_at, plain_count, entries_at, entries_of, right_side_at, right_of, is_negated_at, tableau_row, objective_row, phase_row}
+use Rattle.dcx_tab.proofs.Programs.{has_row, map_at, length_first, at_row, at_objective, at_phase}
+use Rattle.dcx_tab.proofs.RationalRows.{SolvesRational, full, dot_full, dot_front, placed, dot_placed, length_placed, length_added}
+use Rattle.dcx_simplex.specs.Right.{IsAssignment, is_inequality, row_at_columns, cost_at_columns, turned_if}
+use Rattle.dcx_simplex.proofs.Starts.{entry_z, entry_w, entry_right}
+use Rattle.dcx_simplex.proofs.Slacks.{Own, own_of, own_other, own_cost, sign_slack, sign_artificial}
+use Rattle.dcx_simplex.proofs.Owns.{own_low}
+
+-- ---- the first tableau's rows at a full assignment
+plain_row : (d a z b w c v : ℚ) → a ≡ whole (pos 0) → b ≡ whole (pos 0) → ((d +ℚ a *ℚ z) +ℚ b *ℚ w) +ℚ c *ℚ v ≡ d +ℚ c *ℚ v
+plain_row d a z b w c v e f = rw (e, f) (ring (d ∷ z ∷ w ∷ c ∷ v ∷ []) (search reads depth 30) tt)
+
+z_row : (d a z b w c v : ℚ) → b ≡ whole (pos 0) → ((d +ℚ a *ℚ z) +ℚ b *ℚ w) +ℚ c *ℚ v ≡ (d +ℚ a *ℚ z) +ℚ c *ℚ v
+z_row d a z b w c v f = rw f (ring (d ∷ a ∷ z ∷ w ∷ c ∷ v ∷ []) (search reads depth 30) tt)
+
+w_row : (d a z b w c v : ℚ) → a ≡ whole (pos 0) → ((d +ℚ a *ℚ z) +ℚ b *ℚ w) +ℚ c *ℚ v ≡ (d +ℚ b *ℚ w) +ℚ c *ℚ v
+w_row d a z b w c v e = rw e (ring (d ∷ z ∷ b ∷ w ∷ c ∷ v ∷ []) (search reads depth 30) tt)
+
+module _ (p : Program) (xs : List ℚ) (z w v : ℚ) (count : length xs ≡ length p.columns) where
+  front : (es : List ℤ) (a b c : ℤ) → length es ≡ length p.columns → rat_dot (wholes (es ++ a ∷ b ∷ c ∷ [])) (full xs z w v) ≡ ((rat_dot (wholes es) xs +ℚ whole a *ℚ z) +ℚ whole b *ℚ w) +ℚ whole c *ℚ v
+  front es a b c e =
+      dot_full (es ++ a ∷ b ∷ c ∷ []) xs z w v (length p.columns) count
+      ∙ ap (λ d. ((d +ℚ whole (entry (es ++ a ∷ b ∷ c ∷ []) (length p.columns)) *ℚ z) +ℚ whole (entry (es ++ a ∷ b ∷ c ∷ []) (length p.columns + 1)) *ℚ w) +ℚ whole (entry (es ++ a ∷ b ∷ c ∷ []) (length p.columns + 2)) *ℚ v) (dot_front es (a ∷ b ∷ c ∷ []) xs (omega (arith, e, count)))
+      ∙ ap (λ q. ((rat_dot (wholes es) xs +ℚ whole q *ℚ z) +ℚ whole (entry (es ++ a ∷ b ∷ c ∷ []) (length p.columns + 1)) *ℚ w) +ℚ whole (entry (es ++ a ∷ b ∷ c ∷ []) (length p.columns + 2)) *ℚ v) (entry_z es a b c (length p.columns) e)
+      ∙ ap (λ q. ((rat_dot (wholes es) xs +ℚ whole a *ℚ z) +ℚ whole q *ℚ w) +ℚ whole (entry (es ++ a ∷ b ∷ c ∷ []) (length p.columns + 2)) *ℚ v) (entry_w es a b c (length p.columns) e)
+      ∙ ap (λ q. ((rat_dot (wholes es) xs +ℚ whole a *ℚ z) +ℚ whole b *ℚ w) +ℚ whole q *ℚ v) (entry_right es a b c (length p.columns) e)
+
+  pub at_program_row : (i : ℕ) → i < length p.rows → rat_dot (wholes (row_at (first_tableau p).rows i)) (full xs z w v) ≡ row_at_columns p i xs +ℚ whole (right_side_at p.rows i) *ℚ v
+  at_program_row i h =
+      let r = has_row p.rows i h in
+      let f = p.form.each_row i r.row r.is in
+      ap (λ row. rat_dot (wholes row) (full xs z w v)) (at_row p.rows p.columns p.objective p.phase p.form i r.row h r.is)
+      ∙ front r.row.entries (pos 0) (pos 0) r.row.right f.width ∙ plain_row _ _ z _ w _ v refl refl
+      ∙ ap₂ (λ es b. rat_dot (wholes es) xs +ℚ whole b *ℚ v) (sym (map_at entries_of p.rows i r.row [] r.is)) (sym (map_at right_of p.rows i r.row (pos 0) r.is))
+
+  pub at_program_cost : rat_dot (wholes (row_at (first_tableau p).rows (length p.rows))) (full xs z w v) ≡ (rat_dot (wholes p.objective.entries) xs +ℚ whole p.objective.lead *ℚ z) +ℚ whole p.objective.right *ℚ v
+  at_program_cost =
+      ap (λ row. rat_dot (wholes row) (full xs z w v)) (at_objective p.rows p.columns p.objective p.phase p.form)
+      ∙ front p.objective.entries p.objective.lead (pos 0) p.objective.right p.form.cost.width ∙ z_row _ _ z _ w _ v refl
+
+  pub at_program_phase : rat_dot (wholes (row_at (first_tableau p).rows (length p.rows + 1))) (full xs z w v) ≡ (rat_dot (wholes p.phase.entries) xs +ℚ whole p.phase.lead *ℚ w) +ℚ whole p.phase.right *ℚ v
+  at_program_phase =
+      ap (λ row. rat_dot (wholes row) (full xs z w v)) (at_phase p.rows p.columns p.objective p.phase p.form)
+      ∙ front p.phase.entries (pos 0) p.phase.lead p.phase.right p.form.sum.width ∙ w_row _ _ z _ w _ v refl
+
+  solves_by : ((i : ℕ) → i < length p.rows → row_at_columns p i xs +ℚ whole (right_side_at p.rows i) *ℚ v ≡ whole (pos 0))
+      → (rat_dot (wholes p.objective.entries) xs +ℚ whole p.objective.lead *ℚ z) +ℚ whole p.objective.right *ℚ v ≡ whole (pos 0)
+      → (rat_dot (wholes p.phase.entries) xs +ℚ whole p.phase.lead *ℚ w) +ℚ whole p.phase.right *ℚ v ≡ whole (pos 0)
+      → (i : ℕ) → i < length p.rows + 2 → (i < length p.rows) ⊎ (length p.rows ≤ i) → (i < length p.rows + 1) ⊎ (length p.rows + 1 ≤ i) → rat_dot (wholes (row_at (first_tableau p).rows i)) (full xs z w v) ≡ whole (pos 0)
+  solves_by f g h i l (inl a) b = at_program_row i a ∙ f i a
+  solves_by f g h i l (inr a) (inl b) = let e : i ≡ length p.rows = omega (arith, a, b) in ap (λ k. rat_dot (wholes (row_at (first_tableau p).rows k)) (full xs z w v)) e ∙ at_program_cost ∙ g
+  solves_by f g h i l (inr a) (inr b) = let e : i ≡ length p.rows + 1 = omega (arith, l, b) in ap (λ k. rat_dot (wholes (row_at (first_tableau p).rows k)) (full xs z w v)) e ∙ at_program_phase ∙ h
+
+  -- the rows, the cost and the sum of the artificials hold
+  pub solves_first : ((i : ℕ) → i < length p.rows → row_at_columns p i xs +ℚ whole (right_side_at p.rows i) *ℚ v ≡ whole (pos 0))
+      → (rat_dot (wholes p.objective.entries) xs +ℚ whole p.objective.lead *ℚ z) +ℚ whole p.objective.right *ℚ v ≡ whole (pos 0)
+      → (rat_dot (wholes p.phase.entries) xs +ℚ whole p.phase.lead *ℚ w) +ℚ whole p.phase.right *ℚ v ≡ whole (pos 0)
+      → SolvesRational (first_tableau p).rows (full xs z w v)
+  solves_first f g h i l = solves_by f g h i (let e = length_first p.rows p.columns p.objective p.phase p.form in omega (arith, e, l)) (cases_lt i (length p.rows)) (cases_lt i (length p.rows + 1))
+
+  -- and the other way round
+  pub first_solved : SolvesRational (first_tableau p).rows (full xs z w v) → (i : ℕ) → i < length p.rows → row_at_columns p i xs +ℚ whole (right_side_at p.rows i) *ℚ v ≡ whole (pos 0)
+  first_solved s i h = let e = length_first p.rows p.columns p.objective p.phase p.form in sym (at_program_row i h) ∙ s i (omega (arith, e, h))
+
+  pub first_cost : SolvesRational (first_tableau p).rows (full xs z w v) → (rat_dot (wholes p.objective.entries) xs +ℚ whole p.objective.lead *ℚ z) +ℚ whole p.objective.right *ℚ v ≡ whole (pos 0)
+  first_cost s = let e = length_first p.rows p.columns p.objective p.phase p.form in sym at_program_cost ∙ s (length p.rows) (omega (arith, e))
+
+pub lead_some_of : (l : ℤ) → pos 0 <ℤ l → whole l ≢ whole (pos 0)
+lead_some_of l h e = <ℚ-≢ (whole-<ℤ (pos 0) l h) (sym e)
+
+-- ---- the slacks and artificials
+module _ (p : Program) (ys : List ℚ) (assigned : IsAssignment p ys) where
+  column_by : (i : ℕ) → (i < length p.rows) ⊎ (length p.rows ≤ i) → ℕ
+  column_by i (inl h) = (own_of p i h).column
+  column_by i (inr h) = 0
+
+  pub own_column : ℕ → ℕ
+  own_column i = column_by i (cases_lt i (length p.rows))
+
+  own_column_by : (i : ℕ) → i < length p.rows → (c : (i < length p.rows) ⊎ (length p.rows ≤ i)) → (o : Own p.columns i) × (column_by i c ≡ o.column)
+  unfolding column_by
+  own_column_by i h (inl l) = (own_of p i l, refl)
+  own_column_by i h (inr l) = absurd (omega arith)
+
+  pub own_column_is : (i : ℕ) → i < length p.rows → (o : Own p.columns i) × (own_column i ≡ o.column)
+  unfolding own_column
+  own_column_is i h = own_column_by i h (cases_lt i (length p.rows))
+
+  -- what row i is short of its right side, with the sign of its own column
+  unfoldable pub short : ℕ → ℚ
+  short i = whole (entry (entries_at p.rows i) (own_column i)) *ℚ (whole (right_side_at p.rows i) -ℚ row_at_columns p i ys)
+
+  pub put_out : List ℚ
+  put_out = rat_added ys (placed short own_column (length p.rows))
+
+  pub own_column_low : (i : ℕ) → i < length p.rows → own_column i < length p.columns
+  own_column_low i h = let o = own_column_is i h in let l = own_low p.columns i o.0.column o.0.own in let e = o.1 in omega (arith, l, e)
+
+  pub length_put_out : length put_out ≡ length p.columns
+  unfolding put_out
+  length_put_out = let c = assigned.count in let l = length_placed short own_column (length p.rows) (length p.columns) own_column_low in length_added ys (placed short own_column (length p.rows)) (omega (arith, c, l)) ∙ c
+
+  -- a row's sum over the columns that were put out
+  pub dot_put_out : (row : Row) → rat_dot (wholes row) put_out ≡ rat_dot (wholes row) ys +ℚ rat_sum_below (length p.rows) (λ k. short k *ℚ whole (entry row (own_column k)))
+  unfolding put_out
+  dot_put_out row = rat_dot-added_right (wholes row) ys (placed short own_column (length p.rows)) ∙ ap (λ u. rat_dot (wholes row) ys +ℚ u) (dot_placed row short own_column (length p.rows))
+
+  zero_right : (x y : ℚ) → y ≡ whole (pos 0) → x *ℚ y ≡ whole (pos 0)
+  zero_right x y e = rw e (*ℚ-zero x)
+
+  square : (s : ℤ) → (s ≡ pos 1) ⊎ (s ≡ negsuc 0) → s *ℤ s ≡ pos 1
+  square s (inl e) = rw e refl
+  square s (inr e) = rw e refl
+
+  one_or : (b : Bool) (s : ℤ) → s ≡ (if b then negsuc 0 else pos 1) → (s ≡ pos 1) ⊎ (s ≡ negsuc 0)
+  one_or true s e = inr e
+  one_or false s e = inl e
+
+  sign_by : (i : ℕ) → i < length p.rows → (o : Own p.columns i) → ((kind_at p.columns o.column ≡ Slack i) × (is_inequality p.columns i ≡ true)) ⊎ ((kind_at p.columns o.column ≡ Artificial i) × (is_inequality p.columns i ≡ false))
+      → (entry (entries_at p.rows i) o.column ≡ pos 1) ⊎ (entry (entries_at p.rows i) o.column ≡ negsuc 0)
+  sign_by i h o (inl k) = one_or (is_negated_at p.rows i) (entry (entries_at p.rows i) o.column) (sign_slack p i h o k.0)
+  sign_by i h o (inr k) = inl (sign_artificial p i h o k.0)
+
+  sign_square : (i : ℕ) → i < length p.rows → entry (entries_at p.rows i) (own_column i) *ℤ entry (entries_at p.rows i) (own_column i) ≡ pos 1
+  sign_square i h = let o = own_column_is i h in subst (λ j. entry (entries_at p.rows i) j *ℤ entry (entries_at p.rows i) j ≡ pos 1) (sym o.1) (square _ (sign_by i h o.0 o.0.kind))
+
+  other_zero : (i k : ℕ) → i < length p.rows → k < length p.rows → k ≢ i → entry (entries_at p.rows i) (own_column k) ≡ pos 0
+  other_zero i k h l n = let o = own_column_is k l in ap (entry (entries_at p.rows i)) o.1 ∙ own_other p k i h o.0 (λ e. n (sym e))
+
+  twice : (s : ℤ) (t : ℚ) → s *ℤ s ≡ pos 1 → (whole s *ℚ t) *ℚ whole s ≡ t
+  twice s t e = ring (whole s ∷ t ∷ []) (search reads depth 30) tt ∙ ap (λ u. u *ℚ t) (sym (whole-*ℤ s s) ∙ ap whole e) ∙ *ℚ_idl t
+
+  regain : (a b : ℚ) → a +ℚ (b -ℚ a) ≡ b
+  regain a b = ring (a ∷ b ∷ []) (search reads depth 30) tt
+
+  short_twice : (i : ℕ) → i < length p.rows → short i *ℚ whole (entry (entries_at p.rows i) (own_column i)) ≡ whole (right_side_at p.rows i) -ℚ row_at_columns p i ys
+  unfolding short
+  short_twice i h = twice (entry (entries_at p.rows i) (own_column i)) (whole (right_side_at p.rows i) -ℚ row_at_columns p i ys) (sign_square i h)
+
+  pub row_put_out : (i : ℕ) → i < length p.rows → row_at_columns p i put_out ≡ whole (right_side_at p.rows i)
+  row_put_out i h =
+      dot_put_out (entries_at p.rows i)
+      ∙ ap (λ u. row_at_columns p i ys +ℚ u)
+      (rat_sum_below-one (length p.rows) i (λ k. short k *ℚ whole (entry (entries_at p.rows i) (own_column k))) h (λ k l n. zero_right (short k) _ (ap whole (other_zero i k h l n))) ∙ short_twice i h)
+      ∙ regain (row_at_columns p i ys) (whole (right_side_at p.rows i))
+
+  pub cost_put_out : rat_dot (wholes p.objective.entries) put_out ≡ rat_dot (wholes p.objective.entries) ys
+  cost_put_out =
+      dot_put_out p.objective.entries
+      ∙ ap (λ u. rat_dot (wholes p.objective.entries) ys +ℚ u) (rat_sum_below-same (length p.rows) _ (λ _. whole (pos 0)) (λ k l. zero_right (short k) _ (ap whole (let o = own_column_is k l in ap (entry p.objective.entries) o.1 ∙ own_cost p k o.0))) ∙ rat_sum_below-zero (length p.rows))
+      ∙ +ℚ_idr (rat_dot (wholes p.objective.entries) ys)
+
+  pub rest : ℚ
+  rest = whole p.phase.right -ℚ rat_dot (wholes p.phase.entries) put_out
+
+  cancelled : (b : ℚ) → b +ℚ b *ℚ whole (negsuc 0) ≡ whole (pos 0)
+  cancelled b = ring (b ∷ []) (search reads depth 30) tt
+
+  cost_holds : (d l r : ℚ) → l ≢ whole (pos 0) → (d +ℚ l *ℚ ((r -ℚ d) /ℚ l)) +ℚ r *ℚ whole (negsuc 0) ≡ whole (pos 0)
+  cost_holds d l r n =
+      let e : l *ℚ ((r -ℚ d) /ℚ l) ≡ r -ℚ d = *ℚ_comm l ((r -ℚ d) /ℚ l) ∙ /ℚ-*ℚ (r -ℚ d) l n in
+      ap (λ u. (d +ℚ u) +ℚ r *ℚ whole (negsuc 0)) e ∙ ring (d ∷ r ∷ []) (search reads depth 30) tt
+
+  phase_holds : (d r : ℚ) (l : ℤ) → l ≡ pos 1 → (d +ℚ whole l *ℚ (r -ℚ d)) +ℚ r *ℚ whole (negsuc 0) ≡ whole (pos 0)
+  phase_holds d r l e = ap (λ u. (d +ℚ whole u *ℚ (r -ℚ d)) +ℚ r *ℚ whole (negsuc 0)) e ∙ ring (d ∷ r ∷ []) (search reads depth 30) tt
+
+  -- what was put out solves the rows, at the cost of the unknowns
+  pub put_out_solves : SolvesRational (first_tableau p).rows (full put_out (cost_at_columns p.objective ys) rest (whole (negsuc 0)))
+  unfolding rest
+  put_out_solves =
+      solves_first p put_out (cost_at_columns p.objective ys) rest (whole (negsuc 0)) length_put_out
+      (λ i h. ap (λ u. u +ℚ whole (right_side_at p.rows i) *ℚ whole (negsuc 0)) (row_put_out i h) ∙ cancelled (whole (right_side_at p.rows i)))
+      (ap (λ u. (u +ℚ whole p.objective.lead *ℚ cost_at_columns p.objective ys) +ℚ whole p.objective.right *ℚ whole (negsuc 0)) cost_put_out ∙ cost_holds (rat_dot (wholes p.objective.entries) ys) (whole p.objective.lead) (whole p.objective.right) (lead_some_of p.objective.lead p.form.cost.lead))
+      (phase_holds (rat_dot (wholes p.phase.entries) put_out) (whole p.phase.right) p.phase.lead p.form.sum.lead)
+
+  -- what the own columns have in a row, over its lead, times what the rows are short
+  abbrev pub rates : Row → ℤ → ℚ
+  rates row lead = rat_sum_below (length p.rows) (λ k. short k *ℚ (whole (entry row (own_column k)) /ℚ whole lead))
+
+  -- ---- the bound of a row of costs
+  module _ (row : Row) (lead : ℤ) (x right : ℚ) (positive : pos 0 <ℤ lead) (holds : rat_dot (wholes row) put_out +ℚ whole lead *ℚ x ≡ right) (low : rat_dot (wholes row) ys ≤ℚ whole (pos 0)) where
+    back : (a e l : ℚ) → l ≢ whole (pos 0) → (a *ℚ (e /ℚ l)) *ℚ l ≡ a *ℚ e
+    back a e l n = ring (a ∷ e /ℚ l ∷ l ∷ []) (search reads depth 30) tt ∙ ap (λ u. a *ℚ u) (/ℚ-*ℚ e l n)
+
+    rates_is : rates row lead *ℚ whole lead ≡ rat_sum_below (length p.rows) (λ k. short k *ℚ whole (entry row (own_column k)))
+    rates_is =
+        sym (rat_sum_below-*ℚ_right (length p.rows) (whole lead) (λ k. short k *ℚ (whole (entry row (own_column k)) /ℚ whole lead)))
+        ∙ rat_sum_below-same (length p.rows) _ _ (λ k l. back (short k) (whole (entry row (own_column k))) (whole lead) (lead_some_of lead positive))
+
+    scaled_bound : (d s t l x r q : ℚ) → d ≤ℚ whole (pos 0) → (d +ℚ s) +ℚ l *ℚ x ≡ r → t *ℚ l ≡ s → q *ℚ l ≡ r → l *ℚ q ≤ℚ l *ℚ (x +ℚ t)
+    scaled_bound d s t l x r q h e f g =
+        let a : l *ℚ q ≡ (d +ℚ s) +ℚ l *ℚ x = *ℚ_comm l q ∙ g ∙ sym e in
+        let b : l *ℚ (x +ℚ t) ≡ s +ℚ l *ℚ x = ring (l ∷ x ∷ t ∷ []) (search reads depth 30) tt ∙ ap (λ u. u +ℚ l *ℚ x) f in
+        rw (a, b) (linear (d ∷ s ∷ l ∷ x ∷ []) h (search reads depth 30) tt)
+
+    pub cost_bound : right /ℚ whole lead ≤ℚ (x +ℚ rates row lead)
+    cost_bound =
+        *ℚ-≤ℚ_cancel (whole-<ℤ (pos 0) lead positive)
+        (scaled_bound (rat_dot (wholes row) ys) _ (rates row lead) (whole lead) x right (right /ℚ whole lead) low (ap (λ u. u +ℚ whole lead *ℚ x) (sym (dot_put_out row)) ∙ holds) rates_is (/ℚ-*ℚ right (whole lead) (lead_some_of lead positive)))
