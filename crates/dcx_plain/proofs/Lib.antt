@@ -5,3 +5,5 @@ pub mod Shapes
 pub mod Whole
 pub mod Numbers
 pub mod ConstraintRows
+pub mod AnswersLaw
+pub mod ScriptPrograms

@@ -1,6 +1,6 @@
 -- What shows an answer to a linear program: a point with multipliers whose Lagrangian bound is its value, or
 -- multipliers that no point can meet, or a ray of unbounded descent.
-use Rattle.std.specs.Prelude.{◌≡◌, ℕ, List, [], ◌∷◌, length, map, pos}
+use Rattle.std.specs.Prelude.{◌≡◌, List, [], ◌∷◌, length, map, pos}
 use Rattle.dcx_math.specs.Rational.{ℚ, whole, ◌+ℚ◌, ◌-ℚ◌, ◌*ℚ◌, ◌≤ℚ◌, ◌<ℚ◌}
 use Rattle.dcx_math.specs.Sums.{IsNonnegative, rat_dot, along}
 use Rattle.dcx_plain.specs.Phrases.{Every}

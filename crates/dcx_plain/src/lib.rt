@@ -14,9 +14,11 @@
 //! | what must hold | where |
 //! |---|---|
 //! | the grammar, as the spelling of a syntax tree | `specs/Grammar.antt` |
+//! | an answer to a program is of one kind, and optimal answers have one value | `specs/Answers.antt`, the law `answers_agree` |
 //! | a reader answers the one thing that stands next, or says that nothing does | `specs/Reading.antt`, the clause of each function of `parser` |
 #![tactic(auto)]
 
+mod answers;
 mod linear;
 mod parser;
 mod plain;
@@ -24,6 +26,7 @@ mod reader;
 mod script;
 mod word;
 
+pub use answers::answers_agree;
 pub use linear::{Linear, Row, linear_program};
 pub use plain::read;
 pub use script::{

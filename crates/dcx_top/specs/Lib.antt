@@ -2,4 +2,3 @@ pub mod Words
 pub mod Outcome
 pub mod Answers
 pub mod Ended
-pub mod IntegerProgram

@@ -1,0 +1,6 @@
+pub mod ProgramForm
+pub mod Rows
+pub mod Joined
+pub mod BoundRows
+pub mod SlackColumns
+pub mod Duality
