@@ -4,3 +4,5 @@ pub mod Joined
 pub mod BoundRows
 pub mod SlackColumns
 pub mod Duality
+pub mod Notes
+pub mod Runs

@@ -211,17 +211,20 @@ drop_on (x ∷ xs) (suc k) h = drop_on xs k (omega arith)
 pub drop_back : (xs : List ℤ) (j : ℕ) → 0 < j → j ≤ length xs → drop (j - 1) xs ≡ get_or xs (j - 1) (pos 0) ∷ drop j xs
 drop_back xs j p h = let e : suc (j - 1) ≡ j = omega arith in drop_on xs (j - 1) (omega arith) ∙ ap (λ k. get_or xs (j - 1) (pos 0) ∷ drop k xs) e
 
--- the bounds of one more row
-take_kept_on : (rows : List Row) (j : ℕ) (r : Row) → slice_get rows j ≡ Some r → map kept_bound (take (suc j) rows) ≡ map kept_bound (take j rows) ++ kept_bound r ∷ []
-take_kept_on [] j r e = cc
-take_kept_on (x ∷ xs) zero r e = let d : x ≡ r = cc in ap (λ y. kept_bound y ∷ []) d
-take_kept_on (x ∷ xs) (suc j) r e = ap (λ bs. kept_bound x ∷ bs) (take_kept_on xs j r e)
+-- one more item of a list
+take_on : {A : Type 0} (xs : List A) (j : ℕ) (x : A) → slice_get xs j ≡ Some x → take (suc j) xs ≡ take j xs ++ x ∷ []
+take_on [] j x e = cc
+take_on (y ∷ ys) zero x e = let d : y ≡ x = cc in ap (λ z. z ∷ []) d
+take_on (y ∷ ys) (suc j) x e = ap (λ zs. y ∷ zs) (take_on ys j x e)
+
+pub take_read : {A : Type 0} (xs : List A) (j : ℕ) (x : A) → slice_get xs j ≡ Some x → take (j + 1) xs ≡ take j xs ++ x ∷ []
+take_read xs j x e = ap (λ k. take k xs) (next j) ∙ take_on xs j x e
 
 pub each_row_more : (P : ℕ → Bound → IntRow → Type 0) (rows : List Row) (rs ss : List IntRow) (j : ℕ) (x : Row) (r : IntRow) → j ≤ length rows → slice_get rows j ≡ Some x → ss ≡ rs ++ r ∷ [] → EachRow P 0 (map kept_bound (take j rows)) rs → P j (kept_bound x) r → EachRow P 0 (map kept_bound (take (j + 1) rows)) ss
 each_row_more P rows rs ss j x r h e s i p =
     let front = map kept_bound (take j rows) in
     let l : 0 + length front ≡ j = omega (arith, length-map (take j rows) kept_bound, length-take-le j rows h) in
-    subst (λ bs. EachRow P 0 bs ss) (sym (ap (λ k. map kept_bound (take k rows)) (next j) ∙ take_kept_on rows j x e))
+    subst (λ bs. EachRow P 0 bs ss) (sym (ap (map kept_bound) (take_read rows j x e) ∙ map-append kept_bound (take j rows) (x ∷ [])))
       (subst (EachRow P 0 (front ++ kept_bound x ∷ [])) (sym s) (each_more P 0 front rs (kept_bound x) r i (subst (λ k. P k (kept_bound x) r) (sym l) p)))
 
 -- the rows that are kept are rows of the bounds
@@ -232,7 +235,7 @@ rows_of_kept m k (b ∷ bs) [] h = absurd h
 rows_of_kept m k (b ∷ bs) (r ∷ rs) h = (h.0.is, rows_of_kept m (suc k) bs rs h.1)
 
 -- a row that is read is the one at its index
-pub read_at : (rows : List Row) (j : ℕ) (r d : Row) → j < length rows → r ≡ get_or rows j d → slice_get rows j ≡ Some r
+pub read_at : {A : Type 0} (rows : List A) (j : ℕ) (r d : A) → j < length rows → r ≡ get_or rows j d → slice_get rows j ≡ Some r
 read_at rows j r d h e = slice_get-get_or rows j d h ∙ ap Some (sym e)
 
 -- the rows of a list, by another name for it

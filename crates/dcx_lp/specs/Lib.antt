@@ -1,1 +1,2 @@
 pub mod IntegerProgram
+pub mod Solution

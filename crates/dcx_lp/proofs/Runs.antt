@@ -1,0 +1,95 @@
+-- The run on the integer program of a linear program.
+use Rattle.std.proofs.Common.{◌≡◌, ℕ, zero, suc, ◌≤◌, List, [], ◌∷◌, length, refl, sym, ap, ◌∙◌, subst, ◌⊎◌, inl, inr, arith}
+use Rattle.std.specs.Prelude.{IfOk, Result, Ok, Err}
+use Rattle.std.specs.declared.alloc.AllocError.{AllocError}
+use Rattle.dcx_tab.specs.declared.program.Program as tab
+use Rattle.dcx_tab.specs.Table.{Table}
+use Rattle.dcx_tab.specs.First.{first_tableau}
+use Rattle.dcx_tab.specs.Program.{plain_count}
+use Rattle.dcx_simplex.specs.declared.answer.LpAnswer.{LpAnswer}
+use Rattle.dcx_simplex.specs.declared.run.LpEnd.{LpEnd}
+use Rattle.dcx_simplex.specs.declared.run.LpEnd.TheVariants as lp
+use Rattle.dcx_simplex.specs.Whole.{RunEnds, Starts}
+use Rattle.dcx_simplex.specs.Run.{Leads, Here, Then}
+use Rattle.dcx_simplex.specs.Reading.{IsRead}
+use Rattle.dcx_simplex.specs.Finished.{IsFinished}
+use Rattle.dcx_plain.specs.Meaning.{Bound, Program}
+use Rattle.dcx_tab.specs.declared.rows.IntRow.{IntRow}
+use Rattle.dcx_lp.specs.IntegerProgram.{EachRow, IsRowOf, IsProgramOf}
+use Rattle.dcx_lp.specs.declared.solving.Solution.{Solution}
+use Rattle.dcx_lp.specs.declared.solving.Solution.TheVariants as solution
+use Rattle.dcx_lp.proofs.ProgramForm.{columns_of, length-columns, plain-columns}
+use Rattle.dcx_lp.specs.Solution.{IsShown, IsAnswered, IsSolution, HasRun}
+
+-- an answer has a note for each row
+pub notes_of : (q : tab.Program) (t : Table) (e : LpEnd) (a : LpAnswer) → IsRead q.rows q.columns t e a → length a.rows ≡ length q.rows
+notes_of q t (lp.Optimal n) a h = h.0.notes
+notes_of q t (lp.Infeasible n) a h = h.0.notes
+notes_of q t (lp.Unbounded n c) a h = h.0.notes
+notes_of q t (lp.Wide n r c) a h = absurd h
+notes_of q t (lp.PivotLimit n) a h = absurd h
+
+pub length-rows_of : (m k : ℕ) (bs : List Bound) (rs : List IntRow) → EachRow (IsRowOf m) k bs rs → length rs ≡ length bs
+length-rows_of m k [] [] h = refl
+length-rows_of m k [] (r ∷ rs) h = absurd h
+length-rows_of m k (b ∷ bs) [] h = absurd h
+length-rows_of m k (b ∷ bs) (r ∷ rs) h = ap suc (length-rows_of m (suc k) bs rs h.1)
+
+-- an end that is neither wide nor at the limit
+abbrev pub HasAnswer : LpEnd → Type 0
+HasAnswer (lp.Wide n r c) = ⊥
+HasAnswer (lp.PivotLimit n) = ⊥
+HasAnswer _ = Unit {0}
+
+pub finished_by : (limit : ℕ) (q : tab.Program) (t : Table) (e : LpEnd) → HasAnswer e → RunEnds limit (first_tableau q) t e → IsFinished q t e
+finished_by limit q t (lp.Optimal n) h r = (limit, r)
+finished_by limit q t (lp.Infeasible n) h r = (limit, r)
+finished_by limit q t (lp.Unbounded n c) h r = (limit, r)
+finished_by limit q t (lp.Wide n r c) h k = absurd h
+finished_by limit q t (lp.PivotLimit n) h r = absurd h
+
+-- what an end shows is a solution
+pub solution_by : (limit : ℕ) (p : Program) (q : tab.Program) (t : Table) (e : LpEnd) (s : Solution) → IsProgramOf p q → RunEnds limit (first_tableau q) t e → IsAnswered p q t e s → IsSolution limit p s
+solution_by limit p q t e (solution.Optimal v x m) h r a = a.shown
+solution_by limit p q t e (solution.Unbounded x d b l) h r a = a.shown
+solution_by limit p q t e (solution.WidePivot n i j) h r a = absurd a.shown
+solution_by limit p q t e (solution.WideMultiplier i w) h r a = (e, record { program = q; is = h; last = t; ends = r; holds = (a.answer, a.read, a.shown) })
+solution_by limit p q t e (solution.PivotLimit n) h r a = absurd a.shown
+
+-- ---- the limit
+leads_below : (cost bound limit : ℕ) (t : Table) (n : ℕ) (u : Table) (m : ℕ) → Leads cost bound limit t n u m → n ≤ limit → m ≤ limit
+leads_below cost bound limit t n u m Here h = h
+leads_below cost bound limit t n u m (Then v k r c l next lt formed) h = omega (arith, lt)
+
+-- a run without artificials that ends at the limit has done as many pivots
+pub at_limit : (limit n m k : ℕ) (q : tab.Program) (u : Table) → q.columns ≡ columns_of n m → RunEnds limit (first_tableau q) u (lp.PivotLimit k) → k ≡ limit
+at_limit limit n m k q u e r = by r
+  where
+    all_plain : plain_count q.columns ≡ length q.columns
+    all_plain = subst (λ ks. plain_count ks ≡ length ks) (sym e) (plain-columns n m ∙ sym (length-columns n m))
+    begun : (v : Table) (j : ℕ) → Starts limit (first_tableau q) v j → j ≡ 0
+    begun v j (inl s) = s.2
+    begun v j (inr d) = absurd (omega (arith, all_plain, d.2.0))
+    by : RunEnds limit (first_tableau q) u (lp.PivotLimit k) → k ≡ limit
+    by (inl f) = absurd (omega (arith, all_plain, f.0))
+    by (inr (inl d)) = absurd (omega (arith, all_plain, d.2.0))
+    by (inr (inr s)) =
+        let none = begun s.0 s.1 s.2 in
+        let low = leads_below _ _ limit s.0 s.1 u k s.3 (omega (arith, none)) in
+        let high = s.4.1 in
+        omega (arith, low, high)
+
+-- the ends that are answers
+pub is_answer : (e : LpEnd) → ((x : ℕ) × (e ≡ lp.Optimal x)) ⊎ (((x : ℕ) × (e ≡ lp.Infeasible x)) ⊎ ((x : ℕ) × (y : ℕ) × (e ≡ lp.Unbounded x y))) → HasAnswer e
+is_answer e (inl h) = subst HasAnswer (sym h.1) tt
+is_answer e (inr (inl h)) = subst HasAnswer (sym h.1) tt
+is_answer e (inr (inr h)) = subst HasAnswer (sym h.2) tt
+
+-- what the code answers
+pub solution_of : (limit : ℕ) (p : Program) (q : tab.Program) (t : Table) (e : LpEnd) (r : Result Solution AllocError) → IsProgramOf p q → RunEnds limit (first_tableau q) t e → IfOk r (IsAnswered p q t e) → IfOk r (IsSolution limit p)
+solution_of limit p q t e (Ok s) h k a = solution_by limit p q t e s h k a
+solution_of limit p q t e (Err x) h k a = tt
+
+pub answered_of : (p : Program) (q : tab.Program) (t : Table) (e : LpEnd) (a : LpAnswer) (r : Result Solution AllocError) → IsRead q.rows q.columns t e a → IfOk r (IsShown p a.rows) → IfOk r (IsAnswered p q t e)
+answered_of p q t e a (Ok s) h k = record { answer = a; read = h; shown = k }
+answered_of p q t e a (Err x) h k = tt

@@ -1,0 +1,66 @@
+-- What the solution of a linear program is.
+use Rattle.std.specs.Prelude.{◌≡◌, ⊤, ℕ, List, map, take, slice_get, Some}
+use Rattle.dcx_frac.specs.Frac.{value}
+use Rattle.dcx_frac.specs.Fits.{IsRepresentable}
+use Rattle.dcx_frac.specs.declared.fraction.Op.TheVariants.{Mul}
+use Rattle.dcx_frac.specs.declared.fraction.Passes.{Passes}
+use Rattle.dcx_tab.specs.declared.program.Program as tab
+use Rattle.dcx_tab.specs.Table.{Table}
+use Rattle.dcx_tab.specs.First.{first_tableau}
+use Rattle.dcx_simplex.specs.declared.answer.RowNote.{RowNote}
+use Rattle.dcx_simplex.specs.declared.answer.LpAnswer.{LpAnswer}
+use Rattle.dcx_simplex.specs.declared.run.LpEnd.{LpEnd}
+use Rattle.dcx_simplex.specs.declared.run.LpEnd.TheVariants as lp
+use Rattle.dcx_simplex.specs.Whole.{RunEnds}
+use Rattle.dcx_simplex.specs.Reading.{numbers, IsRead}
+use Rattle.dcx_plain.specs.Phrases.{Every}
+use Rattle.dcx_plain.specs.Meaning.{Program}
+use Rattle.dcx_plain.specs.Answers.{IsOptimal, IsUnbounded}
+use Rattle.dcx_lp.specs.IntegerProgram.{IsProgramOf, multiplier_of}
+use Rattle.dcx_lp.specs.declared.solving.Multipliers.{Multipliers}
+use Rattle.dcx_lp.specs.declared.solving.Multipliers.TheVariants as found
+use Rattle.dcx_lp.specs.declared.solving.Solution.{Solution}
+use Rattle.dcx_lp.specs.declared.solving.Solution.TheVariants as solution
+
+-- the multiplier of the row passes, and that of no row before it
+pub record IsFirstWide (notes : List RowNote) (row : ℕ) (passes : Passes) : Type 0 where
+  pub note : RowNote
+  pub here : slice_get notes row ≡ Some note
+  pub wide : ¬ (IsRepresentable (multiplier_of note))
+  pub told : passes ≡ record { op = Mul; left = note.factor; right = note.reduced_cost }
+  pub before : Every (λ n. IsRepresentable (multiplier_of n)) (take row notes)
+
+-- the multipliers of the notes, or the first that passes
+abbrev pub AreMultipliersOf : List RowNote → Multipliers → Type 0
+AreMultipliersOf notes (found.Fit fs) = numbers fs ≡ map multiplier_of notes
+AreMultipliersOf notes (found.Wide row passes) = IsFirstWide notes row passes
+
+-- what an answer with these notes shows of the program
+abbrev pub IsShown : Program → List RowNote → Solution → Type 0
+IsShown p notes (solution.Optimal v x m) = IsOptimal p (value v) (numbers x) (numbers m)
+IsShown p notes (solution.Unbounded x d b e) = IsUnbounded p (numbers x) (numbers d) (value b) (value e)
+IsShown p notes (solution.WideMultiplier row passes) = IsFirstWide notes row passes
+IsShown p notes _ = ⊥
+
+-- an answer with the numbers of this end of a run on q shows it
+pub record IsAnswered (p : Program) (q : tab.Program) (t : Table) (e : LpEnd) (s : Solution) : Type 0 where
+  pub answer : LpAnswer
+  pub read : IsRead q.rows q.columns t e answer
+  pub shown : IsShown p answer.rows s
+
+-- the run of at most so many pivots, from the first tableau of the program's integer program, ends so, and P holds
+-- of that program, the last tableau and the end
+pub record HasRun (limit : ℕ) (p : Program) (e : LpEnd) (P : tab.Program → Table → Type 0) : Type 0 where
+  pub program : tab.Program
+  pub is : IsProgramOf p program
+  pub last : Table
+  pub ends : RunEnds limit (first_tableau program) last e
+  pub holds : P program last
+
+-- a solution with its cause
+abbrev pub IsSolution : ℕ → Program → Solution → Type 0
+IsSolution limit p (solution.Optimal v x m) = IsOptimal p (value v) (numbers x) (numbers m)
+IsSolution limit p (solution.Unbounded x d b e) = IsUnbounded p (numbers x) (numbers d) (value b) (value e)
+IsSolution limit p (solution.WidePivot n r c) = HasRun limit p (lp.Wide n r c) (λ q t. ⊤)
+IsSolution limit p (solution.PivotLimit n) = (n ≡ limit) × HasRun limit p (lp.PivotLimit n) (λ q t. ⊤)
+IsSolution limit p (solution.WideMultiplier row passes) = (e : LpEnd) × HasRun limit p e (λ q t. (a : LpAnswer) × IsRead q.rows q.columns t e a × IsFirstWide a.rows row passes)
