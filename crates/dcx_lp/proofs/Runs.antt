@@ -1,11 +1,12 @@
 -- The run on the integer program of a linear program.
-use Rattle.std.proofs.Common.{◌≡◌, ℕ, zero, suc, ◌≤◌, List, [], ◌∷◌, length, refl, sym, ap, ◌∙◌, subst, ◌⊎◌, inl, inr, arith}
+use Rattle.std.proofs.Common.{◌≡◌, ℕ, zero, suc, ◌+◌, ◌≤◌, List, [], ◌∷◌, length, refl, sym, ap, ◌∙◌, subst, ◌⊎◌, inl, inr, arith}
 use Rattle.std.specs.Prelude.{IfOk, Result, Ok, Err}
 use Rattle.std.specs.declared.alloc.AllocError.{AllocError}
 use Rattle.dcx_tab.specs.declared.program.Program as tab
 use Rattle.dcx_tab.specs.Table.{Table}
 use Rattle.dcx_tab.specs.First.{first_tableau}
 use Rattle.dcx_tab.specs.Program.{plain_count}
+use Rattle.dcx_simplex.specs.declared.answer.LpStatus.TheVariants as status
 use Rattle.dcx_simplex.specs.declared.answer.LpAnswer.{LpAnswer}
 use Rattle.dcx_simplex.specs.declared.run.LpEnd.{LpEnd}
 use Rattle.dcx_simplex.specs.declared.run.LpEnd.TheVariants as lp
@@ -19,7 +20,7 @@ use Rattle.dcx_lp.specs.IntegerProgram.{EachRow, IsRowOf, IsProgramOf}
 use Rattle.dcx_lp.specs.declared.solving.Solution.{Solution}
 use Rattle.dcx_lp.specs.declared.solving.Solution.TheVariants as solution
 use Rattle.dcx_lp.proofs.ProgramForm.{columns_of, length-columns, plain-columns}
-use Rattle.dcx_lp.specs.Solution.{IsShown, IsAnswered, IsSolution, HasRun}
+use Rattle.dcx_lp.specs.Solution.{IsLong, IsShown, IsAnswered, IsSolution, HasRun}
 
 -- an answer has a note for each row
 pub notes_of : (q : tab.Program) (t : Table) (e : LpEnd) (a : LpAnswer) → IsRead q.rows q.columns t e a → length a.rows ≡ length q.rows
@@ -34,6 +35,29 @@ length-rows_of m k [] [] h = refl
 length-rows_of m k [] (r ∷ rs) h = absurd h
 length-rows_of m k (b ∷ bs) [] h = absurd h
 length-rows_of m k (b ∷ bs) (r ∷ rs) h = ap suc (length-rows_of m (suc k) bs rs h.1)
+
+-- a reading of an end has all columns
+pub long_of : (p : Program) (q : tab.Program) (t : Table) (e : LpEnd) (a : LpAnswer) → IsProgramOf p q → IsRead q.rows q.columns t e a → IsLong p a
+long_of p q t e a h k = by e k
+  where
+    n : ℕ
+    n = length p.objective
+    m : ℕ
+    m = length p.bounds
+    count : length q.columns ≡ n + m
+    count = ap length h.columns ∙ length-columns n m
+    by : (x : LpEnd) → IsRead q.rows q.columns t x a → IsLong p a
+    by (lp.Optimal k) r = record { columns = omega (arith, r.0.columns, count); ray = λ u. absurd (unlike (sym r.0.status ∙ u)) }
+      where
+        unlike : status.Optimal ≡ status.Unbounded → ⊥
+        unlike z = cc
+    by (lp.Infeasible k) r = record { columns = omega (arith, r.0.columns, count); ray = λ u. absurd (unlike (sym r.0.status ∙ u)) }
+      where
+        unlike : status.Infeasible ≡ status.Unbounded → ⊥
+        unlike z = cc
+    by (lp.Unbounded k c) r = record { columns = omega (arith, r.0.columns, count); ray = λ u. omega (arith, r.1.ray, count) }
+    by (lp.Wide k i j) r = absurd r
+    by (lp.PivotLimit k) r = absurd r
 
 -- an end that is neither wide nor at the limit
 abbrev pub HasAnswer : LpEnd → Type 0

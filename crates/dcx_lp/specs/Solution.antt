@@ -1,5 +1,6 @@
 -- What the solution of a linear program is.
-use Rattle.std.specs.Prelude.{◌≡◌, ⊤, ℕ, List, map, take, slice_get, Some}
+use Rattle.std.specs.Prelude.{◌≡◌, ⊤, ℕ, ◌≤◌, List, map, length, take, slice_get, Some}
+use Rattle.dcx_frac.specs.declared.fraction.Frac.{Frac}
 use Rattle.dcx_frac.specs.Frac.{value}
 use Rattle.dcx_frac.specs.Fits.{IsRepresentable}
 use Rattle.dcx_frac.specs.declared.fraction.Op.TheVariants.{Mul}
@@ -7,6 +8,7 @@ use Rattle.dcx_frac.specs.declared.fraction.Passes.{Passes}
 use Rattle.dcx_tab.specs.declared.program.Program as tab
 use Rattle.dcx_tab.specs.Table.{Table}
 use Rattle.dcx_tab.specs.First.{first_tableau}
+use Rattle.dcx_simplex.specs.declared.answer.LpStatus.TheVariants as status
 use Rattle.dcx_simplex.specs.declared.answer.RowNote.{RowNote}
 use Rattle.dcx_simplex.specs.declared.answer.LpAnswer.{LpAnswer}
 use Rattle.dcx_simplex.specs.declared.run.LpEnd.{LpEnd}
@@ -35,10 +37,20 @@ abbrev pub AreMultipliersOf : List RowNote → Multipliers → Type 0
 AreMultipliersOf notes (found.Fit fs) = numbers fs ≡ map multiplier_of notes
 AreMultipliersOf notes (found.Wide row passes) = IsFirstWide notes row passes
 
+-- the point and the ray have a number for each variable
+pub record AreWhole (p : Program) (x d : List Frac) : Type 0 where
+  pub point : length x ≡ length p.objective
+  pub ray : length d ≡ length p.objective
+
+-- the answer has a number for each variable, and so has its ray where it is unbounded
+pub record IsLong (p : Program) (a : LpAnswer) : Type 0 where
+  pub columns : length p.objective ≤ length a.columns
+  pub ray : a.status ≡ status.Unbounded → length p.objective ≤ length a.ray
+
 -- what an answer with these notes shows of the program
 abbrev pub IsShown : Program → List RowNote → Solution → Type 0
 IsShown p notes (solution.Optimal v x m) = IsOptimal p (value v) (numbers x) (numbers m)
-IsShown p notes (solution.Unbounded x d b e) = IsUnbounded p (numbers x) (numbers d) (value b) (value e)
+IsShown p notes (solution.Unbounded x d b e) = IsUnbounded p (numbers x) (numbers d) (value b) (value e) × AreWhole p x d
 IsShown p notes (solution.WideMultiplier row passes) = IsFirstWide notes row passes
 IsShown p notes _ = ⊥
 
@@ -60,7 +72,7 @@ pub record HasRun (limit : ℕ) (p : Program) (e : LpEnd) (P : tab.Program → T
 -- a solution with its cause
 abbrev pub IsSolution : ℕ → Program → Solution → Type 0
 IsSolution limit p (solution.Optimal v x m) = IsOptimal p (value v) (numbers x) (numbers m)
-IsSolution limit p (solution.Unbounded x d b e) = IsUnbounded p (numbers x) (numbers d) (value b) (value e)
+IsSolution limit p (solution.Unbounded x d b e) = IsUnbounded p (numbers x) (numbers d) (value b) (value e) × AreWhole p x d
 IsSolution limit p (solution.WidePivot n r c) = HasRun limit p (lp.Wide n r c) (λ q t. ⊤)
 IsSolution limit p (solution.PivotLimit n) = (n ≡ limit) × HasRun limit p (lp.PivotLimit n) (λ q t. ⊤)
 IsSolution limit p (solution.WideMultiplier row passes) = (e : LpEnd) × HasRun limit p e (λ q t. (a : LpAnswer) × IsRead q.rows q.columns t e a × IsFirstWide a.rows row passes)

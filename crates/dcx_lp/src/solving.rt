@@ -5,7 +5,7 @@ ghost use Rattle.dcx_simplex.specs.Reading.{numbers};
 ghost use Rattle.dcx_tab.specs.Views.{table_of};
 ghost use Rattle.dcx_plain.specs.Meaning.{kept};
 ghost use Rattle.dcx_lp.specs.IntegerProgram.{IsSmall, IsProgramOf, Shows, first_numbers};
-ghost use Rattle.dcx_lp.specs.Solution.{AreMultipliersOf, IsShown, IsAnswered, IsSolution};
+ghost use Rattle.dcx_lp.specs.Solution.{AreMultipliersOf, IsLong, IsShown, IsAnswered, IsSolution};
 
 use crate::program::integer_program;
 use dcx_frac::{Fracs, Frac, Passes};
@@ -89,7 +89,9 @@ fn found_multipliers(alloc: Global, notes: &[RowNote]) -> Result<Multipliers, Al
 
 /// The first `count` fractions.
 fn firsts(fractions: Fracs, count: usize) -> Fracs
-    ensures { numbers result ≡ first_numbers count fractions }
+    requires { count ≤ length fractions }
+    ensures numbers { numbers result ≡ first_numbers count fractions }
+    ensures count { length result ≡ count }
 {
     let mut items = fractions.into_vec();
     items.truncate(count);
@@ -99,6 +101,7 @@ fn firsts(fractions: Fracs, count: usize) -> Fracs
 /// What an answer to the integer program shows of the linear program.
 fn shown(alloc: Global, linear: &Linear, answer: LpAnswer) -> Result<Solution, AllocError>
     requires shows { Shows (kept linear.now) answer.status answer }
+    requires long { IsLong (kept linear.now) answer }
     requires few { length answer.rows ≤ 100 }
     ensures { IfOk result (IsShown (kept linear.now) answer.rows) }
 {

@@ -1,5 +1,9 @@
--- How the problem of a plain script may end.
-use Rattle.std.specs.Prelude.{◌≡◌, ℕ, ◌+◌, List, length, map, ⊤}
+-- How the problem of a plain script ends.
+use Rattle.std.specs.Prelude.{◌≡◌, ℕ, List, [], ◌∷◌, map, ⊤}
+use Rattle.dcx_shape.specs.Shape.{sides_of}
+use Rattle.dcx_shape.specs.declared.shape.Sides.TheVariants as sides
+use Rattle.dcx_frac.specs.declared.fraction.Frac.{Frac}
+use Rattle.dcx_report.specs.declared.array.Array.{Array}
 use Rattle.dcx_report.specs.declared.tree.Named.{Named}
 use Rattle.dcx_report.specs.declared.graph.Answer.TheVariants.{Optimal, Unbounded}
 use Rattle.dcx_report.specs.declared.graph.Stop.TheVariants.{Wide, PivotLimit, Memory}
@@ -7,26 +11,41 @@ use Rattle.dcx_report.specs.declared.graph.Site.TheVariants as site
 use Rattle.dcx_report.specs.declared.outcome.OutcomeEnd.{OutcomeEnd}
 use Rattle.dcx_report.specs.declared.outcome.OutcomeEnd.TheVariants as end
 use Rattle.dcx_plain.specs.declared.script.Script.{Script}
+use Rattle.dcx_plain.specs.Meaning.{program_of}
+use Rattle.dcx_lp.specs.declared.solving.Solution.TheVariants as solution
+use Rattle.dcx_lp.specs.Solution.{IsSolution}
 
 -- how many pivots are done at most
 abbrev pub pivot_limit : ℕ
 pivot_limit = 200000
 
--- the point has a value for each variable of the script, in order of declaration
-abbrev pub IsPointOf : Script → List Named → Type 0
-IsPointOf s point = map (λ n. n.name) point ≡ s.names
+-- the array of one number
+pub record IsNumber (x : Frac) (a : Array) : Type 0 where
+  pub scalar : sides_of a.shape ≡ sides.Scalar
+  pub entries : a.entries ≡ x ∷ []
 
--- how many constraints the script has
-abbrev pub constraint_count : Script → ℕ
-constraint_count s = length s.problem.constraints.others + 1
+-- the arrays of the numbers, in order
+abbrev pub AreNumbers : List Frac → List Array → Type 0
+AreNumbers [] [] = ⊤
+AreNumbers (x ∷ xs) (a ∷ as') = IsNumber x a × AreNumbers xs as'
+AreNumbers [] (a ∷ as') = ⊥
+AreNumbers (x ∷ xs) [] = ⊥
 
--- An optimal or an unbounded answer over the script's variables and constraints; or a wide pivot or multiplier,
--- the pivot limit, or want of memory. The slacks are feasible, so no plain problem is infeasible.
+-- the numbers under the names, in order
+pub record IsPointAt (names : List (List ℕ)) (xs : List Frac) (point : List Named) : Type 0 where
+  pub names_are : map (λ n. n.name) point ≡ names
+  pub numbers : AreNumbers xs (map (λ n. n.array) point)
+
+-- The answers and the stops of a plain script's linear program: an optimal answer is a feasible point, with multipliers
+-- whose Lagrangian bound is its value; an unbounded one is a feasible point and a ray of unbounded descent; a wide pivot,
+-- a wide multiplier and the pivot limit come only where the run of Bland's rule has them; want of memory is free.
 abbrev pub IsEndOf : Script → OutcomeEnd → Type 0
-IsEndOf s (end.Answer (Optimal value point duals)) = IsPointOf s point × (length duals ≡ constraint_count s)
-IsEndOf s (end.Answer (Unbounded point ray bound slope)) = IsPointOf s point × IsPointOf s ray
-IsEndOf s (end.Stop (Wide (site.Pivot pivots row column))) = ⊤
-IsEndOf s (end.Stop (Wide (site.Answer row passes))) = ⊤
-IsEndOf s (end.Stop (PivotLimit count)) = count ≡ pivot_limit
+IsEndOf s (end.Answer (Optimal v point duals)) =
+    (x : List Frac) × (m : List Frac) × IsSolution pivot_limit (program_of s) (solution.Optimal v x m) × IsPointAt s.names x point × AreNumbers m duals
+IsEndOf s (end.Answer (Unbounded point ray b e)) =
+    (x : List Frac) × (d : List Frac) × IsSolution pivot_limit (program_of s) (solution.Unbounded x d b e) × IsPointAt s.names x point × IsPointAt s.names d ray
+IsEndOf s (end.Stop (Wide (site.Pivot pivots row column))) = IsSolution pivot_limit (program_of s) (solution.WidePivot pivots row column)
+IsEndOf s (end.Stop (Wide (site.Answer row passes))) = IsSolution pivot_limit (program_of s) (solution.WideMultiplier row passes)
+IsEndOf s (end.Stop (PivotLimit count)) = IsSolution pivot_limit (program_of s) (solution.PivotLimit count)
 IsEndOf s (end.Stop Memory) = ⊤
 IsEndOf s _ = ⊥

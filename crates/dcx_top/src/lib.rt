@@ -4,7 +4,6 @@
 mod command;
 mod ended;
 mod outcome;
-mod simplex;
 mod words;
 mod write;
 

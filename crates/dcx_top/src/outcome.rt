@@ -1,20 +1,24 @@
-//! The outcome of a plain script: its program is solved, and the end is put into the user's names.
-ghost use Rattle.std.specs.Prelude.{◌≡◌, ◌+◌, map, length, IfOk};
+//! The outcome of a plain script: its linear program is solved, and the solution is put into the user's names.
+ghost use Rattle.std.specs.Prelude.{◌≡◌, length, IfOk};
 ghost use Rattle.dcx_plain.specs.Plain.{IsPlain};
-ghost use Rattle.dcx_top.specs.Outcome.{IsPointOf, IsEndOf, constraint_count};
+ghost use Rattle.dcx_plain.specs.Meaning.{program_of};
+ghost use Rattle.dcx_lp.specs.Solution.{IsSolution};
+ghost use Rattle.dcx_top.specs.Outcome.{pivot_limit, IsNumber, AreNumbers, IsPointAt, IsEndOf};
 
-use crate::simplex::{End, Tableau};
 use dcx_frac::{Frac, Fracs};
+use dcx_lp::{Solution, solve};
 use dcx_plain::{Script, Word, linear_program};
 use dcx_report::{Answer, Array, Duals, Named, OutcomeEnd, Point, Site, Stop};
 use dcx_shape::{Name, Shape};
 use std::alloc::{AllocError, Global};
 
 /// How many pivots are done at most.
-pub const PIVOT_LIMIT: u64 = 200_000;
+const PIVOT_LIMIT: u64 = 200_000;
 
 /// The array of one number.
-fn scalar(alloc: Global, number: Frac) -> Result<Array, AllocError> {
+fn scalar(alloc: Global, number: Frac) -> Result<Array, AllocError>
+    ensures { IfOk result (IsNumber number) }
+{
     let entries = vec![in alloc; number]?;
     Ok(Array {
         shape: Shape::scalar(),
@@ -24,7 +28,8 @@ fn scalar(alloc: Global, number: Frac) -> Result<Array, AllocError> {
 
 /// The number under the variable's name.
 fn named(alloc: Global, name: &Word, number: Frac) -> Result<Named, AllocError>
-    ensures { IfOk result (λ n. n.name ≡ name.now) }
+    ensures name { IfOk result (λ n. n.name ≡ name.now) }
+    ensures number { IfOk result (λ n. IsNumber number n.array) }
 {
     let bytes = name.bytes().to_vec(alloc)?;
     Ok(Named {
@@ -35,54 +40,55 @@ fn named(alloc: Global, name: &Word, number: Frac) -> Result<Named, AllocError>
 
 /// The numbers under the variables' names, in order of declaration.
 fn point(alloc: Global, names: &[Word], numbers: &[Frac]) -> Result<Point, AllocError>
-    ensures { IfOk result (λ p. map (λ n. n.name) p ≡ names.now) }
+    requires { length numbers.now ≡ length names.now }
+    ensures { IfOk result (IsPointAt names.now numbers.now) }
 {
-    let mut values = Vec::new(alloc);
-    for (column, name) in names.iter().enumerate() {
-        let number = numbers.get(column).copied().unwrap_or(Frac::zero());
-        values.push(named(alloc, name, number)?)?;
+    let mut values = Vec::with_capacity(alloc, names.len())?;
+    'names: for (column, name) in names.iter().enumerate() {
+        values.push(named(alloc, name, numbers[column])?)?;
     }
     Ok(Point::from_vec(values))
 }
 
-/// The multiplier of each constraint at an optimal basis.
-fn duals(alloc: Global, count: usize, tableau: &Tableau) -> Result<Duals, AllocError>
-    ensures { IfOk result (λ d. length d ≡ count) }
+/// The multipliers of the constraints, in order.
+fn duals(alloc: Global, multipliers: &[Frac]) -> Result<Duals, AllocError>
+    ensures { IfOk result (AreNumbers multipliers.now) }
 {
-    let mut duals = Vec::new(alloc);
-    for row in 0..count {
-        duals.push(scalar(alloc, tableau.dual(row))?)?;
+    let mut duals = Vec::with_capacity(alloc, multipliers.len())?;
+    'multipliers: for multiplier in multipliers {
+        duals.push(scalar(alloc, *multiplier)?)?;
     }
     Ok(Duals::from_vec(duals))
 }
 
-/// The end of a simplex run in the words of the script.
-fn read_end(
-    alloc: Global,
-    script: &Script,
-    tableau: &Tableau,
-    end: End,
-) -> Result<OutcomeEnd, AllocError>
-    requires { IsPlain script.now }
+/// The solution in the words of the script.
+fn told(alloc: Global, script: &Script, solution: Solution) -> Result<OutcomeEnd, AllocError>
+    requires { IsSolution pivot_limit (program_of script.now) solution }
     ensures { IfOk result (IsEndOf script.now) }
 {
     let names = script.names.as_slice();
-    match end {
-        End::Optimal => {
-            let count = script.problem.constraints.others.as_slice().len() + 1;
-            Ok(OutcomeEnd::Answer(Answer::Optimal {
-                value: tableau.value(),
-                point: point(alloc, names, &tableau.values(alloc)?)?,
-                duals: duals(alloc, count, tableau)?,
-            }))
-        }
-        End::Unbounded(column) => Ok(OutcomeEnd::Answer(Answer::Unbounded {
-            point: point(alloc, names, &tableau.values(alloc)?)?,
-            ray: point(alloc, names, &tableau.changes(alloc, column)?)?,
-            bound: tableau.value(),
-            slope: tableau.saving(column),
+    match solution {
+        Solution::Optimal {
+            value,
+            point: numbers,
+            multipliers,
+        } => Ok(OutcomeEnd::Answer(Answer::Optimal {
+            value,
+            point: point(alloc, names, numbers.as_slice())?,
+            duals: duals(alloc, multipliers.as_slice())?,
         })),
-        End::Wide {
+        Solution::Unbounded {
+            point: numbers,
+            ray,
+            bound,
+            slope,
+        } => Ok(OutcomeEnd::Answer(Answer::Unbounded {
+            point: point(alloc, names, numbers.as_slice())?,
+            ray: point(alloc, names, ray.as_slice())?,
+            bound,
+            slope,
+        })),
+        Solution::WidePivot {
             pivots,
             row,
             column,
@@ -91,7 +97,10 @@ fn read_end(
             row,
             column,
         }))),
-        End::PivotLimit => Ok(OutcomeEnd::Stop(Stop::PivotLimit { count: PIVOT_LIMIT })),
+        Solution::WideMultiplier { row, passes } => {
+            Ok(OutcomeEnd::Stop(Stop::Wide(Site::Answer { row, passes })))
+        }
+        Solution::PivotLimit { count } => Ok(OutcomeEnd::Stop(Stop::PivotLimit { count })),
     }
 }
 
@@ -101,9 +110,8 @@ fn solved(alloc: Global, script: &Script) -> Result<OutcomeEnd, AllocError>
     ensures { IfOk result (IsEndOf script.now) }
 {
     let program = linear_program(alloc, script)?;
-    let mut tableau = Tableau::new(alloc, &program)?;
-    let end = tableau.solve(alloc, PIVOT_LIMIT);
-    read_end(alloc, script, &tableau, end)
+    let solution = solve(alloc, &program, PIVOT_LIMIT)?;
+    told(alloc, script, solution)
 }
 
 /// How the problem of a plain script ends.

@@ -1,6 +1,7 @@
-use Rattle.std.proofs.Common.{◌≡◌, length}
+use Rattle.std.proofs.Common.{take}
+use Rattle.dcx_top.specs.Outcome.{AreNumbers}
 use Rattle.dcx_top.proofs.outcome.duals.Given as goal
 
--- a multiplier for each row so far
-abbrev pub invariant-loop-row : goal.invariant-loop-row
-invariant-loop-row l = length l.duals.items ≡ l.row
+-- the multipliers so far are there
+abbrev pub invariant-multipliers : goal.invariant-multipliers
+invariant-multipliers l = AreNumbers (take l.multiplier-index l.multipliers) l.duals.items

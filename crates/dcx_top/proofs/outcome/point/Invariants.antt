@@ -1,6 +1,7 @@
-use Rattle.std.proofs.Common.{◌≡◌, map, take}
+use Rattle.std.proofs.Common.{take}
+use Rattle.dcx_top.specs.Outcome.{IsPointAt}
 use Rattle.dcx_top.proofs.outcome.point.Given as goal
 
--- the names so far are there
-abbrev pub invariant-loop-column : goal.invariant-loop-column
-invariant-loop-column l = map (λ n. n.name) l.values.items ≡ take l.column l.names
+-- the point of the names so far
+abbrev pub invariant-names : goal.invariant-names
+invariant-names l = IsPointAt (take l.column l.names) (take l.column l.numbers) l.values.items
