@@ -117,7 +117,7 @@ pairs kinds entries h j k u l m e f =
     let one = each_at (length kinds) (λ k. right_pair (kind_at kinds j) (kind_at kinds k) (entry entries j) (entry entries k))
     (each_at (length kinds) (λ j. each_below (length kinds) (λ k. right_pair (kind_at kinds j) (kind_at kinds k) (entry entries j) (entry entries k))) h j l) k m in
     let two : right_pair (Unknown u false) (Unknown u true) (entry entries j) (entry entries k) ≡ true =
-      subst (λ x. right_pair (Unknown u false) x (entry entries j) (entry entries k) ≡ true) f (subst (λ x. right_pair x (kind_at kinds k) (entry entries j) (entry entries k) ≡ true) e one) in
+    subst (λ x. right_pair (Unknown u false) x (entry entries j) (entry entries k) ≡ true) f (subst (λ x. right_pair x (kind_at kinds k) (entry entries j) (entry entries k) ≡ true) e one) in
     pair_by u u (entry entries j) (entry entries k) refl two
 
 -- ---- the parts of the test
@@ -259,14 +259,14 @@ module _ (rows : List IntRow) (kinds : List ColumnKind) (objective phase : CostR
         ordered = λ j l. same_bools (is_plain (kind_at kinds j)) (nat_lt j (plain_count kinds)) (each_at (length kinds) (λ j. same_bool (is_plain (kind_at kinds j)) (nat_lt j (plain_count kinds))) all.order j l);
         each_row = row_form;
         slack = λ j i e.
-          let k = low_nat i (length (map shape_of rows)) (split _ _ (kind j (Slack i) (slack_low kinds j i e) e)).0 in
-          omega (arith, k, n);
+            let k = low_nat i (length (map shape_of rows)) (split _ _ (kind j (Slack i) (slack_low kinds j i e) e)).0 in
+            omega (arith, k, n);
         one_slack = λ j k i e f.
-          one_slack_by i k j (kind_at kinds k) f
-          (each_at (length kinds) (λ k. not (is_slack_of i (kind_at kinds k)) || nat_eq j k) (split _ _ (kind j (Slack i) (slack_low kinds j i e) e)).1 k (slack_low kinds k i f));
+            one_slack_by i k j (kind_at kinds k) f
+            (each_at (length kinds) (λ k. not (is_slack_of i (kind_at kinds k)) || nat_eq j k) (split _ _ (kind j (Slack i) (slack_low kinds j i e) e)).1 k (slack_low kinds k i f));
         artificial = λ j i e.
-          let k = low_nat i (length (map shape_of rows)) (split _ _ (kind j (Artificial i) (artificial_low kinds j i e) e)).0 in
-          omega (arith, k, n);
+            let k = low_nat i (length (map shape_of rows)) (split _ _ (kind j (Artificial i) (artificial_low kinds j i e) e)).0 in
+            omega (arith, k, n);
         starting = λ j i e. sym (basics rows i) ∙ same_nat (basic_of (map shape_of rows) i) j (split _ _ (kind j (Artificial i) (artificial_low kinds j i e) e)).1;
         turned = λ i. turned_by i (cases_lt i (length rows));
         turned_cost = pairs kinds objective.entries c.pairs;

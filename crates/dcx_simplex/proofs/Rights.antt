@@ -141,9 +141,9 @@ module _ (p : Program) (u : Table) (end : IsEnded (first_tableau p).rows (first_
       count = count_p;
       nonnegative = λ j h. let e = columns_are in numbers_high (first_tableau p).rows (first_tableau p) (starts p.rows p.columns p.objective p.phase p.form) u end (numbers a.columns) count columns j (omega (arith, e, h));
       artificial = λ j l h.
-      let e = columns_are in
-      let f = plain_is in
-      numbers_none (first_tableau p).rows (first_tableau p) (starts p.rows p.columns p.objective p.phase p.form) u end (numbers a.columns) count columns j (omega (arith, e, h)) (λ k q b. zeros k q (omega (arith, f, b, l)));
+          let e = columns_are in
+          let f = plain_is in
+          numbers_none (first_tableau p).rows (first_tableau p) (starts p.rows p.columns p.objective p.phase p.form) u end (numbers a.columns) count columns j (omega (arith, e, h)) (λ k q b. zeros k q (omega (arith, f, b, l)));
       rows = λ i h. from_less _ _ (first_solved p (numbers a.columns) _ _ (whole (negsuc 0)) count_p solved i h);
     }
 
@@ -287,9 +287,9 @@ module _ (p : Program) (u : Table) (end : IsEnded (first_tableau p).rows (first_
     attained = attained status.Optimal a reading ∙ sym reading.number;
     signs = signs status.Optimal a reading (objective_row u) refl none positive_lead;
     bound = λ ys assigned.
-    let b = cost_bound p ys assigned (row_at u.rows (objective_row u)) (lead_at u (objective_row u)) (cost_at_columns p.objective ys) (whole (right_at u (objective_row u))) positive_lead (put_cost ys assigned) (low status.Optimal a reading (objective_row u) refl none positive_lead ys assigned) in
-    let c = combined status.Optimal a reading (objective_row u) refl none positive_lead ys assigned ∙ ap (λ x. rates p ys assigned (row_at u.rows (objective_row u)) (lead_at u (objective_row u)) +ℚ x) (no_offsets ys assigned a.status (optimal_offset a.status reading.status)) ∙ +ℚ_idr _ in
-    subst (λ x. x ≤ℚ (cost_at_columns p.objective ys +ℚ combined_rows p a ys)) (sym reading.number) (subst (λ x. cost_at u (objective_row u) ≤ℚ (cost_at_columns p.objective ys +ℚ x)) (sym c) b);
+        let b = cost_bound p ys assigned (row_at u.rows (objective_row u)) (lead_at u (objective_row u)) (cost_at_columns p.objective ys) (whole (right_at u (objective_row u))) positive_lead (put_cost ys assigned) (low status.Optimal a reading (objective_row u) refl none positive_lead ys assigned) in
+        let c = combined status.Optimal a reading (objective_row u) refl none positive_lead ys assigned ∙ ap (λ x. rates p ys assigned (row_at u.rows (objective_row u)) (lead_at u (objective_row u)) +ℚ x) (no_offsets ys assigned a.status (optimal_offset a.status reading.status)) ∙ +ℚ_idr _ in
+        subst (λ x. x ≤ℚ (cost_at_columns p.objective ys +ℚ combined_rows p a ys)) (sym reading.number) (subst (λ x. cost_at u (objective_row u) ≤ℚ (cost_at_columns p.objective ys +ℚ x)) (sym c) b);
     one_sided = one_sided status.Optimal a reading;
   }
 
@@ -299,13 +299,13 @@ module _ (p : Program) (u : Table) (end : IsEnded (first_tableau p).rows (first_
     gap = subst (λ x. whole (pos 0) <ℚ x) (sym reading.number) (quotient_positive (right_at u (phase_row u)) (lead_at u (phase_row u)) high positive_phase);
     signs = signs status.Infeasible a reading (phase_row u) refl none positive_phase;
     bound = λ ys assigned.
-    let sum = (starts p.rows p.columns p.objective p.phase p.form).sum in
-    let b = cost_bound p ys assigned (row_at u.rows (phase_row u)) (lead_at u (phase_row u)) (rest p ys assigned) (whole (right_at u (phase_row u))) positive_phase (put_phase ys assigned) (low status.Infeasible a reading (phase_row u) refl none positive_phase ys assigned) in
-    let o = rest_offsets ys assigned sum.0 sum.1 in
-    let c = combined status.Infeasible a reading (phase_row u) refl none positive_phase ys assigned
-    ∙ ap (λ s. rates p ys assigned (row_at u.rows (phase_row u)) (lead_at u (phase_row u)) +ℚ rat_sum_below (length p.rows) (λ l. short p ys assigned l *ℚ offset s (is_inequality p.columns l))) reading.status
-    ∙ ap (λ x. rates p ys assigned (row_at u.rows (phase_row u)) (lead_at u (phase_row u)) +ℚ x) (sym o) ∙ swap _ _ in
-    subst (λ x. x ≤ℚ combined_rows p a ys) (sym reading.number) (subst (λ x. cost_at u (phase_row u) ≤ℚ x) (sym c) b);
+        let sum = (starts p.rows p.columns p.objective p.phase p.form).sum in
+        let b = cost_bound p ys assigned (row_at u.rows (phase_row u)) (lead_at u (phase_row u)) (rest p ys assigned) (whole (right_at u (phase_row u))) positive_phase (put_phase ys assigned) (low status.Infeasible a reading (phase_row u) refl none positive_phase ys assigned) in
+        let o = rest_offsets ys assigned sum.0 sum.1 in
+        let c = combined status.Infeasible a reading (phase_row u) refl none positive_phase ys assigned
+        ∙ ap (λ s. rates p ys assigned (row_at u.rows (phase_row u)) (lead_at u (phase_row u)) +ℚ rat_sum_below (length p.rows) (λ l. short p ys assigned l *ℚ offset s (is_inequality p.columns l))) reading.status
+        ∙ ap (λ x. rates p ys assigned (row_at u.rows (phase_row u)) (lead_at u (phase_row u)) +ℚ x) (sym o) ∙ swap _ _ in
+        subst (λ x. x ≤ℚ combined_rows p a ys) (sym reading.number) (subst (λ x. cost_at u (phase_row u) ≤ℚ x) (sym c) b);
     one_sided = one_sided status.Infeasible a reading;
   }
 

@@ -394,9 +394,9 @@ module _ (rows : List IntRow) (kinds : List ColumnKind) (objective phase : CostR
         feasible = λ i h. feasible i (omega (arith, e, h));
         enough = omega (arith, e);
         basics = λ i h.
-        let q : i < length rows = omega (arith, e, h) in
-        let b = basic_row rows kinds objective phase form i q in
-        let l = start_low i q in omega (arith, b, l);
+            let q : i < length rows = omega (arith, e, h) in
+            let b = basic_row rows kinds objective phase form i q in
+            let l = start_low i q in omega (arith, b, l);
         plain_below = plain_count_le kinds;
         objective = ap (basic_at (first_table rows kinds objective phase).basis) rows_are ∙ basic_objective rows kinds objective phase form;
         phase = ap (basic_at (first_table rows kinds objective phase).basis) last_are ∙ basic_phase rows kinds objective phase form;

@@ -10,7 +10,9 @@ ghost use Rattle.dcx_simplex.specs.Whole.{RunEnds};
 
 use crate::{LpAnswer, LpEnd, LpStatus, RowNote, read_end, solve};
 use dcx_frac::Frac;
-use dcx_tab::{ColumnKind, ColumnKinds, CostRow, Dense, IntRow, IntRows, Ints, Program};
+use dcx_tab::{
+    ColumnKind, ColumnKinds, CostRow, Dense, IntRow, IntRows, Ints, Program, Tableau, WideAt,
+};
 use std::alloc::{AllocError, Global};
 use std::test::Fail;
 
@@ -132,21 +134,56 @@ fn cost(rows: &[RowNote], expected: &[(i128, i128)]) -> bool {
 fn beale(rt: HostRuntime) -> Result<(), Fail> {
     let alloc = rt.alloc();
     let kinds = [
-        ColumnKind::Unknown { unknown: 0, negated: false },
-        ColumnKind::Unknown { unknown: 1, negated: false },
-        ColumnKind::Unknown { unknown: 2, negated: false },
-        ColumnKind::Unknown { unknown: 3, negated: false },
+        ColumnKind::Unknown {
+            unknown: 0,
+            negated: false,
+        },
+        ColumnKind::Unknown {
+            unknown: 1,
+            negated: false,
+        },
+        ColumnKind::Unknown {
+            unknown: 2,
+            negated: false,
+        },
+        ColumnKind::Unknown {
+            unknown: 3,
+            negated: false,
+        },
         ColumnKind::Slack { row: 0 },
         ColumnKind::Slack { row: 1 },
         ColumnKind::Slack { row: 2 },
     ];
     let lines = [
-        Line { entries: [25, -6000, -4, 900, 1, 0, 0], right: 0, basic: 4, negated: false },
-        Line { entries: [25, -4500, -1, 150, 0, 1, 0], right: 0, basic: 5, negated: false },
-        Line { entries: [0, 0, 1, 0, 0, 0, 1], right: 1, basic: 6, negated: false },
+        Line {
+            entries: [25, -6000, -4, 900, 1, 0, 0],
+            right: 0,
+            basic: 4,
+            negated: false,
+        },
+        Line {
+            entries: [25, -4500, -1, 150, 0, 1, 0],
+            right: 0,
+            basic: 5,
+            negated: false,
+        },
+        Line {
+            entries: [0, 0, 1, 0, 0, 0, 1],
+            right: 1,
+            basic: 6,
+            negated: false,
+        },
     ];
-    let objective = Prices { entries: [75, -15000, 2, -600, 0, 0, 0], lead: 100, right: 0 };
-    let phase = Prices { entries: [0, 0, 0, 0, 0, 0, 0], lead: 1, right: 0 };
+    let objective = Prices {
+        entries: [75, -15000, 2, -600, 0, 0, 0],
+        lead: 100,
+        right: 0,
+    };
+    let phase = Prices {
+        entries: [0, 0, 0, 0, 0, 0, 0],
+        lead: 1,
+        right: 0,
+    };
     let program = program(alloc, &kinds, &lines, &objective, &phase)?;
     let (end, answer) = run(alloc, &program, 6)?;
     assert_eq!(rt; end, LpEnd::Optimal { pivots: 6 });
@@ -169,25 +206,59 @@ fn beale(rt: HostRuntime) -> Result<(), Fail> {
 fn degenerate_vertex(rt: HostRuntime) -> Result<(), Fail> {
     let alloc = rt.alloc();
     let kinds = [
-        ColumnKind::Unknown { unknown: 0, negated: false },
-        ColumnKind::Unknown { unknown: 1, negated: false },
+        ColumnKind::Unknown {
+            unknown: 0,
+            negated: false,
+        },
+        ColumnKind::Unknown {
+            unknown: 1,
+            negated: false,
+        },
         ColumnKind::Slack { row: 0 },
         ColumnKind::Slack { row: 1 },
         ColumnKind::Slack { row: 2 },
     ];
     let lines = [
-        Line { entries: [1, 0, 1, 0, 0], right: 1, basic: 2, negated: false },
-        Line { entries: [0, 1, 0, 1, 0], right: 1, basic: 3, negated: false },
-        Line { entries: [1, 1, 0, 0, 1], right: 2, basic: 4, negated: false },
+        Line {
+            entries: [1, 0, 1, 0, 0],
+            right: 1,
+            basic: 2,
+            negated: false,
+        },
+        Line {
+            entries: [0, 1, 0, 1, 0],
+            right: 1,
+            basic: 3,
+            negated: false,
+        },
+        Line {
+            entries: [1, 1, 0, 0, 1],
+            right: 2,
+            basic: 4,
+            negated: false,
+        },
     ];
-    let objective = Prices { entries: [1, 1, 0, 0, 0], lead: 1, right: 0 };
-    let phase = Prices { entries: [0, 0, 0, 0, 0], lead: 1, right: 0 };
+    let objective = Prices {
+        entries: [1, 1, 0, 0, 0],
+        lead: 1,
+        right: 0,
+    };
+    let phase = Prices {
+        entries: [0, 0, 0, 0, 0],
+        lead: 1,
+        right: 0,
+    };
     let program = program(alloc, &kinds, &lines, &objective, &phase)?;
     let (end, answer) = run(alloc, &program, 1000)?;
     assert_eq!(rt; end, LpEnd::Optimal { pivots: 2 });
     let answer = answer.ok_or("no answer")?;
     assert!(rt; are(&[answer.number], &[(-2, 1)]));
-    assert!(rt; are(answer.columns.as_slice(), &[(1, 1), (1, 1), (0, 1), (0, 1), (0, 1)]));
+    assert!(rt;
+        are(
+            answer.columns.as_slice(),
+            &[(1, 1), (1, 1), (0, 1), (0, 1), (0, 1)]
+        )
+    );
     assert!(rt; cost(answer.rows.as_slice(), &[(1, 1), (1, 1), (0, 1)]));
     Ok(())
 }
@@ -197,17 +268,41 @@ fn degenerate_vertex(rt: HostRuntime) -> Result<(), Fail> {
 fn redundant_equalities(rt: HostRuntime) -> Result<(), Fail> {
     let alloc = rt.alloc();
     let kinds = [
-        ColumnKind::Unknown { unknown: 0, negated: false },
-        ColumnKind::Unknown { unknown: 1, negated: false },
+        ColumnKind::Unknown {
+            unknown: 0,
+            negated: false,
+        },
+        ColumnKind::Unknown {
+            unknown: 1,
+            negated: false,
+        },
         ColumnKind::Artificial { row: 0 },
         ColumnKind::Artificial { row: 1 },
     ];
     let lines = [
-        Line { entries: [1, 1, 1, 0], right: 1, basic: 2, negated: false },
-        Line { entries: [1, 1, 0, 1], right: 1, basic: 3, negated: false },
+        Line {
+            entries: [1, 1, 1, 0],
+            right: 1,
+            basic: 2,
+            negated: false,
+        },
+        Line {
+            entries: [1, 1, 0, 1],
+            right: 1,
+            basic: 3,
+            negated: false,
+        },
     ];
-    let objective = Prices { entries: [-1, -2, 0, 0], lead: 1, right: 0 };
-    let phase = Prices { entries: [2, 2, 0, 0], lead: 1, right: 2 };
+    let objective = Prices {
+        entries: [-1, -2, 0, 0],
+        lead: 1,
+        right: 0,
+    };
+    let phase = Prices {
+        entries: [2, 2, 0, 0],
+        lead: 1,
+        right: 2,
+    };
     let program = program(alloc, &kinds, &lines, &objective, &phase)?;
     let (end, answer) = run(alloc, &program, 1000)?;
     assert_eq!(rt; end, LpEnd::Optimal { pivots: 1 });
@@ -223,17 +318,41 @@ fn redundant_equalities(rt: HostRuntime) -> Result<(), Fail> {
 fn equalities_at_zero(rt: HostRuntime) -> Result<(), Fail> {
     let alloc = rt.alloc();
     let kinds = [
-        ColumnKind::Unknown { unknown: 0, negated: false },
-        ColumnKind::Unknown { unknown: 1, negated: false },
+        ColumnKind::Unknown {
+            unknown: 0,
+            negated: false,
+        },
+        ColumnKind::Unknown {
+            unknown: 1,
+            negated: false,
+        },
         ColumnKind::Artificial { row: 0 },
         ColumnKind::Artificial { row: 1 },
     ];
     let lines = [
-        Line { entries: [1, 1, 1, 0], right: 0, basic: 2, negated: false },
-        Line { entries: [1, -1, 0, 1], right: 0, basic: 3, negated: false },
+        Line {
+            entries: [1, 1, 1, 0],
+            right: 0,
+            basic: 2,
+            negated: false,
+        },
+        Line {
+            entries: [1, -1, 0, 1],
+            right: 0,
+            basic: 3,
+            negated: false,
+        },
     ];
-    let objective = Prices { entries: [1, 1, 0, 0], lead: 1, right: 0 };
-    let phase = Prices { entries: [2, 0, 0, 0], lead: 1, right: 0 };
+    let objective = Prices {
+        entries: [1, 1, 0, 0],
+        lead: 1,
+        right: 0,
+    };
+    let phase = Prices {
+        entries: [2, 0, 0, 0],
+        lead: 1,
+        right: 0,
+    };
     let program = program(alloc, &kinds, &lines, &objective, &phase)?;
     let (end, answer) = run(alloc, &program, 1000)?;
     assert_eq!(rt; end, LpEnd::Optimal { pivots: 2 });
@@ -248,18 +367,42 @@ fn equalities_at_zero(rt: HostRuntime) -> Result<(), Fail> {
 fn bounds_apart(rt: HostRuntime) -> Result<(), Fail> {
     let alloc = rt.alloc();
     let kinds = [
-        ColumnKind::Unknown { unknown: 0, negated: false },
-        ColumnKind::Unknown { unknown: 0, negated: true },
+        ColumnKind::Unknown {
+            unknown: 0,
+            negated: false,
+        },
+        ColumnKind::Unknown {
+            unknown: 0,
+            negated: true,
+        },
         ColumnKind::Slack { row: 0 },
         ColumnKind::Slack { row: 1 },
         ColumnKind::Artificial { row: 0 },
     ];
     let lines = [
-        Line { entries: [1, -1, -1, 0, 1], right: 1, basic: 4, negated: true },
-        Line { entries: [1, -1, 0, 1, 0], right: 0, basic: 3, negated: false },
+        Line {
+            entries: [1, -1, -1, 0, 1],
+            right: 1,
+            basic: 4,
+            negated: true,
+        },
+        Line {
+            entries: [1, -1, 0, 1, 0],
+            right: 0,
+            basic: 3,
+            negated: false,
+        },
     ];
-    let objective = Prices { entries: [0, 0, 0, 0, 0], lead: 1, right: 0 };
-    let phase = Prices { entries: [1, -1, -1, 0, 0], lead: 1, right: 1 };
+    let objective = Prices {
+        entries: [0, 0, 0, 0, 0],
+        lead: 1,
+        right: 0,
+    };
+    let phase = Prices {
+        entries: [1, -1, -1, 0, 0],
+        lead: 1,
+        right: 1,
+    };
     let program = program(alloc, &kinds, &lines, &objective, &phase)?;
     let (end, answer) = run(alloc, &program, 1000)?;
     assert_eq!(rt; end, LpEnd::Infeasible { pivots: 1 });
@@ -275,16 +418,41 @@ fn bounds_apart(rt: HostRuntime) -> Result<(), Fail> {
 fn free_direction(rt: HostRuntime) -> Result<(), Fail> {
     let alloc = rt.alloc();
     let kinds = [
-        ColumnKind::Unknown { unknown: 0, negated: false },
-        ColumnKind::Unknown { unknown: 0, negated: true },
+        ColumnKind::Unknown {
+            unknown: 0,
+            negated: false,
+        },
+        ColumnKind::Unknown {
+            unknown: 0,
+            negated: true,
+        },
         ColumnKind::Slack { row: 0 },
     ];
-    let lines = [Line { entries: [1, -1, 1], right: 0, basic: 2, negated: false }];
-    let objective = Prices { entries: [-1, 1, 0], lead: 1, right: 0 };
-    let phase = Prices { entries: [0, 0, 0], lead: 1, right: 0 };
+    let lines = [Line {
+        entries: [1, -1, 1],
+        right: 0,
+        basic: 2,
+        negated: false,
+    }];
+    let objective = Prices {
+        entries: [-1, 1, 0],
+        lead: 1,
+        right: 0,
+    };
+    let phase = Prices {
+        entries: [0, 0, 0],
+        lead: 1,
+        right: 0,
+    };
     let program = program(alloc, &kinds, &lines, &objective, &phase)?;
     let (end, answer) = run(alloc, &program, 0)?;
-    assert_eq!(rt; end, LpEnd::Unbounded { pivots: 0, column: 1 });
+    assert_eq!(rt;
+        end,
+        LpEnd::Unbounded {
+            pivots: 0,
+            column: 1
+        }
+    );
     let answer = answer.ok_or("no answer")?;
     assert_eq!(rt; answer.status, LpStatus::Unbounded);
     assert!(rt; are(&[answer.number, answer.slope], &[(0, 1), (1, 1)]));
@@ -297,20 +465,61 @@ fn free_direction(rt: HostRuntime) -> Result<(), Fail> {
 fn wide_pivot(rt: HostRuntime) -> Result<(), Fail> {
     let alloc = rt.alloc();
     let kinds = [
-        ColumnKind::Unknown { unknown: 0, negated: false },
-        ColumnKind::Unknown { unknown: 1, negated: false },
+        ColumnKind::Unknown {
+            unknown: 0,
+            negated: false,
+        },
+        ColumnKind::Unknown {
+            unknown: 1,
+            negated: false,
+        },
         ColumnKind::Artificial { row: 0 },
         ColumnKind::Artificial { row: 1 },
     ];
     let lines = [
-        Line { entries: [10000000000000000000000000001, 1, 1, 0], right: 1, basic: 2, negated: false },
-        Line { entries: [10000000000000000000000000000, 2, 0, 1], right: 1, basic: 3, negated: false },
+        Line {
+            entries: [10000000000000000000000000001, 1, 1, 0],
+            right: 1,
+            basic: 2,
+            negated: false,
+        },
+        Line {
+            entries: [10000000000000000000000000000, 2, 0, 1],
+            right: 1,
+            basic: 3,
+            negated: false,
+        },
     ];
-    let objective = Prices { entries: [-1, 0, 0, 0], lead: 1, right: 0 };
-    let phase = Prices { entries: [20000000000000000000000000001, 3, 0, 0], lead: 1, right: 2 };
+    let objective = Prices {
+        entries: [-1, 0, 0, 0],
+        lead: 1,
+        right: 0,
+    };
+    let phase = Prices {
+        entries: [20000000000000000000000000001, 3, 0, 0],
+        lead: 1,
+        right: 2,
+    };
     let program = program(alloc, &kinds, &lines, &objective, &phase)?;
+    let mut tableau = Dense::build(alloc, &program)?;
+    assert_eq!(rt;
+        (tableau.rows(), tableau.columns(), tableau.plain()),
+        (2, 4, 2)
+    );
+    assert!(rt; tableau.entry(0, 0) != 0);
+    assert_eq!(rt; tableau.pivot(0, 0), Err(WideAt { row: 1, column: 0 }));
+    assert!(rt; tableau.rows() > 0);
+    assert_eq!(rt; tableau.basis(0), 2);
+    assert_eq!(rt; tableau.entry(1, 0), 10000000000000000000000000000);
     let (end, answer) = run(alloc, &program, 1000)?;
-    assert_eq!(rt; end, LpEnd::Wide { pivots: 0, row: 0, column: 0 });
+    assert_eq!(rt;
+        end,
+        LpEnd::Wide {
+            pivots: 0,
+            row: 0,
+            column: 0
+        }
+    );
     assert!(rt; answer.is_none());
     let (end, _) = run(alloc, &program, 0)?;
     assert_eq!(rt; end, LpEnd::PivotLimit { count: 0 });

@@ -44,9 +44,9 @@ returns-clause-reading g c =
       number = q ∙ ap₂ (λ a b. whole a /ℚ whole b) num den;
       notes = ap length notes ∙ c.in_ok-notes.ensures.len ∙ ap length slice;
       reduced_costs = λ i j h own.
-      let mine = c.in_ok-own.ensures.own i h in
-      let same = ap (λ (xs : List ℕ). get_or xs i 0) c.deref.ensures.value ∙ own_unique p.rows p.columns p.objective p.phase p.form i _ j mine own in
-      ap (λ (ns : List RowNote). rat_at (map reduced_cost_of ns) i) notes ∙ c.in_ok-notes.ensures.reduced_costs i (omega (arith, h, ap length slice)) ∙ ap₂ (reduced_cost_at t) cost same;
+          let mine = c.in_ok-own.ensures.own i h in
+          let same = ap (λ (xs : List ℕ). get_or xs i 0) c.deref.ensures.value ∙ own_unique p.rows p.columns p.objective p.phase p.form i _ j mine own in
+          ap (λ (ns : List RowNote). rat_at (map reduced_cost_of ns) i) notes ∙ c.in_ok-notes.ensures.reduced_costs i (omega (arith, h, ap length slice)) ∙ ap₂ (reduced_cost_at t) cost same;
       factors = ap (map factor_of) notes ∙ c.in_ok-notes.ensures.factors ∙ ap (map row_factor) slice;
       negated = ap (map was_negated) notes ∙ c.in_ok-notes.ensures.negated ∙ ap (map is_negated) slice;
     }

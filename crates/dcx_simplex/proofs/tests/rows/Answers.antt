@@ -17,5 +17,5 @@ lines-preserved g c =
     record {
       shapes = ap (map shape_of) items ∙ along_more shape_of (λ l. record { entries = l.entries; right = l.right; basic = l.basic; negated = l.negated }) rows c.args.lines.now row c.line-item.result c.lines.line-index h c.line-item.is c.lines.invariant.shapes c.in_ok-row.ensures.shape;
       factors = subst (All (λ r. value r.factor ≡ whole (pos 1))) (sym items)
-      (All-append (λ r. value r.factor ≡ whole (pos 1)) rows (row ∷ []) c.lines.invariant.factors (All-cons (λ r. value r.factor ≡ whole (pos 1)) row [] c.in_ok-row.ensures.factor (All-nil (λ r. value r.factor ≡ whole (pos 1)))));
+          (All-append (λ r. value r.factor ≡ whole (pos 1)) rows (row ∷ []) c.lines.invariant.factors (All-cons (λ r. value r.factor ≡ whole (pos 1)) row [] c.in_ok-row.ensures.factor (All-nil (λ r. value r.factor ≡ whole (pos 1)))));
     }
