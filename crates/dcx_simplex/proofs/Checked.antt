@@ -1,25 +1,24 @@
 -- Rows that pass the test have the form of a program.
-use Rattle.std.proofs.Common.{◌≡◌, ◌≢◌, ℕ, zero, suc, ◌+◌, ◌<◌, ◌≤◌, ◌^◌, Bool, true, false, not, nat_eq, nat_lt, nat_le, List, [], ◌∷◌, ◌++◌, map, length, get_or, slice_get, Some, ℤ, pos, neg_ℤ, ◌<ℤ◌, ◌≤ℤ◌, ◌+ℤ◌, unsigned_abs, arith, refl, sym, ap, ap₂, ◌∙◌, subst, ◌⊎◌, inl, inr}
+use Rattle.std.proofs.Common.{◌≡◌, ℕ, zero, suc, ◌+◌, ◌<◌, ◌≤◌, ◌^◌, Bool, true, false, not, nat_eq, nat_lt, nat_le, List, [], ◌∷◌, ◌++◌, map, length, get_or, slice_get, Some, ℤ, pos, neg_ℤ, ◌<ℤ◌, ◌≤ℤ◌, ◌+ℤ◌, unsigned_abs, arith, refl, sym, ap, ap₂, ◌∙◌, subst, ◌⊎◌, inl, inr}
 use Rattle.std.specs.Prelude.{◌&&◌, ◌||◌, if◌then◌else◌, int_lt, All}
 use Rattle.std.specs.Option.{unwrap_or}
 use Rattle.std.proofs.lemmas.Option.{slice_get_within, unwrap_or-slice_get}
 use Rattle.dcx_math.proofs.Products.{whole-<ℤ}
 use Rattle.std.specs.Ordering.{int_eq}
 use Rattle.std.proofs.lemmas.Int.{ints}
-use Rattle.std.proofs.lemmas.Bool.{cases_lt, cases_eq}
+use Rattle.std.proofs.lemmas.Bool.{cases_lt}
 use Rattle.std.proofs.lemmas.Bool.Decides.{nat_tests, Decides-int_eq}
 use Rattle.std.proofs.lemmas.List.{length-map, get_or_past}
-use Rattle.dcx_math.specs.Divisors.{gcd, gcd_within, gcd_of, IsPrimitive}
-use Rattle.dcx_math.specs.IntegerSums.{int_sum_by}
+use Rattle.dcx_math.specs.Divisors.{gcd, gcd_within, gcd_of}
 use Rattle.dcx_math.specs.Rational.{whole, ◌<ℚ◌}
 use Rattle.dcx_frac.specs.Frac.{value}
 use Rattle.dcx_tab.specs.declared.rows.ColumnKind.{ColumnKind}
 use Rattle.dcx_tab.specs.declared.rows.ColumnKind.TheVariants.{Unknown, Slack, Artificial}
 use Rattle.dcx_tab.specs.declared.rows.IntRow.{IntRow}
 use Rattle.dcx_tab.specs.declared.rows.CostRow.{CostRow}
-use Rattle.dcx_tab.specs.Rows.{Row, entry, AllSmall}
-use Rattle.dcx_tab.specs.Program.{IsProgram, IsProgramRow, IsObjective, IsPhase, IsTurned, kind_at, plain_count, is_plain, told_entry, may_start, unknown_entry, sum_started, first_basic_of, first_basic_at, entries_of, entries_at, right_of}
-use Rattle.dcx_tab.proofs.Programs.{HasRow, has_row, map_at, plain_count_le}
+use Rattle.dcx_tab.specs.Rows.{entry, AllSmall}
+use Rattle.dcx_tab.specs.Program.{IsProgram, IsProgramRow, IsTurned, kind_at, plain_count, is_plain, told_entry, may_start, unknown_entry, sum_started, first_basic_at, entries_of, entries_at, right_of}
+use Rattle.dcx_tab.proofs.Programs.{has_row, map_at, plain_count_le}
 use Rattle.dcx_simplex.specs.Checked.{Shape, shape_of, each_below, same_bool, each_small, low, divisor_of, right_order, is_slack_of, basic_of, right_kind, right_kinds, right_pair, right_pairs, right_row, right_rows, right_cost, sum_of, right_sum, has_form}
 use Rattle.dcx_simplex.proofs.ReadLists.{same_nat}
 use Rattle.dcx_simplex.proofs.Owns.{slack_low, artificial_low}

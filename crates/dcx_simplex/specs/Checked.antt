@@ -1,5 +1,5 @@
 -- A test that rows of numbers have the form of a program, by trying each place.
-use Rattle.std.specs.Prelude.{◌≡◌, ℕ, zero, suc, ◌+◌, ◌^◌, Bool, true, false, not, ◌&&◌, ◌||◌, nat_eq, nat_lt, nat_le, if◌then◌else◌, List, [], ◌∷◌, ◌++◌, map, length, get_or, ℤ, pos, neg_ℤ, unsigned_abs, int_lt}
+use Rattle.std.specs.Prelude.{ℕ, zero, suc, ◌^◌, Bool, true, false, not, ◌&&◌, ◌||◌, nat_eq, nat_lt, nat_le, if◌then◌else◌, List, [], ◌∷◌, ◌++◌, map, length, get_or, ℤ, pos, neg_ℤ, unsigned_abs, int_lt}
 use Rattle.std.specs.Ordering.{int_eq}
 use Rattle.dcx_math.specs.Divisors.{gcd_within}
 use Rattle.dcx_math.specs.IntegerSums.{int_sum_by}
@@ -7,7 +7,7 @@ use Rattle.dcx_tab.specs.declared.rows.ColumnKind.{ColumnKind}
 use Rattle.dcx_tab.specs.declared.rows.ColumnKind.TheVariants.{Unknown, Slack, Artificial}
 use Rattle.dcx_tab.specs.declared.rows.IntRow.{IntRow}
 use Rattle.dcx_tab.specs.declared.rows.CostRow.{CostRow}
-use Rattle.dcx_tab.specs.Rows.{Row, entry}
+use Rattle.dcx_tab.specs.Rows.{entry}
 use Rattle.dcx_tab.specs.Program.{kind_at, plain_count, is_plain, told_entry, may_start, unknown_entry}
 
 -- a row of a program without its factor

@@ -1,8 +1,8 @@
-use Rattle.std.proofs.Common.{◌≡◌, ℕ, ◌<◌, ◌++◌, length, set, take, drop, arith, sym, ◌∙◌, subst, List}
+-- Basic columns are written over zeros, with 1 at the column.
+use Rattle.std.proofs.Common.{◌≡◌, ◌<◌, ◌++◌, length, set, take, drop, arith, sym, ◌∙◌, subst, List}
 use Rattle.std.proofs.lemmas.List.{take_at}
 use Rattle.dcx_math.specs.Sums.{rat_at}
 use Rattle.dcx_frac.specs.declared.fraction.Frac.{Frac}
-use Rattle.dcx_simplex.specs.Basis.{IsBasic}
 use Rattle.dcx_simplex.specs.Reading.{numbers, IsColumnChange}
 use Rattle.dcx_simplex.proofs.ReadLists.{changes_are}
 use Rattle.dcx_simplex.proofs.read.column_changes.Goals as goal

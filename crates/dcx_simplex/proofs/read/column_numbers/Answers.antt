@@ -1,9 +1,9 @@
-use Rattle.std.proofs.Common.{◌≡◌, ℕ, ◌<◌, ◌++◌, length, take, drop, arith, sym, ◌∙◌, subst, List, pos}
+-- Basic columns are written over zeros.
+use Rattle.std.proofs.Common.{◌≡◌, ◌++◌, length, take, drop, sym, ◌∙◌, subst, List, pos}
 use Rattle.std.proofs.lemmas.List.{take_at}
 use Rattle.dcx_math.specs.Rational.{whole}
 use Rattle.dcx_math.specs.Sums.{rat_at}
 use Rattle.dcx_frac.specs.declared.fraction.Frac.{Frac}
-use Rattle.dcx_simplex.specs.Basis.{IsBasic}
 use Rattle.dcx_simplex.specs.Reading.{numbers, IsColumnNumber}
 use Rattle.dcx_simplex.proofs.ReadLists.{numbers_are}
 use Rattle.dcx_simplex.proofs.read.column_numbers.Goals as goal

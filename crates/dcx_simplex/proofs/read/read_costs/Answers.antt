@@ -1,16 +1,13 @@
-use Rattle.std.proofs.Common.{◌≡◌, ℕ, ◌+◌, ◌<◌, length, map, get_or, arith, refl, sym, ap, ap₂, ◌∙◌, subst, List, to_z-of_z, SFits}
+-- The parts of the answer are the numbers that the tableau shows.
+use Rattle.std.proofs.Common.{ℕ, ◌+◌, length, map, get_or, arith, refl, sym, ap, ap₂, ◌∙◌, subst, List, to_z-of_z, SFits}
 use Rattle.std.specs.Int.{w128}
 use Rattle.dcx_math.specs.Rational.{whole, ◌/ℚ◌}
 use Rattle.dcx_math.specs.Sums.{rat_at}
 use Rattle.dcx_frac.specs.declared.fraction.Frac.{Frac}
-use Rattle.dcx_frac.specs.Frac.{value}
-use Rattle.dcx_tab.specs.declared.rows.IntRow.{IntRow}
-use Rattle.dcx_tab.specs.Rows.{basic_at}
 use Rattle.dcx_tab.specs.Table.{entry_at}
 use Rattle.dcx_tab.specs.Program.{is_negated}
 use Rattle.dcx_simplex.specs.declared.answer.RowNote.{RowNote}
-use Rattle.dcx_simplex.specs.Basis.{lead_at}
-use Rattle.dcx_simplex.specs.Reading.{numbers, IsColumnNumber, reduced_cost_of, reduced_cost_at, factor_of, was_negated, row_factor, read_row, cost_at}
+use Rattle.dcx_simplex.specs.Reading.{numbers, IsColumnNumber, reduced_cost_of, reduced_cost_at, factor_of, was_negated, row_factor, read_row}
 use Rattle.dcx_simplex.proofs.Owns.{own_low, own_unique}
 use Rattle.dcx_simplex.proofs.read.read_costs.Goals as goal
 

@@ -1,10 +1,9 @@
 -- The rows get the shapes of the lines.
-use Rattle.std.proofs.Common.{◌≡◌, ◌+◌, ◌<◌, pos, map, length, [], ◌∷◌, All, arith, refl, sym, ap, ap₂, ◌∙◌, subst}
+use Rattle.std.proofs.Common.{◌≡◌, ◌<◌, pos, map, length, [], ◌∷◌, All, arith, sym, ap, ◌∙◌, subst}
 use Rattle.std.proofs.lemmas.List.Elements.{All-append, All-cons, All-nil}
 use Rattle.dcx_math.specs.Rational.{whole}
 use Rattle.dcx_frac.specs.Frac.{value}
-use Rattle.dcx_simplex.specs.Checked.{Shape, shape_of}
-use Rattle.dcx_simplex.specs.declared.tests.Line.{Line}
+use Rattle.dcx_simplex.specs.Checked.{shape_of}
 use Rattle.dcx_simplex.proofs.ReadLists.{along_more}
 use Rattle.dcx_simplex.proofs.tests.rows.Goals as goal
 

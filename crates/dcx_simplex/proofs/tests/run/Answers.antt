@@ -1,5 +1,5 @@
 -- The end is that of the run on the program.
-use Rattle.std.proofs.Common.{◌≡◌, sym, subst, ◌∙◌}
+use Rattle.std.proofs.Common.{sym, subst}
 use Rattle.dcx_tab.specs.First.{first_tableau}
 use Rattle.dcx_tab.specs.Views.{table_of}
 use Rattle.dcx_simplex.specs.Whole.{RunEnds}
