@@ -3,7 +3,7 @@ use Rattle.std.proofs.Common.{◌≡◌, ◌≢◌, ℕ, ◌+◌, ◌<◌, ◌�
 use Rattle.std.proofs.lemmas.Int.{ints, by_lt_z}
 use Rattle.std.proofs.lemmas.Bool.{cases_eq, cases_lt}
 use Rattle.dcx_math.specs.Integers.{*ℤ-≤ℤ, *ℤ-nonnegative, *ℤ_comm}
-use Rattle.dcx_math.specs.IntegerSums.{int_dot, int_scaled, int_added}
+use Rattle.dcx_math.specs.IntegerSums.{int_dot, int_scaled}
 use Rattle.dcx_tab.specs.Rows.{entry}
 use Rattle.dcx_tab.proofs.RowLaws.{int_dot-unit, unit}
 use Rattle.dcx_tab.specs.Rows.{Row, Assignment, row_at, basic_at, Solves}

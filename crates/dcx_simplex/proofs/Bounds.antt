@@ -1,26 +1,23 @@
 -- Any numbers of the unknowns' columns are put out by slacks and artificials to a solution of the rows, and so bound the cost.
-use Rattle.std.proofs.Common.{◌≡◌, ◌≢◌, ℕ, zero, suc, ◌+◌, ◌<◌, ◌≤◌, Bool, true, false, not, List, [], ◌∷◌, ◌++◌, length, map, ℤ, pos, negsuc, ◌*ℤ◌, ◌<ℤ◌, ◌≤ℤ◌, arith, refl, sym, ap, ap₂, ◌∙◌, subst, ◌⊎◌, inl, inr}
-use Rattle.std.specs.Prelude.{◌&&◌, Some, slice_get, if◌then◌else◌}
-use Rattle.std.proofs.lemmas.Int.{ints}
-use Rattle.std.proofs.lemmas.Bool.{cases_lt, cases_eq}
-use Rattle.dcx_math.specs.Rational.{ℚ, whole, ◌+ℚ◌, ◌-ℚ◌, ◌*ℚ◌, ◌/ℚ◌, neg_ℚ, inverse, ◌≤ℚ◌, ◌<ℚ◌}
-use Rattle.dcx_math.specs.Sums.{rat_dot, rat_at, rat_added, rat_scaled, rat_sum_below}
+use Rattle.std.proofs.Common.{◌≡◌, ◌≢◌, ℕ, ◌+◌, ◌<◌, ◌≤◌, Bool, true, false, List, [], ◌∷◌, ◌++◌, length, ℤ, pos, negsuc, ◌*ℤ◌, ◌<ℤ◌, arith, refl, sym, ap, ap₂, ◌∙◌, subst, ◌⊎◌, inl, inr}
+use Rattle.std.specs.Prelude.{if◌then◌else◌}
+use Rattle.std.proofs.lemmas.Bool.{cases_lt}
+use Rattle.dcx_math.specs.Rational.{ℚ, whole, ◌+ℚ◌, ◌-ℚ◌, ◌*ℚ◌, ◌/ℚ◌, ◌≤ℚ◌}
+use Rattle.dcx_math.specs.Sums.{rat_dot, rat_added, rat_sum_below}
 use Rattle.dcx_math.proofs.Points.{wholes}
 use Rattle.dcx_math.proofs.Ring.{ring, reads}
-use Rattle.dcx_math.proofs.Orders.{linear, ≤ℚ-from_≡, ≤ℚ_trans, ≤ℚ_refl, <ℚ-≢, *ℚ-zero, zero-*ℚ, +ℚ_idr, +ℚ_idl, whole-≤ℤ, whole-*ℤ, *ℚ_comm, *ℚ_idl}
-use Rattle.dcx_math.proofs.Products.{/ℚ-*ℚ, *ℚ-nonnegative, *ℚ-≤ℚ_cancel, *ℚ-nonpositive, whole-<ℤ, inverse-positive, *ℚ-/ℚ}
-use Rattle.dcx_math.proofs.Sums.{rat_sum_below-same, rat_sum_below-one, rat_sum_below-zero, rat_sum_below-*ℚ_right, rat_sum_below-monotone, rat_sum_below-+ℚ}
-use Rattle.dcx_math.proofs.Vectors.{rat_dot-added_right, rat_dot-rat_sum_below}
-use Rattle.dcx_frac.specs.Frac.{value}
-use Rattle.dcx_tab.specs.declared.rows.IntRow.{IntRow}
+use Rattle.dcx_math.proofs.Orders.{linear, <ℚ-≢, *ℚ-zero, +ℚ_idr, whole-*ℤ, *ℚ_comm, *ℚ_idl}
+use Rattle.dcx_math.proofs.Products.{/ℚ-*ℚ, *ℚ-≤ℚ_cancel, whole-<ℤ}
+use Rattle.dcx_math.proofs.Sums.{rat_sum_below-same, rat_sum_below-one, rat_sum_below-zero, rat_sum_below-*ℚ_right}
+use Rattle.dcx_math.proofs.Vectors.{rat_dot-added_right}
 use Rattle.dcx_tab.specs.declared.rows.ColumnKind.TheVariants.{Slack, Artificial}
 use Rattle.dcx_tab.specs.declared.program.Program.{Program}
 use Rattle.dcx_tab.specs.First.{first_tableau}
-use Rattle.dcx_tab.specs.Rows.{Row, entry, row_at, Solves}
-use Rattle.dcx_tab.specs.Program.{kind_at, plain_count, entries_at, entries_of, right_side_at, right_of, is_negated_at, tableau_row, objective_row, phase_row}
+use Rattle.dcx_tab.specs.Rows.{Row, entry, row_at}
+use Rattle.dcx_tab.specs.Program.{kind_at, entries_at, entries_of, right_side_at, right_of, is_negated_at}
 use Rattle.dcx_tab.proofs.Programs.{has_row, map_at, length_first, at_row, at_objective, at_phase}
 use Rattle.dcx_tab.proofs.RationalRows.{SolvesRational, full, dot_full, dot_front, placed, dot_placed, length_placed, length_added}
-use Rattle.dcx_simplex.specs.Right.{IsAssignment, is_inequality, row_at_columns, cost_at_columns, turned_if}
+use Rattle.dcx_simplex.specs.Right.{IsAssignment, is_inequality, row_at_columns, cost_at_columns}
 use Rattle.dcx_simplex.proofs.Starts.{entry_z, entry_w, entry_right}
 use Rattle.dcx_simplex.proofs.Slacks.{Own, own_of, own_other, own_cost, sign_slack, sign_artificial}
 use Rattle.dcx_simplex.proofs.Owns.{own_low}

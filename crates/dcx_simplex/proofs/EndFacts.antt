@@ -1,19 +1,17 @@
 -- What is known of the tableau at which a run ends.
-use Rattle.std.proofs.Common.{◌≡◌, ◌≢◌, ℕ, ◌+◌, ◌-◌, ◌<◌, ◌≤◌, List, length, ℤ, pos, ◌<ℤ◌, ◌≤ℤ◌, arith, refl, sym, ap, ◌∙◌, subst, ◌⊎◌, inl, inr}
+use Rattle.std.proofs.Common.{◌≡◌, ◌≢◌, ℕ, ◌+◌, ◌-◌, ◌<◌, ◌≤◌, List, length, pos, ◌<ℤ◌, arith, sym, ap, ◌∙◌, ◌⊎◌, inl, inr}
 use Rattle.std.proofs.lemmas.Int.{ints}
 use Rattle.std.proofs.lemmas.Bool.{cases_eq}
-use Rattle.dcx_tab.specs.Rows.{Row, entry, row_at, basic_at}
+use Rattle.dcx_tab.specs.Rows.{Row, basic_at}
 use Rattle.dcx_tab.specs.Table.{Table, entry_at, IsOf}
-use Rattle.dcx_simplex.specs.Run.{IsEntering, NoneEnters, NoneLeaves, right_at}
 use Rattle.dcx_simplex.specs.Whole.{objective_row, phase_row, InFirst, InSecond}
 use Rattle.dcx_simplex.specs.declared.phase.PhaseEnd.{PhaseEnd}
-use Rattle.dcx_simplex.specs.declared.phase.PhaseEnd.TheVariants as phase
-use Rattle.dcx_simplex.specs.Basis.{IsReady, IsBasic, IsFeasible, IsIdle, lead_at}
+use Rattle.dcx_simplex.specs.Basis.{IsBasic, IsFeasible}
 use Rattle.dcx_simplex.specs.Start.{IsStart}
 use Rattle.dcx_simplex.specs.Readable.{IsReadable}
 use Rattle.dcx_simplex.proofs.Chains.{IsKin}
-use Rattle.dcx_simplex.proofs.PhaseLaws.{stays_ready, stays_kin}
-use Rattle.dcx_simplex.proofs.Limits.{ready_first, kin_first, begun}
+use Rattle.dcx_simplex.proofs.PhaseLaws.{stays_ready}
+use Rattle.dcx_simplex.proofs.Limits.{ready_first, kin_first}
 use Rattle.dcx_simplex.proofs.EndLaws.{second}
 
 -- the tableau of its basis, feasible, with the last rows of the first one

@@ -1,15 +1,12 @@
 -- An answer that is read at the end of a run on a program is right for it.
-use Rattle.std.proofs.Common.{◌≡◌, ℕ, ◌+◌, ◌-◌, ◌<◌, ◌≤◌, length, ℤ, pos, ◌<ℤ◌, ◌≤ℤ◌, arith, refl, sym, ap, ◌∙◌, subst, ◌⊎◌, inl, inr}
+use Rattle.std.proofs.Common.{◌≡◌, ℕ, ◌+◌, ◌-◌, ◌<◌, length, pos, ◌<ℤ◌, arith, sym, ◌∙◌, subst, inl, inr}
 use Rattle.dcx_tab.specs.declared.program.Program.{Program}
 use Rattle.dcx_tab.specs.First.{first_tableau}
-use Rattle.dcx_tab.specs.Rows.{basic_at}
-use Rattle.dcx_tab.specs.Table.{Table, entry_at}
+use Rattle.dcx_tab.specs.Table.{Table}
 use Rattle.dcx_tab.proofs.Programs.{length_first}
 use Rattle.dcx_simplex.specs.Run.{IsEntering, NoneEnters, NoneLeaves, right_at}
-use Rattle.dcx_simplex.specs.Whole.{objective_row, phase_row, InFirst, InSecond, RunEnds}
-use Rattle.dcx_simplex.specs.declared.phase.PhaseEnd.{PhaseEnd}
+use Rattle.dcx_simplex.specs.Whole.{objective_row, InSecond, RunEnds}
 use Rattle.dcx_simplex.specs.declared.phase.PhaseEnd.TheVariants as phase
-use Rattle.dcx_simplex.specs.declared.run.LpEnd.{LpEnd}
 use Rattle.dcx_simplex.specs.declared.run.LpEnd.TheVariants as lp
 use Rattle.dcx_simplex.specs.declared.answer.LpStatus.TheVariants as status
 use Rattle.dcx_simplex.specs.declared.answer.LpAnswer.{LpAnswer}
@@ -18,7 +15,6 @@ use Rattle.dcx_simplex.specs.Start.{IsStart}
 use Rattle.dcx_simplex.specs.Reading.{IsReading, IsRayReading}
 use Rattle.dcx_simplex.specs.Readable.{IsReadable}
 use Rattle.dcx_simplex.specs.Right.{IsOptimalAnswer, IsInfeasibleAnswer, IsUnboundedAnswer}
-use Rattle.dcx_simplex.proofs.PhaseLaws.{stays_kin}
 use Rattle.dcx_simplex.proofs.Limits.{begun}
 use Rattle.dcx_simplex.proofs.Starts.{starts}
 use Rattle.dcx_simplex.proofs.EndFacts.{IsEnded, ended_first, ended_second, readable, not_basic_of}

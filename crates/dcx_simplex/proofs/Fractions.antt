@@ -1,9 +1,9 @@
 -- Fractions of a tableau's numbers, and lists of fractions that are written to.
-use Rattle.std.proofs.Common.{◌≡◌, ◌≢◌, ℕ, zero, suc, ◌<◌, ◌≤◌, ◌^◌, ◌/◌, List, [], ◌∷◌, length, map, set, get_or, ℤ, pos, ◌<ℤ◌, unsigned_abs, arith, refl, sym, ap, ◌∙◌, subst}
+use Rattle.std.proofs.Common.{◌≡◌, ◌≢◌, ℕ, ◌<◌, ◌≤◌, List, length, set, get_or, ℤ, pos, ◌<ℤ◌, unsigned_abs, arith, sym, ap, ◌∙◌, subst}
 use Rattle.std.proofs.lemmas.Int.{ints}
 use Rattle.std.proofs.lemmas.List.{length-map, map-set, get_or-set_same, get_or-set_other}
 use native.Mathlib.Nat.{div-le_self}
-use Rattle.dcx_math.specs.Rational.{ℚ, whole, ratio, ◌/ℚ◌}
+use Rattle.dcx_math.specs.Rational.{whole, ratio, ◌/ℚ◌}
 use Rattle.dcx_math.specs.Divisors.{gcd, divided}
 use Rattle.dcx_math.specs.Sums.{rat_at}
 use Rattle.dcx_math.proofs.Divisors.{unsigned_abs-divided}

@@ -1,14 +1,13 @@
 -- At the last tableau: what rows are at the numbers of its columns, and at their changes.
-use Rattle.std.proofs.Common.{◌≡◌, ◌≢◌, ℕ, zero, suc, ◌+◌, ◌-◌, ◌<◌, ◌≤◌, List, [], ◌∷◌, length, map, ℤ, pos, negsuc, ◌<ℤ◌, ◌≤ℤ◌, arith, refl, sym, ap, ap₂, ◌∙◌, subst, ◌⊎◌, inl, inr}
-use Rattle.std.proofs.lemmas.Int.{ints}
+use Rattle.std.proofs.Common.{◌≡◌, ◌≢◌, ℕ, zero, suc, ◌+◌, ◌<◌, ◌≤◌, List, [], ◌∷◌, length, ℤ, pos, negsuc, ◌<ℤ◌, ◌≤ℤ◌, arith, refl, sym, ap, ap₂, ◌∙◌, subst, ◌⊎◌, inl, inr}
 use Rattle.std.proofs.lemmas.Bool.{cases_lt, cases_eq}
 use Rattle.std.proofs.lemmas.List.{get_or_past, length-map}
-use Rattle.dcx_math.specs.Rational.{ℚ, whole, ◌+ℚ◌, ◌-ℚ◌, ◌*ℚ◌, ◌/ℚ◌, neg_ℚ, inverse, ◌≤ℚ◌, ◌<ℚ◌}
+use Rattle.dcx_math.specs.Rational.{ℚ, whole, ◌+ℚ◌, ◌*ℚ◌, ◌/ℚ◌, neg_ℚ, inverse, ◌≤ℚ◌}
 use Rattle.dcx_math.specs.Sums.{rat_dot, rat_at, rat_sum_below}
 use Rattle.dcx_math.proofs.Points.{wholes}
 use Rattle.dcx_math.proofs.Ring.{ring, reads, /ℚ-is}
-use Rattle.dcx_math.proofs.Orders.{+ℚ_idr, +ℚ_idl, *ℚ-zero, zero-*ℚ, *ℚ_comm, *ℚ_idr, ≤ℚ_refl, ≤ℚ-from_≡, whole-≤ℤ, neg_ℚ-≤ℚ, neg_ℚ-zero}
-use Rattle.dcx_math.proofs.Products.{/ℚ-*ℚ, /ℚ-≤ℚ, ≤ℚ-/ℚ, whole-<ℤ, *ℚ-nonpositive, *ℚ-≤ℚ_right}
+use Rattle.dcx_math.proofs.Orders.{*ℚ-zero, zero-*ℚ, *ℚ_comm, *ℚ_idr, ≤ℚ-from_≡, whole-≤ℤ, neg_ℚ-≤ℚ, neg_ℚ-zero}
+use Rattle.dcx_math.proofs.Products.{/ℚ-*ℚ, /ℚ-≤ℚ, ≤ℚ-/ℚ, whole-<ℤ}
 use Rattle.dcx_math.proofs.Sums.{rat_sum_below-one, rat_sum_below-same, rat_sum_below-zero, rat_sum_below-monotone, rat_at-get_or}
 use Rattle.dcx_math.proofs.Vectors.{rat_dot-rat_sum_below}
 use Rattle.dcx_tab.specs.Rows.{Row, entry, row_at, basic_at}
@@ -16,7 +15,7 @@ use Rattle.dcx_tab.specs.Table.{Table, entry_at}
 use Rattle.dcx_tab.proofs.RationalRows.{SolvesRational, full, dot_full}
 use Rattle.dcx_simplex.specs.Run.{right_at}
 use Rattle.dcx_simplex.specs.Whole.{objective_row, phase_row}
-use Rattle.dcx_simplex.specs.Basis.{IsBasic, IsFeasible, lead_at}
+use Rattle.dcx_simplex.specs.Basis.{IsBasic, lead_at}
 use Rattle.dcx_simplex.specs.Readable.{IsReadable}
 use Rattle.dcx_simplex.specs.Reading.{IsColumnNumber, IsColumnChange, cost_at}
 use Rattle.dcx_simplex.specs.Start.{IsStart}

@@ -1,15 +1,13 @@
 -- The multipliers times the rows, by what the rows are short of their right sides.
-use Rattle.std.proofs.Common.{◌≡◌, ◌≢◌, ℕ, ◌<◌, Bool, true, false, not, List, [], ◌∷◌, length, map, get_or, ℤ, pos, negsuc, ◌<ℤ◌, ◌≤ℤ◌, arith, refl, sym, ap, ap₂, ◌∙◌, subst, ◌⊎◌, inl, inr}
-use Rattle.std.specs.Prelude.{◌&&◌, Some, slice_get, if◌then◌else◌}
-use Rattle.std.proofs.lemmas.List.{get_or-map}
-use Rattle.dcx_math.specs.Rational.{ℚ, whole, ◌+ℚ◌, ◌-ℚ◌, ◌*ℚ◌, ◌/ℚ◌, neg_ℚ, ◌≤ℚ◌, ◌<ℚ◌}
+use Rattle.std.proofs.Common.{◌≡◌, ◌≢◌, ℕ, ◌<◌, Bool, true, false, not, List, [], ◌∷◌, length, map, get_or, ℤ, pos, negsuc, refl, sym, ap, ap₂, ◌∙◌, subst, ◌⊎◌, inl, inr}
+use Rattle.std.specs.Prelude.{◌&&◌, if◌then◌else◌}
+use Rattle.dcx_math.specs.Rational.{ℚ, whole, ◌+ℚ◌, ◌-ℚ◌, ◌*ℚ◌, ◌/ℚ◌, neg_ℚ, ◌<ℚ◌}
 use Rattle.dcx_math.specs.Sums.{rat_at, rat_sum_below}
 use Rattle.dcx_math.proofs.Ring.{ring, reads}
-use Rattle.dcx_math.proofs.Orders.{<ℚ-≢, ≤ℚ-from_≡, ≤ℚ_trans, *ℚ-zero, <ℚ-≤ℚ, neg_ℚ-≤ℚ, neg_ℚ-zero, whole-≤ℤ, ≤ℚ_refl}
-use Rattle.dcx_math.proofs.Products.{/ℚ-*ℚ, *ℚ-nonnegative, whole-<ℤ, /ℚ-≤ℚ}
+use Rattle.dcx_math.proofs.Orders.{<ℚ-≢}
+use Rattle.dcx_math.proofs.Products.{/ℚ-*ℚ}
 use Rattle.dcx_math.proofs.Sums.{rat_sum_below-same, rat_sum_below-+ℚ, rat_at-get_or}
 use Rattle.dcx_tab.specs.declared.rows.ColumnKind.TheVariants.{Slack, Artificial}
-use Rattle.dcx_tab.specs.declared.rows.IntRow.{IntRow}
 use Rattle.dcx_tab.specs.declared.program.Program.{Program}
 use Rattle.dcx_tab.specs.Rows.{Row, entry}
 use Rattle.dcx_tab.specs.Program.{kind_at, entries_at, right_side_at, is_negated_at, is_negated}

@@ -70,9 +70,9 @@ module _ (rows : List IntRow) (kinds : List ColumnKind) (objective phase : CostR
       let b : first_basic_at rows i ≡ first_basic_of s.row = map_at first_basic_of rows i s.row 0 s.is in
       record {
         kind = λ no.
-        let none : (j : ℕ) → kind_at kinds j ≢ Slack i = λ j e. no (ap (kind_at kinds) (slack j i e) ∙ e) in
-        let at = other i none ∙ b in
-        ap (kind_at kinds) at ∙ starts_by kinds i (first_basic_of s.row) s.row.negated (kind_at kinds s.row.basic) refl f.starts (none (first_basic_of s.row));
+            let none : (j : ℕ) → kind_at kinds j ≢ Slack i = λ j e. no (ap (kind_at kinds) (slack j i e) ∙ e) in
+            let at = other i none ∙ b in
+            ap (kind_at kinds) at ∙ starts_by kinds i (first_basic_of s.row) s.row.negated (kind_at kinds s.row.basic) refl f.starts (none (first_basic_of s.row));
         first = λ k e. ap (kind_at kinds) (slack k i e) ∙ e;
       }
 

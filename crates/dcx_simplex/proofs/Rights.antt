@@ -1,30 +1,28 @@
 -- The answer that is read at an end is right for the program.
-use Rattle.std.proofs.Common.{◌≡◌, ◌≢◌, ℕ, zero, suc, ◌+◌, ◌-◌, ◌<◌, ◌≤◌, Bool, true, false, List, [], ◌∷◌, length, map, ℤ, pos, negsuc, ◌+ℤ◌, ◌<ℤ◌, ◌≤ℤ◌, arith, refl, sym, ap, ap₂, ◌∙◌, subst, ◌⊎◌, inl, inr}
-use Rattle.std.specs.Prelude.{nat_lt, not, ◌&&◌, if◌then◌else◌}
+use Rattle.std.proofs.Common.{◌≡◌, ◌≢◌, ℕ, zero, suc, ◌+◌, ◌<◌, ◌≤◌, Bool, true, false, List, [], ◌∷◌, length, map, ℤ, pos, negsuc, ◌+ℤ◌, ◌<ℤ◌, ◌≤ℤ◌, arith, refl, sym, ap, ap₂, ◌∙◌, subst, ◌⊎◌, inl, inr}
+use Rattle.std.specs.Prelude.{nat_lt, not, ◌&&◌}
 use Rattle.std.proofs.lemmas.Int.{ints, by_lt_z}
 use Rattle.std.proofs.lemmas.Bool.{cases_lt, cases_eq}
 use Rattle.std.proofs.lemmas.Bool.Decides.{nat_tests}
 use Rattle.std.proofs.lemmas.List.{length-map}
-use Rattle.dcx_math.specs.Rational.{ℚ, whole, ◌+ℚ◌, ◌-ℚ◌, ◌*ℚ◌, ◌/ℚ◌, neg_ℚ, inverse, ◌≤ℚ◌, ◌<ℚ◌}
-use Rattle.dcx_math.specs.Sums.{rat_dot, rat_at, rat_sum_below, rat_added, rat_scaled, along}
+use Rattle.dcx_math.specs.Rational.{ℚ, whole, ◌+ℚ◌, ◌-ℚ◌, ◌*ℚ◌, ◌/ℚ◌, neg_ℚ, ◌≤ℚ◌, ◌<ℚ◌}
+use Rattle.dcx_math.specs.Sums.{rat_dot, rat_at, rat_sum_below, rat_scaled, along}
 use Rattle.dcx_math.specs.IntegerSums.{int_dot}
 use Rattle.dcx_math.proofs.Points.{wholes}
 use Rattle.dcx_math.proofs.Ring.{ring, reads, /ℚ-is}
-use Rattle.dcx_math.proofs.Orders.{+ℚ_idr, +ℚ_idl, *ℚ-zero, zero-*ℚ, *ℚ_comm, ≤ℚ_refl, ≤ℚ-from_≡, +ℚ-nonnegative, linear_eq, whole-≤ℤ, neg_ℚ-zero}
-use Rattle.dcx_math.proofs.Products.{/ℚ-unique, /ℚ-*ℚ, whole-<ℤ, *ℚ-nonnegative, *ℚ-nonpositive, *ℚ-positive, inverse-positive}
+use Rattle.dcx_math.proofs.Orders.{+ℚ_idr, +ℚ_idl, *ℚ-zero, *ℚ_comm, ≤ℚ-from_≡, +ℚ-nonnegative, linear_eq, whole-≤ℤ}
+use Rattle.dcx_math.proofs.Products.{/ℚ-unique, whole-<ℤ, *ℚ-nonnegative, *ℚ-nonpositive, *ℚ-positive, inverse-positive}
 use Rattle.dcx_math.proofs.Orders.{<ℚ-≤ℚ}
 use Rattle.dcx_math.proofs.Sums.{rat_sum_below-same, rat_sum_below-zero}
 use Rattle.dcx_math.proofs.Vectors.{rat_dot-along, rat_at-rat_added, rat_at-rat_scaled, length-rat_scaled}
 use Rattle.dcx_frac.specs.Frac.{value}
-use Rattle.dcx_tab.specs.declared.rows.ColumnKind.{ColumnKind}
 use Rattle.dcx_tab.specs.declared.rows.ColumnKind.TheVariants.{Unknown, Slack, Artificial}
-use Rattle.dcx_tab.specs.declared.rows.CostRow.{CostRow}
 use Rattle.dcx_tab.specs.declared.program.Program.{Program}
 use Rattle.dcx_tab.specs.First.{first_tableau}
 use Rattle.dcx_tab.specs.Rows.{Row, entry, row_at, basic_at, Solves}
 use Rattle.dcx_tab.specs.Table.{Table, entry_at}
 use Rattle.dcx_tab.specs.Program.{kind_at, is_plain, plain_count, entries_at, right_side_at}
-use Rattle.dcx_tab.proofs.Programs.{IsArtificial, from_plain, length_first, plain_count_le}
+use Rattle.dcx_tab.proofs.Programs.{from_plain, length_first, plain_count_le}
 use Rattle.dcx_tab.proofs.RationalRows.{SolvesRational, solves_rational, full, dot_full, length_added}
 use Rattle.dcx_simplex.specs.Run.{right_at, IsEntering, NoneEnters, NoneLeaves}
 use Rattle.dcx_simplex.specs.Whole.{objective_row, phase_row}
@@ -39,11 +37,11 @@ use Rattle.dcx_simplex.proofs.Starts.{starts}
 use Rattle.dcx_simplex.proofs.EndFacts.{IsEnded, readable, not_basic_of}
 use Rattle.dcx_simplex.proofs.Cycle.{is_basic}
 use Rattle.dcx_simplex.proofs.Owns.{slack_low, own_low}
-use Rattle.dcx_simplex.proofs.Slacks.{Own, own_of, find_slack, HasSlack, HasNone}
+use Rattle.dcx_simplex.proofs.Slacks.{Own, find_slack, HasSlack, HasNone}
 use Rattle.dcx_simplex.proofs.Bounds.{own_column, own_column_is, short, put_out, length_put_out, dot_put_out, rest, put_out_solves, rates, cost_bound, first_solved, first_cost, lead_some_of}
 use Rattle.dcx_simplex.proofs.Multipliers.{HasNotes, combined_is, factor_positive}
 use Rattle.dcx_simplex.proofs.Sides.{columns_opposite, not_both}
-use Rattle.dcx_simplex.proofs.Last.{rat_at-past, rat_at-wholes, dot_none, dot_low, quotient_low, negative_high, at_cost_of, at_phase_of, numbers_solve, numbers_high, numbers_none, changes_solve, changes_high, changes_none}
+use Rattle.dcx_simplex.proofs.Last.{rat_at-past, dot_none, dot_low, quotient_low, negative_high, at_cost_of, at_phase_of, numbers_solve, numbers_high, numbers_none, changes_solve, changes_high, changes_none}
 
 -- ---- facts of rationals
 from_less : (a b : ℚ) → a +ℚ b *ℚ whole (negsuc 0) ≡ whole (pos 0) → a ≡ b
@@ -141,9 +139,9 @@ module _ (p : Program) (u : Table) (end : IsEnded (first_tableau p).rows (first_
       count = count_p;
       nonnegative = λ j h. let e = columns_are in numbers_high (first_tableau p).rows (first_tableau p) (starts p.rows p.columns p.objective p.phase p.form) u end (numbers a.columns) count columns j (omega (arith, e, h));
       artificial = λ j l h.
-      let e = columns_are in
-      let f = plain_is in
-      numbers_none (first_tableau p).rows (first_tableau p) (starts p.rows p.columns p.objective p.phase p.form) u end (numbers a.columns) count columns j (omega (arith, e, h)) (λ k q b. zeros k q (omega (arith, f, b, l)));
+          let e = columns_are in
+          let f = plain_is in
+          numbers_none (first_tableau p).rows (first_tableau p) (starts p.rows p.columns p.objective p.phase p.form) u end (numbers a.columns) count columns j (omega (arith, e, h)) (λ k q b. zeros k q (omega (arith, f, b, l)));
       rows = λ i h. from_less _ _ (first_solved p (numbers a.columns) _ _ (whole (negsuc 0)) count_p solved i h);
     }
 
@@ -287,9 +285,9 @@ module _ (p : Program) (u : Table) (end : IsEnded (first_tableau p).rows (first_
     attained = attained status.Optimal a reading ∙ sym reading.number;
     signs = signs status.Optimal a reading (objective_row u) refl none positive_lead;
     bound = λ ys assigned.
-    let b = cost_bound p ys assigned (row_at u.rows (objective_row u)) (lead_at u (objective_row u)) (cost_at_columns p.objective ys) (whole (right_at u (objective_row u))) positive_lead (put_cost ys assigned) (low status.Optimal a reading (objective_row u) refl none positive_lead ys assigned) in
-    let c = combined status.Optimal a reading (objective_row u) refl none positive_lead ys assigned ∙ ap (λ x. rates p ys assigned (row_at u.rows (objective_row u)) (lead_at u (objective_row u)) +ℚ x) (no_offsets ys assigned a.status (optimal_offset a.status reading.status)) ∙ +ℚ_idr _ in
-    subst (λ x. x ≤ℚ (cost_at_columns p.objective ys +ℚ combined_rows p a ys)) (sym reading.number) (subst (λ x. cost_at u (objective_row u) ≤ℚ (cost_at_columns p.objective ys +ℚ x)) (sym c) b);
+        let b = cost_bound p ys assigned (row_at u.rows (objective_row u)) (lead_at u (objective_row u)) (cost_at_columns p.objective ys) (whole (right_at u (objective_row u))) positive_lead (put_cost ys assigned) (low status.Optimal a reading (objective_row u) refl none positive_lead ys assigned) in
+        let c = combined status.Optimal a reading (objective_row u) refl none positive_lead ys assigned ∙ ap (λ x. rates p ys assigned (row_at u.rows (objective_row u)) (lead_at u (objective_row u)) +ℚ x) (no_offsets ys assigned a.status (optimal_offset a.status reading.status)) ∙ +ℚ_idr _ in
+        subst (λ x. x ≤ℚ (cost_at_columns p.objective ys +ℚ combined_rows p a ys)) (sym reading.number) (subst (λ x. cost_at u (objective_row u) ≤ℚ (cost_at_columns p.objective ys +ℚ x)) (sym c) b);
     one_sided = one_sided status.Optimal a reading;
   }
 
@@ -299,13 +297,13 @@ module _ (p : Program) (u : Table) (end : IsEnded (first_tableau p).rows (first_
     gap = subst (λ x. whole (pos 0) <ℚ x) (sym reading.number) (quotient_positive (right_at u (phase_row u)) (lead_at u (phase_row u)) high positive_phase);
     signs = signs status.Infeasible a reading (phase_row u) refl none positive_phase;
     bound = λ ys assigned.
-    let sum = (starts p.rows p.columns p.objective p.phase p.form).sum in
-    let b = cost_bound p ys assigned (row_at u.rows (phase_row u)) (lead_at u (phase_row u)) (rest p ys assigned) (whole (right_at u (phase_row u))) positive_phase (put_phase ys assigned) (low status.Infeasible a reading (phase_row u) refl none positive_phase ys assigned) in
-    let o = rest_offsets ys assigned sum.0 sum.1 in
-    let c = combined status.Infeasible a reading (phase_row u) refl none positive_phase ys assigned
-    ∙ ap (λ s. rates p ys assigned (row_at u.rows (phase_row u)) (lead_at u (phase_row u)) +ℚ rat_sum_below (length p.rows) (λ l. short p ys assigned l *ℚ offset s (is_inequality p.columns l))) reading.status
-    ∙ ap (λ x. rates p ys assigned (row_at u.rows (phase_row u)) (lead_at u (phase_row u)) +ℚ x) (sym o) ∙ swap _ _ in
-    subst (λ x. x ≤ℚ combined_rows p a ys) (sym reading.number) (subst (λ x. cost_at u (phase_row u) ≤ℚ x) (sym c) b);
+        let sum = (starts p.rows p.columns p.objective p.phase p.form).sum in
+        let b = cost_bound p ys assigned (row_at u.rows (phase_row u)) (lead_at u (phase_row u)) (rest p ys assigned) (whole (right_at u (phase_row u))) positive_phase (put_phase ys assigned) (low status.Infeasible a reading (phase_row u) refl none positive_phase ys assigned) in
+        let o = rest_offsets ys assigned sum.0 sum.1 in
+        let c = combined status.Infeasible a reading (phase_row u) refl none positive_phase ys assigned
+        ∙ ap (λ s. rates p ys assigned (row_at u.rows (phase_row u)) (lead_at u (phase_row u)) +ℚ rat_sum_below (length p.rows) (λ l. short p ys assigned l *ℚ offset s (is_inequality p.columns l))) reading.status
+        ∙ ap (λ x. rates p ys assigned (row_at u.rows (phase_row u)) (lead_at u (phase_row u)) +ℚ x) (sym o) ∙ swap _ _ in
+        subst (λ x. x ≤ℚ combined_rows p a ys) (sym reading.number) (subst (λ x. cost_at u (phase_row u) ≤ℚ x) (sym c) b);
     one_sided = one_sided status.Infeasible a reading;
   }
 

@@ -1,33 +1,28 @@
 -- At the last tableau: its rows at rational assignments, and that only one column of a free unknown is basic.
-use Rattle.std.proofs.Common.{◌≡◌, ◌≢◌, ℕ, zero, suc, ◌+◌, ◌-◌, ◌<◌, ◌≤◌, Bool, true, false, List, [], ◌∷◌, ◌++◌, length, map, ℤ, pos, ◌+ℤ◌, ◌*ℤ◌, neg_ℤ, ◌<ℤ◌, ◌≤ℤ◌, arith, refl, sym, ap, ap₂, ◌∙◌, subst, ◌⊎◌, inl, inr}
+use Rattle.std.proofs.Common.{◌≡◌, ◌≢◌, ℕ, zero, suc, ◌+◌, ◌<◌, ◌≤◌, Bool, true, false, List, [], ◌∷◌, ◌++◌, length, ℤ, pos, ◌+ℤ◌, ◌*ℤ◌, neg_ℤ, arith, refl, sym, ap, ap₂, ◌∙◌, subst, ◌⊎◌, inl, inr}
 use Rattle.std.specs.Prelude.{Some, slice_get, nat_le, nat_lt, if◌then◌else◌}
 use Rattle.std.proofs.lemmas.Int.{ints}
 use Rattle.std.proofs.lemmas.Bool.{cases_lt, cases_eq}
 use Rattle.std.proofs.lemmas.Bool.Decides.{nat_tests}
-use Rattle.dcx_math.specs.Rational.{ℚ, whole, ◌+ℚ◌, ◌*ℚ◌, ◌/ℚ◌}
-use Rattle.dcx_math.specs.Sums.{rat_dot, rat_at, rat_sum_below}
+use Rattle.dcx_math.specs.Rational.{ℚ, whole, ◌+ℚ◌}
+use Rattle.dcx_math.specs.Sums.{rat_sum_below}
 use Rattle.dcx_math.specs.IntegerSums.{int_dot, int_scaled, int_added, int_sum_by}
 use Rattle.dcx_math.proofs.IntegerVectors.{int_dot-added_right}
-use Rattle.dcx_math.proofs.Points.{wholes}
 use Rattle.dcx_math.proofs.Ring.{ring, reads}
-use Rattle.dcx_math.proofs.Orders.{+ℚ_idr, +ℚ_idl}
+use Rattle.dcx_math.proofs.Orders.{+ℚ_idr}
 use Rattle.dcx_math.proofs.Sums.{rat_sum_below-one}
 use Rattle.dcx_tab.specs.declared.rows.ColumnKind.{ColumnKind}
-use Rattle.dcx_tab.specs.declared.rows.ColumnKind.TheVariants.{Unknown, Slack, Artificial}
+use Rattle.dcx_tab.specs.declared.rows.ColumnKind.TheVariants.{Unknown}
 use Rattle.dcx_tab.specs.declared.rows.IntRow.{IntRow}
 use Rattle.dcx_tab.specs.declared.program.Program.{Program}
 use Rattle.dcx_tab.specs.First.{first_tableau}
 use Rattle.dcx_tab.specs.Rows.{Row, entry, row_at, basic_at, Solves}
 use Rattle.dcx_tab.specs.Table.{Table, entry_at}
-use Rattle.dcx_tab.specs.Program.{kind_at, is_plain, plain_count, entries_at, entries_of, sum_started, tableau_row, objective_row, phase_row}
+use Rattle.dcx_tab.specs.Program.{kind_at, is_plain, plain_count, entries_of}
 use Rattle.dcx_tab.proofs.Programs.{has_row, map_at, length_first, at_row, at_objective, at_phase}
 use Rattle.dcx_tab.proofs.RowLaws.{unit, int_dot-unit}
-use Rattle.dcx_tab.proofs.RationalRows.{SolvesRational, solves_rational, full, dot_full}
-use Rattle.dcx_simplex.specs.Run.{right_at}
-use Rattle.dcx_simplex.specs.Whole.{objective_row as cost_row, phase_row as sum_row}
-use Rattle.dcx_simplex.specs.Basis.{IsBasic, lead_at}
-use Rattle.dcx_simplex.specs.Start.{IsStart}
-use Rattle.dcx_simplex.proofs.Starts.{starts, entry_front}
+use Rattle.dcx_simplex.specs.Basis.{IsBasic}
+use Rattle.dcx_simplex.proofs.Starts.{entry_front}
 use Rattle.dcx_simplex.proofs.EndFacts.{IsEnded}
 
 -- all terms but two are 0

@@ -1,11 +1,8 @@
 -- The own column of each row, found in the list of kinds.
-use Rattle.std.proofs.Common.{◌≡◌, ◌≢◌, ℕ, zero, suc, ◌<◌, Bool, true, false, nat_eq, List, [], ◌∷◌, length, arith, refl, sym, ap, ◌∙◌, subst, ℤ, pos, negsuc, ◌*ℤ◌, ◌⊎◌, inl, inr}
-use Rattle.std.specs.Prelude.{◌||◌, if◌then◌else◌, Some, slice_get}
-use Rattle.std.proofs.lemmas.Bool.{cases_eq}
-use Rattle.std.proofs.lemmas.Bool.Decides.{nat_tests}
+use Rattle.std.proofs.Common.{◌≡◌, ◌≢◌, ℕ, zero, suc, ◌<◌, Bool, true, false, nat_eq, List, [], ◌∷◌, length, refl, sym, ap, ◌∙◌, subst, ℤ, pos, negsuc, ◌⊎◌, inl, inr}
+use Rattle.std.specs.Prelude.{◌||◌, if◌then◌else◌}
 use Rattle.dcx_tab.specs.declared.rows.ColumnKind.{ColumnKind}
 use Rattle.dcx_tab.specs.declared.rows.ColumnKind.TheVariants.{Unknown, Slack, Artificial}
-use Rattle.dcx_tab.specs.declared.rows.IntRow.{IntRow}
 use Rattle.dcx_tab.specs.declared.program.Program.{Program}
 use Rattle.dcx_tab.specs.Rows.{entry}
 use Rattle.dcx_tab.specs.Program.{kind_at, told_entry, unknown_entry, entries_at, entries_of, is_negated_at, is_negated, first_basic_at, first_basic_of}
@@ -13,7 +10,7 @@ use Rattle.dcx_tab.proofs.Programs.{has_row, map_at}
 use Rattle.dcx_simplex.specs.Reading.{IsOwnColumn}
 use Rattle.dcx_simplex.specs.Right.{is_slack_of, is_inequality}
 use Rattle.dcx_simplex.proofs.ReadLists.{starts_by}
-use Rattle.dcx_simplex.proofs.Owns.{slack_or, own_low, slack_low}
+use Rattle.dcx_simplex.proofs.Owns.{slack_or, own_low}
 use Rattle.dcx_simplex.proofs.Starts.{different, same_test}
 
 slack_test : (k : ColumnKind) (i : ℕ) → k ≡ Slack i → is_slack_of i k ≡ true

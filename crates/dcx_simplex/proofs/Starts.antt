@@ -1,5 +1,5 @@
 -- A program's first tableau is one from which a run begins.
-use Rattle.std.proofs.Common.{◌≡◌, ◌≢◌, ℕ, zero, suc, ◌+◌, ◌-◌, ◌<◌, ◌≤◌, Bool, true, false, not, nat_eq, List, [], ◌∷◌, ◌++◌, length, map, get_or, ℤ, pos, negsuc, ◌+ℤ◌, ◌-ℤ◌, ◌*ℤ◌, ◌<ℤ◌, ◌≤ℤ◌, unsigned_abs, arith, refl, sym, ap, ap₂, ◌∙◌, subst, ◌⊎◌, inl, inr}
+use Rattle.std.proofs.Common.{◌≡◌, ◌≢◌, ℕ, zero, suc, ◌+◌, ◌-◌, ◌<◌, ◌≤◌, Bool, true, false, not, nat_eq, List, [], ◌∷◌, ◌++◌, length, ℤ, pos, negsuc, ◌+ℤ◌, ◌-ℤ◌, ◌*ℤ◌, ◌<ℤ◌, ◌≤ℤ◌, unsigned_abs, arith, refl, sym, ap, ap₂, ◌∙◌, subst, ◌⊎◌, inl, inr}
 use Rattle.std.specs.Prelude.{Some, slice_get, nat_le, if◌then◌else◌, ◌&&◌}
 use Rattle.std.proofs.lemmas.Int.{ints}
 use Rattle.std.proofs.lemmas.Bool.{cases_lt, cases_eq}
@@ -16,9 +16,9 @@ use Rattle.dcx_tab.specs.declared.rows.IntRow.{IntRow}
 use Rattle.dcx_tab.specs.declared.rows.CostRow.{CostRow}
 use Rattle.dcx_tab.specs.Rows.{Row, Assignment, entry, row_at, basic_at, Solves, IsBasicRow, IsTableau}
 use Rattle.dcx_tab.specs.Table.{Table}
-use Rattle.dcx_tab.specs.Program.{IsProgram, IsProgramRow, kind_at, is_plain, plain_count, told_entry, unknown_entry, may_start, sum_started, first_basic_of, first_basic_at, tableau_row, objective_row, phase_row, first_table}
+use Rattle.dcx_tab.specs.Program.{IsProgram, kind_at, plain_count, told_entry, unknown_entry, may_start, sum_started, first_basic_of, first_basic_at, tableau_row, objective_row, phase_row, first_table}
 use Rattle.dcx_tab.proofs.RowLaws.{gcd_of-dvd_entry, entry-added, entry-scaled}
-use Rattle.dcx_tab.proofs.Programs.{HasRow, has_row, map_at, from_plain, plain_count_le, length_first, length_basis, at_row, at_objective, at_phase, basic_row, basic_objective, basic_phase, widths}
+use Rattle.dcx_tab.proofs.Programs.{has_row, map_at, from_plain, plain_count_le, length_first, length_basis, at_row, at_objective, at_phase, basic_row, basic_objective, basic_phase, widths}
 use Rattle.dcx_simplex.specs.Start.{IsStart, IsSumRow}
 use Rattle.dcx_simplex.proofs.ReadLists.{same_nat, both_true}
 
@@ -394,9 +394,9 @@ module _ (rows : List IntRow) (kinds : List ColumnKind) (objective phase : CostR
         feasible = λ i h. feasible i (omega (arith, e, h));
         enough = omega (arith, e);
         basics = λ i h.
-        let q : i < length rows = omega (arith, e, h) in
-        let b = basic_row rows kinds objective phase form i q in
-        let l = start_low i q in omega (arith, b, l);
+            let q : i < length rows = omega (arith, e, h) in
+            let b = basic_row rows kinds objective phase form i q in
+            let l = start_low i q in omega (arith, b, l);
         plain_below = plain_count_le kinds;
         objective = ap (basic_at (first_table rows kinds objective phase).basis) rows_are ∙ basic_objective rows kinds objective phase form;
         phase = ap (basic_at (first_table rows kinds objective phase).basis) last_are ∙ basic_phase rows kinds objective phase form;

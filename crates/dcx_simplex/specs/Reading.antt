@@ -1,5 +1,5 @@
 -- The numbers that are read at the tableau of the last basis.
-use Rattle.std.specs.Prelude.{◌≡◌, ℕ, ◌+◌, ◌-◌, ◌<◌, Bool, List, [], map, length, pos, ℤ}
+use Rattle.std.specs.Prelude.{◌≡◌, ℕ, ◌+◌, ◌<◌, Bool, List, [], map, length, pos}
 use Rattle.dcx_math.specs.Rational.{ℚ, whole, neg_ℚ, ◌/ℚ◌}
 use Rattle.dcx_math.specs.Sums.{rat_at}
 use Rattle.dcx_frac.specs.declared.fraction.Frac.{Frac}

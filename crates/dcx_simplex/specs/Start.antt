@@ -1,6 +1,6 @@
 -- The tableau from which a whole run begins.
 use Rattle.std.specs.Prelude.{◌≡◌, ℕ, ◌+◌, ◌-◌, ◌^◌, ◌<◌, ◌≤◌, List, length, pos, negsuc}
-use Rattle.dcx_math.specs.IntegerSums.{int_dot, int_scaled, int_added}
+use Rattle.dcx_math.specs.IntegerSums.{int_dot}
 use Rattle.dcx_tab.specs.Rows.{entry, Row, Assignment, basic_at, Solves}
 use Rattle.dcx_tab.specs.Table.{Table, IsOf}
 use Rattle.dcx_simplex.specs.Whole.{objective_row, phase_row, RunEnds}

@@ -1,5 +1,5 @@
 -- Rows one after the other.
-use Rattle.std.proofs.Common.{◌≡◌, ℕ, zero, suc, ◌+◌, ◌*◌, ◌<◌, List, [], ◌∷◌, ◌++◌, length, take, drop, arith, refl, sym, ap, ap₂, ◌∙◌, ℤ, append_assoc}
+use Rattle.std.proofs.Common.{◌≡◌, ℕ, suc, ◌+◌, ◌*◌, ◌<◌, List, [], ◌∷◌, ◌++◌, length, take, arith, refl, sym, ap, ap₂, ◌∙◌, ℤ, append_assoc}
 use Rattle.std.proofs.lemmas.List.{append-nil, take_at, drop_at, length-append, take_more}
 use Rattle.dcx_tab.specs.Rows.{Row, row_at}
 use Rattle.dcx_tab.specs.Cells.{table_rows, joined}

@@ -1,5 +1,5 @@
 -- A program's rows, columns and first tableau, place by place.
-use Rattle.std.proofs.Common.{◌≡◌, ◌≢◌, ℕ, zero, suc, ◌+◌, ◌-◌, ◌*◌, ◌<◌, ◌≤◌, ◌^◌, Bool, true, false, List, [], ◌∷◌, ◌++◌, map, length, get_or, set, arith, refl, sym, ap, ◌∙◌, subst, ℤ, pos, ◌⊎◌, inl, inr}
+use Rattle.std.proofs.Common.{◌≡◌, ◌≢◌, ℕ, zero, suc, ◌+◌, ◌-◌, ◌*◌, ◌<◌, ◌≤◌, Bool, true, false, List, [], ◌∷◌, ◌++◌, map, length, get_or, arith, refl, sym, ap, ◌∙◌, subst, ℤ, ◌⊎◌, inl, inr}
 use Rattle.std.specs.Prelude.{Some, slice_get, nat_lt, if◌then◌else◌}
 use Rattle.std.proofs.lemmas.List.{length-map, length-append, get_or_append_left, get_or-append_right, get_or_at}
 use Rattle.std.proofs.lemmas.Bool.{cases_lt}
@@ -8,9 +8,9 @@ use Rattle.dcx_tab.specs.declared.rows.ColumnKind.{ColumnKind}
 use Rattle.dcx_tab.specs.declared.rows.ColumnKind.TheVariants.{Unknown, Slack, Artificial}
 use Rattle.dcx_tab.specs.declared.rows.IntRow.{IntRow}
 use Rattle.dcx_tab.specs.declared.rows.CostRow.{CostRow}
-use Rattle.dcx_tab.specs.Rows.{Row, entry, row_at, basic_at, AllSmall}
+use Rattle.dcx_tab.specs.Rows.{Row, row_at, basic_at, AllSmall}
 use Rattle.dcx_tab.specs.Table.{Table}
-use Rattle.dcx_tab.specs.Program.{IsProgram, IsProgramRow, kind_at, entries_of, entries_at, right_of, right_side_at, first_basic_of, first_basic_at, is_negated, is_negated_at, is_plain, plain_count, tableau_row, objective_row, phase_row, first_table}
+use Rattle.dcx_tab.specs.Program.{IsProgram, IsProgramRow, kind_at, first_basic_of, first_basic_at, is_plain, plain_count, tableau_row, objective_row, phase_row, first_table}
 use Rattle.dcx_tab.specs.Cells.{row_of, table_rows, joined}
 use Rattle.dcx_tab.proofs.CellLaws.{row_at-table}
 use Rattle.dcx_tab.proofs.Joined.{length-joined, table_rows-joined}

@@ -1,19 +1,18 @@
 -- Rows at rational assignments.
-use Rattle.std.proofs.Common.{◌≡◌, ◌≢◌, ℕ, zero, suc, ◌+◌, ◌<◌, ◌≤◌, List, [], ◌∷◌, ◌++◌, length, map, ℤ, pos, ◌*ℤ◌, ◌<ℤ◌, arith, refl, sym, ap, ap₂, ◌∙◌, subst}
+use Rattle.std.proofs.Common.{◌≡◌, ℕ, zero, suc, ◌+◌, ◌<◌, ◌≤◌, List, [], ◌∷◌, ◌++◌, length, ℤ, pos, ◌*ℤ◌, ◌<ℤ◌, arith, refl, sym, ap, ap₂, ◌∙◌}
 use Rattle.std.proofs.lemmas.Int.{ints}
 use Rattle.std.proofs.lemmas.List.{length-append, length-map}
 use Rattle.dcx_math.specs.Rational.{ℚ, ratio, whole, ◌+ℚ◌, ◌*ℚ◌}
-use Rattle.dcx_math.specs.Sums.{rat_dot, rat_added, rat_scaled, rat_sum_below, rat_at}
+use Rattle.dcx_math.specs.Sums.{rat_dot, rat_added, rat_scaled, rat_sum_below}
 use Rattle.dcx_math.proofs.Points.{wholes, over, rat_dot-over, rat_dot-wholes}
 use Rattle.dcx_math.proofs.Denominators.{by_point, whole-ratio, ratio-≡}
 use Rattle.dcx_math.proofs.FieldLaws.{≡ℚ_prop, +ℚ_idl}
-use Rattle.dcx_math.proofs.Orders.{+ℚ_idr, +ℚ_assoc, *ℚ_idr, zero-*ℚ}
+use Rattle.dcx_math.proofs.Orders.{+ℚ_assoc, zero-*ℚ}
 use Rattle.dcx_math.proofs.Vectors.{rat_dot-nil, rat_dot-added_right, rat_dot-scaled_right}
 use Rattle.dcx_math.proofs.Ring.{ring, reads}
 use Rattle.dcx_math.specs.IntegerSums.{int_dot}
 use Rattle.dcx_tab.specs.Rows.{Row, Assignment, entry, row_at, Solves}
 use Rattle.dcx_tab.proofs.RowLaws.{unit, int_dot-unit}
-use Rattle.dcx_math.specs.IntegerSums.{int_scaled}
 use Rattle.dcx_math.proofs.IntegerVectors.{int_scaled-one}
 
 -- each row holds at rational numbers

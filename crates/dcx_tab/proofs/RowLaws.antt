@@ -1,15 +1,15 @@
 -- Entries, products and common divisors of rows that are scaled, divided and mixed.
-use Rattle.std.proofs.Common.{◌≡◌, ◌≢◌, ℕ, zero, suc, ◌<◌, List, [], ◌∷◌, length, map, ℤ, pos, negsuc, ◌+ℤ◌, ◌-ℤ◌, ◌*ℤ◌, neg_ℤ, unsigned_abs, arith, refl, sym, ap, ap₂, ◌∙◌, subst, ⊎_elim, eq-zero-or-pos}
+use Rattle.std.proofs.Common.{◌≡◌, ◌≢◌, ℕ, zero, suc, ◌<◌, List, [], ◌∷◌, length, ℤ, pos, negsuc, ◌+ℤ◌, ◌-ℤ◌, ◌*ℤ◌, neg_ℤ, unsigned_abs, arith, refl, sym, ap, ap₂, ◌∙◌, subst, ⊎_elim, eq-zero-or-pos}
 use Rattle.std.specs.Prelude.{int_div}
 use Rattle.std.proofs.lemmas.Int.{ints}
 use native.Mathlib.Nat.{eq-zero_of_zero-dvd, dvd-zero}
 use Prim.Native.Nat.{◌∣◌}
-use Rattle.dcx_math.specs.Integers.{*ℤ-neg_ℤ_left, *ℤ_comm, *ℤ-zero, *ℤ_idr}
+use Rattle.dcx_math.specs.Integers.{*ℤ-neg_ℤ_left, *ℤ-zero, *ℤ_idr}
 use Rattle.dcx_math.specs.Divisors.{gcd_of, divided}
 use Rattle.dcx_math.specs.IntegerSums.{int_dot, int_scaled, int_added, int_mixed}
 use Rattle.dcx_math.proofs.Divisors.{gcd-dvd_left, gcd-dvd_right, dvd_trans}
 use Rattle.dcx_math.proofs.IntegerSums.{int_at-get_or}
-use Rattle.dcx_math.proofs.IntegerVectors.{int_at-int_added, int_at-int_scaled, int_dot-int_mixed, int_dot-scaled, int_dot-added, int_dot-scaled_right, int_dot-added_right, int_dot-nil, length-int_scaled, length-int_added}
+use Rattle.dcx_math.proofs.IntegerVectors.{int_at-int_added, int_at-int_scaled, int_dot-scaled, int_dot-added, int_dot-scaled_right, int_dot-nil, length-int_scaled, length-int_added}
 use Rattle.dcx_tab.specs.Rows.{entry}
 
 pub entry-scaled : (k : ℤ) (xs : List ℤ) (j : ℕ) → entry (int_scaled k xs) j ≡ k *ℤ entry xs j

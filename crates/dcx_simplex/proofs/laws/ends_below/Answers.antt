@@ -1,3 +1,4 @@
+-- The pivots done are as many as the limit allows.
 use Rattle.dcx_simplex.proofs.Limits.{ends_below}
 use Rattle.dcx_simplex.proofs.laws.ends_below.Goals as goal
 

@@ -1,3 +1,4 @@
+-- Each pivot keeps the tableau one of the program.
 use Rattle.dcx_simplex.proofs.EndLaws.{ends_feasible}
 use Rattle.dcx_simplex.proofs.laws.ends_feasible.Goals as goal
 

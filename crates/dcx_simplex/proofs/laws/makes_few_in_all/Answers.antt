@@ -1,3 +1,4 @@
+-- Two phases make few pivots each, and each row is driven out once at most.
 use Rattle.dcx_simplex.proofs.Limits.{few_in_all}
 use Rattle.dcx_simplex.proofs.laws.makes_few_in_all.Goals as goal
 

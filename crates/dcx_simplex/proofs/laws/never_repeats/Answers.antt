@@ -1,3 +1,4 @@
+-- A set of basic columns that came twice would have a greatest column that both enters and leaves.
 use Rattle.dcx_simplex.proofs.PhaseLaws.{never_repeats}
 use Rattle.dcx_simplex.proofs.laws.never_repeats.Goals as goal
 

@@ -1,3 +1,4 @@
+-- Each pivot lowers the cost or keeps it.
 use Rattle.dcx_simplex.proofs.PhaseLaws.{never_rises}
 use Rattle.dcx_simplex.proofs.laws.never_rises.Goals as goal
 

@@ -1,3 +1,4 @@
+-- The basic solution has the cost that is shown.
 use Rattle.dcx_simplex.proofs.EndLaws.{optimal_is_attained}
 use Rattle.dcx_simplex.proofs.laws.optimal_is_attained.Goals as goal
 

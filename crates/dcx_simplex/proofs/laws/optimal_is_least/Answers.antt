@@ -1,3 +1,4 @@
+-- No point costs less.
 use Rattle.dcx_simplex.proofs.EndLaws.{optimal_is_least}
 use Rattle.dcx_simplex.proofs.laws.optimal_is_least.Goals as goal
 

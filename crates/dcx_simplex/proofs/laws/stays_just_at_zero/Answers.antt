@@ -1,3 +1,4 @@
+-- The cost stays just where the right side is 0.
 use Rattle.dcx_simplex.proofs.PhaseLaws.{same_value}
 use Rattle.dcx_simplex.proofs.Moves.{value_stays}
 use Rattle.dcx_simplex.proofs.laws.stays_just_at_zero.Goals as goal

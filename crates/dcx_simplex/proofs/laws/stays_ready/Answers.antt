@@ -1,3 +1,4 @@
+-- Each pivot keeps right sides at least 0.
 use Rattle.dcx_simplex.proofs.PhaseLaws.{stays_ready}
 use Rattle.dcx_simplex.proofs.laws.stays_ready.Goals as goal
 

@@ -1,3 +1,4 @@
+-- The list has the first basic columns so far.
 use Rattle.std.proofs.Common.{◌≡◌, map, take}
 use Rattle.dcx_tab.specs.Program.{first_basic_of}
 use Rattle.dcx_simplex.proofs.read.first_basics.Given as goal

@@ -1,8 +1,9 @@
-use Rattle.std.proofs.Common.{◌≡◌, ◌≢◌, ℕ, ◌<◌, ◌++◌, length, take, drop, get_or, map, arith, sym, ap, ◌∙◌, subst, List}
+-- A row has its slack, or starts with its artificial.
+use Rattle.std.proofs.Common.{◌≡◌, ◌≢◌, ℕ, ◌++◌, length, take, drop, get_or, map, arith, sym, ap, ◌∙◌, subst, List}
 use Rattle.std.proofs.lemmas.List.{take_at}
 use Rattle.dcx_tab.specs.declared.rows.ColumnKind.{ColumnKind}
 use Rattle.dcx_tab.specs.declared.rows.ColumnKind.TheVariants.{Slack}
-use Rattle.dcx_tab.specs.Program.{kind_at, first_basic_of, first_basic_at}
+use Rattle.dcx_tab.specs.Program.{kind_at, first_basic_of}
 use Rattle.dcx_tab.proofs.Programs.{few_in_all}
 use Rattle.dcx_simplex.specs.Reading.{IsOwnColumn}
 use Rattle.dcx_simplex.proofs.ReadLists.{own_is}

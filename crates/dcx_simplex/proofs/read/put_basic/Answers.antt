@@ -1,4 +1,5 @@
-use Rattle.std.proofs.Common.{◌≡◌, ℕ, ◌+◌, ◌<◌, length, set, arith, sym, ap, ap₂, ◌∙◌, subst, to_z-of_z, SFits}
+-- The next basic column is none of those written.
+use Rattle.std.proofs.Common.{◌≡◌, ◌+◌, ◌<◌, length, set, arith, sym, ap, ap₂, ◌∙◌, to_z-of_z, SFits}
 use Rattle.std.specs.Int.{w128}
 use borrow.Author.Count.{below_more}
 use Rattle.dcx_math.specs.Rational.{whole, ◌/ℚ◌}

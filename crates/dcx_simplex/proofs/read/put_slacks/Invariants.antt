@@ -1,4 +1,5 @@
-use Rattle.std.proofs.Common.{◌≡◌, ◌≢◌, ℕ, ◌<◌, get_or, length}
+-- The slacks so far stand at their rows.
+use Rattle.std.proofs.Common.{◌≡◌, ◌≢◌, ℕ, ◌<◌, get_or}
 use Rattle.dcx_tab.specs.Program.{kind_at}
 use Rattle.dcx_tab.specs.declared.rows.ColumnKind.TheVariants.{Slack}
 use Rattle.dcx_simplex.proofs.read.put_slacks.Given as goal

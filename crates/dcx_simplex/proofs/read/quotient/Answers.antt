@@ -1,4 +1,5 @@
-use Rattle.std.proofs.Common.{to_z-of_z, rules}
+-- A quotient of numbers that fit is a fraction.
+use Rattle.std.proofs.Common.{to_z-of_z}
 use Rattle.dcx_simplex.proofs.Fractions.{representable_quotient, positive_some}
 use Rattle.dcx_simplex.proofs.read.quotient.Goals as goal
 

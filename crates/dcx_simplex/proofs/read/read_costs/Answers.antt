@@ -1,16 +1,13 @@
-use Rattle.std.proofs.Common.{◌≡◌, ℕ, ◌+◌, ◌<◌, length, map, get_or, arith, refl, sym, ap, ap₂, ◌∙◌, subst, List, to_z-of_z, SFits}
+-- The parts of the answer are the numbers that the tableau shows.
+use Rattle.std.proofs.Common.{ℕ, ◌+◌, length, map, get_or, arith, refl, sym, ap, ap₂, ◌∙◌, subst, List, to_z-of_z, SFits}
 use Rattle.std.specs.Int.{w128}
 use Rattle.dcx_math.specs.Rational.{whole, ◌/ℚ◌}
 use Rattle.dcx_math.specs.Sums.{rat_at}
 use Rattle.dcx_frac.specs.declared.fraction.Frac.{Frac}
-use Rattle.dcx_frac.specs.Frac.{value}
-use Rattle.dcx_tab.specs.declared.rows.IntRow.{IntRow}
-use Rattle.dcx_tab.specs.Rows.{basic_at}
 use Rattle.dcx_tab.specs.Table.{entry_at}
 use Rattle.dcx_tab.specs.Program.{is_negated}
 use Rattle.dcx_simplex.specs.declared.answer.RowNote.{RowNote}
-use Rattle.dcx_simplex.specs.Basis.{lead_at}
-use Rattle.dcx_simplex.specs.Reading.{numbers, IsColumnNumber, reduced_cost_of, reduced_cost_at, factor_of, was_negated, row_factor, read_row, cost_at}
+use Rattle.dcx_simplex.specs.Reading.{numbers, IsColumnNumber, reduced_cost_of, reduced_cost_at, factor_of, was_negated, row_factor, read_row}
 use Rattle.dcx_simplex.proofs.Owns.{own_low, own_unique}
 use Rattle.dcx_simplex.proofs.read.read_costs.Goals as goal
 
@@ -44,9 +41,9 @@ returns-clause-reading g c =
       number = q ∙ ap₂ (λ a b. whole a /ℚ whole b) num den;
       notes = ap length notes ∙ c.in_ok-notes.ensures.len ∙ ap length slice;
       reduced_costs = λ i j h own.
-      let mine = c.in_ok-own.ensures.own i h in
-      let same = ap (λ (xs : List ℕ). get_or xs i 0) c.deref.ensures.value ∙ own_unique p.rows p.columns p.objective p.phase p.form i _ j mine own in
-      ap (λ (ns : List RowNote). rat_at (map reduced_cost_of ns) i) notes ∙ c.in_ok-notes.ensures.reduced_costs i (omega (arith, h, ap length slice)) ∙ ap₂ (reduced_cost_at t) cost same;
+          let mine = c.in_ok-own.ensures.own i h in
+          let same = ap (λ (xs : List ℕ). get_or xs i 0) c.deref.ensures.value ∙ own_unique p.rows p.columns p.objective p.phase p.form i _ j mine own in
+          ap (λ (ns : List RowNote). rat_at (map reduced_cost_of ns) i) notes ∙ c.in_ok-notes.ensures.reduced_costs i (omega (arith, h, ap length slice)) ∙ ap₂ (reduced_cost_at t) cost same;
       factors = ap (map factor_of) notes ∙ c.in_ok-notes.ensures.factors ∙ ap (map row_factor) slice;
       negated = ap (map was_negated) notes ∙ c.in_ok-notes.ensures.negated ∙ ap (map is_negated) slice;
     }

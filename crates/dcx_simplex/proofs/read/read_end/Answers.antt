@@ -1,8 +1,6 @@
 -- Reading an end: its tableau can be read, and what is read is right.
-use Rattle.std.proofs.Common.{◌≡◌, sym, subst, Result, Ok, Err, IfOk}
+use Rattle.std.proofs.Common.{sym, subst}
 use Rattle.std.proofs.lemmas.Result.{IfOk-weaker}
-use Rattle.dcx_tab.specs.First.{first_tableau}
-use Rattle.dcx_simplex.specs.Whole.{RunEnds}
 use Rattle.dcx_simplex.specs.declared.run.LpEnd.TheVariants as lp
 use Rattle.dcx_simplex.specs.declared.answer.LpStatus.TheVariants as status
 use Rattle.dcx_simplex.specs.Reading.{IsReading, IsRayReading}

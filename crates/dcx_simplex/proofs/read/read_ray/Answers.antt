@@ -1,4 +1,5 @@
-use Rattle.std.proofs.Common.{◌≡◌, ℕ, ◌+◌, ◌<◌, length, arith, refl, sym, ap, ap₂, ◌∙◌, subst, List, to_z-of_z, SFits}
+-- The ray is read at the column that enters.
+use Rattle.std.proofs.Common.{◌≡◌, length, arith, sym, ap, ap₂, ◌∙◌, subst, List, to_z-of_z, SFits}
 use Rattle.std.specs.Int.{w128}
 use Rattle.dcx_math.specs.Rational.{whole, ◌/ℚ◌}
 use Rattle.dcx_math.specs.Sums.{rat_at}

@@ -1,4 +1,5 @@
-use Rattle.std.proofs.Common.{◌≡◌, ℕ, ◌+◌, ◌<◌, [], ◌∷◌, ◌++◌, length, map, take, get_or, arith, refl, sym, ap, ap₂, ◌∙◌, subst, List, to_z-of_z, SFits, true}
+-- The next row has its note.
+use Rattle.std.proofs.Common.{◌≡◌, ℕ, ◌+◌, ◌<◌, [], ◌∷◌, length, map, get_or, arith, refl, sym, ap, ap₂, ◌∙◌, subst, List, to_z-of_z, SFits, true}
 use Rattle.std.specs.Int.{w128}
 use Rattle.std.proofs.lemmas.List.{length-append, length-map, map-append}
 use Rattle.dcx_math.specs.Rational.{whole, ◌/ℚ◌}

@@ -1,3 +1,4 @@
+-- The rows so far have their notes.
 use Rattle.std.proofs.Common.{◌≡◌, ℕ, ◌<◌, length, map, take, get_or}
 use Rattle.dcx_math.specs.Sums.{rat_at}
 use Rattle.dcx_tab.specs.Program.{is_negated}

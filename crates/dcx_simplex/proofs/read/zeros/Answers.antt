@@ -1,4 +1,5 @@
-use Rattle.std.proofs.Common.{◌≡◌, ℕ, ◌+◌, [], ◌∷◌, ◌++◌, length, pos, arith, sym, ap, ◌∙◌, subst, List}
+-- A list of zeros has 0 everywhere.
+use Rattle.std.proofs.Common.{◌≡◌, ℕ, [], ◌∷◌, length, pos, arith, sym, ap, subst, List}
 use Rattle.dcx_math.specs.Rational.{whole}
 use Rattle.dcx_math.specs.Sums.{rat_at}
 use Rattle.dcx_frac.specs.declared.fraction.Frac.{Frac}

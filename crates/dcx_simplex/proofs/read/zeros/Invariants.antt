@@ -1,3 +1,4 @@
+-- All numbers so far are 0.
 use Rattle.std.proofs.Common.{◌≡◌, ℕ, pos, length}
 use Rattle.dcx_math.specs.Rational.{whole}
 use Rattle.dcx_math.specs.Sums.{rat_at}

@@ -1,3 +1,4 @@
+-- Without an artificial the second phase begins at once.
 use Rattle.std.proofs.Common.{arith, ◌≤◌, inl, inr, refl}
 use Rattle.dcx_simplex.proofs.run.run_from.Goals as goal
 

@@ -1,4 +1,5 @@
-use Rattle.std.proofs.Common.{arith, ap, length, Fits, ◌+◌, lit<}
+-- z and w come last.
+use Rattle.std.proofs.Common.{arith, ap, length}
 use Rattle.dcx_tab.proofs.Programs.{few_in_all}
 use Rattle.dcx_tab.proofs.build.first_basis.Goals as goal
 

@@ -1,4 +1,5 @@
-use Rattle.std.proofs.Common.{rules, ◌+◌, ◌*◌, ◌≤◌, ◌++◌, ◌∷◌, [], map, length, pos, arith, ap, ap₂, sym, ◌∙◌, to_z-of_z, SFits, append_assoc, append-nil, mul-le-mul_left, mul-le-mul_right}
+-- The rows come first, then the two rows of costs.
+use Rattle.std.proofs.Common.{rules, ◌+◌, ◌≤◌, ◌++◌, ◌∷◌, [], map, length, pos, arith, ap, ap₂, sym, ◌∙◌, to_z-of_z, SFits, append_assoc, append-nil, mul-le-mul_left, mul-le-mul_right}
 use Rattle.std.specs.Int.{w128}
 use Rattle.dcx_tab.specs.Program.{tableau_row, objective_row, phase_row}
 use Rattle.dcx_tab.specs.Cells.{joined}

@@ -1,3 +1,4 @@
+-- No artificial column so far.
 use Rattle.std.proofs.Common.{◌≡◌, ◌+◌, drop}
 use Rattle.dcx_tab.specs.Program.{plain_count}
 use Rattle.dcx_tab.proofs.build.plain_of.Given as goal

@@ -1,4 +1,5 @@
-use Rattle.std.proofs.Common.{rules, ◌+◌, ◌<◌, ◌++◌, ◌∷◌, [], map, get_or, length, take, pos, arith, ap, ap₂, sym, ◌∙◌, to_z-of_z, SFits}
+-- The next row comes behind those so far.
+use Rattle.std.proofs.Common.{rules, ◌<◌, ◌++◌, ◌∷◌, [], map, length, take, pos, arith, ap, ap₂, sym, ◌∙◌, to_z-of_z, SFits}
 use Rattle.std.specs.Int.{w128}
 use Rattle.std.proofs.lemmas.List.{get_or-map, length-map}
 use Rattle.dcx_tab.specs.Program.{tableau_row}

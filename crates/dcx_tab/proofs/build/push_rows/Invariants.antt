@@ -1,3 +1,4 @@
+-- The cells have the rows so far.
 use Rattle.std.proofs.Common.{◌≡◌, ◌++◌, map, take}
 use Rattle.dcx_tab.specs.Cells.{joined}
 use Rattle.dcx_tab.specs.Program.{tableau_row}

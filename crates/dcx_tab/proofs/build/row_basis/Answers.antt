@@ -1,4 +1,5 @@
-use Rattle.std.proofs.Common.{◌+◌, ◌<◌, ◌++◌, [], ◌∷◌, map, get_or, length, take, arith, ap, ap₂, sym, ◌∙◌}
+-- The next first basic column comes behind those so far.
+use Rattle.std.proofs.Common.{◌<◌, ◌++◌, [], ◌∷◌, map, length, arith, ap, ap₂, sym, ◌∙◌}
 use Rattle.std.proofs.lemmas.List.{take_more, get_or-map, length-map}
 use Rattle.dcx_tab.specs.Program.{first_basic_of}
 use Rattle.dcx_tab.proofs.build.row_basis.Goals as goal

@@ -1,6 +1,7 @@
-use Rattle.std.proofs.Common.{rules, ◌≢◌, pos, sym, ◌∙◌, to_z-of_z, SFits, slice_index_or, subst}
+-- The least factors make the difference 0 at the column.
+use Rattle.std.proofs.Common.{rules, pos, sym, ◌∙◌, to_z-of_z, SFits, slice_index_or, subst}
 use Rattle.std.specs.Int.{w128}
-use Rattle.dcx_tab.specs.Rows.{entry, AllSmall}
+use Rattle.dcx_tab.specs.Rows.{AllSmall}
 use Rattle.dcx_tab.proofs.LineSteps.{small-less, AreFactors, formed_by_factors, cleared_by_factors}
 use Rattle.dcx_tab.proofs.lines.clear.Goals as goal
 

@@ -1,3 +1,4 @@
+-- The divisor so far is that of the last entries.
 use Rattle.std.proofs.Common.{◌≡◌, ◌≤◌, drop, length}
 use Rattle.dcx_math.specs.Divisors.{gcd_of}
 use Rattle.dcx_tab.proofs.lines.divisor_of.Given as goal

@@ -1,4 +1,5 @@
-use Rattle.std.proofs.Common.{arith, ap, length, ◌+◌, ◌*◌, ◌<◌, ◌≡◌, ℕ, sym, ◌∙◌, subst}
+-- The cells, read as rows, are those of the first tableau.
+use Rattle.std.proofs.Common.{arith, ap, length, ◌+◌, ◌*◌, ◌≡◌, sym, ◌∙◌, subst}
 use Rattle.dcx_tab.specs.Rows.{AllSmall}
 use Rattle.dcx_tab.specs.Cells.{row_of, table_rows}
 use Rattle.dcx_tab.specs.Program.{plain_count}
