@@ -53,16 +53,22 @@ end_within : (n : ℕ) (low high default : ℤ) (end : Option ℤ) → low ≤�
 end_within n low high default None b l h = (l, h)
 end_within n low high default (Some i) b l h = (omega (arith, ints, clamps), omega (arith, ints, clamps))
 
+up_end : (n : ℕ) (default : ℤ) (end : Option ℤ) → pos 0 ≤ℤ default → default ≤ℤ pos n → (pos 0 ≤ℤ end_of n (pos 0) (pos n) default end) × (end_of n (pos 0) (pos n) default end ≤ℤ pos n)
+up_end n default end l h = end_within n (pos 0) (pos n) default end (omega (arith, ints)) l h
+
+down_end : (n : ℕ) (default : ℤ) (end : Option ℤ) → negsuc 0 ≤ℤ default → default ≤ℤ (pos n -ℤ pos 1) → (negsuc 0 ≤ℤ end_of n (negsuc 0) (pos n -ℤ pos 1) default end) × (end_of n (negsuc 0) (pos n -ℤ pos 1) default end ≤ℤ (pos n -ℤ pos 1))
+down_end n default end l h = end_within n (negsuc 0) (pos n -ℤ pos 1) default end (omega (arith, ints)) l h
+
 -- what comes before the stop lies on the side
 place_within : (n : ℕ) (step : ℤ) (start stop : Option ℤ) (k : ℕ) → step ≢ pos 0 → IsBefore step (start_for n step start +ℤ pos k *ℤ step) (stop_for n step stop) → (pos 0 ≤ℤ (start_for n step start +ℤ pos k *ℤ step)) × ((start_for n step start +ℤ pos k *ℤ step) <ℤ pos n)
 place_within n (pos s) start stop k ne b =
-    let first : (pos 0 ≤ℤ start_for n (pos s) start) × (start_for n (pos s) start ≤ℤ pos n) = end_within n (pos 0) (pos n) (pos 0) start (omega (arith, ints)) (omega (arith, ints)) (omega (arith, ints)) in
-    let last : (pos 0 ≤ℤ stop_for n (pos s) stop) × (stop_for n (pos s) stop ≤ℤ pos n) = end_within n (pos 0) (pos n) (pos n) stop (omega (arith, ints)) (omega (arith, ints)) (omega (arith, ints)) in
-    (omega (arith, ints), omega (arith, ints))
+    let first = up_end n (pos 0) start (omega (arith, ints)) (omega (arith, ints)) in
+    let last = up_end n (pos n) stop (omega (arith, ints)) (omega (arith, ints)) in
+    (omega (arith, ints, first.0), omega (arith, ints, last.1))
 place_within n (negsuc s) start stop k ne b =
-    let first : (negsuc 0 ≤ℤ start_for n (negsuc s) start) × (start_for n (negsuc s) start ≤ℤ (pos n -ℤ pos 1)) = end_within n (negsuc 0) (pos n -ℤ pos 1) (pos n -ℤ pos 1) start (omega (arith, ints)) (omega (arith, ints)) (omega (arith, ints)) in
-    let last : (negsuc 0 ≤ℤ stop_for n (negsuc s) stop) × (stop_for n (negsuc s) stop ≤ℤ (pos n -ℤ pos 1)) = end_within n (negsuc 0) (pos n -ℤ pos 1) (negsuc 0) stop (omega (arith, ints)) (omega (arith, ints)) (omega (arith, ints)) in
-    (omega (arith, ints), omega (arith, ints))
+    let first = down_end n (pos n -ℤ pos 1) start (omega (arith, ints)) (omega (arith, ints)) in
+    let last = down_end n (negsuc 0) stop (omega (arith, ints)) (omega (arith, ints)) in
+    (omega (arith, ints, last.0), omega (arith, ints, first.1))
 
 -- the run of a slice, as the code makes it
 pub record IsRunOf (n : ℕ) (s : Slice) (first : ℕ) (step : ℤ) (count : ℕ) : Type 0 where
@@ -89,8 +95,8 @@ run_place_is n s first step count r k h =
 
 pub run_fits : (n : ℕ) (s : Slice) (first : ℕ) (step : ℤ) (count : ℕ) → IsRunOf n s first step count → n < 2 ^ 32 → (k : ℕ) → k < count → FitsUnsigned w32 (pos first +ℤ pos k *ℤ step)
 run_fits n s first step count r small k h =
-    let in' = slice_within n s k r.steps ((r.some k).0 h) in
-    rw (run_place_is n s first step count r k h) (in'.0, omega (arith, ints, in'.1, small))
+    let on_side = slice_within n s k r.steps ((r.some k).0 h) in
+    rw (run_place_is n s first step count r k h) (on_side.0, omega (arith, ints, on_side.1, small))
 
 pub length-places_from : (first : ℕ) (step : ℤ) (count : ℕ) → length (places_from first step count) ≡ count
 length-places_from first step count = length-map-range_with_len (place_from first step) 0 count
@@ -106,8 +112,8 @@ slice_runs n s first step count r = record {
   some = λ k. rw (length-places_from first step count) (r.some k);
   are = λ k h.
       let b : k < count = omega (arith, h, length-places_from first step count) in
-      let in' = slice_within n s k r.steps ((r.some k).0 b) in
-      rw (get_or-places_from first step count k 0 b, run_place_is n s first step count r k b) (pos-unsigned_abs (slice_place n s k) in'.0);
+      let on_side = slice_within n s k r.steps ((r.some k).0 b) in
+      rw (get_or-places_from first step count k 0 b, run_place_is n s first step count r k b) (pos-unsigned_abs (slice_place n s k) on_side.0);
 }
 
 -- what the code computes is the run of the slice
@@ -122,8 +128,8 @@ run_of n s start stop step first count ne e p q f some = record {
 -- every place of a slice lies on the side
 pub slice_below : (n : ℕ) (s : Slice) (places : List ℕ) → s.step ≢ pos 0 → IsSlice n s places → All (λ p. p < n) places
 slice_below n s places ne r k d h =
-    let in' = slice_within n s k ne ((r.some k).0 h) in
-    rw (get_or_default places k d 0 h) (omega (arith, ints, r.are k h, in'.1))
+    let on_side = slice_within n s k ne ((r.some k).0 h) in
+    rw (get_or_default places k d 0 h) (omega (arith, ints, r.are k h, on_side.1))
 
 -- a slice has one number of places
 slice_shorter : (n : ℕ) (s : Slice) (xs ys : List ℕ) → IsSlice n s xs → IsSlice n s ys → length xs ≤ length ys
@@ -135,18 +141,14 @@ slice_length n s xs ys r t = le_antisymm (slice_shorter n s xs ys r t) (slice_sh
 -- a slice has at most as many places as the side
 most_places : (n : ℕ) (step : ℤ) (start : Option ℤ) (k : ℕ) → step ≢ pos 0 → (pos 0 ≤ℤ (start_for n step start +ℤ pos k *ℤ step)) → ((start_for n step start +ℤ pos k *ℤ step) <ℤ pos n) → k < n
 most_places n (pos zero) start k ne low high = absurd (ne refl)
-most_places n (pos (suc s)) start k ne low high =
-    let first : (pos 0 ≤ℤ start_for n (pos (suc s)) start) × (start_for n (pos (suc s)) start ≤ℤ pos n) = end_within n (pos 0) (pos n) (pos 0) start (omega (arith, ints)) (omega (arith, ints)) (omega (arith, ints)) in
-    omega (arith, ints, mul-suc k s)
-most_places n (negsuc s) start k ne low high =
-    let first : (negsuc 0 ≤ℤ start_for n (negsuc s) start) × (start_for n (negsuc s) start ≤ℤ (pos n -ℤ pos 1)) = end_within n (negsuc 0) (pos n -ℤ pos 1) (pos n -ℤ pos 1) start (omega (arith, ints)) (omega (arith, ints)) (omega (arith, ints)) in
-    omega (arith, ints, mul-suc k s)
+most_places n (pos (suc s)) start k ne low high = omega (arith, ints, mul-suc k s, (up_end n (pos 0) start (omega (arith, ints)) (omega (arith, ints))).0)
+most_places n (negsuc s) start k ne low high = omega (arith, ints, mul-suc k s, (down_end n (pos n -ℤ pos 1) start (omega (arith, ints)) (omega (arith, ints))).1)
 
 pub slice_most : (n : ℕ) (s : Slice) (places : List ℕ) → s.step ≢ pos 0 → IsSlice n s places → length places ≤ n
 slice_most n s [] ne r = omega arith
 slice_most n s (p ∷ places) ne r =
-    let in' = slice_within n s (length places) ne ((r.some (length places)).0 (omega arith)) in
-    most_places n s.step s.start (length places) ne in'.0 in'.1
+    let on_side = slice_within n s (length places) ne ((r.some (length places)).0 (omega arith)) in
+    most_places n s.step s.start (length places) ne on_side.0 on_side.1
 
 -- a bound on the places of a run
 pub run_below : (first : ℕ) (step : ℤ) (count bound k : ℕ) → All (λ p. p < bound) (places_from first step count) → k < count → place_from first step k < bound
