@@ -8,4 +8,5 @@ pub mod Pieces
 pub mod RefusalText
 pub mod Refusals
 pub mod ReportText
+pub mod SameText
 pub mod StopText

@@ -1,5 +1,5 @@
 //! Appends the lines of an answer.
-ghost use Rattle.std.specs.Prelude.{◌≡◌, ◌++◌, OnOk, codes};
+ghost use Rattle.std.specs.Prelude.{◌≡◌, ◌++◌, OnOk};
 ghost use Rattle.std.specs.List.{flat_map};
 ghost use Rattle.dcx_report.specs.Negated.{negated};
 ghost use Rattle.dcx_report.specs.AnswerText.{user_number, number_line, named_line, var_lines, ray_lines, dual_line, dual_lines, answer_text};

@@ -4,6 +4,7 @@
 mod answer_lines;
 mod array;
 mod graph;
+pub mod laws;
 mod library;
 mod memory;
 mod outcome;

@@ -1,5 +1,5 @@
 //! The files of the host as a library, and a writer of the host as a sink. What they hold is not told.
-ghost use Rattle.std.specs.Prelude.{◌≡◌, ◌<◌, ◌≤◌, length, IfOk, IfSome, OnOk, IsErrOf, None, vec_len};
+ghost use Rattle.std.specs.Prelude.{◌≡◌, ◌<◌, ◌≤◌, length, IfOk, IfSome, IsErrOf, None};
 
 use crate::{FetchFault, Library, Sink, SinkFault};
 use dcx_shape::Bytes;

@@ -1,7 +1,7 @@
 //! The bytes of the report of a run.
 ghost use Rattle.std.specs.Prelude.{◌≡◌, ◌++◌, IfOk, OnOk};
 ghost use Rattle.dcx_report.specs.OutcomeText.{word_text, end_text, outcome_text, outcome_lines, is_answer, count_of_answers, count_of_stops, count_line};
-ghost use Rattle.dcx_report.specs.ReportText.{text_of, usage_text};
+ghost use Rattle.dcx_report.specs.ReportText.{text_of};
 
 use crate::answer_lines::put_answer;
 use crate::pieces::{put_bytes, put_number};

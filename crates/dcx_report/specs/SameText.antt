@@ -1,0 +1,71 @@
+-- What the report of a run tells: two runs over one problem with the same report have the same answers.
+use Rattle.std.specs.Prelude.{◌≡◌, ◌≢◌, ℕ, List, All, map, None, Some, ⊤}
+use Rattle.std.specs.declared.option.Option.{Option}
+use Rattle.dcx_shape.specs.declared.shape.Shape.{Shape}
+use Rattle.dcx_report.specs.declared.array.Array.{Array}
+use Rattle.dcx_report.specs.declared.tree.Named.{Named}
+use Rattle.dcx_report.specs.declared.tree.Sense.{Sense}
+use Rattle.dcx_report.specs.declared.graph.Answer.{Answer}
+use Rattle.dcx_report.specs.declared.graph.Answer.TheVariants.{Optimal, Infeasible, Unbounded}
+use Rattle.dcx_report.specs.declared.graph.Stop.{Stop}
+use Rattle.dcx_report.specs.declared.graph.Stop.TheVariants.{UnknownParam, MissingParam, ParamShape, ParamSign}
+use Rattle.dcx_report.specs.declared.outcome.Outcome.{Outcome}
+use Rattle.dcx_report.specs.declared.outcome.OutcomeEnd.{OutcomeEnd}
+use Rattle.dcx_report.specs.declared.outcome.OutcomeEnd.TheVariants as the
+use Rattle.dcx_report.specs.declared.run.Word.{Word}
+use Rattle.dcx_report.specs.declared.run.Run.TheVariants.{Solved}
+use Rattle.dcx_report.specs.ReportText.{text_of}
+
+-- the variables and the constraints of a problem, as far as its reports show them
+pub record Layout : Type 0 where
+  pub variables : List (List ℕ × Shape)
+  pub constraints : List Shape
+
+-- the name and the shape of each variable of a point
+abbrev pub variables_of : List Named → List (List ℕ × Shape)
+variables_of point = map (λ n. (n.name, n.array.shape)) point
+
+-- the shape of each constraint's multipliers
+abbrev pub constraints_of : List Array → List Shape
+constraints_of duals = map (λ a. a.shape) duals
+
+-- the answer is to a problem with this layout
+abbrev pub IsAnswerOf : Layout → Answer → Type 0
+IsAnswerOf layout (Optimal value point duals) =
+    (variables_of point ≡ layout.variables) × (constraints_of duals ≡ layout.constraints)
+IsAnswerOf layout (Infeasible duals gap) = constraints_of duals ≡ layout.constraints
+IsAnswerOf layout (Unbounded point ray bound slope) =
+    (variables_of point ≡ layout.variables) × (variables_of ray ≡ layout.variables)
+
+-- no line feed stands in the name, as in none of a script
+abbrev pub IsOnOneLine : List ℕ → Type 0
+IsOnOneLine name = All (λ c. c ≢ 10) name
+
+-- the name that a stop says is on one line
+abbrev pub SaysOneLine : Stop → Type 0
+SaysOneLine (UnknownParam name) = IsOnOneLine name
+SaysOneLine (MissingParam name) = IsOnOneLine name
+SaysOneLine (ParamShape name declared given) = IsOnOneLine name
+SaysOneLine (ParamSign name entry value) = IsOnOneLine name
+SaysOneLine _ = ⊤
+
+-- the outcome is of a problem with this layout
+abbrev pub IsEndOf : Layout → OutcomeEnd → Type 0
+IsEndOf layout (the.Answer answer) = IsAnswerOf layout answer
+IsEndOf layout (the.Stop stop) = SaysOneLine stop
+
+-- the answer to a setting, where it has one
+abbrev pub answer_of : OutcomeEnd → Option Answer
+answer_of (the.Answer answer) = Some answer
+answer_of (the.Stop stop) = None
+
+-- the answers of a run, in order
+abbrev pub answers_of : List Outcome → List (Option Answer)
+answers_of outcomes = map (λ o. answer_of o.end) outcomes
+
+-- two runs over one problem with the same report have the same answers
+abbrev pub SameTextSameAnswers : Type 0
+SameTextSameAnswers =
+    (layout : Layout) (word : Word) (sense : Sense) (xs ys : List Outcome)
+    → All (λ o. IsEndOf layout o.end) xs → All (λ o. IsEndOf layout o.end) ys
+    → text_of (Solved word sense xs) ≡ text_of (Solved word sense ys) → answers_of xs ≡ answers_of ys
