@@ -106,9 +106,9 @@ pub enum Site {
     Pivot {
         /// How many pivots were done before it.
         pivots: u64,
-        /// The first row that would pass.
+        /// The row of the pivot, counted from 0.
         row: u32,
-        /// The first column of that row that would pass.
+        /// The column of the pivot, counted from 0.
         column: u32,
     },
     /// At a row, while the answer is read.
