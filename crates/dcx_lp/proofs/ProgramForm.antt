@@ -78,6 +78,7 @@ column n m j = by (cases_below j n) (cases_below j (n + m))
         by_test : (t : Bool) → nat_lt a b ≡ t → (a < b) ⊎ (b ≤ a)
         by_test true e = inl (grind (arith, nat_tests))
         by_test false e = inr (grind (arith, nat_tests))
+
     by : (j < n) ⊎ (n ≤ j) → (j < n + m) ⊎ (n + m ≤ j) → Column n m j
     by (inl h) k = an_unknown h (unknown_in 0 n j (slacks_from 0 m) h ∙ (let e : 0 + j ≡ j = omega arith in ap (λ i. Unknown i false) e))
     by (inr h) (inl k) =
@@ -109,12 +110,14 @@ unit_at (suc n) zero (suc j) h = zeros_at n j ∙ sym (by_false (later j))
   where
     later : (k : ℕ) → nat_eq (suc k) 0 ≡ false
     later k = grind (arith, nat_tests)
+
     by_false : {t : Bool} → t ≡ false → (if t then pos 1 else pos 0) ≡ pos 0
     by_false e = rw e refl
 unit_at (suc n) (suc i) zero h = sym (by_false (earlier i))
   where
     earlier : (k : ℕ) → nat_eq 0 (suc k) ≡ false
     earlier k = grind (arith, nat_tests)
+
     by_false : {t : Bool} → t ≡ false → (if t then pos 1 else pos 0) ≡ pos 0
     by_false e = rw e refl
 unit_at (suc n) (suc i) (suc j) h = unit_at n i j (omega arith) ∙ ap (λ t. if t then pos 1 else pos 0) (sym (both j i))
@@ -169,6 +172,7 @@ module _ (n m i : ℕ) (b : Bound) (r : IntRow) (here : i < m) (width : length b
     where
       is : r.basic ≡ n + i
       is = k.is.basic ∙ ap (λ x. x + i) width
+
       by : Column n m r.basic → kind_at (columns_of n m) r.basic ≡ Slack i
       by (an_unknown l e) = absurd (omega (arith, is))
       by (a_slack s l d e) = e ∙ ap Slack (omega (arith, is, d))
@@ -233,6 +237,7 @@ no_start n m k f (b ∷ bs) (r ∷ rs) h w l =
   where
     apart : (a b : ℕ) → b < a → nat_le a b ≡ false
     apart a b h = grind (arith, nat_tests)
+
     zero_left : (z : ℤ) → pos 0 +ℤ z ≡ z
     zero_left z = omega (arith, ints)
 
@@ -366,6 +371,7 @@ module _ (n m : ℕ) (objective : List ℤ) (bs : List Bound) (rs : List IntRow)
         where
           no_such : false ≡ true → ⊥
           no_such e = cc
+
       by : Column n m j → ⊥
       by (an_unknown l e) = unlike j (sym e ∙ h)
       by (a_slack s l d e) = different (sym e ∙ h)
@@ -379,6 +385,7 @@ module _ (n m : ℕ) (objective : List ℤ) (bs : List Bound) (rs : List IntRow)
     where
       is_below : (a b : ℕ) → a < b → nat_lt a b ≡ true
       is_below a b h = grind (arith, nat_tests)
+
       plain : Column n m j → is_plain (kind_at (columns_of n m) j) ≡ true
       plain (an_unknown l e) = rw e refl
       plain (a_slack s l d e) = rw e refl

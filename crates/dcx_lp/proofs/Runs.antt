@@ -42,10 +42,13 @@ long_of p q t e a h k = by e k
   where
     n : ℕ
     n = length p.objective
+
     m : ℕ
     m = length p.bounds
+
     count : length q.columns ≡ n + m
     count = ap length h.columns ∙ length-columns n m
+
     by : (x : LpEnd) → IsRead q.rows q.columns t x a → IsLong p a
     by (lp.Optimal k) r = record { columns = omega (arith, r.0.columns, count); ray = λ u. absurd (unlike (sym r.0.status ∙ u)) }
       where
@@ -91,9 +94,11 @@ at_limit limit n m k q u e r = by r
   where
     all_plain : plain_count q.columns ≡ length q.columns
     all_plain = subst (λ ks. plain_count ks ≡ length ks) (sym e) (plain-columns n m ∙ sym (length-columns n m))
+
     begun : (v : Table) (j : ℕ) → Starts limit (first_tableau q) v j → j ≡ 0
     begun v j (inl s) = s.2
     begun v j (inr d) = absurd (omega (arith, all_plain, d.2.0))
+
     by : RunEnds limit (first_tableau q) u (lp.PivotLimit k) → k ≡ limit
     by (inl f) = absurd (omega (arith, all_plain, f.0))
     by (inr (inl d)) = absurd (omega (arith, all_plain, d.2.0))
