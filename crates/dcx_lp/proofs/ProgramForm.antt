@@ -1,13 +1,12 @@
 -- The integer program of a linear program has the form from which the simplex starts.
 use Rattle.std.proofs.Common.{◌≡◌, ℕ, zero, suc, ◌+◌, ◌-◌, ◌<◌, ◌≤◌, ◌^◌, Bool, true, false, List, [], ◌∷◌, ◌++◌, length, map, get_or, replicate, refl, sym, ap, ◌∙◌, subst, arith, ◌⊎◌, inl, inr, Some}
-use Rattle.std.specs.Prelude.{slice_get, ℤ, pos, negsuc, neg_ℤ, ◌+ℤ◌, ◌≤ℤ◌, ◌<ℤ◌, nat_eq, nat_lt, nat_le, unsigned_abs, not, ◌&&◌, if◌then◌else◌}
-use Rattle.std.proofs.lemmas.List.{length-map, length-append, get_or_append_left, get_or-append-add, get_or_at, get_or_past}
+use Rattle.std.specs.Prelude.{slice_get, ℤ, pos, neg_ℤ, ◌+ℤ◌, nat_eq, nat_lt, nat_le, unsigned_abs, not, ◌&&◌, if◌then◌else◌}
+use Rattle.std.proofs.lemmas.List.{length-map, length-append, get_or-append-add, get_or_at, get_or_past}
 use Rattle.std.proofs.lemmas.Bool.Decides.{nat_tests}
 use Rattle.std.proofs.lemmas.Int.{ints}
 use Rattle.dcx_math.specs.Rational.{ℚ, whole}
 use Rattle.dcx_math.specs.Sums.{rat_scaled}
-use Rattle.dcx_math.specs.Divisors.{gcd_of, IsPrimitive}
-use Rattle.dcx_math.specs.IntegerSums.{int_sum_by}
+use Rattle.dcx_math.specs.Divisors.{gcd_of}
 use Rattle.dcx_math.proofs.Vectors.{length-rat_scaled}
 use native.Mathlib.Nat.{eq-one_of_dvd-one}
 use Prim.Native.Nat.{◌∣◌}
@@ -18,10 +17,10 @@ use Rattle.dcx_tab.specs.declared.rows.ColumnKind.TheVariants.{Unknown, Slack, A
 use Rattle.dcx_tab.specs.declared.rows.IntRow.{IntRow}
 use Rattle.dcx_tab.specs.declared.rows.CostRow.{CostRow}
 use Rattle.dcx_tab.specs.Rows.{entry, AllSmall}
-use Rattle.dcx_tab.specs.Program.{IsProgram, IsProgramRow, IsObjective, IsPhase, IsTurned, kind_at, told_entry, may_start, unknown_entry, is_plain, plain_count, sum_started, tableau_row, objective_row, phase_row, right_of, first_basic_at}
+use Rattle.dcx_tab.specs.Program.{IsProgram, IsProgramRow, IsObjective, IsPhase, IsTurned, kind_at, told_entry, unknown_entry, is_plain, plain_count, sum_started, objective_row, right_of}
 use Rattle.dcx_plain.specs.Phrases.{Every}
 use Rattle.dcx_plain.specs.Meaning.{Bound}
-use Rattle.dcx_lp.specs.IntegerProgram.{unit, unknowns_from, slacks_from, IsRowOf, EachRow, IsKeptRow, IsCost, IsNoPhase}
+use Rattle.dcx_lp.specs.IntegerProgram.{unit, unknowns_from, slacks_from, EachRow, IsKeptRow, IsCost, IsNoPhase}
 
 -- ---- the columns
 abbrev pub columns_of : ℕ → ℕ → List ColumnKind

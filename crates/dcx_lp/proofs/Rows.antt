@@ -1,13 +1,13 @@
 -- The row of a bound, divided by its greatest common divisor, and the steps of the loops.
-use Rattle.std.proofs.Common.{◌≡◌, ◌≢◌, ℕ, zero, suc, ◌+◌, ◌-◌, ◌<◌, ◌≤◌, ◌^◌, ◌/◌, List, [], ◌∷◌, ◌++◌, length, map, take, drop, get_or, replicate, ℤ, pos, negsuc, ◌*ℤ◌, ◌<ℤ◌, ◌≤ℤ◌, unsigned_abs, neg_ℤ, arith, refl, sym, ap, ap₂, ◌∙◌, subst, ◌⊎◌, inl, inr, SFits, Some, Bool, true, false}
+use Rattle.std.proofs.Common.{◌≡◌, ◌≢◌, ℕ, zero, suc, ◌+◌, ◌-◌, ◌<◌, ◌≤◌, ◌^◌, List, [], ◌∷◌, ◌++◌, length, map, take, drop, get_or, replicate, ℤ, pos, negsuc, ◌≤ℤ◌, unsigned_abs, arith, refl, sym, ap, ap₂, ◌∙◌, subst, ◌⊎◌, inl, inr, Some, Bool, true, false}
 use Rattle.std.specs.Prelude.{slice_get, nat_eq, if◌then◌else◌}
 use Rattle.std.proofs.lemmas.Int.{ints}
 use Rattle.std.proofs.lemmas.Bool.{cases_lt}
 use Rattle.std.proofs.lemmas.Option.{slice_get-get_or}
-use Rattle.std.proofs.lemmas.List.{length-map, length-take-le, get_or-map, map-append, take_more, take_all, get_or_past}
+use Rattle.std.proofs.lemmas.List.{length-map, length-take-le, map-append, take_more, take_all, get_or_past}
 use native.Mathlib.Nat.{div-le_self, one-dvd, le_of_dvd}
 use Prim.Native.Nat.{◌∣◌}
-use Rattle.dcx_math.specs.Rational.{ℚ, whole, ◌*ℚ◌, ◌/ℚ◌, inverse, ◌<ℚ◌}
+use Rattle.dcx_math.specs.Rational.{ℚ, whole, ◌*ℚ◌, ◌/ℚ◌, ◌<ℚ◌}
 use Rattle.dcx_math.specs.Sums.{rat_scaled}
 use Rattle.dcx_math.specs.Divisors.{gcd, gcd_of, IsPrimitive, divided}
 use Rattle.dcx_math.proofs.Divisors.{gcd-zero, gcd-dvd_right, divided_is, unsigned_abs-divided}
@@ -17,7 +17,6 @@ use Rattle.dcx_math.proofs.Products.{/ℚ-*ℚ, *ℚ-positive, inverse-positive,
 use Rattle.dcx_math.proofs.Primitive.{IsPrimitive-primitive_part}
 use Rattle.dcx_math.proofs.Ring.{/ℚ-is}
 use Rattle.dcx_frac.specs.Frac.{value}
-use Rattle.dcx_tab.specs.declared.rows.ColumnKind.{ColumnKind}
 use Rattle.dcx_tab.specs.declared.rows.ColumnKind.TheVariants.{Unknown, Slack}
 use Rattle.dcx_tab.specs.declared.rows.IntRow.{IntRow}
 use Rattle.dcx_tab.specs.Rows.{entry, AllSmall}
@@ -25,7 +24,7 @@ use Rattle.dcx_tab.proofs.RowLaws.{gcd_of-dvd_entry}
 use Rattle.dcx_plain.specs.Phrases.{Every}
 use Rattle.dcx_plain.specs.declared.linear.Row.{Row}
 use Rattle.dcx_plain.specs.Meaning.{Bound, kept_bound}
-use Rattle.dcx_lp.specs.IntegerProgram.{unit, unknowns_from, slacks_from, IsRowOf, EachRow, AreRowsOf, IsKeptRow, or_one, divisor_of}
+use Rattle.dcx_lp.specs.IntegerProgram.{unit, unknowns_from, slacks_from, EachRow, AreRowsOf, IsKeptRow, or_one, divisor_of}
 use Rattle.dcx_lp.proofs.ProgramForm.{unit_at, length-unit, AllSmall-++, AllSmall-cons, AllSmall-nil}
 
 -- ---- the divisor

@@ -1,5 +1,5 @@
 -- The run on the integer program of a linear program.
-use Rattle.std.proofs.Common.{◌≡◌, ℕ, zero, suc, ◌+◌, ◌≤◌, List, [], ◌∷◌, length, refl, sym, ap, ◌∙◌, subst, ◌⊎◌, inl, inr, arith}
+use Rattle.std.proofs.Common.{◌≡◌, ℕ, suc, ◌+◌, ◌≤◌, List, [], ◌∷◌, length, refl, sym, ap, ◌∙◌, subst, ◌⊎◌, inl, inr, arith}
 use Rattle.std.specs.Prelude.{IfOk, Result, Ok, Err}
 use Rattle.std.specs.declared.alloc.AllocError.{AllocError}
 use Rattle.dcx_tab.specs.declared.program.Program as tab
@@ -20,7 +20,7 @@ use Rattle.dcx_lp.specs.IntegerProgram.{EachRow, IsRowOf, IsProgramOf}
 use Rattle.dcx_lp.specs.declared.solving.Solution.{Solution}
 use Rattle.dcx_lp.specs.declared.solving.Solution.TheVariants as solution
 use Rattle.dcx_lp.proofs.ProgramForm.{columns_of, length-columns, plain-columns}
-use Rattle.dcx_lp.specs.Solution.{IsLong, IsShown, IsAnswered, IsSolution, HasRun}
+use Rattle.dcx_lp.specs.Solution.{IsLong, IsShown, IsAnswered, IsSolution}
 
 -- an answer has a note for each row
 pub notes_of : (q : tab.Program) (t : Table) (e : LpEnd) (a : LpAnswer) → IsRead q.rows q.columns t e a → length a.rows ≡ length q.rows

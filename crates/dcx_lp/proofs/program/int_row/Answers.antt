@@ -1,4 +1,4 @@
-use Rattle.std.proofs.Common.{rules, ◌+◌, ◌<◌, ◌^◌, refl, ap, ap₂, sym, ◌∙◌, map, length, to_z-of_z, SFits, unsigned_abs, pos}
+use Rattle.std.proofs.Common.{rules, ◌+◌, refl, ap, ap₂, sym, ◌∙◌, map, length, to_z-of_z, SFits, unsigned_abs, pos}
 use Rattle.std.specs.Int.{w64, w128}
 use Rattle.std.proofs.lemmas.Int.{fits_signed_from_abs}
 use Rattle.dcx_math.specs.Rational.{whole, ◌/ℚ◌}

@@ -1,4 +1,4 @@
-use Rattle.std.proofs.Common.{◌≡◌, ◌≤◌, List, map, length, ◌+◌, arith, ap, ap₂, sym, ◌∙◌, subst, refl, pos}
+use Rattle.std.proofs.Common.{◌≡◌, ◌≤◌, length, ◌+◌, arith, ap, ap₂, sym, ◌∙◌, subst, refl, pos}
 use Rattle.std.specs.Prelude.{◌≤ℤ◌}
 use Rattle.std.proofs.lemmas.List.{length-map}
 use Rattle.dcx_plain.specs.declared.linear.Row.{Row}

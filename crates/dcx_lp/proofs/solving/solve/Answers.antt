@@ -1,4 +1,4 @@
-use Rattle.std.proofs.Common.{◌≡◌, length, sym, ap, subst}
+use Rattle.std.proofs.Common.{length, subst}
 use Rattle.dcx_tab.specs.Views.{table_of}
 use Rattle.dcx_tab.specs.First.{first_tableau}
 use Rattle.dcx_simplex.specs.Whole.{RunEnds}
