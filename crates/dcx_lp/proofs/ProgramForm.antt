@@ -1,13 +1,12 @@
 -- The integer program of a linear program has the form from which the simplex starts.
 use Rattle.std.proofs.Common.{◌≡◌, ℕ, zero, suc, ◌+◌, ◌-◌, ◌<◌, ◌≤◌, ◌^◌, Bool, true, false, List, [], ◌∷◌, ◌++◌, length, map, get_or, replicate, refl, sym, ap, ◌∙◌, subst, arith, ◌⊎◌, inl, inr, Some}
-use Rattle.std.specs.Prelude.{slice_get, ℤ, pos, negsuc, neg_ℤ, ◌+ℤ◌, ◌≤ℤ◌, ◌<ℤ◌, nat_eq, nat_lt, nat_le, unsigned_abs, not, ◌&&◌, if◌then◌else◌}
-use Rattle.std.proofs.lemmas.List.{length-map, length-append, get_or_append_left, get_or-append-add, get_or_at, get_or_past}
+use Rattle.std.specs.Prelude.{slice_get, ℤ, pos, neg_ℤ, ◌+ℤ◌, nat_eq, nat_lt, nat_le, unsigned_abs, not, ◌&&◌, if◌then◌else◌}
+use Rattle.std.proofs.lemmas.List.{length-map, length-append, get_or-append-add, get_or_at, get_or_past}
 use Rattle.std.proofs.lemmas.Bool.Decides.{nat_tests}
 use Rattle.std.proofs.lemmas.Int.{ints}
 use Rattle.dcx_math.specs.Rational.{ℚ, whole}
 use Rattle.dcx_math.specs.Sums.{rat_scaled}
-use Rattle.dcx_math.specs.Divisors.{gcd_of, IsPrimitive}
-use Rattle.dcx_math.specs.IntegerSums.{int_sum_by}
+use Rattle.dcx_math.specs.Divisors.{gcd_of}
 use Rattle.dcx_math.proofs.Vectors.{length-rat_scaled}
 use native.Mathlib.Nat.{eq-one_of_dvd-one}
 use Prim.Native.Nat.{◌∣◌}
@@ -18,10 +17,10 @@ use Rattle.dcx_tab.specs.declared.rows.ColumnKind.TheVariants.{Unknown, Slack, A
 use Rattle.dcx_tab.specs.declared.rows.IntRow.{IntRow}
 use Rattle.dcx_tab.specs.declared.rows.CostRow.{CostRow}
 use Rattle.dcx_tab.specs.Rows.{entry, AllSmall}
-use Rattle.dcx_tab.specs.Program.{IsProgram, IsProgramRow, IsObjective, IsPhase, IsTurned, kind_at, told_entry, may_start, unknown_entry, is_plain, plain_count, sum_started, tableau_row, objective_row, phase_row, right_of, first_basic_at}
+use Rattle.dcx_tab.specs.Program.{IsProgram, IsProgramRow, IsObjective, IsPhase, IsTurned, kind_at, told_entry, unknown_entry, is_plain, plain_count, sum_started, objective_row, right_of}
 use Rattle.dcx_plain.specs.Phrases.{Every}
 use Rattle.dcx_plain.specs.Meaning.{Bound}
-use Rattle.dcx_lp.specs.IntegerProgram.{unit, unknowns_from, slacks_from, IsRowOf, EachRow, IsKeptRow, IsCost, IsNoPhase}
+use Rattle.dcx_lp.specs.IntegerProgram.{unit, unknowns_from, slacks_from, EachRow, IsKeptRow, IsCost, IsNoPhase}
 
 -- ---- the columns
 abbrev pub columns_of : ℕ → ℕ → List ColumnKind
@@ -78,6 +77,7 @@ column n m j = by (cases_below j n) (cases_below j (n + m))
         by_test : (t : Bool) → nat_lt a b ≡ t → (a < b) ⊎ (b ≤ a)
         by_test true e = inl (grind (arith, nat_tests))
         by_test false e = inr (grind (arith, nat_tests))
+
     by : (j < n) ⊎ (n ≤ j) → (j < n + m) ⊎ (n + m ≤ j) → Column n m j
     by (inl h) k = an_unknown h (unknown_in 0 n j (slacks_from 0 m) h ∙ (let e : 0 + j ≡ j = omega arith in ap (λ i. Unknown i false) e))
     by (inr h) (inl k) =
@@ -109,12 +109,14 @@ unit_at (suc n) zero (suc j) h = zeros_at n j ∙ sym (by_false (later j))
   where
     later : (k : ℕ) → nat_eq (suc k) 0 ≡ false
     later k = grind (arith, nat_tests)
+
     by_false : {t : Bool} → t ≡ false → (if t then pos 1 else pos 0) ≡ pos 0
     by_false e = rw e refl
 unit_at (suc n) (suc i) zero h = sym (by_false (earlier i))
   where
     earlier : (k : ℕ) → nat_eq 0 (suc k) ≡ false
     earlier k = grind (arith, nat_tests)
+
     by_false : {t : Bool} → t ≡ false → (if t then pos 1 else pos 0) ≡ pos 0
     by_false e = rw e refl
 unit_at (suc n) (suc i) (suc j) h = unit_at n i j (omega arith) ∙ ap (λ t. if t then pos 1 else pos 0) (sym (both j i))
@@ -169,6 +171,7 @@ module _ (n m i : ℕ) (b : Bound) (r : IntRow) (here : i < m) (width : length b
     where
       is : r.basic ≡ n + i
       is = k.is.basic ∙ ap (λ x. x + i) width
+
       by : Column n m r.basic → kind_at (columns_of n m) r.basic ≡ Slack i
       by (an_unknown l e) = absurd (omega (arith, is))
       by (a_slack s l d e) = e ∙ ap Slack (omega (arith, is, d))
@@ -233,6 +236,7 @@ no_start n m k f (b ∷ bs) (r ∷ rs) h w l =
   where
     apart : (a b : ℕ) → b < a → nat_le a b ≡ false
     apart a b h = grind (arith, nat_tests)
+
     zero_left : (z : ℤ) → pos 0 +ℤ z ≡ z
     zero_left z = omega (arith, ints)
 
@@ -366,6 +370,7 @@ module _ (n m : ℕ) (objective : List ℤ) (bs : List Bound) (rs : List IntRow)
         where
           no_such : false ≡ true → ⊥
           no_such e = cc
+
       by : Column n m j → ⊥
       by (an_unknown l e) = unlike j (sym e ∙ h)
       by (a_slack s l d e) = different (sym e ∙ h)
@@ -379,6 +384,7 @@ module _ (n m : ℕ) (objective : List ℤ) (bs : List Bound) (rs : List IntRow)
     where
       is_below : (a b : ℕ) → a < b → nat_lt a b ≡ true
       is_below a b h = grind (arith, nat_tests)
+
       plain : Column n m j → is_plain (kind_at (columns_of n m) j) ≡ true
       plain (an_unknown l e) = rw e refl
       plain (a_slack s l d e) = rw e refl

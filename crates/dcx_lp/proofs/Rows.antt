@@ -1,13 +1,13 @@
 -- The row of a bound, divided by its greatest common divisor, and the steps of the loops.
-use Rattle.std.proofs.Common.{◌≡◌, ◌≢◌, ℕ, zero, suc, ◌+◌, ◌-◌, ◌<◌, ◌≤◌, ◌^◌, ◌/◌, List, [], ◌∷◌, ◌++◌, length, map, take, drop, get_or, replicate, ℤ, pos, negsuc, ◌*ℤ◌, ◌<ℤ◌, ◌≤ℤ◌, unsigned_abs, neg_ℤ, arith, refl, sym, ap, ap₂, ◌∙◌, subst, ◌⊎◌, inl, inr, SFits, Some, Bool, true, false}
+use Rattle.std.proofs.Common.{◌≡◌, ◌≢◌, ℕ, zero, suc, ◌+◌, ◌-◌, ◌<◌, ◌≤◌, ◌^◌, List, [], ◌∷◌, ◌++◌, length, map, take, drop, get_or, replicate, ℤ, pos, negsuc, ◌≤ℤ◌, unsigned_abs, arith, refl, sym, ap, ap₂, ◌∙◌, subst, ◌⊎◌, inl, inr, Some, Bool, true, false}
 use Rattle.std.specs.Prelude.{slice_get, nat_eq, if◌then◌else◌}
 use Rattle.std.proofs.lemmas.Int.{ints}
 use Rattle.std.proofs.lemmas.Bool.{cases_lt}
 use Rattle.std.proofs.lemmas.Option.{slice_get-get_or}
-use Rattle.std.proofs.lemmas.List.{length-map, length-take-le, get_or-map, map-append, take_more, take_all, get_or_past}
+use Rattle.std.proofs.lemmas.List.{length-map, length-take-le, map-append, take_more, take_all, get_or_past}
 use native.Mathlib.Nat.{div-le_self, one-dvd, le_of_dvd}
 use Prim.Native.Nat.{◌∣◌}
-use Rattle.dcx_math.specs.Rational.{ℚ, whole, ◌*ℚ◌, ◌/ℚ◌, inverse, ◌<ℚ◌}
+use Rattle.dcx_math.specs.Rational.{ℚ, whole, ◌*ℚ◌, ◌/ℚ◌, ◌<ℚ◌}
 use Rattle.dcx_math.specs.Sums.{rat_scaled}
 use Rattle.dcx_math.specs.Divisors.{gcd, gcd_of, IsPrimitive, divided}
 use Rattle.dcx_math.proofs.Divisors.{gcd-zero, gcd-dvd_right, divided_is, unsigned_abs-divided}
@@ -17,7 +17,6 @@ use Rattle.dcx_math.proofs.Products.{/ℚ-*ℚ, *ℚ-positive, inverse-positive,
 use Rattle.dcx_math.proofs.Primitive.{IsPrimitive-primitive_part}
 use Rattle.dcx_math.proofs.Ring.{/ℚ-is}
 use Rattle.dcx_frac.specs.Frac.{value}
-use Rattle.dcx_tab.specs.declared.rows.ColumnKind.{ColumnKind}
 use Rattle.dcx_tab.specs.declared.rows.ColumnKind.TheVariants.{Unknown, Slack}
 use Rattle.dcx_tab.specs.declared.rows.IntRow.{IntRow}
 use Rattle.dcx_tab.specs.Rows.{entry, AllSmall}
@@ -25,7 +24,7 @@ use Rattle.dcx_tab.proofs.RowLaws.{gcd_of-dvd_entry}
 use Rattle.dcx_plain.specs.Phrases.{Every}
 use Rattle.dcx_plain.specs.declared.linear.Row.{Row}
 use Rattle.dcx_plain.specs.Meaning.{Bound, kept_bound}
-use Rattle.dcx_lp.specs.IntegerProgram.{unit, unknowns_from, slacks_from, IsRowOf, EachRow, AreRowsOf, IsKeptRow, or_one, divisor_of}
+use Rattle.dcx_lp.specs.IntegerProgram.{unit, unknowns_from, slacks_from, EachRow, AreRowsOf, IsKeptRow, or_one, divisor_of}
 use Rattle.dcx_lp.proofs.ProgramForm.{unit_at, length-unit, AllSmall-++, AllSmall-cons, AllSmall-nil}
 
 -- ---- the divisor
@@ -121,31 +120,34 @@ lowest_by zs f (suc n) e v = inl (subst (λ k. IsPrimitive (map (divided k) zs))
 
 -- the row that the code makes
 pub kept_row : (m i : ℕ) (b : Bound) (r : IntRow) (left : List ℤ) → AllSmall left → unsigned_abs r.right < 2 ^ 127 → pos 0 ≤ℤ b.right
-  → left ≡ map (divided (divisor_of b)) b.left → r.entries ≡ left ++ unit m i → r.right ≡ divided (divisor_of b) b.right
-  → value r.factor ≡ whole (pos 1) /ℚ whole (pos (divisor_of b)) → r.basic ≡ length b.left + i → r.negated ≡ false
-  → IsKeptRow m i b r
+    → left ≡ map (divided (divisor_of b)) b.left → r.entries ≡ left ++ unit m i → r.right ≡ divided (divisor_of b) b.right
+    → value r.factor ≡ whole (pos 1) /ℚ whole (pos (divisor_of b)) → r.basic ≡ length b.left + i → r.negated ≡ false
+    → IsKeptRow m i b r
 kept_row m i b r left small small_right nonnegative lefts entries right factor basic negated = record {
-    is = record {
-      left = map (divided d) b.left;
-      entries = entries ∙ ap (λ zs. zs ++ unit m i) lefts;
-      scaled = all_scaled d (value r.factor) positive factor b.left (front d b.left b.right divides);
-      right = ap whole right ∙ divided_scaled d (value r.factor) positive factor b.right (last d b.left b.right divides);
-      positive = factor_positive d (value r.factor) positive factor;
-      lowest = subst (λ zs. IsPrimitive zs ⊎ ((gcd_of numbers ≡ 0) × (value r.factor ≡ whole (pos 1)))) (map-append (divided d) b.left (b.right ∷ []) ∙ ap (λ y. map (divided d) b.left ++ y ∷ []) (sym right)) (lowest_by numbers (value r.factor) (gcd_of numbers) refl factor);
-      basic = basic;
-      not_negated = negated;
-    };
-    small = subst AllSmall (sym entries) (AllSmall-++ left (unit m i) small (units_small m i));
-    small_right = small_right;
-    right = rw right (nonnegative_quotient d b.right nonnegative);
-  }
+  is = record {
+    left = map (divided d) b.left;
+    entries = entries ∙ ap (λ zs. zs ++ unit m i) lefts;
+    scaled = all_scaled d (value r.factor) positive factor b.left (front d b.left b.right divides);
+    right = ap whole right ∙ divided_scaled d (value r.factor) positive factor b.right (last d b.left b.right divides);
+    positive = factor_positive d (value r.factor) positive factor;
+    lowest = subst (λ zs. IsPrimitive zs ⊎ ((gcd_of numbers ≡ 0) × (value r.factor ≡ whole (pos 1)))) (map-append (divided d) b.left (b.right ∷ []) ∙ ap (λ y. map (divided d) b.left ++ y ∷ []) (sym right)) (lowest_by numbers (value r.factor) (gcd_of numbers) refl factor);
+    basic = basic;
+    not_negated = negated;
+  };
+  small = subst AllSmall (sym entries) (AllSmall-++ left (unit m i) small (units_small m i));
+  small_right = small_right;
+  right = rw right (nonnegative_quotient d b.right nonnegative);
+}
   where
     numbers : List ℤ
     numbers = b.left ++ b.right ∷ []
+
     d : ℕ
     d = divisor_of b
+
     positive : 0 < d
     positive = or_one_positive (gcd_of numbers)
+
     divides : (j : ℕ) → d ∣ unsigned_abs (entry numbers j)
     divides j = or_one_divides (gcd_of numbers) (unsigned_abs (entry numbers j)) (gcd_of-dvd_entry numbers j)
 
@@ -225,7 +227,7 @@ each_row_more P rows rs ss j x r h e s i p =
     let front = map kept_bound (take j rows) in
     let l : 0 + length front ≡ j = omega (arith, length-map (take j rows) kept_bound, length-take-le j rows h) in
     subst (λ bs. EachRow P 0 bs ss) (sym (ap (map kept_bound) (take_read rows j x e) ∙ map-append kept_bound (take j rows) (x ∷ [])))
-      (subst (EachRow P 0 (front ++ kept_bound x ∷ [])) (sym s) (each_more P 0 front rs (kept_bound x) r i (subst (λ k. P k (kept_bound x) r) (sym l) p)))
+    (subst (EachRow P 0 (front ++ kept_bound x ∷ [])) (sym s) (each_more P 0 front rs (kept_bound x) r i (subst (λ k. P k (kept_bound x) r) (sym l) p)))
 
 -- the rows that are kept are rows of the bounds
 pub rows_of_kept : (m k : ℕ) (bs : List Bound) (rs : List IntRow) → EachRow (IsKeptRow m) k bs rs → AreRowsOf m k bs rs
@@ -242,4 +244,4 @@ read_at rows j r d h e = slice_get-get_or rows j d h ∙ ap Some (sym e)
 pub rows_by : (bounds rows : List Row) (xs ys : List IntRow) → bounds ≡ rows → ys ≡ xs → EachRow (IsKeptRow (length bounds)) 0 (map kept_bound bounds) xs → EachRow (IsKeptRow (length (map kept_bound rows))) 0 (map kept_bound rows) ys
 rows_by bounds rows xs ys e v h =
     subst (λ m. EachRow (IsKeptRow m) 0 (map kept_bound rows) ys) (sym (length-map rows kept_bound))
-      (subst (EachRow (IsKeptRow (length rows)) 0 (map kept_bound rows)) (sym v) (subst (λ bs. EachRow (IsKeptRow (length bs)) 0 (map kept_bound bs) xs) e h))
+    (subst (EachRow (IsKeptRow (length rows)) 0 (map kept_bound rows)) (sym v) (subst (λ bs. EachRow (IsKeptRow (length bs)) 0 (map kept_bound bs) xs) e h))

@@ -1,5 +1,5 @@
 -- The run on the integer program of a linear program.
-use Rattle.std.proofs.Common.{◌≡◌, ℕ, zero, suc, ◌+◌, ◌≤◌, List, [], ◌∷◌, length, refl, sym, ap, ◌∙◌, subst, ◌⊎◌, inl, inr, arith}
+use Rattle.std.proofs.Common.{◌≡◌, ℕ, suc, ◌+◌, ◌≤◌, List, [], ◌∷◌, length, refl, sym, ap, ◌∙◌, subst, ◌⊎◌, inl, inr, arith}
 use Rattle.std.specs.Prelude.{IfOk, Result, Ok, Err}
 use Rattle.std.specs.declared.alloc.AllocError.{AllocError}
 use Rattle.dcx_tab.specs.declared.program.Program as tab
@@ -20,7 +20,7 @@ use Rattle.dcx_lp.specs.IntegerProgram.{EachRow, IsRowOf, IsProgramOf}
 use Rattle.dcx_lp.specs.declared.solving.Solution.{Solution}
 use Rattle.dcx_lp.specs.declared.solving.Solution.TheVariants as solution
 use Rattle.dcx_lp.proofs.ProgramForm.{columns_of, length-columns, plain-columns}
-use Rattle.dcx_lp.specs.Solution.{IsLong, IsShown, IsAnswered, IsSolution, HasRun}
+use Rattle.dcx_lp.specs.Solution.{IsLong, IsShown, IsAnswered, IsSolution}
 
 -- an answer has a note for each row
 pub notes_of : (q : tab.Program) (t : Table) (e : LpEnd) (a : LpAnswer) → IsRead q.rows q.columns t e a → length a.rows ≡ length q.rows
@@ -42,10 +42,13 @@ long_of p q t e a h k = by e k
   where
     n : ℕ
     n = length p.objective
+
     m : ℕ
     m = length p.bounds
+
     count : length q.columns ≡ n + m
     count = ap length h.columns ∙ length-columns n m
+
     by : (x : LpEnd) → IsRead q.rows q.columns t x a → IsLong p a
     by (lp.Optimal k) r = record { columns = omega (arith, r.0.columns, count); ray = λ u. absurd (unlike (sym r.0.status ∙ u)) }
       where
@@ -91,9 +94,11 @@ at_limit limit n m k q u e r = by r
   where
     all_plain : plain_count q.columns ≡ length q.columns
     all_plain = subst (λ ks. plain_count ks ≡ length ks) (sym e) (plain-columns n m ∙ sym (length-columns n m))
+
     begun : (v : Table) (j : ℕ) → Starts limit (first_tableau q) v j → j ≡ 0
     begun v j (inl s) = s.2
     begun v j (inr d) = absurd (omega (arith, all_plain, d.2.0))
+
     by : RunEnds limit (first_tableau q) u (lp.PivotLimit k) → k ≡ limit
     by (inl f) = absurd (omega (arith, all_plain, f.0))
     by (inr (inl d)) = absurd (omega (arith, all_plain, d.2.0))

@@ -1,6 +1,6 @@
 -- The integer program from which the simplex method solves a linear program: each bound is divided by the greatest
 -- common divisor of its numbers and gets a slack of its own, and the cost is z - objective · x = 0.
-use Rattle.std.specs.Prelude.{⊤, ◌≡◌, ◌⊎◌, ℕ, zero, suc, ◌+◌, false, List, [], ◌∷◌, ◌++◌, length, map, take, replicate, ℤ, pos, neg_ℤ, ◌≤ℤ◌, ◌≤◌, ◌<◌, ◌^◌, ◌==◌, unsigned_abs, if◌then◌else◌}
+use Rattle.std.specs.Prelude.{⊤, ◌≡◌, ◌⊎◌, ℕ, zero, suc, ◌+◌, false, List, [], ◌∷◌, ◌++◌, length, map, take, replicate, ℤ, pos, neg_ℤ, ◌≤ℤ◌, ◌≤◌, ◌<◌, ◌^◌, unsigned_abs}
 use Rattle.dcx_math.specs.Rational.{ℚ, whole, ◌*ℚ◌, ◌<ℚ◌}
 use Rattle.dcx_math.specs.Sums.{rat_scaled}
 use Rattle.dcx_math.specs.Divisors.{gcd_of, IsPrimitive}

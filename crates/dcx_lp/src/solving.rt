@@ -8,7 +8,7 @@ ghost use Rattle.dcx_lp.specs.IntegerProgram.{IsSmall, IsProgramOf, Shows, first
 ghost use Rattle.dcx_lp.specs.Solution.{AreMultipliersOf, IsLong, IsShown, IsAnswered, IsSolution};
 
 use crate::program::integer_program;
-use dcx_frac::{Fracs, Frac, Passes};
+use dcx_frac::{Frac, Fracs, Passes};
 use dcx_plain::Linear;
 use dcx_simplex::{LpAnswer, LpEnd, LpStatus, RowNote, read_end};
 use dcx_tab::{Dense, Program};
@@ -167,3 +167,6 @@ pub fn solve(alloc: Global, linear: &Linear, limit: u64) -> Result<Solution, All
         LpEnd::PivotLimit { count } => Ok(Solution::PivotLimit { count }),
     }
 }
+
+#[cfg(test)]
+mod tests;

@@ -1,4 +1,4 @@
-use Rattle.std.proofs.Common.{rules, ◌≡◌, ◌∷◌, [], ◌++◌, ◌-◌, ◌+◌, ◌<◌, ◌≤◌, ◌^◌, arith, refl, ap, ap₂, sym, ◌∙◌, drop, length, slice_index_or, pos, unsigned_abs, to_z-of_z, SFits}
+use Rattle.std.proofs.Common.{rules, ◌∷◌, [], ◌++◌, ◌-◌, ◌^◌, arith, ap, ap₂, sym, ◌∙◌, slice_index_or, pos, to_z-of_z, SFits}
 use Rattle.std.specs.Int.{w64}
 use Rattle.std.proofs.Math.Seq.{drop-length}
 use Rattle.dcx_math.specs.Divisors.{gcd, gcd_of}

@@ -1,4 +1,4 @@
-use Rattle.std.proofs.Common.{rules, ◌∷◌, [], ◌++◌, ◌<◌, ◌^◌, ℕ, zero, suc, pos, arith, ap, sym, ◌∙◌, ◌≢◌, SFits, to_z-of_z}
+use Rattle.std.proofs.Common.{rules, ◌∷◌, [], ◌++◌, pos, arith, ap, sym, ◌∙◌, SFits, to_z-of_z}
 use Rattle.std.specs.Int.{w64, w128}
 use Rattle.std.proofs.lemmas.Int.{ints, fits_signed_from_abs, to_z_pos}
 use Rattle.dcx_math.specs.Divisors.{gcd_of}

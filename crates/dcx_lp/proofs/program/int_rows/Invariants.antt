@@ -1,4 +1,4 @@
-use Rattle.std.proofs.Common.{◌≡◌, map, take, length}
+use Rattle.std.proofs.Common.{map, take, length}
 use Rattle.dcx_plain.specs.Meaning.{kept_bound}
 use Rattle.dcx_lp.specs.IntegerProgram.{EachRow, IsKeptRow}
 use Rattle.dcx_lp.proofs.program.int_rows.Given as goal

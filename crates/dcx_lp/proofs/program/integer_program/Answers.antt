@@ -1,4 +1,4 @@
-use Rattle.std.proofs.Common.{◌≡◌, ◌≤◌, List, map, length, ◌+◌, arith, ap, ap₂, sym, ◌∙◌, subst, refl, pos}
+use Rattle.std.proofs.Common.{◌≡◌, ◌≤◌, length, ◌+◌, arith, ap, ap₂, sym, ◌∙◌, subst, refl, pos}
 use Rattle.std.specs.Prelude.{◌≤ℤ◌}
 use Rattle.std.proofs.lemmas.List.{length-map}
 use Rattle.dcx_plain.specs.declared.linear.Row.{Row}
@@ -15,12 +15,12 @@ int_rows-requires-clause-narrow c =
     let p = kept c.args.linear.now in
     let few = c.requires.few_variables in
     subst (Every (λ r. length r.left.items ≤ 100)) (sym c.deref.ensures.value)
-      (every_kept (λ b. length b.left ≡ length p.objective) (λ r. length r.left.items ≤ 100) (λ r e. omega (arith, e, few)) c.args.linear.now.rows.items c.requires.widths)
+    (every_kept (λ b. length b.left ≡ length p.objective) (λ r. length r.left.items ≤ 100) (λ r e. omega (arith, e, few)) c.args.linear.now.rows.items c.requires.widths)
 
 pub int_rows-requires-clause-rights : goal.int_rows-requires-clause-rights
 int_rows-requires-clause-rights c =
     subst (Every (λ (r : Row). pos 0 ≤ℤ r.right)) (sym c.deref.ensures.value)
-      (every_kept (λ b. pos 0 ≤ℤ b.right) (λ r. pos 0 ≤ℤ r.right) (λ r e. e) c.args.linear.now.rows.items c.requires.rights)
+    (every_kept (λ b. pos 0 ≤ℤ b.right) (λ r. pos 0 ≤ℤ r.right) (λ r e. e) c.args.linear.now.rows.items c.requires.rights)
 
 pub invariant_of-result : goal.invariant_of-result
 invariant_of-result c =
@@ -33,8 +33,10 @@ invariant_of-result c =
     let columns : c.from_vec-2.result ≡ columns_of n m = c.from_vec-2.ensures ∙ c.in_ok-columns.ensures ∙ ap₂ columns_of vn vm in
     let is_cost : IsCost m p.objective c.in_ok-objective.objective = subst (λ zs. IsCost m zs c.in_ok-objective.objective) c.deref-2.ensures.value (subst (λ k. IsCost k c.deref-2.result.now c.in_ok-objective.objective) vm c.in_ok-objective.ensures) in
     let no_phase : IsNoPhase (n + m) c.in_ok-phase.phase = subst (λ k. IsNoPhase k c.in_ok-phase.phase) (ap₂ ◌+◌ vn vm) c.in_ok-phase.ensures in
-    record { form = subst (λ ks. IsProgram c.from_vec.result ks c.in_ok-objective.objective c.in_ok-phase.phase) (sym columns)
-      (program_form n m p.objective p.bounds c.from_vec.result c.in_ok-objective.objective c.in_ok-phase.phase rows c.requires.widths refl refl is_cost no_phase c.requires.few_variables c.requires.few_bounds) }
+    record {
+      form = subst (λ ks. IsProgram c.from_vec.result ks c.in_ok-objective.objective c.in_ok-phase.phase) (sym columns)
+          (program_form n m p.objective p.bounds c.from_vec.result c.in_ok-objective.objective c.in_ok-phase.phase rows c.requires.widths refl refl is_cost no_phase c.requires.few_variables c.requires.few_bounds);
+    }
 
 pub returns : goal.returns
 returns c =

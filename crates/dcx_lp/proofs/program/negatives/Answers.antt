@@ -1,4 +1,4 @@
-use Rattle.std.proofs.Common.{rules, ◌+◌, ◌<◌, neg_ℤ, pos, slice_index_or, arith, SFits, to_z-of_z}
+use Rattle.std.proofs.Common.{rules, neg_ℤ, pos, slice_index_or, arith, SFits, to_z-of_z}
 use Rattle.std.specs.Int.{w64, w128}
 use Rattle.std.proofs.lemmas.Int.{fits_signed_from_abs}
 use Rattle.dcx_lp.proofs.Rows.{map_more, small_more}

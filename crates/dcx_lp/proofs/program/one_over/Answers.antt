@@ -1,4 +1,4 @@
-use Rattle.std.proofs.Common.{to_z-of_z, rules, arith, pos, ◌<◌, ◌^◌, unsigned_abs}
+use Rattle.std.proofs.Common.{to_z-of_z, arith, pos, ◌<◌, ◌^◌, unsigned_abs}
 use Rattle.dcx_tab.proofs.LineSteps.{positive-small}
 use Rattle.dcx_simplex.proofs.Fractions.{representable_quotient, positive_some}
 use Rattle.dcx_lp.proofs.program.one_over.Goals as goal

@@ -1,6 +1,5 @@
-use Rattle.std.proofs.Common.{rules, ◌∷◌, [], ◌++◌, ◌+◌, ◌<◌, ap, ap₂, sym, ◌∙◌, append_assoc, take, length, arith, nat_eq, pos, to_z-of_z, Bool, true, false, refl, ◌≡◌, SFits}
+use Rattle.std.proofs.Common.{rules, ◌∷◌, [], ◌++◌, ap, ap₂, sym, ◌∙◌, append_assoc, take, arith, nat_eq, pos}
 use Rattle.std.specs.Prelude.{if◌then◌else◌}
-use Rattle.std.specs.Int.{w128}
 use Rattle.std.proofs.lemmas.List.{take_all}
 use Rattle.dcx_lp.specs.IntegerProgram.{unit}
 use Rattle.dcx_lp.proofs.ProgramForm.{length-unit}

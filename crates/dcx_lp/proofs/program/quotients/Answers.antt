@@ -1,4 +1,4 @@
-use Rattle.std.proofs.Common.{rules, ◌+◌, ◌<◌, pos, slice_index_or, arith, SFits, to_z-of_z, unsigned_abs}
+use Rattle.std.proofs.Common.{rules, pos, slice_index_or, arith, SFits, to_z-of_z, unsigned_abs}
 use Rattle.std.specs.Int.{w64, w128}
 use Rattle.std.proofs.lemmas.Int.{fits_signed_from_abs}
 use Rattle.dcx_math.specs.Divisors.{divided}

@@ -1,5 +1,4 @@
-use Rattle.std.proofs.Common.{◌≡◌, ◌≤◌, length, arith, ap, sym, ◌∙◌}
-use Rattle.std.specs.Prelude.{IfOk}
+use Rattle.std.proofs.Common.{length, arith}
 use Rattle.dcx_plain.specs.Meaning.{kept}
 use Rattle.dcx_lp.proofs.Duality.{shown_of}
 use Rattle.dcx_lp.proofs.Runs.{notes_of, long_of, length-rows_of, answered_of}

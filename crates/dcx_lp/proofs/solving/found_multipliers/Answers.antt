@@ -1,4 +1,4 @@
-use Rattle.std.proofs.Common.{◌≡◌, ◌<◌, map, take, length, refl, ap, sym, ◌∙◌, arith, false, true}
+use Rattle.std.proofs.Common.{◌≡◌, map, refl, ap, ◌∙◌, arith, false, true}
 use Rattle.std.proofs.lemmas.List.{take_all}
 use Rattle.dcx_frac.specs.Fits.{IsRepresentable}
 use Rattle.dcx_simplex.specs.Reading.{numbers}

@@ -1,4 +1,4 @@
-use Rattle.std.proofs.Common.{◌≡◌, length, sym, ap, subst}
+use Rattle.std.proofs.Common.{length, subst}
 use Rattle.dcx_tab.specs.Views.{table_of}
 use Rattle.dcx_tab.specs.First.{first_tableau}
 use Rattle.dcx_simplex.specs.Whole.{RunEnds}
@@ -35,6 +35,7 @@ returns c =
     let q = c.in_ok-program.program in
     let u = table_of c.solve-end.new.tableau in
     let end = lp.PivotLimit c.in-PivotLimit.count in
-    let run : RunEnds c.args.limit (first_tableau q) u end = subst (λ t. RunEnds c.args.limit t u end) c.in_ok-tableau.ensures c.in-PivotLimit.ensures.run in
-    (at_limit c.args.limit (length p.objective) (length p.bounds) c.in-PivotLimit.count q u c.in_ok-program.ensures.columns run,
-     record { program = q; is = c.in_ok-program.ensures; last = u; ends = run; holds = tt })
+    let run : RunEnds c.args.limit (first_tableau q) u end = subst (λ t. RunEnds c.args.limit t u end) c.in_ok-tableau.ensures c.in-PivotLimit.ensures.run in (
+      at_limit c.args.limit (length p.objective) (length p.bounds) c.in-PivotLimit.count q u c.in_ok-program.ensures.columns run,
+      record { program = q; is = c.in_ok-program.ensures; last = u; ends = run; holds = tt },
+    )
