@@ -44,10 +44,10 @@ fn words(alloc: Global, text: &str) -> Result<Vec<String>, AllocError> {
 }
 
 /// A map in which `model.py` has the lines that each script begins with, and then these.
-fn files(alloc: Global, script: &str) -> Result<BTreeMap<String, Bytes>, AllocError> {
+fn files(alloc: Global, script: &[u8]) -> Result<BTreeMap<String, Bytes>, AllocError> {
     let mut bytes = Vec::new(alloc);
     bytes.extend_from_slice(b"import cvxpy as cp\nimport numpy as np\n")?;
-    bytes.extend_from_slice(script.as_bytes())?;
+    bytes.extend_from_slice(script)?;
     let mut files = BTreeMap::new(alloc);
     files.insert(String::from_str(alloc, "model.py")?, Bytes::from_vec(bytes))?;
     Ok(files)
@@ -61,11 +61,22 @@ fn gives(
     status: u8,
     report: &str,
 ) -> Result<bool, AllocError> {
+    gives_bytes(alloc, text, script.as_bytes(), status, report.as_bytes())
+}
+
+/// The same, where the script and the report are bytes.
+fn gives_bytes(
+    alloc: Global,
+    text: &str,
+    script: &[u8],
+    status: u8,
+    report: &[u8],
+) -> Result<bool, AllocError> {
     let mut library = SteadyLibrary::new(files(alloc, script)?);
     let mut sink = SteadySink::new(alloc);
     let words = words(alloc, text)?;
     let ended = status_with(alloc, &words, &mut library, &mut sink);
-    Ok(ended == status && sink.bytes.as_slice() == report.as_bytes())
+    Ok(ended == status && sink.bytes.as_slice() == report)
 }
 
 /// Whether the first script gives the status and the report, where the calls of these numbers fail.
@@ -78,7 +89,7 @@ fn gives_with_faults(
     report: &str,
 ) -> Result<bool, AllocError> {
     let (script, _, _) = script_case(0);
-    let mut library = MemoryLibrary::new(files(alloc, script)?, reads);
+    let mut library = MemoryLibrary::new(files(alloc, script.as_bytes())?, reads);
     let mut sink = MemorySink::new(alloc, most, writes);
     let words = words(alloc, "solve model.py")?;
     let ended = status_with(alloc, &words, &mut library, &mut sink);
@@ -207,5 +218,93 @@ fn faults_have_their_status(rt: HostRuntime) -> Result<(), Fail> {
     let first = vec![in alloc; 0u64]?;
     let none = Vec::new(alloc);
     assert!(rt; gives_with_faults(alloc, 100, first, none, 3, "fault read\n")?);
+    Ok(())
+}
+
+/// How many variables and constraints the largest script has.
+const MOST: u8 = 100;
+
+/// How many terms the largest sum has.
+const TERMS: u8 = 64;
+
+/// Adds the name of a variable, an `x` and two digits.
+fn push_name(bytes: &mut Vec<u8>, index: u8) -> Result<(), AllocError> {
+    bytes.extend_from_slice(&[b'x', b'0' + index / 10 % 10, b'0' + index % 10])?;
+    Ok(())
+}
+
+/// Adds a number up to 199, with no zero in front.
+fn push_number(bytes: &mut Vec<u8>, number: u8) -> Result<(), AllocError> {
+    if number >= 100 {
+        bytes.extend_from_slice(b"1")?;
+    }
+    if number >= 10 {
+        bytes.extend_from_slice(&[b'0' + number / 10 % 10])?;
+    }
+    bytes.extend_from_slice(&[b'0' + number % 10])?;
+    Ok(())
+}
+
+/// A script as large as one may be: each variable is at most 1, and a sum of the most terms is maximized.
+fn largest_script(alloc: Global) -> Result<Vec<u8>, AllocError> {
+    let mut bytes = Vec::new(alloc);
+    for index in 0..MOST {
+        push_name(&mut bytes, index)?;
+        bytes.extend_from_slice(b" = cp.Variable(nonneg=True)\n")?;
+    }
+    bytes.extend_from_slice(b"prob = cp.Problem(cp.Minimize(-x00")?;
+    for index in 1..TERMS {
+        bytes.extend_from_slice(b" - ")?;
+        push_name(&mut bytes, index)?;
+    }
+    bytes.extend_from_slice(b"), [x00 <= 1")?;
+    for index in 1..MOST {
+        bytes.extend_from_slice(b", ")?;
+        push_name(&mut bytes, index)?;
+        bytes.extend_from_slice(b" <= 1")?;
+    }
+    bytes.extend_from_slice(b"])\nprob.solve()\n")?;
+    Ok(bytes)
+}
+
+/// Its report: the variables of the sum are 1, and so are the multipliers of their bounds.
+fn largest_report(alloc: Global) -> Result<Vec<u8>, AllocError> {
+    let mut bytes = Vec::new(alloc);
+    bytes.extend_from_slice(b"solve 1 optimal\nvalue -64\n")?;
+    for index in 0..MOST {
+        bytes.extend_from_slice(b"var ")?;
+        push_name(&mut bytes, index)?;
+        push_entry(&mut bytes, index < TERMS)?;
+    }
+    for index in 0..MOST {
+        bytes.extend_from_slice(b"dual ")?;
+        push_number(&mut bytes, index + 1)?;
+        push_entry(&mut bytes, index < TERMS)?;
+    }
+    bytes.extend_from_slice(b"answered 1 stopped 0\n")?;
+    Ok(bytes)
+}
+
+/// Adds the end of a line whose number is 1 or 0.
+fn push_entry(bytes: &mut Vec<u8>, is_one: bool) -> Result<(), AllocError> {
+    let end: &[u8] = if is_one { b" () = 1\n" } else { b" () = 0\n" };
+    bytes.extend_from_slice(end)?;
+    Ok(())
+}
+
+#[test]
+fn largest_script_is_solved(rt: HostRuntime) -> Result<(), Fail> {
+    let alloc = rt.alloc();
+    let script = largest_script(alloc)?;
+    let report = largest_report(alloc)?;
+    assert!(rt;
+        gives_bytes(
+            alloc,
+            "solve model.py",
+            script.as_slice(),
+            0,
+            report.as_slice()
+        )?
+    );
     Ok(())
 }
