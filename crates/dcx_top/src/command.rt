@@ -2,7 +2,8 @@
 //!
 //! | what must hold | the clause of `run` |
 //! |---|---|
-//! | each answer has its cause, the script's bytes among it | `answers` |
+//! | each answer is right for the problem that the script's bytes spell, as it shows itself | `headline` |
+//! | each answer and each stop has its cause, the script's bytes among it | `answers` |
 //! | the usage line comes exactly where the words are no plain form | `usage` |
 //! | the report's text or a front of it is written, with its status | `reports` |
 //! | no file changes, and no step is counted | `same`, `counted` |
@@ -12,6 +13,7 @@ ghost use Rattle.dcx_report.specs.Faults.{Rose};
 ghost use Rattle.dcx_plain.specs.Plain.{IsPlain};
 ghost use Rattle.dcx_top.specs.Words.{operand_of};
 ghost use Rattle.dcx_top.specs.Answers.{Answers, IsRefusedAs, HasOneEnd, SolvesBytes};
+ghost use Rattle.dcx_top.specs.Headline.{AnswersAreRight};
 ghost use Rattle.dcx_top.specs.Ended.{Reports, outcomes_status as outcomes_status_of, status_of, is_stop, wants_memory};
 
 use crate::ended::Ended;
@@ -156,6 +158,7 @@ pub fn run<L: Library, K: Sink, S: Ledger>(
     sink: &mut K,
     steps: &mut Steps<S>,
 ) -> Ended
+    ensures headline { AnswersAreRight (map string_bytes words.now) (L.told library.old) result.run }
     ensures answers { Answers (map string_bytes words.now) (L.told library.old) (Rose (L.faults library.old) (L.faults library.new)) result.run }
     ensures usage { (result.run ≡ Run.Usage) ↔ (operand_of (map string_bytes words.now) ≡ None) }
     ensures reports { Reports (K.written sink.old) (K.written sink.new) (Rose (K.faults sink.old) (K.faults sink.new)) result }

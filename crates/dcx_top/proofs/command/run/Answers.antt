@@ -1,5 +1,6 @@
 use Rattle.std.proofs.Common.{Err, refl, inl, inr, ap, ◌∙◌}
 use Rattle.dcx_top.proofs.Writing.{ends_early}
+use Rattle.dcx_top.proofs.Right.{right_answers}
 use Rattle.dcx_top.proofs.command.run.Goals as goal
 
 pub returns-in-Err-Failed-clause-reports : goal.returns-in-Err-Failed-clause-reports
@@ -9,3 +10,15 @@ returns-in-Err-Failed-clause-reports g c =
 pub returns-clause-reports : goal.returns-clause-reports
 returns-clause-reports g c =
     ends_early _ _ _ _ _ (c.as_slice.ensures ∙ c.in-Ok.ensures) (inr refl) c.in-Err-Memory.ensures.err
+
+pub returns-in-Err-Failed-clause-headline : goal.returns-in-Err-Failed-clause-headline
+returns-in-Err-Failed-clause-headline g c = right_answers _ _ _ _ c.answer-run.ensures.answers
+
+pub returns-clause-headline : goal.returns-clause-headline
+returns-clause-headline g c = right_answers _ _ _ _ c.answer-run.ensures.answers
+
+pub returns-in_default-clause-headline : goal.returns-in_default-clause-headline
+returns-in_default-clause-headline g c = right_answers _ _ _ _ c.answer-run.ensures.answers
+
+pub returns-in-Ok-write_all-clause-headline : goal.returns-in-Ok-write_all-clause-headline
+returns-in-Ok-write_all-clause-headline g c = right_answers _ _ _ _ c.answer-run.ensures.answers

@@ -1,0 +1,57 @@
+-- The headline follows from the cause of each answer.
+use Rattle.std.proofs.Common.{◌≡◌, ℕ, List, [], ◌∷◌, ◌++◌, map, length, refl, sym, ap, ap₂, ◌∙◌, subst, Option, ◌⊎◌, inl, inr}
+use Rattle.dcx_math.specs.Rational.{ℚ}
+use Rattle.dcx_frac.specs.declared.fraction.Frac.{Frac}
+use Rattle.dcx_frac.specs.Frac.{value}
+use Rattle.dcx_report.specs.Files.{Files}
+use Rattle.dcx_report.specs.declared.array.Array.{Array}
+use Rattle.dcx_report.specs.declared.graph.Answer.TheVariants as answer
+use Rattle.dcx_report.specs.declared.outcome.Outcome.{Outcome}
+use Rattle.dcx_report.specs.declared.outcome.OutcomeEnd.{OutcomeEnd}
+use Rattle.dcx_report.specs.declared.outcome.OutcomeEnd.TheVariants as end
+use Rattle.dcx_report.specs.declared.run.Run.{Run}
+use Rattle.dcx_report.specs.declared.run.Run.TheVariants as run
+use Rattle.dcx_plain.specs.declared.script.Script.{Script}
+use Rattle.dcx_plain.specs.Phrases.{Every}
+use Rattle.dcx_plain.specs.Meaning.{program_of}
+use Rattle.dcx_plain.specs.Answers.{IsOptimal, IsUnbounded}
+use Rattle.dcx_top.specs.Outcome.{AreNumbers, IsEndOf}
+use Rattle.dcx_top.specs.Answers.{Answers, HasOneEnd, IsRead}
+use Rattle.dcx_top.specs.Headline.{numbers_of, IsRightEnd, IsRightOver, AnswersAreRight}
+
+-- arrays of single numbers have these numbers
+numbers_are : (xs : List Frac) (as' : List Array) → AreNumbers xs as' → map value xs ≡ numbers_of as'
+numbers_are [] [] h = refl
+numbers_are [] (a ∷ as') h = absurd h
+numbers_are (x ∷ xs) [] h = absurd h
+numbers_are (x ∷ xs) (a ∷ as') h = ap₂ (λ e rest. map value e ++ rest) (sym h.0.entries) (numbers_are xs as' h.1)
+
+right_end : (s : Script) (e : OutcomeEnd) → IsEndOf s e → IsRightEnd s e
+right_end s (end.Answer (answer.Optimal v point duals)) h =
+    (subst (λ m. IsOptimal (program_of s) (value v) (numbers_of (map (λ n. n.array) point)) m) (numbers_are h.1 duals h.4)
+      (subst (λ x. IsOptimal (program_of s) (value v) x (map value h.1)) (numbers_are h.0 (map (λ n. n.array) point) h.3.numbers) h.2), h.3.names_are)
+right_end s (end.Answer (answer.Unbounded point ray b e)) h =
+    (subst (λ d. IsUnbounded (program_of s) (numbers_of (map (λ n. n.array) point)) d (value b) (value e)) (numbers_are h.1 (map (λ n. n.array) ray) h.4.numbers)
+      (subst (λ x. IsUnbounded (program_of s) x (map value h.1) (value b) (value e)) (numbers_are h.0 (map (λ n. n.array) point) h.3.numbers) h.2.0), (h.3.names_are, h.4.names_are))
+right_end s (end.Answer (answer.Infeasible duals gap)) h = absurd h
+right_end s (end.Stop stop) h = tt
+
+right_outcomes : (s : Script) (os : List Outcome) → HasOneEnd s os → Every (λ o. IsRightEnd s o.end) os
+right_outcomes s [] h = absurd h
+right_outcomes s (o ∷ []) h = (right_end s o.end h, tt)
+right_outcomes s (o ∷ more ∷ os) h = absurd h
+
+pub right_answers : (words : List (List ℕ)) (told : Option Files) (risen : Type 0) (r : Run) → Answers words told risen r → AnswersAreRight words told r
+right_answers words told risen run.Usage h = tt
+right_answers words told risen (run.Refused refusal) h = tt
+right_answers words told risen (run.Solved word sense outcomes) h = record {
+    name = h.name;
+    operand = h.operand;
+    bytes = h.bytes;
+    are_told = h.are_told;
+    script = h.solves.2.0;
+    spelled = h.solves.2.1;
+    right = right_outcomes h.solves.2.0 outcomes h.solves.2.2;
+  }
+right_answers words told risen run.ReadFault h = tt
+right_answers words told risen run.Memory h = tt
