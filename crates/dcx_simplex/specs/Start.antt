@@ -3,6 +3,8 @@ use Rattle.std.specs.Prelude.{◌≡◌, ℕ, ◌+◌, ◌-◌, ◌^◌, ◌<◌
 use Rattle.dcx_math.specs.IntegerSums.{int_dot}
 use Rattle.dcx_tab.specs.Rows.{entry, Row, Assignment, basic_at, Solves}
 use Rattle.dcx_tab.specs.Table.{Table, IsOf}
+use Rattle.dcx_tab.specs.declared.program.Program.{Program}
+use Rattle.dcx_tab.specs.First.{first_tableau}
 use Rattle.dcx_simplex.specs.Whole.{objective_row, phase_row, RunEnds}
 use Rattle.dcx_simplex.specs.declared.run.LpEnd.{LpEnd}
 use Rattle.dcx_simplex.specs.declared.run.LpEnd.TheVariants as lp
@@ -56,3 +58,19 @@ HasSmallLimit t limit (lp.Infeasible n) = Unit {0}
 HasSmallLimit t limit (lp.Unbounded n c) = Unit {0}
 HasSmallLimit t limit (lp.Wide n r c) = Unit {0}
 HasSmallLimit t limit (lp.PivotLimit n) = (equations : List Row) → IsStart equations t → limit < enough_pivots t
+
+-- the first tableau of a program is one from which a run begins
+abbrev pub ProgramsStart : Type 0
+ProgramsStart = (p : Program) → IsStart (first_tableau p).rows (first_tableau p)
+
+-- the run from t has no other end
+abbrev pub IsOnlyEnd : Table → ℕ → Table → LpEnd → Type 0
+IsOnlyEnd t limit u e = (equations : List Row) → IsStart equations t → (v : Table) (f : LpEnd) → RunEnds limit t v f → (v ≡ u) × (f ≡ e)
+
+-- a run has one end
+abbrev pub EndsOnce : Type 0
+EndsOnce = (equations : List Row) (limit : ℕ) (t u v : Table) (e f : LpEnd) → IsStart equations t → RunEnds limit t u e → RunEnds limit t v f → (u ≡ v) × (e ≡ f)
+
+-- at the limit as many pivots are done as it allows
+abbrev pub StopsAtLimit : Type 0
+StopsAtLimit = (limit : ℕ) (t u : Table) (n : ℕ) → RunEnds limit t u (lp.PivotLimit n) → n ≡ limit

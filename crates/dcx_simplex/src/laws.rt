@@ -3,7 +3,7 @@
 //! Each function is a law: its clause is a statement about all tableaus, and the body is empty.
 
 ghost use Rattle.dcx_simplex.specs.Laws.{StaysReady, NeverRises, StaysJustAtZero, NeverRepeats, NeverRepeatsList, MakesFewPivots};
-ghost use Rattle.dcx_simplex.specs.Start.{EndsBelow, MakesFewInAll};
+ghost use Rattle.dcx_simplex.specs.Start.{EndsBelow, EndsOnce, MakesFewInAll, ProgramsStart, StopsAtLimit};
 ghost use Rattle.dcx_simplex.specs.Meaning.{FirstIsBounded, OptimalIsLeast, EndsFeasible, OptimalIsAttained, InfeasibleIsRight, UnboundedIsRight};
 
 /// Along a phase right sides stay at least 0.
@@ -74,4 +74,19 @@ pub fn optimal_is_attained()
 /// An unbounded end is right: the program has a point, and a ray along which the objective falls.
 pub fn unbounded_is_right()
     ensures { UnboundedIsRight }
+{}
+
+/// A run has one end, and one tableau there.
+pub fn ends_once()
+    ensures { EndsOnce }
+{}
+
+/// A run that ends at the limit has done as many pivots.
+pub fn stops_at_limit()
+    ensures { StopsAtLimit }
+{}
+
+/// The first tableau of a program is one from which a run begins.
+pub fn programs_start()
+    ensures { ProgramsStart }
 {}
