@@ -1,6 +1,6 @@
 -- The run on the integer program of a linear program.
 use Rattle.std.proofs.Common.{◌≡◌, ℕ, suc, ◌+◌, ◌≤◌, List, [], ◌∷◌, length, refl, sym, ap, ◌∙◌, subst, ◌⊎◌, inl, inr, arith}
-use Rattle.std.specs.Prelude.{IfOk, Result, Ok, Err}
+use Rattle.std.specs.Prelude.{⊤, IfOk, Result, Ok, Err}
 use Rattle.std.specs.declared.alloc.AllocError.{AllocError}
 use Rattle.dcx_tab.specs.declared.program.Program as tab
 use Rattle.dcx_tab.specs.Table.{Table}
@@ -12,15 +12,15 @@ use Rattle.dcx_simplex.specs.declared.run.LpEnd.{LpEnd}
 use Rattle.dcx_simplex.specs.declared.run.LpEnd.TheVariants as lp
 use Rattle.dcx_simplex.specs.Whole.{RunEnds, Starts}
 use Rattle.dcx_simplex.specs.Run.{Leads, Here, Then}
-use Rattle.dcx_simplex.specs.Reading.{IsRead}
+use Rattle.dcx_simplex.specs.Reading.{numbers, IsRead}
 use Rattle.dcx_simplex.specs.Finished.{IsFinished}
 use Rattle.dcx_plain.specs.Meaning.{Bound, Program}
 use Rattle.dcx_tab.specs.declared.rows.IntRow.{IntRow}
-use Rattle.dcx_lp.specs.IntegerProgram.{EachRow, IsRowOf, IsProgramOf}
+use Rattle.dcx_lp.specs.IntegerProgram.{EachRow, IsRowOf, IsProgramOf, multipliers}
 use Rattle.dcx_lp.specs.declared.solving.Solution.{Solution}
 use Rattle.dcx_lp.specs.declared.solving.Solution.TheVariants as solution
 use Rattle.dcx_lp.proofs.ProgramForm.{columns_of, length-columns, plain-columns}
-use Rattle.dcx_lp.specs.Solution.{IsLong, IsShown, IsAnswered, IsSolution}
+use Rattle.dcx_lp.specs.Solution.{HasRun, IsFirstWide, IsRunOptimal, IsLong, IsShown, IsAnswered, IsSolution}
 
 -- an answer has a note for each row
 pub notes_of : (q : tab.Program) (t : Table) (e : LpEnd) (a : LpAnswer) → IsRead q.rows q.columns t e a → length a.rows ≡ length q.rows
@@ -75,12 +75,55 @@ finished_by limit q t (lp.Unbounded n c) h r = (limit, r)
 finished_by limit q t (lp.Wide n r c) h k = absurd h
 finished_by limit q t (lp.PivotLimit n) h r = absurd h
 
+-- the run, by another name for its end
+run_as : (limit : ℕ) (p : Program) (q : tab.Program) (t : Table) (e f : LpEnd) (P : tab.Program → Table → Type 0) → e ≡ f → IsProgramOf p q → RunEnds limit (first_tableau q) t e → P q t → HasRun limit p f P
+run_as limit p q t e f P d h r k = record { program = q; is = h; last = t; ends = subst (RunEnds limit (first_tableau q) t) d r; holds = k }
+
+-- the end at which an optimal answer is read
+end_is_optimal : (q : tab.Program) (t : Table) (e : LpEnd) (a : LpAnswer) → IsRead q.rows q.columns t e a → a.status ≡ status.Optimal → (n : ℕ) × (e ≡ lp.Optimal n)
+end_is_optimal q t (lp.Optimal n) a r s = (n, refl)
+end_is_optimal q t (lp.Infeasible n) a r s = absurd (unlike (sym r.0.status ∙ s))
+  where
+    unlike : status.Infeasible ≡ status.Optimal → ⊥
+    unlike z = cc
+end_is_optimal q t (lp.Unbounded n c) a r s = absurd (unlike (sym r.0.status ∙ s))
+  where
+    unlike : status.Unbounded ≡ status.Optimal → ⊥
+    unlike z = cc
+end_is_optimal q t (lp.Wide n i j) a r s = absurd r
+end_is_optimal q t (lp.PivotLimit n) a r s = absurd r
+
+-- the end at which an unbounded answer is read
+end_is_unbounded : (q : tab.Program) (t : Table) (e : LpEnd) (a : LpAnswer) → IsRead q.rows q.columns t e a → a.status ≡ status.Unbounded → (n : ℕ) × (c : ℕ) × (e ≡ lp.Unbounded n c)
+end_is_unbounded q t (lp.Optimal n) a r s = absurd (unlike (sym r.0.status ∙ s))
+  where
+    unlike : status.Optimal ≡ status.Unbounded → ⊥
+    unlike z = cc
+end_is_unbounded q t (lp.Infeasible n) a r s = absurd (unlike (sym r.0.status ∙ s))
+  where
+    unlike : status.Infeasible ≡ status.Unbounded → ⊥
+    unlike z = cc
+end_is_unbounded q t (lp.Unbounded n c) a r s = (n, c, refl)
+end_is_unbounded q t (lp.Wide n i j) a r s = absurd r
+end_is_unbounded q t (lp.PivotLimit n) a r s = absurd r
+
+-- a run whose end is read as optimal
+optimal_run : (limit : ℕ) (p : Program) (q : tab.Program) (t : Table) (e : LpEnd) (P : LpAnswer → Type 0) (a : LpAnswer) → IsProgramOf p q → RunEnds limit (first_tableau q) t e → IsRead q.rows q.columns t e a → a.status ≡ status.Optimal → P a → IsRunOptimal limit p P
+optimal_run limit p q t e P a h r k s w =
+    let d = end_is_optimal q t e a k s in
+    (d.0, run_as limit p q t e (lp.Optimal d.0) (λ y u. (b : LpAnswer) × IsRead y.rows y.columns u (lp.Optimal d.0) b × P b) d.1 h r (a, subst (λ f. IsRead q.rows q.columns t f a) d.1 k, w))
+
+unbounded_run : (limit : ℕ) (p : Program) (q : tab.Program) (t : Table) (e : LpEnd) (a : LpAnswer) → IsProgramOf p q → RunEnds limit (first_tableau q) t e → IsRead q.rows q.columns t e a → a.status ≡ status.Unbounded → (n : ℕ) × (c : ℕ) × HasRun limit p (lp.Unbounded n c) (λ y u. ⊤)
+unbounded_run limit p q t e a h r k s =
+    let d = end_is_unbounded q t e a k s in
+    (d.0, d.1, run_as limit p q t e (lp.Unbounded d.0 d.1) (λ y u. ⊤) d.2 h r tt)
+
 -- what an end shows is a solution
 pub solution_by : (limit : ℕ) (p : Program) (q : tab.Program) (t : Table) (e : LpEnd) (s : Solution) → IsProgramOf p q → RunEnds limit (first_tableau q) t e → IsAnswered p q t e s → IsSolution limit p s
-solution_by limit p q t e (solution.Optimal v x m) h r a = a.shown
-solution_by limit p q t e (solution.Unbounded x d b l) h r a = a.shown
+solution_by limit p q t e (solution.Optimal v x m) h r a = (a.shown.0, optimal_run limit p q t e (λ b. numbers m ≡ multipliers b) a.answer h r a.read a.shown.2 a.shown.1)
+solution_by limit p q t e (solution.Unbounded x d b l) h r a = (a.shown.0, a.shown.1, unbounded_run limit p q t e a.answer h r a.read a.shown.2)
 solution_by limit p q t e (solution.WidePivot n i j) h r a = absurd a.shown
-solution_by limit p q t e (solution.WideMultiplier i w) h r a = (e, record { program = q; is = h; last = t; ends = r; holds = (a.answer, a.read, a.shown) })
+solution_by limit p q t e (solution.WideMultiplier i w) h r a = optimal_run limit p q t e (λ b. IsFirstWide b.rows i w) a.answer h r a.read a.shown.1 a.shown.0
 solution_by limit p q t e (solution.PivotLimit n) h r a = absurd a.shown
 
 -- ---- the limit
@@ -119,6 +162,6 @@ pub solution_of : (limit : ℕ) (p : Program) (q : tab.Program) (t : Table) (e :
 solution_of limit p q t e (Ok s) h k a = solution_by limit p q t e s h k a
 solution_of limit p q t e (Err x) h k a = tt
 
-pub answered_of : (p : Program) (q : tab.Program) (t : Table) (e : LpEnd) (a : LpAnswer) (r : Result Solution AllocError) → IsRead q.rows q.columns t e a → IfOk r (IsShown p a.rows) → IfOk r (IsAnswered p q t e)
+pub answered_of : (p : Program) (q : tab.Program) (t : Table) (e : LpEnd) (a : LpAnswer) (r : Result Solution AllocError) → IsRead q.rows q.columns t e a → IfOk r (IsShown p a) → IfOk r (IsAnswered p q t e)
 answered_of p q t e a (Ok s) h k = record { answer = a; read = h; shown = k }
 answered_of p q t e a (Err x) h k = tt

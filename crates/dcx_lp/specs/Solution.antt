@@ -18,7 +18,7 @@ use Rattle.dcx_simplex.specs.Reading.{numbers, IsRead}
 use Rattle.dcx_plain.specs.Phrases.{Every}
 use Rattle.dcx_plain.specs.Meaning.{Program}
 use Rattle.dcx_plain.specs.Answers.{IsOptimal, IsUnbounded}
-use Rattle.dcx_lp.specs.IntegerProgram.{IsProgramOf, multiplier_of}
+use Rattle.dcx_lp.specs.IntegerProgram.{IsProgramOf, multiplier_of, multipliers}
 use Rattle.dcx_lp.specs.declared.solving.Multipliers.{Multipliers}
 use Rattle.dcx_lp.specs.declared.solving.Multipliers.TheVariants as found
 use Rattle.dcx_lp.specs.declared.solving.Solution.{Solution}
@@ -47,18 +47,18 @@ pub record IsLong (p : Program) (a : LpAnswer) : Type 0 where
   pub columns : length p.objective ≤ length a.columns
   pub ray : a.status ≡ status.Unbounded → length p.objective ≤ length a.ray
 
--- what an answer with these notes shows of the program
-abbrev pub IsShown : Program → List RowNote → Solution → Type 0
-IsShown p notes (solution.Optimal v x m) = IsOptimal p (value v) (numbers x) (numbers m)
-IsShown p notes (solution.Unbounded x d b e) = IsUnbounded p (numbers x) (numbers d) (value b) (value e) × AreWhole p x d
-IsShown p notes (solution.WideMultiplier row passes) = IsFirstWide notes row passes
-IsShown p notes _ = ⊥
+-- what an answer shows of the program
+abbrev pub IsShown : Program → LpAnswer → Solution → Type 0
+IsShown p a (solution.Optimal v x m) = IsOptimal p (value v) (numbers x) (numbers m) × (numbers m ≡ multipliers a) × (a.status ≡ status.Optimal)
+IsShown p a (solution.Unbounded x d b e) = IsUnbounded p (numbers x) (numbers d) (value b) (value e) × AreWhole p x d × (a.status ≡ status.Unbounded)
+IsShown p a (solution.WideMultiplier row passes) = IsFirstWide a.rows row passes × (a.status ≡ status.Optimal)
+IsShown p a _ = ⊥
 
 -- an answer with the numbers of this end of a run on q shows it
 pub record IsAnswered (p : Program) (q : tab.Program) (t : Table) (e : LpEnd) (s : Solution) : Type 0 where
   pub answer : LpAnswer
   pub read : IsRead q.rows q.columns t e answer
-  pub shown : IsShown p answer.rows s
+  pub shown : IsShown p answer s
 
 -- the run of at most so many pivots, from the first tableau of the program's integer program, ends so, and P holds
 -- of that program, the last tableau and the end
@@ -69,10 +69,16 @@ pub record HasRun (limit : ℕ) (p : Program) (e : LpEnd) (P : tab.Program → T
   pub ends : RunEnds limit (first_tableau program) last e
   pub holds : P program last
 
--- a solution with its cause
+-- the run ends at an optimal basis, and P holds of the numbers that are read there
+abbrev pub IsRunOptimal : ℕ → Program → (LpAnswer → Type 0) → Type 0
+IsRunOptimal limit p P = (n : ℕ) × HasRun limit p (lp.Optimal n) (λ q t. (a : LpAnswer) × IsRead q.rows q.columns t (lp.Optimal n) a × P a)
+
+-- A solution with its cause, the end of the run. A run has one end, so each cause is there exactly where its solution
+-- is: the pivot limit, a wide pivot, and a multiplier that passes.
 abbrev pub IsSolution : ℕ → Program → Solution → Type 0
-IsSolution limit p (solution.Optimal v x m) = IsOptimal p (value v) (numbers x) (numbers m)
-IsSolution limit p (solution.Unbounded x d b e) = IsUnbounded p (numbers x) (numbers d) (value b) (value e) × AreWhole p x d
+IsSolution limit p (solution.Optimal v x m) = IsOptimal p (value v) (numbers x) (numbers m) × IsRunOptimal limit p (λ a. numbers m ≡ multipliers a)
+IsSolution limit p (solution.Unbounded x d b e) =
+    IsUnbounded p (numbers x) (numbers d) (value b) (value e) × AreWhole p x d × ((n : ℕ) × (c : ℕ) × HasRun limit p (lp.Unbounded n c) (λ q t. ⊤))
 IsSolution limit p (solution.WidePivot n r c) = HasRun limit p (lp.Wide n r c) (λ q t. ⊤)
 IsSolution limit p (solution.PivotLimit n) = (n ≡ limit) × HasRun limit p (lp.PivotLimit n) (λ q t. ⊤)
-IsSolution limit p (solution.WideMultiplier row passes) = (e : LpEnd) × HasRun limit p e (λ q t. (a : LpAnswer) × IsRead q.rows q.columns t e a × IsFirstWide a.rows row passes)
+IsSolution limit p (solution.WideMultiplier row passes) = IsRunOptimal limit p (λ a. IsFirstWide a.rows row passes)

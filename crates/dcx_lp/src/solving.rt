@@ -103,7 +103,7 @@ fn shown(alloc: Global, linear: &Linear, answer: LpAnswer) -> Result<Solution, A
     requires shows { Shows (kept linear.now) answer.status answer }
     requires long { IsLong (kept linear.now) answer }
     requires few { length answer.rows ≤ 100 }
-    ensures { IfOk result (IsShown (kept linear.now) answer.rows) }
+    ensures { IfOk result (IsShown (kept linear.now) answer) }
 {
     let variables = linear.objective.len();
     match answer.status {

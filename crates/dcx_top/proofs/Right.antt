@@ -27,12 +27,16 @@ numbers_are (x ∷ xs) [] h = absurd h
 numbers_are (x ∷ xs) (a ∷ as') h = ap₂ (λ e rest. map value e ++ rest) (sym h.0.entries) (numbers_are xs as' h.1)
 
 right_end : (s : Script) (e : OutcomeEnd) → IsEndOf s e → IsRightEnd s e
-right_end s (end.Answer (answer.Optimal v point duals)) h =
-    (subst (λ m. IsOptimal (program_of s) (value v) (numbers_of (map (λ n. n.array) point)) m) (numbers_are h.1 duals h.4)
-      (subst (λ x. IsOptimal (program_of s) (value v) x (map value h.1)) (numbers_are h.0 (map (λ n. n.array) point) h.3.numbers) h.2), h.3.names_are)
-right_end s (end.Answer (answer.Unbounded point ray b e)) h =
-    (subst (λ d. IsUnbounded (program_of s) (numbers_of (map (λ n. n.array) point)) d (value b) (value e)) (numbers_are h.1 (map (λ n. n.array) ray) h.4.numbers)
-      (subst (λ x. IsUnbounded (program_of s) x (map value h.1) (value b) (value e)) (numbers_are h.0 (map (λ n. n.array) point) h.3.numbers) h.2.0), (h.3.names_are, h.4.names_are))
+right_end s (end.Answer (answer.Optimal v point duals)) h = (
+  subst (λ m. IsOptimal (program_of s) (value v) (numbers_of (map (λ n. n.array) point)) m) (numbers_are h.1 duals h.4)
+      (subst (λ x. IsOptimal (program_of s) (value v) x (map value h.1)) (numbers_are h.0 (map (λ n. n.array) point) h.3.numbers) h.2.0),
+  h.3.names_are,
+)
+right_end s (end.Answer (answer.Unbounded point ray b e)) h = (
+  subst (λ d. IsUnbounded (program_of s) (numbers_of (map (λ n. n.array) point)) d (value b) (value e)) (numbers_are h.1 (map (λ n. n.array) ray) h.4.numbers)
+      (subst (λ x. IsUnbounded (program_of s) x (map value h.1) (value b) (value e)) (numbers_are h.0 (map (λ n. n.array) point) h.3.numbers) h.2.0),
+  (h.3.names_are, h.4.names_are),
+)
 right_end s (end.Answer (answer.Infeasible duals gap)) h = absurd h
 right_end s (end.Stop stop) h = tt
 
@@ -45,13 +49,13 @@ pub right_answers : (words : List (List ℕ)) (told : Option Files) (risen : Typ
 right_answers words told risen run.Usage h = tt
 right_answers words told risen (run.Refused refusal) h = tt
 right_answers words told risen (run.Solved word sense outcomes) h = record {
-    name = h.name;
-    operand = h.operand;
-    bytes = h.bytes;
-    are_told = h.are_told;
-    script = h.solves.2.0;
-    spelled = h.solves.2.1;
-    right = right_outcomes h.solves.2.0 outcomes h.solves.2.2;
-  }
+  name = h.name;
+  operand = h.operand;
+  bytes = h.bytes;
+  are_told = h.are_told;
+  script = h.solves.2.0;
+  spelled = h.solves.2.1;
+  right = right_outcomes h.solves.2.0 outcomes h.solves.2.2;
+}
 right_answers words told risen run.ReadFault h = tt
 right_answers words told risen run.Memory h = tt
