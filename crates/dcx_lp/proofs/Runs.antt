@@ -1,17 +1,15 @@
 -- The run on the integer program of a linear program.
-use Rattle.std.proofs.Common.{◌≡◌, ℕ, suc, ◌+◌, ◌≤◌, List, [], ◌∷◌, length, refl, sym, ap, ◌∙◌, subst, ◌⊎◌, inl, inr, arith}
+use Rattle.std.proofs.Common.{◌≡◌, ℕ, suc, ◌+◌, List, [], ◌∷◌, length, refl, sym, ap, ◌∙◌, subst, ◌⊎◌, inl, inr, arith}
 use Rattle.std.specs.Prelude.{⊤, IfOk, Result, Ok, Err}
 use Rattle.std.specs.declared.alloc.AllocError.{AllocError}
 use Rattle.dcx_tab.specs.declared.program.Program as tab
 use Rattle.dcx_tab.specs.Table.{Table}
 use Rattle.dcx_tab.specs.First.{first_tableau}
-use Rattle.dcx_tab.specs.Program.{plain_count}
 use Rattle.dcx_simplex.specs.declared.answer.LpStatus.TheVariants as status
 use Rattle.dcx_simplex.specs.declared.answer.LpAnswer.{LpAnswer}
 use Rattle.dcx_simplex.specs.declared.run.LpEnd.{LpEnd}
 use Rattle.dcx_simplex.specs.declared.run.LpEnd.TheVariants as lp
-use Rattle.dcx_simplex.specs.Whole.{RunEnds, Starts}
-use Rattle.dcx_simplex.specs.Run.{Leads, Here, Then}
+use Rattle.dcx_simplex.specs.Whole.{RunEnds}
 use Rattle.dcx_simplex.specs.Reading.{numbers, IsRead}
 use Rattle.dcx_simplex.specs.Finished.{IsFinished}
 use Rattle.dcx_plain.specs.Meaning.{Bound, Program}
@@ -19,7 +17,7 @@ use Rattle.dcx_tab.specs.declared.rows.IntRow.{IntRow}
 use Rattle.dcx_lp.specs.IntegerProgram.{EachRow, IsRowOf, IsProgramOf, multipliers}
 use Rattle.dcx_lp.specs.declared.solving.Solution.{Solution}
 use Rattle.dcx_lp.specs.declared.solving.Solution.TheVariants as solution
-use Rattle.dcx_lp.proofs.ProgramForm.{columns_of, length-columns, plain-columns}
+use Rattle.dcx_lp.proofs.ProgramForm.{length-columns}
 use Rattle.dcx_lp.specs.Solution.{HasRun, IsFirstWide, IsRunOptimal, IsLong, IsShown, IsAnswered, IsSolution}
 
 -- an answer has a note for each row
@@ -125,31 +123,6 @@ solution_by limit p q t e (solution.Unbounded x d b l) h r a = (a.shown.0, a.sho
 solution_by limit p q t e (solution.WidePivot n i j) h r a = absurd a.shown
 solution_by limit p q t e (solution.WideMultiplier i w) h r a = optimal_run limit p q t e (λ b. IsFirstWide b.rows i w) a.answer h r a.read a.shown.1 a.shown.0
 solution_by limit p q t e (solution.PivotLimit n) h r a = absurd a.shown
-
--- ---- the limit
-leads_below : (cost bound limit : ℕ) (t : Table) (n : ℕ) (u : Table) (m : ℕ) → Leads cost bound limit t n u m → n ≤ limit → m ≤ limit
-leads_below cost bound limit t n u m Here h = h
-leads_below cost bound limit t n u m (Then v k r c l next lt formed) h = omega (arith, lt)
-
--- a run without artificials that ends at the limit has done as many pivots
-pub at_limit : (limit n m k : ℕ) (q : tab.Program) (u : Table) → q.columns ≡ columns_of n m → RunEnds limit (first_tableau q) u (lp.PivotLimit k) → k ≡ limit
-at_limit limit n m k q u e r = by r
-  where
-    all_plain : plain_count q.columns ≡ length q.columns
-    all_plain = subst (λ ks. plain_count ks ≡ length ks) (sym e) (plain-columns n m ∙ sym (length-columns n m))
-
-    begun : (v : Table) (j : ℕ) → Starts limit (first_tableau q) v j → j ≡ 0
-    begun v j (inl s) = s.2
-    begun v j (inr d) = absurd (omega (arith, all_plain, d.2.0))
-
-    by : RunEnds limit (first_tableau q) u (lp.PivotLimit k) → k ≡ limit
-    by (inl f) = absurd (omega (arith, all_plain, f.0))
-    by (inr (inl d)) = absurd (omega (arith, all_plain, d.2.0))
-    by (inr (inr s)) =
-        let none = begun s.0 s.1 s.2 in
-        let low = leads_below _ _ limit s.0 s.1 u k s.3 (omega (arith, none)) in
-        let high = s.4.1 in
-        omega (arith, low, high)
 
 -- the ends that are answers
 pub is_answer : (e : LpEnd) → ((x : ℕ) × (e ≡ lp.Optimal x)) ⊎ (((x : ℕ) × (e ≡ lp.Infeasible x)) ⊎ ((x : ℕ) × (y : ℕ) × (e ≡ lp.Unbounded x y))) → HasAnswer e

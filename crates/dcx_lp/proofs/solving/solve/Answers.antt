@@ -1,10 +1,10 @@
-use Rattle.std.proofs.Common.{length, subst}
+use Rattle.std.proofs.Common.{refl, subst}
 use Rattle.dcx_tab.specs.Views.{table_of}
 use Rattle.dcx_tab.specs.First.{first_tableau}
 use Rattle.dcx_simplex.specs.Whole.{RunEnds}
 use Rattle.dcx_simplex.specs.declared.run.LpEnd.TheVariants as lp
 use Rattle.dcx_plain.specs.Meaning.{kept}
-use Rattle.dcx_lp.proofs.Runs.{is_answer, finished_by, solution_of, at_limit}
+use Rattle.dcx_lp.proofs.Runs.{is_answer, finished_by, solution_of}
 use Rattle.dcx_lp.proofs.solving.solve.Goals as goal
 
 pub answered-requires : goal.answered-requires
@@ -31,11 +31,10 @@ returns-in-Wide c =
 
 pub returns : goal.returns
 returns c =
-    let p = kept c.args.linear.now in
     let q = c.in_ok-program.program in
     let u = table_of c.solve-end.new.tableau in
     let end = lp.PivotLimit c.in-PivotLimit.count in
     let run : RunEnds c.args.limit (first_tableau q) u end = subst (λ t. RunEnds c.args.limit t u end) c.in_ok-tableau.ensures c.in-PivotLimit.ensures.run in (
-      at_limit c.args.limit (length p.objective) (length p.bounds) c.in-PivotLimit.count q u c.in_ok-program.ensures.columns run,
+      c.in-PivotLimit.ensures.count c.in-PivotLimit.count refl,
       record { program = q; is = c.in_ok-program.ensures; last = u; ends = run; holds = tt },
     )
