@@ -73,8 +73,7 @@ pub record HasRun (limit : ℕ) (p : Program) (e : LpEnd) (P : tab.Program → T
 abbrev pub IsRunOptimal : ℕ → Program → (LpAnswer → Type 0) → Type 0
 IsRunOptimal limit p P = (n : ℕ) × HasRun limit p (lp.Optimal n) (λ q t. (a : LpAnswer) × IsRead q.rows q.columns t (lp.Optimal n) a × P a)
 
--- A solution with its cause, the end of the run. A run has one end, so each cause is there exactly where its solution
--- is: the pivot limit, a wide pivot, and a multiplier that passes.
+-- a solution with its cause: the end of a run on an integer program of the linear program
 abbrev pub IsSolution : ℕ → Program → Solution → Type 0
 IsSolution limit p (solution.Optimal v x m) = IsOptimal p (value v) (numbers x) (numbers m) × IsRunOptimal limit p (λ a. numbers m ≡ multipliers a)
 IsSolution limit p (solution.Unbounded x d b e) =
