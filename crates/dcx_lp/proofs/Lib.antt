@@ -6,3 +6,5 @@ pub mod SlackColumns
 pub mod Duality
 pub mod Notes
 pub mod Runs
+pub mod OneProgram
+pub mod OneSolution

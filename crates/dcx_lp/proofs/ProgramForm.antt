@@ -141,7 +141,7 @@ AllSmall-nil = λ j. lit_small
     lit_small = omega arith
 
 -- ---- a row
-width-left : (b : Bound) (f : ℚ) (left : List ℤ) → map whole left ≡ rat_scaled f (map whole b.left) → length left ≡ length b.left
+pub width-left : (b : Bound) (f : ℚ) (left : List ℤ) → map whole left ≡ rat_scaled f (map whole b.left) → length left ≡ length b.left
 width-left b f left e = sym (length-map left whole) ∙ ap length e ∙ length-rat_scaled f (map whole b.left) ∙ length-map b.left whole
 
 module _ (n m i : ℕ) (b : Bound) (r : IntRow) (here : i < m) (width : length b.left ≡ n) (k : IsKeptRow m i b r) where

@@ -12,11 +12,13 @@ use Rattle.dcx_tab.specs.declared.rows.IntRow.{IntRow}
 use Rattle.dcx_tab.specs.declared.rows.CostRow.{CostRow}
 use Rattle.dcx_tab.specs.declared.program.Program as tab
 use Rattle.dcx_tab.specs.Rows.{AllSmall}
+use Rattle.dcx_tab.specs.Program.{is_negated}
+use Rattle.dcx_tab.specs.First.{first_tableau}
 use Rattle.dcx_simplex.specs.declared.answer.LpStatus.{LpStatus}
 use Rattle.dcx_simplex.specs.declared.answer.LpStatus.TheVariants as status
 use Rattle.dcx_simplex.specs.declared.answer.RowNote.{RowNote}
 use Rattle.dcx_simplex.specs.declared.answer.LpAnswer.{LpAnswer}
-use Rattle.dcx_simplex.specs.Reading.{numbers}
+use Rattle.dcx_simplex.specs.Reading.{numbers, row_factor}
 use Rattle.dcx_plain.specs.Phrases.{Every}
 use Rattle.dcx_plain.specs.Answers.{IsOptimal, IsUnbounded}
 use Rattle.dcx_plain.specs.Meaning.{Bound, Program}
@@ -59,6 +61,12 @@ EachRow P i (b ∷ bs) [] = ⊥
 abbrev pub AreRowsOf : ℕ → ℕ → List Bound → List IntRow → Type 0
 AreRowsOf count i bs rs = EachRow (IsRowOf count) i bs rs
 
+-- the sum of no artificials, over so many columns
+pub record IsNoPhase (columns : ℕ) (c : CostRow) : Type 0 where
+  pub entries : c.entries ≡ replicate columns (pos 0)
+  pub lead : c.lead ≡ pos 1
+  pub right : c.right ≡ pos 0
+
 -- the integer program q of the linear program p
 pub record IsProgramOf (p : Program) (q : tab.Program) : Type 0 where
   pub columns : q.columns ≡ unknowns_from 0 (length p.objective) ++ slacks_from 0 (length p.bounds)
@@ -66,6 +74,14 @@ pub record IsProgramOf (p : Program) (q : tab.Program) : Type 0 where
   pub costs : q.objective.entries ≡ map neg_ℤ p.objective ++ replicate (length p.bounds) (pos 0)
   pub lead : q.objective.lead ≡ pos 1
   pub right : q.objective.right ≡ pos 0
+  pub phase : IsNoPhase (length p.objective + length p.bounds) q.phase
+
+-- the two start from one tableau, and their rows have the same factors
+pub record IsSame (q r : tab.Program) : Type 0 where
+  pub first : first_tableau q ≡ first_tableau r
+  pub columns : q.columns ≡ r.columns
+  pub factors : map row_factor q.rows ≡ map row_factor r.rows
+  pub negated : map is_negated q.rows ≡ map is_negated r.rows
 
 -- ---- an answer to the integer program, as one to the linear program
 abbrev pub multiplier_of : RowNote → ℚ
@@ -112,11 +128,5 @@ divisor_of b = or_one (gcd_of (b.left ++ b.right ∷ []))
 pub record IsCost (m : ℕ) (objective : List ℤ) (c : CostRow) : Type 0 where
   pub entries : c.entries ≡ map neg_ℤ objective ++ replicate m (pos 0)
   pub small : AllSmall c.entries
-  pub lead : c.lead ≡ pos 1
-  pub right : c.right ≡ pos 0
-
--- the sum of no artificials, over so many columns
-pub record IsNoPhase (columns : ℕ) (c : CostRow) : Type 0 where
-  pub entries : c.entries ≡ replicate columns (pos 0)
   pub lead : c.lead ≡ pos 1
   pub right : c.right ≡ pos 0

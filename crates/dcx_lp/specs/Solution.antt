@@ -81,3 +81,16 @@ IsSolution limit p (solution.Unbounded x d b e) =
 IsSolution limit p (solution.WidePivot n r c) = HasRun limit p (lp.Wide n r c) (λ q t. ⊤)
 IsSolution limit p (solution.PivotLimit n) = (n ≡ limit) × HasRun limit p (lp.PivotLimit n) (λ q t. ⊤)
 IsSolution limit p (solution.WideMultiplier row passes) = IsRunOptimal limit p (λ a. IsFirstWide a.rows row passes)
+
+-- two solutions are of one kind, with one value where they are optimal, and one place where they stop
+abbrev pub Agree : Solution → Solution → Type 0
+Agree (solution.Optimal v x m) (solution.Optimal w y k) = value v ≡ value w
+Agree (solution.Unbounded x d b e) (solution.Unbounded y c a f) = ⊤
+Agree (solution.WidePivot n r c) (solution.WidePivot m i j) = (n ≡ m) × (r ≡ i) × (c ≡ j)
+Agree (solution.WideMultiplier row passes) (solution.WideMultiplier i other) = (row ≡ i) × (passes ≡ other)
+Agree (solution.PivotLimit n) (solution.PivotLimit m) = n ≡ m
+Agree _ _ = ⊥
+
+-- a linear program has one solution under a limit
+abbrev pub SolutionsAgree : Type 0
+SolutionsAgree = (limit : ℕ) (p : Program) (s t : Solution) → IsSolution limit p s → IsSolution limit p t → Agree s t

@@ -1,6 +1,5 @@
 -- The headline follows from the cause of each answer.
-use Rattle.std.proofs.Common.{◌≡◌, ℕ, List, [], ◌∷◌, ◌++◌, map, length, refl, sym, ap, ap₂, ◌∙◌, subst, Option, ◌⊎◌, inl, inr}
-use Rattle.dcx_math.specs.Rational.{ℚ}
+use Rattle.std.proofs.Common.{◌≡◌, ℕ, List, [], ◌∷◌, ◌++◌, map, refl, sym, ap₂, subst, Option}
 use Rattle.dcx_frac.specs.declared.fraction.Frac.{Frac}
 use Rattle.dcx_frac.specs.Frac.{value}
 use Rattle.dcx_report.specs.Files.{Files}
@@ -16,8 +15,8 @@ use Rattle.dcx_plain.specs.Phrases.{Every}
 use Rattle.dcx_plain.specs.Meaning.{program_of}
 use Rattle.dcx_plain.specs.Answers.{IsOptimal, IsUnbounded}
 use Rattle.dcx_top.specs.Outcome.{AreNumbers, IsEndOf}
-use Rattle.dcx_top.specs.Answers.{Answers, HasOneEnd, IsRead}
-use Rattle.dcx_top.specs.Headline.{numbers_of, IsRightEnd, IsRightOver, AnswersAreRight}
+use Rattle.dcx_top.specs.Answers.{Answers, HasOneEnd}
+use Rattle.dcx_top.specs.Headline.{numbers_of, IsRightEnd, AnswersAreRight}
 
 -- arrays of single numbers have these numbers
 numbers_are : (xs : List Frac) (as' : List Array) → AreNumbers xs as' → map value xs ≡ numbers_of as'
@@ -42,7 +41,7 @@ right_end s (end.Stop stop) h = tt
 
 right_outcomes : (s : Script) (os : List Outcome) → HasOneEnd s os → Every (λ o. IsRightEnd s o.end) os
 right_outcomes s [] h = absurd h
-right_outcomes s (o ∷ []) h = (right_end s o.end h, tt)
+right_outcomes s (o ∷ []) h = (right_end s o.end h.0, tt)
 right_outcomes s (o ∷ more ∷ os) h = absurd h
 
 pub right_answers : (words : List (List ℕ)) (told : Option Files) (risen : Type 0) (r : Run) → Answers words told risen r → AnswersAreRight words told r

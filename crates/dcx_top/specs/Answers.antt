@@ -13,7 +13,7 @@ use Rattle.dcx_plain.specs.declared.script.Script.{Script}
 use Rattle.dcx_plain.specs.Grammar.{script_text}
 use Rattle.dcx_plain.specs.Plain.{IsPlain, Spells}
 use Rattle.dcx_top.specs.Words.{operand_of}
-use Rattle.dcx_top.specs.Outcome.{IsEndOf}
+use Rattle.dcx_top.specs.Outcome.{IsEndOf, IsOnlyEnd}
 
 -- how many bytes a script has at most
 abbrev pub script_limit : ℕ
@@ -30,10 +30,10 @@ pub record IsRefusedAs (number : ℕ) (r : Refusal) : Type 0 where
 abbrev pub SpellsNone : List ℕ → Type 0
 SpellsNone bytes = (s : Script) → IsPlain s → script_text s ≡ bytes → ⊥
 
--- there is one outcome, for the one time that the script's problem is solved
+-- there is one outcome, for the one time that the script's problem is solved, and it is the only end of the problem
 abbrev pub HasOneEnd : Script → List Outcome → Type 0
 HasOneEnd s [] = ⊥
-HasOneEnd s (o ∷ []) = IsEndOf s o.end
+HasOneEnd s (o ∷ []) = IsEndOf s o.end × IsOnlyEnd s o.end
 HasOneEnd s (o ∷ more ∷ os) = ⊥
 
 -- what the bytes of a script give; want of memory is free

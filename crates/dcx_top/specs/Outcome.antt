@@ -3,6 +3,7 @@ use Rattle.std.specs.Prelude.{◌≡◌, ℕ, List, [], ◌∷◌, map, ⊤}
 use Rattle.dcx_shape.specs.Shape.{sides_of}
 use Rattle.dcx_shape.specs.declared.shape.Sides.TheVariants as sides
 use Rattle.dcx_frac.specs.declared.fraction.Frac.{Frac}
+use Rattle.dcx_frac.specs.Frac.{value}
 use Rattle.dcx_report.specs.declared.array.Array.{Array}
 use Rattle.dcx_report.specs.declared.tree.Named.{Named}
 use Rattle.dcx_report.specs.declared.graph.Answer.TheVariants.{Optimal, Unbounded}
@@ -49,3 +50,16 @@ IsEndOf s (end.Stop (Wide (site.Answer row passes))) = IsSolution pivot_limit (p
 IsEndOf s (end.Stop (PivotLimit count)) = IsSolution pivot_limit (program_of s) (solution.PivotLimit count)
 IsEndOf s (end.Stop Memory) = ⊤
 IsEndOf s _ = ⊥
+
+-- two ends are of one kind, with one value where they are optimal, and are one stop where they stop; want of memory is free
+abbrev pub AreAlike : OutcomeEnd → OutcomeEnd → Type 0
+AreAlike (end.Stop Memory) e = ⊤
+AreAlike e (end.Stop Memory) = ⊤
+AreAlike (end.Answer (Optimal v x m)) (end.Answer (Optimal w y n)) = value v ≡ value w
+AreAlike (end.Answer (Unbounded x d b e)) (end.Answer (Unbounded y c a f)) = ⊤
+AreAlike (end.Stop stop) (end.Stop other) = stop ≡ other
+AreAlike _ _ = ⊥
+
+-- the problem has no other end: so each stop comes exactly where the run has it
+abbrev pub IsOnlyEnd : Script → OutcomeEnd → Type 0
+IsOnlyEnd s e = (other : OutcomeEnd) → IsEndOf s other → AreAlike e other

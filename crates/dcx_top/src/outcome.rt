@@ -3,7 +3,7 @@ ghost use Rattle.std.specs.Prelude.{◌≡◌, length, IfOk};
 ghost use Rattle.dcx_plain.specs.Plain.{IsPlain};
 ghost use Rattle.dcx_plain.specs.Meaning.{program_of};
 ghost use Rattle.dcx_lp.specs.Solution.{IsSolution};
-ghost use Rattle.dcx_top.specs.Outcome.{pivot_limit, IsNumber, AreNumbers, IsPointAt, IsEndOf};
+ghost use Rattle.dcx_top.specs.Outcome.{pivot_limit, IsNumber, AreNumbers, IsPointAt, IsEndOf, IsOnlyEnd};
 
 use dcx_frac::{Frac, Fracs};
 use dcx_lp::{Solution, solve};
@@ -117,7 +117,8 @@ fn solved(alloc: Global, script: &Script) -> Result<OutcomeEnd, AllocError>
 /// How the problem of a plain script ends.
 pub fn end_of(alloc: Global, script: &Script) -> OutcomeEnd
     requires { IsPlain script.now }
-    ensures { IsEndOf script.now result }
+    ensures cause { IsEndOf script.now result }
+    ensures only { IsOnlyEnd script.now result }
 {
     match solved(alloc, script) {
         Ok(end) => end,

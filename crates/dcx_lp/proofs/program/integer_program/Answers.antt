@@ -53,4 +53,5 @@ returns c =
       costs = is_cost.entries;
       lead = is_cost.lead;
       right = is_cost.right;
+      phase = subst (λ k. IsNoPhase k c.in_ok-phase.phase) (ap₂ ◌+◌ vn vm) c.in_ok-phase.ensures;
     }

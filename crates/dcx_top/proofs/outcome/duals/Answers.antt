@@ -1,4 +1,4 @@
-use Rattle.std.proofs.Common.{◌<◌, length, refl, arith}
+use Rattle.std.proofs.Common.{arith}
 use Rattle.dcx_top.proofs.Numbers.{numbers_more}
 use Rattle.dcx_top.proofs.outcome.duals.Goals as goal
 
