@@ -1,0 +1,6 @@
+-- The lemmas.
+pub mod RowSums
+pub mod Sublinear
+pub mod Duality
+pub mod FormedSums
+pub mod FirstStops

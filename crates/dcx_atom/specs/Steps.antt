@@ -57,6 +57,10 @@ abbrev pub first_stop : ℕ → List Step → Option SlopeStop
 first_stop j [] = None
 first_stop j (step ∷ steps) = earlier (step_stop j step) (first_stop j steps)
 
+-- the first stop where each weight is tested
+abbrev pub weights_stop : ℕ → List ℚ → Option SlopeStop
+weights_stop j ws = first_stop j (map (λ w. test (is_weight w)) ws)
+
 -- the steps of result entry j: each weight of its rows is tested, then each condition, then each slope is formed
 abbrev pub entry_steps : Meaning → List Sides → Coefficients → Weights → ℕ → List Step
 entry_steps m args c w j =

@@ -20,6 +20,7 @@ mod array;
 mod atom;
 mod axis;
 mod flags;
+mod forming;
 mod graph;
 mod linear;
 mod stops;
@@ -29,6 +30,7 @@ pub use array::Array;
 pub use atom::Atom;
 pub use axis::Axis;
 pub use flags::{Bend, Sign, Trend};
+pub use forming::{check_at_most, check_equal, check_weights, is_at_most, is_equal, sum_all};
 pub use graph::{
     AuxKind, AuxKinds, AuxTerm, Graph, GraphForm, GraphForms, GraphRow, GraphRows, GraphTerm,
     GraphTerms, Operand,
