@@ -52,17 +52,17 @@ pub weights_stop-append : (j : ℕ) (xs ys : List ℚ) → weights_stop j (xs ++
 weights_stop-append j xs ys = ap (first_stop j) (map-append (λ w. test (is_weight w)) xs ys) ∙ first_stop-append j (map (λ w. test (is_weight w)) xs) (map (λ w. test (is_weight w)) ys)
 
 -- one weight, which is compared with the fraction 0
-weight_tested : (j : ℕ) (w : Frac) (b : Bool) → rat_le (value zero_frac) (value w) ≡ b → weights_stop j (value w ∷ []) ≡ earlier (if b then None else Some (Refused j w zero_frac)) None
+weight_tested : (j : ℕ) (w : Frac) (b : Bool) → rat_le (whole (pos 0)) (value w) ≡ b → weights_stop j (value w ∷ []) ≡ earlier (if b then None else Some (Refused j w zero_frac)) None
 weight_tested j w b e = rw (frac_at-value w, frac_at-zero, e) refl
 
 -- one that is at least 0
 pub weight-kept : (j : ℕ) (w zero : Frac) → value zero ≡ whole (pos 0) → rat_le (value zero) (value w) ≡ true → weights_stop j (value w ∷ []) ≡ None
-weight-kept j w zero z e = weight_tested j w true (subst (λ x. rat_le (value x) (value w) ≡ true) (zero_frac-unique zero z) e)
+weight-kept j w zero z e = weight_tested j w true (subst (λ x. rat_le x (value w) ≡ true) z e)
 
 -- and one that isn't
 pub weight-refused : (j : ℕ) (w zero : Frac) → value zero ≡ whole (pos 0) → rat_le (value zero) (value w) ≡ false → weights_stop j (value w ∷ []) ≡ Some (Refused j w zero)
 weight-refused j w zero z e =
-    weight_tested j w false (subst (λ x. rat_le (value x) (value w) ≡ false) (zero_frac-unique zero z) e) ∙ ap (λ x. Some (Refused j w x)) (sym (zero_frac-unique zero z))
+    weight_tested j w false (subst (λ x. rat_le x (value w) ≡ false) z e) ∙ ap (λ x. Some (Refused j w x)) (sym (zero_frac-unique zero z))
 
 -- the first so many weights of a list, and the next one
 pub weights_stop-next : (j : ℕ) (ws : List Frac) (i : ℕ) (d : Frac) → i < length ws → weights_stop j (map value (take i ws)) ≡ None →

@@ -56,7 +56,7 @@ pub record Meaning : Type 0 where
   pub sign : List Sign → Sign
   -- entry j of the value
   pub value : List Sides → Entries → ℕ → ℚ
-  -- the numbers as whose sum, in this order, entry j is formed; each stands in the arguments, up to its sign
+  -- the numbers as whose sum, in this order, entry j is formed; each is an entry of an argument up to its sign, or 0
   pub summands : List Sides → Entries → ℕ → List ℚ
   -- the auxiliary unknowns of the graph
   pub kinds : List Sides → List AuxKind

@@ -3,7 +3,6 @@ use Rattle.std.specs.Prelude.{◌≡◌, ℕ, zero, suc, ◌+◌, ◌<◌, Bool,
 use Rattle.dcx_math.specs.Rational.{ℚ, whole, rat_le, rat_eq}
 use Rattle.dcx_frac.specs.declared.fraction.Frac.{Frac}
 use Rattle.dcx_frac.specs.declared.fraction.Passes.{Passes}
-use Rattle.dcx_frac.specs.Frac.{value}
 use Rattle.dcx_shape.specs.declared.shape.Sides.{Sides}
 use Rattle.dcx_shape.specs.Sides.{entries_of}
 use Rattle.dcx_atom.specs.declared.stops.SlopeStop.{SlopeStop}
@@ -23,19 +22,23 @@ relates at_most x y = rat_le x y
 relates equal x y = rat_eq x y
 relates at_least x y = rat_le y x
 
+-- the test that a condition is met, by the exact numbers
+abbrev pub is_met : Condition → Bool
+is_met k = relates k.relation (exact k.left) (exact k.right)
+
 -- a weight is at least 0
 abbrev pub is_weight : ℚ → Condition
 is_weight w = record { left = number w; relation = at_least; right = number (whole (pos 0)) }
 
--- the stop at a condition whose sides are formed: both sides, where it is broken
-abbrev pub broken_at : ℕ → Relation → Frac → Frac → Option SlopeStop
-broken_at j relation x y = if relates relation (value x) (value y) then None else Some (stops.Refused j x y)
+-- the stop at a condition whose sides are formed: both sides, where it isn't met
+abbrev pub broken_at : ℕ → Bool → Frac → Frac → Option SlopeStop
+broken_at j met x y = if met then None else Some (stops.Refused j x y)
 
--- the stop at a condition: its first operation that passes, the left side first, or that it is broken
-abbrev pub condition_stop : ℕ → Relation → Result Frac Passes → Result Frac Passes → Option SlopeStop
-condition_stop j relation (Err passes) right = Some (stops.Passes passes)
-condition_stop j relation (Ok x) (Err passes) = Some (stops.Passes passes)
-condition_stop j relation (Ok x) (Ok y) = broken_at j relation x y
+-- the stop at a condition: its first operation that passes, the left side first, or that it isn't met
+abbrev pub condition_stop : ℕ → Bool → Result Frac Passes → Result Frac Passes → Option SlopeStop
+condition_stop j met (Err passes) right = Some (stops.Passes passes)
+condition_stop j met (Ok x) (Err passes) = Some (stops.Passes passes)
+condition_stop j met (Ok x) (Ok y) = broken_at j met x y
 
 -- the stop at a slope: its first operation that passes
 abbrev pub slope_stop : Result Frac Passes → Option SlopeStop
@@ -44,7 +47,7 @@ slope_stop (Err passes) = Some (stops.Passes passes)
 
 -- the stop at a step of result entry j
 abbrev pub step_stop : ℕ → Step → Option SlopeStop
-step_stop j (test k) = condition_stop j k.relation (formed k.left) (formed k.right)
+step_stop j (test k) = condition_stop j (is_met k) (formed k.left) (formed k.right)
 step_stop j (form f) = slope_stop (formed f)
 
 -- the first of two stops

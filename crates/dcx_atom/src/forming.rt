@@ -4,7 +4,6 @@ ghost use Rattle.std.specs.Result.{result_err};
 ghost use Rattle.dcx_math.specs.Rational.{rat_le, rat_eq};
 ghost use Rattle.dcx_frac.specs.Frac.{value};
 ghost use Rattle.dcx_atom.specs.Formed.{sum_in_order};
-ghost use Rattle.dcx_atom.specs.Meaning.{at_most, equal};
 ghost use Rattle.dcx_atom.specs.Steps.{broken_at, weights_stop};
 
 use crate::stops::SlopeStop;
@@ -42,7 +41,7 @@ pub fn is_equal(x: &Frac, y: &Frac) -> bool
 
 /// `Refused` where `stated` isn't at most `found`.
 pub fn check_at_most(entry: u32, stated: Frac, found: Frac) -> Result<(), SlopeStop>
-    ensures { result_err result ≡ broken_at entry at_most stated found }
+    ensures { result_err result ≡ broken_at entry (rat_le (value stated) (value found)) stated found }
 {
     if is_at_most(&stated, &found) {
         Ok(())
@@ -57,7 +56,7 @@ pub fn check_at_most(entry: u32, stated: Frac, found: Frac) -> Result<(), SlopeS
 
 /// `Refused` where `stated` isn't `found`.
 pub fn check_equal(entry: u32, stated: Frac, found: Frac) -> Result<(), SlopeStop>
-    ensures { result_err result ≡ broken_at entry equal stated found }
+    ensures { result_err result ≡ broken_at entry (rat_eq (value stated) (value found)) stated found }
 {
     if is_equal(&stated, &found) {
         Ok(())
