@@ -4,3 +4,6 @@ pub mod Sublinear
 pub mod Duality
 pub mod FormedSums
 pub mod FirstStops
+pub mod Accepted
+pub mod LinearSums
+pub mod Halves

@@ -9,3 +9,5 @@ pub mod Graph
 pub mod Steps
 pub mod Laws
 pub mod Linear
+pub mod Hinge
+pub mod Uses

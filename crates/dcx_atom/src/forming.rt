@@ -1,7 +1,7 @@
 //! Sums in order, and the tests of conditions on weights: what the code of the calls shares.
-ghost use Rattle.std.specs.Prelude.{◌≡◌, map};
+ghost use Rattle.std.specs.Prelude.{◌≡◌, map, negsuc};
 ghost use Rattle.std.specs.Result.{result_err};
-ghost use Rattle.dcx_math.specs.Rational.{rat_le, rat_eq};
+ghost use Rattle.dcx_math.specs.Rational.{whole, rat_le, rat_eq};
 ghost use Rattle.dcx_frac.specs.Frac.{value};
 ghost use Rattle.dcx_atom.specs.Formed.{sum_in_order};
 ghost use Rattle.dcx_atom.specs.Steps.{broken_at, weights_stop};
@@ -9,6 +9,13 @@ ghost use Rattle.dcx_atom.specs.Steps.{broken_at, weights_stop};
 use crate::stops::SlopeStop;
 use dcx_frac::{Frac, Passes};
 use std::cmp::Ordering;
+
+/// The number -1.
+pub fn minus_one() -> Frac
+    ensures { value result ≡ whole (negsuc 0) }
+{
+    Frac::one().neg()
+}
 
 /// The sum of the numbers in order, from 0, or the first addition that passes 128 bits.
 pub fn sum_all(numbers: &[Frac]) -> Result<Frac, Passes>

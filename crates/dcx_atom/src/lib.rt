@@ -30,7 +30,9 @@ pub use array::Array;
 pub use atom::Atom;
 pub use axis::Axis;
 pub use flags::{Bend, Sign, Trend};
-pub use forming::{check_at_most, check_equal, check_weights, is_at_most, is_equal, sum_all};
+pub use forming::{
+    check_at_most, check_equal, check_weights, is_at_most, is_equal, minus_one, sum_all,
+};
 pub use graph::{
     AuxKind, AuxKinds, AuxTerm, Graph, GraphForm, GraphForms, GraphRow, GraphRows, GraphTerm,
     GraphTerms, Operand,
@@ -38,3 +40,6 @@ pub use graph::{
 pub use linear::LinearOp;
 pub use stops::{SlopeStop, ValueStop};
 pub use terms::{EntryTerms, Terms, Triple};
+
+#[cfg(test)]
+mod tests;
