@@ -9,5 +9,6 @@ pub mod Graph
 pub mod Steps
 pub mod Laws
 pub mod Linear
+pub mod Axis
 pub mod Hinge
 pub mod Uses

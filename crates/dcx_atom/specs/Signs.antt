@@ -1,5 +1,5 @@
 -- Signs of numbers, and which way the numbers of a call go.
-use Rattle.std.specs.Prelude.{◌≡◌, ◌⊎◌, ℕ, false, IsTrue, List, slice_index_or, pos}
+use Rattle.std.specs.Prelude.{◌≡◌, ◌⊎◌, ℕ, Bool, true, false, ◌&&◌, IsTrue, List, [], ◌∷◌, slice_index_or, pos}
 use Rattle.dcx_math.specs.Rational.{ℚ, whole, ◌+ℚ◌, ◌*ℚ◌, ◌≤ℚ◌}
 use Rattle.dcx_atom.specs.declared.flags.Sign.{Sign}
 use Rattle.dcx_atom.specs.declared.flags.Trend.{Trend}
@@ -40,3 +40,19 @@ combination p q a b i j = p *ℚ a i j +ℚ q *ℚ b i j
 -- a + k b, entry by entry
 abbrev pub shifted : Entries → ℚ → Entries → Entries
 shifted a k b i j = a i j +ℚ k *ℚ b i j
+
+-- rises, and nothing else
+abbrev pub rises : Trend
+rises = record { rising = true; falling = false }
+
+-- the sign that all have
+abbrev pub all_nonneg : List Sign → Bool
+all_nonneg [] = true
+all_nonneg (s ∷ signs) = s.nonneg && all_nonneg signs
+
+abbrev pub all_nonpos : List Sign → Bool
+all_nonpos [] = true
+all_nonpos (s ∷ signs) = s.nonpos && all_nonpos signs
+
+abbrev pub common_sign : List Sign → Sign
+common_sign signs = record { nonneg = all_nonneg signs; nonpos = all_nonpos signs }

@@ -28,7 +28,7 @@ mod terms;
 
 pub use array::Array;
 pub use atom::Atom;
-pub use axis::Axis;
+pub use axis::{Axis, Stride};
 pub use flags::{Bend, Sign, Trend};
 pub use forming::{
     check_at_most, check_equal, check_weights, is_at_most, is_equal, minus_one, sum_all,
