@@ -4,3 +4,8 @@ pub mod StridedLaws
 pub mod Folds
 pub mod FoldLaws
 pub mod Places
+pub mod PlaceLaws
+pub mod Added
+pub mod AddedLaws
+pub mod Pairing
+pub mod Joined

@@ -35,15 +35,15 @@ index_call from to places = record {
 }
 
 -- ---- reshaping
--- the entry at a place in the order of the rows, or of the columns
+-- the entry at a place in the order of the columns, or of the rows, which is that of arrays
 abbrev pub entry_in_order : Bool → Sides → (ℕ → ℚ) → ℕ → ℚ
 entry_in_order true s x p = entry_at s x (p % rows_of s) (p / rows_of s)
-entry_in_order false s x p = entry_at s x (p / cols_of s) (p % cols_of s)
+entry_in_order false s x p = x p
 
 -- where that entry stands
 abbrev pub place_in_order : Bool → Sides → ℕ → ℕ
 place_in_order true s p = p % rows_of s * cols_of s + p / rows_of s
-place_in_order false s p = p / cols_of s * cols_of s + p % cols_of s
+place_in_order false s p = p
 
 -- each entry of the result is that of the argument with the same place in the order
 abbrev pub reshape_call : Sides → Bool → StridedCall

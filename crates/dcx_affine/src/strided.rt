@@ -29,7 +29,8 @@ pub(crate) trait Strided {
 
     /// The entries that are summed for entry `k`.
     fn stride(&self, from: Shape, k: u32) -> Stride
-        requires { IfSome ((call self.now).result (sides_of from)) (λ s. k < entries_of s) }
+        requires shape { IsSome ((call self.now).result (sides_of from)) }
+        requires entry { IfSome ((call self.now).result (sides_of from)) (λ s. k < entries_of s) }
         ensures is { result ≡ (call self.now).stride (sides_of from) k }
         ensures fits { result.first + result.count * result.step < 2 ^ 32 };
 }

@@ -1,5 +1,6 @@
 -- Signs of numbers, and which way the numbers of a call go.
 use Rattle.std.specs.Prelude.{◌≡◌, ◌⊎◌, ℕ, Bool, true, false, ◌&&◌, IsTrue, List, [], ◌∷◌, slice_index_or, pos}
+use Rattle.std.specs.List.{list_all}
 use Rattle.dcx_math.specs.Rational.{ℚ, whole, ◌+ℚ◌, ◌*ℚ◌, ◌≤ℚ◌}
 use Rattle.dcx_atom.specs.declared.flags.Sign.{Sign}
 use Rattle.dcx_atom.specs.declared.flags.Trend.{Trend}
@@ -45,14 +46,29 @@ shifted a k b i j = a i j +ℚ k *ℚ b i j
 abbrev pub rises : Trend
 rises = record { rising = true; falling = false }
 
--- the sign that all have
+-- whether all are at least 0, and at most 0
 abbrev pub all_nonneg : List Sign → Bool
-all_nonneg [] = true
-all_nonneg (s ∷ signs) = s.nonneg && all_nonneg signs
+all_nonneg signs = list_all (λ s. s.nonneg) signs
 
 abbrev pub all_nonpos : List Sign → Bool
-all_nonpos [] = true
-all_nonpos (s ∷ signs) = s.nonpos && all_nonpos signs
+all_nonpos signs = list_all (λ s. s.nonpos) signs
 
+-- the sign that all have
 abbrev pub common_sign : List Sign → Sign
 common_sign signs = record { nonneg = all_nonneg signs; nonpos = all_nonpos signs }
+
+-- falls, and nothing else
+abbrev pub falls : Trend
+falls = record { rising = false; falling = true }
+
+-- neither rises nor falls, as far as is known
+abbrev pub no_trend : Trend
+no_trend = record { rising = false; falling = false }
+
+-- the sign turned round
+abbrev pub flipped : Sign → Sign
+flipped s = record { nonneg = s.nonpos; nonpos = s.nonneg }
+
+-- the sign of 0 where the sign is that of 0, and else nothing
+abbrev pub zero_or_unknown : Sign → Sign
+zero_or_unknown s = record { nonneg = s.nonneg && s.nonpos; nonpos = s.nonneg && s.nonpos }
