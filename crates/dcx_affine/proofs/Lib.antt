@@ -1,0 +1,3 @@
+-- The lemmas.
+pub mod Reciprocals
+pub mod Products

@@ -1,0 +1,11 @@
+-- What the contracts of this crate cite.
+pub mod Strided
+pub mod StridedLaws
+pub mod Folds
+pub mod FoldLaws
+pub mod Places
+pub mod PlaceLaws
+pub mod Added
+pub mod AddedLaws
+pub mod Pairing
+pub mod Joined

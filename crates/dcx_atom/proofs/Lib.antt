@@ -1,0 +1,9 @@
+-- The lemmas.
+pub mod RowSums
+pub mod Sublinear
+pub mod Duality
+pub mod FormedSums
+pub mod FirstStops
+pub mod Accepted
+pub mod LinearSums
+pub mod Halves

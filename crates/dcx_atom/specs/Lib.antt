@@ -1,0 +1,14 @@
+-- What the contracts of this crate cite.
+pub mod Arrays
+pub mod Formed
+pub mod Signs
+pub mod Rows
+pub mod Meaning
+pub mod Value
+pub mod Graph
+pub mod Steps
+pub mod Laws
+pub mod Linear
+pub mod Axis
+pub mod Hinge
+pub mod Uses

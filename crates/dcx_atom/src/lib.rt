@@ -1,0 +1,45 @@
+//! What a call of an expression promises: the traits of nonlinear and of linear calls, their laws, and the types that
+//! they answer.
+//!
+//! A call says what it is by one ghost value, its `meaning`, over exact numbers of any size. The laws are members of the
+//! traits, so that each call proves them of its meaning, and each answer of its code is exact against that meaning.
+//!
+//! | what must hold | where |
+//! |---|---|
+//! | shape, sign, trend and bend are those of the meaning | `Atom`, `LinearOp` |
+//! | a value is the defined one, or names the first addition that passes 128 bits | `Atom::value`, `specs/Value.antt` |
+//! | unknowns, rows and results of a graph are those of the meaning | `Atom::graph`, `specs/Graph.antt` |
+//! | slopes are those of the weights, or name the first condition that is broken or operation that passes | `Atom::slopes`, `specs/Steps.antt` |
+//! | the terms of a linear call are those of the meaning | `LinearOp::map`, `specs/Linear.antt` |
+//! | sign, monotonicity, curvature, graph soundness and tightness, subgradient, recession | laws of `Atom`, `specs/Laws.antt` |
+//! | linearity, sign, monotonicity | laws of `LinearOp`, `specs/Linear.antt` |
+//! | curvature, recession and subgradient follow from the graph | `proofs/Sublinear.antt`, `proofs/Duality.antt` |
+#![tactic(auto)]
+
+mod array;
+mod atom;
+mod axis;
+mod flags;
+mod forming;
+mod graph;
+mod linear;
+mod stops;
+mod terms;
+
+pub use array::Array;
+pub use atom::Atom;
+pub use axis::{Axis, Stride};
+pub use flags::{Bend, Sign, Trend};
+pub use forming::{
+    check_at_most, check_equal, check_weights, is_at_most, is_equal, minus_one, sum_all,
+};
+pub use graph::{
+    AuxKind, AuxKinds, AuxTerm, Graph, GraphForm, GraphForms, GraphRow, GraphRows, GraphTerm,
+    GraphTerms, Operand,
+};
+pub use linear::LinearOp;
+pub use stops::{SlopeStop, ValueStop};
+pub use terms::{EntryTerms, Terms, Triple};
+
+#[cfg(test)]
+mod tests;
