@@ -3,7 +3,7 @@ use Rattle.std.specs.Prelude.{ℕ, List, ◌++◌, codes, decimal}
 use Rattle.std.specs.List.{flat_map, enumerate_from}
 use Rattle.dcx_frac.specs.declared.fraction.Frac.{Frac}
 use Rattle.dcx_frac.specs.Text.{frac_text}
-use Rattle.dcx_report.specs.declared.array.Array.{Array}
+use Rattle.dcx_atom.specs.declared.array.Array.{Array}
 use Rattle.dcx_report.specs.declared.tree.Named.{Named}
 use Rattle.dcx_report.specs.declared.tree.Sense.{Sense}
 use Rattle.dcx_report.specs.declared.tree.Sense.TheVariants.{Minimize, Maximize}

@@ -11,7 +11,7 @@ use Rattle.dcx_frac.specs.declared.fraction.Op.{Op}
 use Rattle.dcx_frac.specs.declared.fraction.Op.TheVariants.{Add, Sub, Mul, Div, Lcm}
 use Rattle.dcx_frac.specs.declared.fraction.Passes.{Passes}
 use Rattle.dcx_frac.specs.Text.{frac_text}
-use Rattle.dcx_report.specs.declared.array.Array.{Array}
+use Rattle.dcx_atom.specs.declared.array.Array.{Array}
 
 -- line:column
 unfoldable pub place_text : Place → List ℕ

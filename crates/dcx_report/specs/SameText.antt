@@ -2,7 +2,7 @@
 use Rattle.std.specs.Prelude.{◌≡◌, ◌≢◌, ℕ, List, All, map, None, Some, ⊤}
 use Rattle.std.specs.declared.option.Option.{Option}
 use Rattle.dcx_shape.specs.declared.shape.Shape.{Shape}
-use Rattle.dcx_report.specs.declared.array.Array.{Array}
+use Rattle.dcx_atom.specs.declared.array.Array.{Array}
 use Rattle.dcx_report.specs.declared.tree.Named.{Named}
 use Rattle.dcx_report.specs.declared.tree.Sense.{Sense}
 use Rattle.dcx_report.specs.declared.graph.Answer.{Answer}

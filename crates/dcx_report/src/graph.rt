@@ -14,7 +14,7 @@ pub struct Duals {
 
 impl Model for Duals {
     ghost use Rattle.std.specs.Prelude.{List};
-    ghost use Rattle.dcx_report.specs.declared.array.Array.{Array};
+    ghost use Rattle.dcx_atom.specs.declared.array.Array.{Array};
 
     ghost Value = { List Array };
 

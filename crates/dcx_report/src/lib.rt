@@ -2,7 +2,6 @@
 #![tactic(auto)]
 
 mod answer_lines;
-mod array;
 mod graph;
 pub mod laws;
 mod library;
@@ -20,7 +19,7 @@ mod sink;
 mod stop_line;
 mod tree;
 
-pub use array::Array;
+pub use dcx_atom::Array;
 pub use graph::{Answer, Duals, Site, Stop};
 pub use library::{FetchFault, Library};
 pub use memory::{MemoryLibrary, MemorySink, SteadyLibrary, SteadySink};

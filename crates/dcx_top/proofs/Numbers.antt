@@ -2,7 +2,7 @@
 use Rattle.std.proofs.Common.{◌≡◌, ℕ, ◌+◌, ◌<◌, List, [], ◌∷◌, ◌++◌, length, map, take, get_or, sym, ap, ◌∙◌, subst, arith}
 use Rattle.std.proofs.lemmas.List.{length-map, take_more, map-append}
 use Rattle.dcx_frac.specs.declared.fraction.Frac.{Frac}
-use Rattle.dcx_report.specs.declared.array.Array.{Array}
+use Rattle.dcx_atom.specs.declared.array.Array.{Array}
 use Rattle.dcx_report.specs.declared.tree.Named.{Named}
 use Rattle.dcx_plain.specs.declared.script.Script.{Script}
 use Rattle.dcx_plain.specs.Plain.{IsPlain}

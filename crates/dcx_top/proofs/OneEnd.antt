@@ -2,7 +2,7 @@
 use Rattle.std.proofs.Common.{◌≡◌, ℕ, List, refl, sym, subst}
 use Rattle.dcx_frac.specs.declared.fraction.Frac.{Frac}
 use Rattle.dcx_frac.specs.declared.fraction.Passes.{Passes}
-use Rattle.dcx_report.specs.declared.array.Array.{Array}
+use Rattle.dcx_atom.specs.declared.array.Array.{Array}
 use Rattle.dcx_report.specs.declared.tree.Named.{Named}
 use Rattle.dcx_report.specs.declared.graph.Answer.TheVariants as answer
 use Rattle.dcx_report.specs.declared.graph.Stop.TheVariants as stop

@@ -4,7 +4,7 @@ use Rattle.dcx_shape.specs.Shape.{sides_of}
 use Rattle.dcx_shape.specs.declared.shape.Sides.TheVariants as sides
 use Rattle.dcx_frac.specs.declared.fraction.Frac.{Frac}
 use Rattle.dcx_frac.specs.Frac.{value}
-use Rattle.dcx_report.specs.declared.array.Array.{Array}
+use Rattle.dcx_atom.specs.declared.array.Array.{Array}
 use Rattle.dcx_report.specs.declared.tree.Named.{Named}
 use Rattle.dcx_report.specs.declared.graph.Answer.TheVariants.{Optimal, Unbounded}
 use Rattle.dcx_report.specs.declared.graph.Stop.TheVariants.{Wide, PivotLimit, Memory}
