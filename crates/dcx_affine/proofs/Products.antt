@@ -11,13 +11,13 @@ use Rattle.dcx_affine.specs.Places.{limited}
 use Rattle.dcx_affine.specs.Pairing.{product_sides}
 
 -- as many entries as an array may have
-few_of : (c : Sides) → nat_le 1 (entries_of c) && nat_le (entries_of c) 20000 ≡ true → HasFewEntries c
+pub few_of : (c : Sides) → nat_le 1 (entries_of c) && nat_le (entries_of c) 20000 ≡ true → HasFewEntries c
 few_of c e = record { some = grind arith; most = grind arith }
 
 few_test : (c : Sides) → HasFewEntries c → nat_le 1 (entries_of c) && nat_le (entries_of c) 20000 ≡ true
 few_test c few = let a = few.some in let b = few.most in grind arith
 
-limited_is : (c : Sides) → HasFewEntries c → limited c ≡ Some c
+pub limited_is : (c : Sides) → HasFewEntries c → limited c ≡ Some c
 limited_is c few = rw (few_test c few) refl
 
 -- there is none

@@ -8,4 +8,3 @@ pub mod PlaceLaws
 pub mod Added
 pub mod AddedLaws
 pub mod Pairing
-pub mod Joined

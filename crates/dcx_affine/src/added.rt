@@ -27,7 +27,7 @@ pub struct Minus;
 pub struct Diff;
 
 /// One term alone.
-fn one_term(alloc: Global, first: Triple) -> Result<EntryTerms, AllocError>
+pub(crate) fn one_term(alloc: Global, first: Triple) -> Result<EntryTerms, AllocError>
     ensures { IfOk result (λ t. t ≡ first ∷ []) }
 {
     let terms = vec![in alloc; first]?;
@@ -43,7 +43,7 @@ fn two_terms(alloc: Global, first: Triple, second: Triple) -> Result<EntryTerms,
 }
 
 /// An entry of an argument, times a number.
-fn term(argument: u32, entry: u32, coefficient: Frac) -> Triple
+pub(crate) fn term(argument: u32, entry: u32, coefficient: Frac) -> Triple
     ensures { linear_term result ≡ term argument entry (value coefficient) }
 {
     Triple {

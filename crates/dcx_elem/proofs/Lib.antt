@@ -1,0 +1,7 @@
+-- The lemmas.
+pub mod Lists
+pub mod Totals
+pub mod Weights
+pub mod KinkSteps
+pub mod Values
+pub mod ExtremeSteps

@@ -1,0 +1,15 @@
+pub mod Sound
+pub mod Viable
+pub mod Local
+pub mod Complete
+pub mod Steps
+pub mod TokenSets
+pub mod Progress
+pub mod Text
+pub mod Rights
+pub mod Builds
+pub mod Decided
+pub mod Fronts
+pub mod Rules
+pub mod Loops
+pub mod Whole

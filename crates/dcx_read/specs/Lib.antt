@@ -1,0 +1,11 @@
+pub mod Role
+pub mod Terminal
+pub mod Expressions
+pub mod Statements
+pub mod Words
+pub mod Reading
+pub mod Moves
+pub mod View
+pub mod Steps
+pub mod Whole
+pub mod Laws

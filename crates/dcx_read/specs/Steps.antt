@@ -1,0 +1,101 @@
+-- What the functions of the parser answer, against reading by one token.
+use Rattle.std.specs.Prelude.{◌≡◌, ℕ, Bool, true, false, List, [], ◌∷◌, ◌++◌, Option, Some, None, Result, Ok, Err}
+use Rattle.dcx_shape.specs.declared.place.Place.{Place}
+use Rattle.dcx_tokens.specs.declared.token.Token.{Token}
+use Rattle.dcx_read.specs.declared.front.Stop.{Stop}
+use Rattle.dcx_read.specs.declared.front.Stop.TheVariants.{Memory, At}
+use Rattle.dcx_read.specs.declared.role.Role.{Role}
+use Rattle.dcx_read.specs.declared.role.Role.TheVariants as roles
+use Rattle.dcx_read.specs.declared.role.Bracket.TheVariants.{Round, Square}
+use Rattle.dcx_read.specs.declared.tree.Sign.{Sign}
+use Rattle.dcx_read.specs.declared.tree.Signed.{Signed}
+use Rattle.dcx_read.specs.Role.{role_of}
+use Rattle.dcx_read.specs.Terminal.{Terminal, terminals}
+use Rattle.dcx_read.specs.Expressions.{signs_text}
+use Rattle.dcx_read.specs.Reading.{Forest, on_ok, read}
+use Rattle.dcx_read.specs.Moves.{Symbol, Tree, trees, grammar}
+
+-- whatever is read after it, the terminals give this tree of s first, and the rest goes on
+pub record Gives (s : Symbol) (us : List Terminal) (x : Tree s) (rest : List Terminal) : Type 0 where
+  pub reads : (ss : List Symbol) → read grammar us (s ∷ ss) ≡ on_ok (λ f. let p : Forest trees (s ∷ ss) = (x, f) in p) (read grammar rest ss)
+
+-- an s is read from us where the parts are still to be read from rest, and these complete it
+pub record Progress (s : Symbol) (us rest : List Terminal) (parts : List Symbol) (join : (ss : List Symbol) → Forest trees (parts ++ ss) → Forest trees (s ∷ ss)) : Type 0 where
+  pub reads : (ss : List Symbol) → read grammar us (s ∷ ss) ≡ on_ok (join ss) (read grammar rest (parts ++ ss))
+
+-- the rest of a tree of s is a tree of s'
+abbrev pub Loop : (s s' : Symbol) (us rest : List Terminal) (complete : Tree s' → Tree s) → Type 0
+Loop s s' us rest complete = Progress s us rest (s' ∷ []) (λ ss f. (complete f.0, f.1))
+
+-- whatever is read after an s, reading stops at the rest
+pub record StopsAt (s : Symbol) (us rest : List Terminal) : Type 0 where
+  pub reads : (ss : List Symbol) → read grammar us (s ∷ ss) ≡ Err rest
+
+abbrev pub Stops : Symbol → List ℕ → List Terminal → Stop → Type 0
+Stops s source us Memory = Unit {0}
+Stops s source us (At rest) = StopsAt s us (terminals source rest.now)
+
+abbrev pub Reads : {X : Type 0} (s : Symbol) (source : List ℕ) → (X → Tree s × List Token) → Result X Stop → List Terminal → Type 0
+Reads s source view (Ok x) us = Gives s us (view x).0 (terminals source (view x).1)
+Reads s source view (Err e) us = Stops s source us e
+
+-- the first token has this role and this place
+pub record Front (r : Role) (place : Place) (ts rest : List Token) : Type 0 where
+  pub token : Token
+  pub parts : ts ≡ token ∷ rest
+  pub role : role_of token.kind ≡ r
+  pub at : token.place ≡ place
+
+-- no token of this role is first
+abbrev pub Lacks : Role → List Token → Type 0
+Lacks r ts = (t : Token) (rest : List Token) → ts ≡ t ∷ rest → role_of t.kind ≡ r → ⊥
+
+-- the first token has this role
+abbrev pub FrontOf : Role → (ts rest : List Token) → Type 0
+FrontOf r ts rest = (place : Place) × Front r place ts rest
+
+-- parsing stops here, since no token of this role is first
+abbrev pub Refuses : Role → List Token → Stop → Type 0
+Refuses r ts Memory = ⊥
+Refuses r ts (At rest) = (rest.now ≡ ts) × Lacks r ts
+
+-- one item of a repetition, or none
+abbrev pub ReadsOne : {X : Type 0} (s : Symbol) (source : List ℕ) (none : Tree s) → (X → (Tree s → Tree s) × List Token) → Result (Option X) Stop → List Terminal → Type 0
+ReadsOne s source none view (Ok None) us = Gives s us none us
+ReadsOne s source none view (Ok (Some x)) us = Loop s s us (terminals source (view x).1) (view x).0
+ReadsOne s source none view (Err e) us = Stops s source us e
+
+abbrev pub begins_expr : Role → Bool
+begins_expr roles.Name = true
+begins_expr (roles.Number n) = true
+begins_expr roles.Text = true
+begins_expr (roles.Truth b) = true
+begins_expr roles.None = true
+begins_expr (roles.Signs s) = true
+begins_expr (roles.Opens Round) = true
+begins_expr (roles.Opens Square) = true
+begins_expr r = false
+
+abbrev pub starts_expr : List Token → Bool
+starts_expr [] = false
+starts_expr (t ∷ ts) = begins_expr (role_of t.kind)
+
+-- signs at the front of the tokens, and none behind them
+pub record IsSigns (ts : List Token) (ss : List Signed) (rest : List Token) : Type 0 where
+  pub parts : (source : List ℕ) → terminals source ts ≡ signs_text ss ++ terminals source rest
+  pub ends : (s : Sign) → Lacks (roles.Signs s) rest
+
+-- the first token is this name
+pub record FrontName (ts : List Token) (t : Token) (rest : List Token) : Type 0 where
+  pub parts : ts ≡ t ∷ rest
+  pub role : role_of t.kind ≡ roles.Name
+
+-- the first token is this name, and the second has this role and this place
+pub record FrontPair (r : Role) (ts : List Token) (t : Token) (place : Place) (rest : List Token) : Type 0 where
+  pub middle : List Token
+  pub name : FrontName ts t middle
+  pub second : Front r place middle rest
+
+-- the first two tokens aren't a name and a token of this role
+abbrev pub LacksPair : Role → List Token → Type 0
+LacksPair r ts = (t : Token) (place : Place) (rest : List Token) → FrontPair r ts t place rest → ⊥

@@ -1,0 +1,86 @@
+-- The tokens as the grammar sees them: what a token is, with the bytes and the place that a syntax tree keeps of it.
+use Rattle.std.specs.Prelude.{◌≡◌, ℕ, Bool, List, map}
+use Rattle.std.specs.List.{slice_range}
+use Rattle.dcx_frac.specs.declared.fraction.Frac.{Frac}
+use Rattle.dcx_shape.specs.declared.place.Place.{Place}
+use Rattle.dcx_tokens.specs.declared.token.Token.{Token}
+use Rattle.dcx_read.specs.declared.tree.Comparison.{Comparison}
+use Rattle.dcx_read.specs.declared.tree.Sign.{Sign}
+use Rattle.dcx_read.specs.declared.tree.Scaling.{Scaling}
+use Rattle.dcx_read.specs.declared.tree.Named.{Named}
+use Rattle.dcx_read.specs.declared.role.Bracket.{Bracket}
+use Rattle.dcx_read.specs.declared.role.Role.{Role}
+use Rattle.dcx_read.specs.declared.role.Role.TheVariants as roles
+use Rattle.dcx_read.specs.Role.{role_of}
+
+-- a token that is no bracket
+pub data Plain : Type 0 where
+  name : (bytes : List ℕ) (place : Place) → Plain
+  number : (value : Frac) (place : Place) → Plain
+  text : (bytes : List ℕ) (place : Place) → Plain
+  truth : Bool → (place : Place) → Plain
+  none : (place : Place) → Plain
+  compares : Comparison → (place : Place) → Plain
+  signs : Sign → (place : Place) → Plain
+  scales : Scaling → (place : Place) → Plain
+  power : (place : Place) → Plain
+  plus_equal : (place : Place) → Plain
+  import : (place : Place) → Plain
+  for : (place : Place) → Plain
+  print : (place : Place) → Plain
+  as_word : Plain
+  in_word : Plain
+  dot : Plain
+  comma : Plain
+  colon : Plain
+  equal : Plain
+  newline : Plain
+  indent : Plain
+  dedent : Plain
+  other : Plain
+
+pub data Terminal : Type 0 where
+  opens : Bracket → (place : Place) → Terminal
+  closes : Bracket → Terminal
+  plain : Plain → Terminal
+
+abbrev pub terminal : Role → List ℕ → Place → Terminal
+terminal (roles.Opens b) bytes place = opens b place
+terminal (roles.Closes b) bytes place = closes b
+terminal roles.Name bytes place = plain (name bytes place)
+terminal (roles.Number n) bytes place = plain (number n place)
+terminal roles.Text bytes place = plain (text bytes place)
+terminal (roles.Truth b) bytes place = plain (truth b place)
+terminal roles.None bytes place = plain (none place)
+terminal (roles.Compares c) bytes place = plain (compares c place)
+terminal (roles.Signs s) bytes place = plain (signs s place)
+terminal (roles.Scales s) bytes place = plain (scales s place)
+terminal roles.Power bytes place = plain (power place)
+terminal roles.PlusEqual bytes place = plain (plus_equal place)
+terminal roles.Import bytes place = plain (import place)
+terminal roles.For bytes place = plain (for place)
+terminal roles.Print bytes place = plain (print place)
+terminal roles.As bytes place = plain as_word
+terminal roles.In bytes place = plain in_word
+terminal roles.Dot bytes place = plain dot
+terminal roles.Comma bytes place = plain comma
+terminal roles.Colon bytes place = plain colon
+terminal roles.Equal bytes place = plain equal
+terminal roles.Newline bytes place = plain newline
+terminal roles.Indent bytes place = plain indent
+terminal roles.Dedent bytes place = plain dedent
+terminal roles.Other bytes place = plain other
+
+-- what the text says between the ends of a token's span
+abbrev pub spelled : List ℕ → Token → List ℕ
+spelled source t = slice_range source t.start t.end
+
+-- the name that a token is
+abbrev pub named_by : List ℕ → Token → Named
+named_by source t = record { name = spelled source t; place = t.place }
+
+abbrev pub terminal_of : List ℕ → Token → Terminal
+terminal_of source t = terminal (role_of t.kind) (spelled source t) t.place
+
+abbrev pub terminals : List ℕ → List Token → List Terminal
+terminals source ts = map (terminal_of source) ts

@@ -1,0 +1,189 @@
+//! What stands at the front of the tokens.
+ghost use Rattle.std.specs.Prelude.{◌≡◌, ◌<◌, ◌≤◌, [], ◌∷◌, length, IfOk, IfErr, IfSome, MatchOption};
+ghost use Rattle.dcx_read.specs.declared.front.Stop.TheVariants as stops;
+ghost use Rattle.dcx_read.specs.declared.role.Role.TheVariants as roles;
+ghost use Rattle.dcx_read.specs.declared.tree.Comparison.{Comparison};
+ghost use Rattle.dcx_read.specs.declared.tree.Sign.{Sign};
+ghost use Rattle.dcx_read.specs.declared.tree.Scaling.{Scaling};
+ghost use Rattle.dcx_read.specs.Role.{role_with};
+ghost use Rattle.dcx_read.specs.Terminal.{spelled, named_by, terminals};
+ghost use Rattle.dcx_read.specs.Moves.{name_s};
+ghost use Rattle.dcx_read.specs.Steps.{Front, FrontOf, Lacks, Refuses, Reads, starts_expr, FrontName, FrontPair, LacksPair};
+
+use crate::role::{Bracket, Mark, Role, mark_in, role_in};
+use crate::tree::{Comparison, Named, Scaling, Sign};
+use dcx_shape::{Name, Place};
+use dcx_tokens::Token;
+use std::alloc::{AllocError, AllocFailed, Global};
+
+/// Why parsing stopped.
+#[derive(Drop)]
+pub enum Stop<'a> {
+    Memory,
+    /// The rest of the tokens, from the first one on that does not fit.
+    At(&'a [Token]),
+}
+
+impl<'a> From<AllocError> for Stop<'a> {
+    ghost from_gives = { λ _ e. e ≡ stops.Memory };
+
+    fn from(_e: AllocError) -> Stop<'a> {
+        Stop::Memory
+    }
+}
+
+impl<'a, T: Drop> From<AllocFailed<T>> for Stop<'a> {
+    ghost from_gives = { λ _ e. e ≡ stops.Memory };
+
+    fn from(_e: AllocFailed<T>) -> Stop<'a> {
+        Stop::Memory
+    }
+}
+
+pub fn eat<'a>(tokens: &'a [Token], wanted: Mark) -> Option<(Place, &'a [Token])>
+    ensures front { MatchOption result (Lacks (role_with wanted) tokens.now) (λ x. Front (role_with wanted) x.0 tokens.now x.1.now) }
+    ensures shorter { IfSome result (λ x. length x.1.now < length tokens.now) }
+{
+    match tokens {
+        [] => None,
+        [head, rest @ ..] => match mark_in(role_in(head.kind)) {
+            Some(mark) if mark == wanted => Some((head.place, rest)),
+            _ => None,
+        },
+    }
+}
+
+pub fn eat_comparison<'a>(tokens: &'a [Token]) -> Option<(Comparison, Place, &'a [Token])>
+    ensures front { MatchOption result ((v : Comparison) → Lacks (roles.Compares v) tokens.now) (λ x. Front (roles.Compares x.0) x.1 tokens.now x.2.now) }
+    ensures shorter { IfSome result (λ x. length x.2.now < length tokens.now) }
+{
+    match tokens {
+        [] => None,
+        [head, rest @ ..] => match role_in(head.kind) {
+            Role::Compares(comparison) => Some((comparison, head.place, rest)),
+            _ => None,
+        },
+    }
+}
+
+pub fn eat_sign<'a>(tokens: &'a [Token]) -> Option<(Sign, Place, &'a [Token])>
+    ensures front { MatchOption result ((v : Sign) → Lacks (roles.Signs v) tokens.now) (λ x. Front (roles.Signs x.0) x.1 tokens.now x.2.now) }
+    ensures shorter { IfSome result (λ x. length x.2.now < length tokens.now) }
+{
+    match tokens {
+        [] => None,
+        [head, rest @ ..] => match role_in(head.kind) {
+            Role::Signs(sign) => Some((sign, head.place, rest)),
+            _ => None,
+        },
+    }
+}
+
+pub fn eat_scaling<'a>(tokens: &'a [Token]) -> Option<(Scaling, Place, &'a [Token])>
+    ensures front { MatchOption result ((v : Scaling) → Lacks (roles.Scales v) tokens.now) (λ x. Front (roles.Scales x.0) x.1 tokens.now x.2.now) }
+    ensures shorter { IfSome result (λ x. length x.2.now < length tokens.now) }
+{
+    match tokens {
+        [] => None,
+        [head, rest @ ..] => match role_in(head.kind) {
+            Role::Scales(scaling) => Some((scaling, head.place, rest)),
+            _ => None,
+        },
+    }
+}
+
+/// Whether the first token may begin an expression.
+pub fn starts_expr(tokens: &[Token]) -> bool
+    ensures { result ≡ starts_expr tokens.now }
+{
+    match tokens {
+        [] => false,
+        [head, ..] => match role_in(head.kind) {
+            Role::Name => true,
+            Role::Number(_) => true,
+            Role::Text => true,
+            Role::Truth(_) => true,
+            Role::None => true,
+            Role::Signs(_) => true,
+            Role::Opens(Bracket::Round) => true,
+            Role::Opens(Bracket::Square) => true,
+            _ => false,
+        },
+    }
+}
+
+pub fn expect<'a>(tokens: &'a [Token], wanted: Mark) -> Result<&'a [Token], Stop<'a>>
+    ensures front { IfOk result (λ x. FrontOf (role_with wanted) tokens.now x.now) }
+    ensures refused { IfErr result (λ e. Refuses (role_with wanted) tokens.now e) }
+    ensures shorter { IfOk result (λ x. length x.now < length tokens.now) }
+{
+    match eat(tokens, wanted) {
+        Some((_, rest)) => Ok(rest),
+        None => Err(Stop::At(tokens)),
+    }
+}
+
+/// The bytes of a token's span.
+pub fn slice<'a>(text: &'a [u8], token: &Token) -> &'a [u8]
+    ensures { result.now ≡ spelled text.now token.now }
+{
+    let end = (token.end as usize).min(text.len());
+    let start = (token.start as usize).min(end);
+    &text[start..end]
+}
+
+/// The name that a token is.
+pub fn named(alloc: Global, text: &[u8], token: &Token) -> Result<Named, AllocError>
+    ensures { IfOk result (λ n. n ≡ named_by text.now token.now) }
+{
+    let bytes = slice(text, token).to_vec(alloc)?;
+    Ok(Named { name: Name::from_vec(bytes), place: token.place })
+}
+
+/// The first token and those behind it.
+pub fn split<'a>(tokens: &'a [Token]) -> Option<(&'a Token, &'a [Token])>
+    ensures front { MatchOption result (tokens.now ≡ []) (λ x. tokens.now ≡ x.0.now ∷ x.1.now) }
+    ensures shorter { IfSome result (λ x. length x.1.now < length tokens.now) }
+{
+    match tokens {
+        [] => None,
+        [head, rest @ ..] => Some((head, rest)),
+    }
+}
+
+/// A name token at the front of the tokens, and the tokens behind it.
+pub fn eat_name<'a>(tokens: &'a [Token]) -> Option<(&'a Token, &'a [Token])>
+    ensures front { MatchOption result (Lacks roles.Name tokens.now) (λ x. FrontName tokens.now x.0.now x.1.now) }
+    ensures shorter { IfSome result (λ x. length x.1.now < length tokens.now) }
+{
+    match tokens {
+        [] => None,
+        [head, rest @ ..] => match role_in(head.kind) {
+            Role::Name => Some((head, rest)),
+            _ => None,
+        },
+    }
+}
+
+/// A name token and a mark at the front of the tokens, the mark's place, and the tokens behind it.
+pub fn eat_name_and<'a>(tokens: &'a [Token], wanted: Mark) -> Option<(&'a Token, Place, &'a [Token])>
+    ensures front { MatchOption result (LacksPair (role_with wanted) tokens.now) (λ x. FrontPair (role_with wanted) tokens.now x.0.now x.1 x.2.now) }
+    ensures shorter { IfSome result (λ x. length x.2.now < length tokens.now) }
+{
+    let (head, behind) = eat_name(tokens)?;
+    let (place, rest) = eat(behind, wanted)?;
+    Some((head, place, rest))
+}
+
+pub fn name<'a>(alloc: Global, text: &[u8], tokens: &'a [Token]) -> Result<(Named, &'a [Token]), Stop<'a>>
+    ensures read { Reads name_s text.now (λ x. (x.0, x.1.now)) result (terminals text.now tokens.now) }
+    ensures shorter { IfOk result (λ x. length x.1.now < length tokens.now) }
+{
+    match eat_name(tokens) {
+        Some((head, rest)) => {
+            let named = named(alloc, text, head)?;
+            Ok((named, rest))
+        }
+        None => Err(Stop::At(tokens)),
+    }
+}

@@ -1,0 +1,213 @@
+//! Trees from their parts.
+
+ghost use Rattle.std.specs.Prelude.{◌≡◌, map, IfOk};
+ghost use Rattle.dcx_read.specs.Expressions.{expr, no_comparison, compared, sum, no_addition, added, term, no_scaling, scaled, factor, power_of, no_power, raised, exponent, postfix, no_trailer, attribute, call, indexed, by_place, by_name, at, slice, no_step, step, number_at, text_at, name_at, truth_at, none_at, unit, round, tuple, empty_list, list, comprehension};
+ghost use Rattle.dcx_read.specs.View.{chained, args_of, items_of, more_items_of, indices_of, arg_view, index_view, primary_view, step_view, trailer_view, added_view, compared_view, expr_view, factor_view, postfix_view, power_view, raised_view, scaled_view, sum_view, term_view, optional_view};
+
+use crate::tree::*;
+use dcx_frac::Frac;
+use dcx_shape::{Bytes, Place};
+use std::alloc::{AllocError, Global};
+
+pub fn expr_of(first: Sum, rest: Vec<Compared>) -> Expr
+    ensures { expr_view result ≡ expr (sum_view first) (chained (map compared_view rest.items) no_comparison) }
+{
+    Expr { first, rest }
+}
+
+pub fn compared_of(comparison: Comparison, place: Place, operand: Sum) -> Compared
+    ensures { compared_view result ≡ (λ x. compared comparison place (sum_view operand) x) }
+{
+    Compared { comparison, place, sum: operand }
+}
+
+pub fn sum_of(first: Term, rest: Vec<Added>) -> Sum
+    ensures { sum_view result ≡ sum (term_view first) (chained (map added_view rest.items) no_addition) }
+{
+    Sum { first, rest }
+}
+
+pub fn added_of(sign: Sign, place: Place, operand: Term) -> Added
+    ensures { added_view result ≡ (λ x. added sign place (term_view operand) x) }
+{
+    Added { sign, place, term: operand }
+}
+
+pub fn term_of(first: Factor, rest: Vec<Scaled>) -> Term
+    ensures { term_view result ≡ term (factor_view first) (chained (map scaled_view rest.items) no_scaling) }
+{
+    Term { first, rest }
+}
+
+pub fn scaled_of(scaling: Scaling, place: Place, operand: Factor) -> Scaled
+    ensures { scaled_view result ≡ (λ x. scaled scaling place (factor_view operand) x) }
+{
+    Scaled { scaling, place, factor: operand }
+}
+
+pub fn factor_of(signs: Vec<Signed>, operand: Power) -> Factor
+    ensures { factor_view result ≡ factor signs.items (power_view operand) }
+{
+    Factor { signs, power: operand }
+}
+
+pub fn raised_power(first: Postfix, rest: Vec<Raised>) -> Power
+    ensures { power_view result ≡ power_of (postfix_view first) (chained (map raised_view rest.items) no_power) }
+{
+    Power { first, rest }
+}
+
+pub fn raised_of(place: Place, signs: Vec<Signed>, operand: Postfix) -> Raised
+    ensures { raised_view result ≡ (λ x. raised place (exponent signs.items (postfix_view operand)) x) }
+{
+    Raised { place, signs, postfix: operand }
+}
+
+pub fn postfix_of(first: Primary, trailers: Vec<Trailer>) -> Postfix
+    ensures { postfix_view result ≡ postfix (primary_view first) (chained (map trailer_view trailers.items) no_trailer) }
+{
+    Postfix { primary: first, trailers }
+}
+
+pub fn attribute_of(name: Named) -> Trailer
+    ensures { trailer_view result ≡ (λ x. attribute name x) }
+{
+    Trailer::Attribute(name)
+}
+
+pub fn call_of(place: Place, args: Vec<Arg>, comma: bool) -> Trailer
+    ensures { trailer_view result ≡ (λ x. call place (args_of (map arg_view args.items) comma) x) }
+{
+    Trailer::Call { place, args, comma }
+}
+
+pub fn index_of(place: Place, first: Index, rest: Vec<Index>) -> Trailer
+    ensures { trailer_view result ≡ (λ x. indexed place (index_view first) (indices_of (map index_view rest.items)) x) }
+{
+    Trailer::Index { place, first, rest }
+}
+
+pub fn by_place_of(value: Expr) -> Arg
+    ensures { arg_view result ≡ by_place (expr_view value) }
+{
+    Arg::ByPlace(value)
+}
+
+pub fn by_name_of(name: Named, value: Expr) -> Arg
+    ensures { arg_view result ≡ by_name name (expr_view value) }
+{
+    Arg::ByName(name, value)
+}
+
+pub fn at_of(value: Expr) -> Index
+    ensures { index_view result ≡ at (expr_view value) }
+{
+    Index::At(value)
+}
+
+pub fn slice_of(start: Option<Expr>, stop: Option<Expr>, by: Step) -> Index
+    ensures { index_view result ≡ slice (optional_view start) (optional_view stop) (step_view by) }
+{
+    Index::Slice { start, stop, step: by }
+}
+
+pub fn absent_step() -> Step
+    ensures { step_view result ≡ no_step }
+{
+    Step::Absent
+}
+
+pub fn step_of(by: Option<Expr>) -> Step
+    ensures { step_view result ≡ step (optional_view by) }
+{
+    Step::Colon(by)
+}
+
+pub fn number_of(number: Frac, place: Place) -> Primary
+    ensures { primary_view result ≡ number_at number place }
+{
+    Primary::Number(number, place)
+}
+
+pub fn text_of(bytes: Bytes, place: Place) -> Primary
+    ensures { primary_view result ≡ text_at bytes place }
+{
+    Primary::Text(bytes, place)
+}
+
+pub fn name_of(name: Named) -> Primary
+    ensures { primary_view result ≡ name_at name }
+{
+    Primary::Name(name)
+}
+
+pub fn truth_of(truth: bool, place: Place) -> Primary
+    ensures { primary_view result ≡ truth_at truth place }
+{
+    Primary::Truth(truth, place)
+}
+
+pub fn none_of(place: Place) -> Primary
+    ensures { primary_view result ≡ none_at place }
+{
+    Primary::None(place)
+}
+
+pub fn unit_of(place: Place) -> Primary
+    ensures { primary_view result ≡ unit place }
+{
+    Primary::Unit(place)
+}
+
+pub fn round_of(alloc: Global, place: Place, inner: Expr) -> Result<Primary, AllocError>
+    ensures { IfOk result (λ x. primary_view x ≡ round place (expr_view inner)) }
+{
+    Ok(Primary::Round(place, Box::new(alloc, inner)?))
+}
+
+pub fn tuple_of(alloc: Global, place: Place, first: Expr, rest: Vec<Expr>, comma: bool) -> Result<Primary, AllocError>
+    ensures { IfOk result (λ x. primary_view x ≡ tuple place (expr_view first) (items_of (map expr_view rest.items) comma)) }
+{
+    Ok(Primary::Tuple {
+        place,
+        first: Box::new(alloc, first)?,
+        rest,
+        comma,
+    })
+}
+
+pub fn empty_list_of(place: Place) -> Primary
+    ensures { primary_view result ≡ empty_list place }
+{
+    Primary::EmptyList(place)
+}
+
+pub fn list_of(alloc: Global, place: Place, first: Expr, rest: Vec<Expr>, comma: bool) -> Result<Primary, AllocError>
+    ensures { IfOk result (λ x. primary_view x ≡ list place (expr_view first) (more_items_of (map expr_view rest.items) comma)) }
+{
+    Ok(Primary::List {
+        place,
+        first: Box::new(alloc, first)?,
+        rest,
+        comma,
+    })
+}
+
+pub fn comprehension_of(
+    alloc: Global,
+    place: Place,
+    element: Expr,
+    for_place: Place,
+    name: Named,
+    source: Expr,
+) -> Result<Primary, AllocError>
+    ensures { IfOk result (λ x. primary_view x ≡ comprehension place (expr_view element) for_place name (expr_view source)) }
+{
+    Ok(Primary::Comprehension {
+        place,
+        element: Box::new(alloc, element)?,
+        for_place,
+        name,
+        source: Box::new(alloc, source)?,
+    })
+}

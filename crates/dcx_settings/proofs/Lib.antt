@@ -1,0 +1,10 @@
+-- The lemmas of this crate.
+pub mod Soundness
+pub mod Completeness
+pub mod Viability
+pub mod Numbers
+pub mod Rows
+pub mod Matrices
+pub mod Values
+pub mod Whole
+pub mod Lines

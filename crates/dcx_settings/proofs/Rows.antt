@@ -1,0 +1,139 @@
+-- Reading a row of numbers, step by step.
+use Rattle.std.proofs.Common.{◌≡◌, ◌≢◌, ℕ, zero, suc, ◌+◌, ◌*◌, ◌<◌, ◌≤◌, Bool, true, false, List, [], ◌∷◌, ◌++◌, map, length, Option, Some, None, Result, Ok, Err, refl, sym, ap, ap₂, ◌∙◌, subst, arith}
+use Rattle.std.specs.Prelude.{nat_le, nat_eq, ◌==◌, IfErr}
+use Rattle.std.specs.Result.{IsErrAnd}
+use Rattle.std.proofs.lemmas.Bool.Decides.{nat_tests}
+use Rattle.std.proofs.lemmas.List.{length-append, map-append, length-map}
+use Rattle.dcx_frac.specs.declared.fraction.Frac.{Frac}
+use Rattle.dcx_frac.specs.Frac.{value}
+use Rattle.dcx_tokens.specs.declared.token.Token.{Token}
+use Rattle.dcx_settings.specs.Terminal.{Terminal, comma, close_square, terminals}
+use Rattle.dcx_settings.specs.Grammar.{Number, Item, Line, Every, IsGoodNumber, IsGoodRow}
+use Rattle.dcx_settings.specs.Machine.{State, at, start, Context, in_row, Outer, no_matrix, rows_before, Phase, number, number_read, in_row_read, limit, may_end, row_ended, when}
+use Rattle.dcx_settings.specs.Meaning.{number_value, AreNumbers}
+use Rattle.dcx_settings.specs.declared.stop.Stop.{Stop}
+use Rattle.dcx_settings.specs.declared.stop.Stop.TheVariants.{Memory, At}
+use Rattle.dcx_settings.specs.Steps.{further, read, read_by, Lacks, StopsAt, IsNumberRead, number_from, most_numbers, is_full_row, HasWidth, IsRowBegun, IsRowRead, RowStopsAt}
+use Rattle.dcx_settings.proofs.Numbers.{read_part}
+use Rattle.dcx_settings.proofs.Soundness.{every_more}
+
+limit_is : (o : Outer) (width : Option ℕ) → HasWidth o width → limit o ≡ most_numbers width
+limit_is no_matrix None h = refl
+limit_is no_matrix (Some w) h = absurd h
+limit_is (rows_before []) None h = refl
+limit_is (rows_before []) (Some w) h = absurd h
+limit_is (rows_before (r ∷ rs)) None h = absurd h
+limit_is (rows_before (r ∷ rs)) (Some w) h = h
+
+may_end_is : (o : Outer) (width : Option ℕ) (k : ℕ) → HasWidth o width → may_end o k ≡ is_full_row width k
+may_end_is no_matrix None k h = refl
+may_end_is no_matrix (Some w) k h = absurd h
+may_end_is (rows_before []) None k h = refl
+may_end_is (rows_before []) (Some w) k h = absurd h
+may_end_is (rows_before (r ∷ rs)) None k h = absurd h
+may_end_is (rows_before (r ∷ rs)) (Some w) k h = ap (nat_eq k) h
+
+pub le_is : (a b : ℕ) → a ≤ b → nat_le a b ≡ true
+le_is a b h = grind (arith, nat_tests)
+
+pub le_not : (a b : ℕ) → b < a → nat_le a b ≡ false
+le_not a b h = grind (arith, nat_tests)
+
+-- what `?` hands on
+pub err_from : {X : Type 0} (P : Stop → Type 0) (r : Result X Stop) (e : Stop) → IsErrAnd r (λ x. x ≡ e) → P e → IfErr r P
+err_from P (Ok x) e h p = tt
+err_from P (Err x) e h p = subst P (sym h) p
+
+-- as many fractions as numbers
+pub same_length : (xs : List Number) (fs : List Frac) → AreNumbers xs fs → length fs ≡ length xs
+same_length xs fs h = sym (length-map fs value) ∙ ap length h ∙ length-map xs number_value
+
+pub numbers_more : (xs : List Number) (x : Number) (fs : List Frac) (f : Frac) → AreNumbers xs fs → value f ≡ number_value x → AreNumbers (xs ++ x ∷ []) (fs ++ f ∷ [])
+numbers_more xs x fs f h v = map-append value fs (f ∷ []) ∙ ap₂ (λ a b. a ++ b ∷ []) h v ∙ sym (map-append number_value xs (x ∷ []))
+
+-- the first number
+pub row_first : (width : Option ℕ) (us rest : List Terminal) (f : Frac) → 1 ≤ most_numbers width → IsNumberRead number_from us f rest → IsRowBegun width us (f ∷ []) rest
+row_first width us rest f some h = record {
+  before = [];
+  last = h.number;
+  good = (h.good, tt);
+  numbers_are = ap (λ v. v ∷ []) h.value_is;
+  few = some;
+  reads = λ lines is n o w. h.reads lines is n (in_row o []);
+}
+
+module _ (width : Option ℕ) (us : List Terminal) (fs : List Frac) where
+  count : (from : List Terminal) → (h : IsRowBegun width us fs from) → length fs ≡ length h.before + 1
+  count from h = same_length _ fs h.numbers_are ∙ length-append h.before (h.last ∷ [])
+
+  module _ (from rest : List Terminal) (e : from ≡ comma ∷ rest) (h : IsRowBegun width us fs from) where
+    -- a comma goes on where there is room
+    pub comma_goes : length fs < most_numbers width → (lines : List Line) (is : List Item) (n : List ℕ) (o : Outer) → HasWidth o width
+      → read_by (number_from lines is n (in_row o [])) us ≡ read_by (number_from lines is n (in_row o (h.before ++ h.last ∷ []))) rest
+    comma_goes room lines is n o w =
+        let k : length (h.before ++ h.last ∷ []) + 1 ≤ limit o = let l = limit_is o width w in let c = count from h in let d = length-append h.before (h.last ∷ []) in omega (arith, room, l, c, d) in
+        h.reads lines is n o w ∙ ap (read_by (number_read lines is n (in_row o h.before) h.last)) e
+        ∙ ap (λ b. further (read rest) (when b (at lines (number is n (in_row o (h.before ++ h.last ∷ [])) start))) (comma ∷ rest)) (le_is _ _ k)
+        ∙ read_part lines is n (in_row o (h.before ++ h.last ∷ [])) start rest
+
+    -- and stops where there is none
+    pub comma_stops : most_numbers width ≤ length fs → (lines : List Line) (is : List Item) (n : List ℕ) (o : Outer) → HasWidth o width
+      → read_by (number_from lines is n (in_row o [])) us ≡ Err from
+    comma_stops full lines is n o w =
+        let k : limit o < length (h.before ++ h.last ∷ []) + 1 = let l = limit_is o width w in let c = count from h in let d = length-append h.before (h.last ∷ []) in omega (arith, full, l, c, d) in
+        h.reads lines is n o w ∙ ap (read_by (number_read lines is n (in_row o h.before) h.last)) e
+        ∙ ap (λ b. further (read rest) (when b (at lines (number is n (in_row o (h.before ++ h.last ∷ [])) start))) (comma ∷ rest)) (le_not _ _ k) ∙ ap Err (sym e)
+
+    -- one more number
+    pub row_more : length fs < most_numbers width → (f : Frac) (behind : List Terminal) → IsNumberRead number_from rest f behind → IsRowBegun width us (fs ++ f ∷ []) behind
+    row_more room f behind g = record {
+      before = h.before ++ h.last ∷ [];
+      last = g.number;
+      good = every_more IsGoodNumber (h.before ++ h.last ∷ []) g.number h.good g.good;
+      numbers_are = numbers_more (h.before ++ h.last ∷ []) g.number fs f h.numbers_are g.value_is;
+      few = let c = count from h in let d = length-append h.before (h.last ∷ []) in omega (arith, room, c, d);
+      reads = λ lines is n o w. comma_goes room lines is n o w ∙ g.reads lines is n (in_row o (h.before ++ h.last ∷ []));
+    }
+
+    -- no number behind the comma
+    pub row_stops : length fs < most_numbers width → (text : List ℕ) (e : Stop) → StopsAt number_from text rest e → RowStopsAt width text us e
+    row_stops room text Memory g = tt
+    row_stops room text (At there) g = λ lines is n o w. comma_goes room lines is n o w ∙ g lines is n (in_row o (h.before ++ h.last ∷ []))
+
+  module _ (from : List Terminal) (h : IsRowBegun width us fs from) where
+    -- the row ends where it may
+    pub row_closes : (rest : List Terminal) → from ≡ close_square ∷ rest → is_full_row width (length fs) ≡ true → IsRowRead width us fs rest
+    row_closes rest e full =
+        let c = count from h in
+        let d = length-append h.before (h.last ∷ []) in
+        let same : length fs ≡ length (h.before ++ h.last ∷ []) = c ∙ sym d in
+        record {
+          numbers = h.before ++ h.last ∷ [];
+          good = record { some = omega (arith, d); numbers = h.good };
+          numbers_are = h.numbers_are;
+          few = let k = h.few in omega (arith, d, k);
+          full = ap (is_full_row width) (sym same) ∙ full;
+          reads = λ lines is n o w. h.reads lines is n o w ∙ ap (read_by (number_read lines is n (in_row o h.before) h.last)) e
+              ∙ ap (λ b. further (read rest) (when b (at lines (row_ended is n o (h.before ++ h.last ∷ [])))) (close_square ∷ rest)) (may_end_is o width _ w ∙ ap (is_full_row width) (sym same) ∙ full);
+        }
+
+    -- it is too short
+    pub row_short : (rest : List Terminal) → from ≡ close_square ∷ rest → is_full_row width (length fs) ≡ false → (lines : List Line) (is : List Item) (n : List ℕ) (o : Outer) → HasWidth o width
+      → read_by (number_from lines is n (in_row o [])) us ≡ Err from
+    row_short rest e short lines is n o w =
+        let c = count from h in
+        let d = length-append h.before (h.last ∷ []) in
+        let same : length fs ≡ length (h.before ++ h.last ∷ []) = c ∙ sym d in
+        h.reads lines is n o w ∙ ap (read_by (number_read lines is n (in_row o h.before) h.last)) e
+        ∙ ap (λ b. further (read rest) (when b (at lines (row_ended is n o (h.before ++ h.last ∷ [])))) (close_square ∷ rest)) (may_end_is o width _ w ∙ ap (is_full_row width) (sym same) ∙ short) ∙ ap Err (sym e)
+
+    -- it goes on with neither a comma nor a bracket
+    pub row_open : Lacks comma from → Lacks close_square from → (lines : List Line) (is : List Item) (n : List ℕ) (o : Outer) → HasWidth o width
+      → read_by (number_from lines is n (in_row o [])) us ≡ Err from
+    row_open k l lines is n o w = h.reads lines is n o w ∙ other lines is n o (h.before ++ h.last ∷ []) from k l
+      where
+        other : (lines : List Line) (is : List Item) (n : List ℕ) (o : Outer) (xs : List Number) (ts : List Terminal) → Lacks comma ts → Lacks close_square ts → read_by (in_row_read lines is n o xs) ts ≡ Err ts
+        other lines is n o xs [] k l = refl
+        other lines is n o xs (comma ∷ ts) k l = absurd (k ts refl)
+        other lines is n o xs (close_square ∷ ts) k l = absurd (l ts refl)
+        other lines is n o xs (t ∷ ts) k l = refl

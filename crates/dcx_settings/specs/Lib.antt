@@ -1,0 +1,7 @@
+-- The words that contracts cite.
+pub mod Terminal
+pub mod Grammar
+pub mod Reading
+pub mod Machine
+pub mod Meaning
+pub mod Steps

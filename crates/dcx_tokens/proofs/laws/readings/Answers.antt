@@ -1,0 +1,5 @@
+use Rattle.dcx_tokens.proofs.OneReading.{one_reading}
+use Rattle.dcx_tokens.proofs.laws.readings.Goals as goal
+
+pub returns : goal.returns
+returns c = λ text ts us f g a b. one_reading a b

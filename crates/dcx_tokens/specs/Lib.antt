@@ -1,0 +1,13 @@
+-- The words that contracts cite.
+pub mod Front
+pub mod Laws
+pub mod Layout
+pub mod Lexeme
+pub mod Lexed
+pub mod Number
+pub mod Position
+pub mod Quoted
+pub mod Reading
+pub mod State
+pub mod View
+pub mod Word
