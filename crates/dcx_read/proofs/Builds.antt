@@ -1,5 +1,5 @@
 -- Each tree comes about by its first token, or is the empty one.
-use Rattle.std.proofs.Common.{◌≡◌, ℕ, Bool, true, false, List, [], ◌∷◌, Option, Some, None, refl, sym, ap, subst, ◌∙◌}
+use Rattle.std.proofs.Common.{◌≡◌, Bool, true, false, [], ◌∷◌, Option, Some, None, refl, ap, subst}
 use Rattle.std.specs.Prelude.{codes}
 use Rattle.dcx_shape.specs.declared.place.Place.{Place}
 use Rattle.dcx_read.specs.declared.tree.Module.{Module}
@@ -9,13 +9,13 @@ use Rattle.dcx_read.specs.declared.role.Bracket.{Bracket}
 use Rattle.dcx_read.specs.declared.role.Bracket.TheVariants.{Round, Square, Curly}
 use Rattle.dcx_read.specs.Terminal.{Terminal, opens, closes, plain, name, number, text, truth, none, compares, signs, scales, power, plus_equal, import, for, print, as_word, in_word, dot, comma, colon, equal, newline, indent, dedent}
 use Rattle.dcx_read.specs.Expressions.{named, Expr, expr, Compared, no_comparison, compared, Sum, sum, Added, no_addition, added, Term, term, Scaled, no_scaling, scaled, Factor, factor, Power, power_of, Raised, no_power, raised, Exponent, exponent, Postfix, postfix, Trailers, no_trailer, attribute, call, indexed, Args, no_args, args, MoreArgs, args_end, args_comma, more_args, Arg, by_place, by_name, Indices, no_index, more_indices, Index, at, slice, Optional, absent, present, Step, no_step, step, Primary, number_at, text_at, name_at, truth_at, none_at, unit, round, tuple, empty_list, list, comprehension, Items, no_items, items, MoreItems, items_end, items_comma, more_items}
-use Rattle.dcx_read.specs.Statements.{module_bytes, Balanced, nothing, beside, within, Line, importing, assign, add_to, set_value, evaluate, prints, repeats, Lines, no_lines, lines}
-use Rattle.dcx_read.specs.Words.{ModuleAt, is_value_word}
-use Rattle.dcx_read.specs.Reading.{Forest, Move, shift, pass, leading, otherwise}
+use Rattle.dcx_read.specs.Statements.{Balanced, nothing, beside, within, Line, importing, assign, add_to, set_value, evaluate, prints, repeats, Lines, no_lines, lines}
+use Rattle.dcx_read.specs.Words.{is_value_word}
+use Rattle.dcx_read.specs.Reading.{leading}
 use Rattle.dcx_read.specs.Moves.{Symbol, expr_s, compared_s, sum_s, added_s, term_s, scaled_s, factor_s, power_s, raised_s, exponent_s, postfix_s, trailers_s, args_s, more_args_s, arg_s, after_name_s, rest_s, indices_s, index_s, after_index_s, optional_s, step_s, primary_s, in_round_s, after_round_s, in_square_s, after_square_s, items_s, more_items_s, name_s, opens_s, closes_s, colon_s, in_s, newline_s, indent_s, dedent_s, module_s, alias_s, balanced_s, after_first_s, after_dot_s, line_s, lines_s, Tree, trees, grammar, Rest, AfterName, gets, goes_on, AfterFirst, is_assigned, is_added_to, value_is_set, begins, AfterDot, value_gets, attribute_of, AfterIndex, no_slice, slices, AfterRound, round_closed, round_goes_on, InRound, round_empty, round_holds, AfterSquare, square_lists, square_for, InSquare, square_empty, square_holds}
 use Rattle.dcx_read.specs.Moves as moves
-use Rattle.dcx_read.proofs.Complete.{Made, shifts, empties, is_shift, front}
-use Rattle.dcx_read.proofs.Steps.{MadeBy, made_by, token_of, shifts-at, as_made, lead-made, otherwise-first, leading-shifts}
+use Rattle.dcx_read.proofs.Complete.{Made, shifts, empties, is_shift}
+use Rattle.dcx_read.proofs.Steps.{MadeBy, made_by, shifts-at, as_made, lead-made}
 
 abbrev Built : (s : Symbol) → Tree s → Type 0
 Built s x = MadeBy grammar s x
@@ -109,8 +109,8 @@ rest-leads-compared : (t : Terminal) → is_shift (moves.compared_move t) ≡ tr
 rest-leads-compared (plain (compares c p)) h = refl
 rest-leads-compared t h = absurd cc
 
-rest-from-compared : (x : Compared)  → Made grammar compared_s x → Made grammar rest_s (no_trailer, (no_power, (no_scaling, (no_addition, x))))
-rest-from-compared x  (shifts t push make e z back)  = as_made grammar rest_s _ (lead-made grammar compared_s rest_s (λ ss. ss) moves.rest_compared z (no_trailer, (no_power, (no_scaling, (no_addition, z)))) (λ ss g. (g, refl)) (made_by t push make e z back) (rest-leads-compared t (ap is_shift e)))
+rest-from-compared : (x : Compared) → Made grammar compared_s x → Made grammar rest_s (no_trailer, (no_power, (no_scaling, (no_addition, x))))
+rest-from-compared x (shifts t push make e z back) = as_made grammar rest_s _ (lead-made grammar compared_s rest_s (λ ss. ss) moves.rest_compared z (no_trailer, (no_power, (no_scaling, (no_addition, z)))) (λ ss g. (g, refl)) (made_by t push make e z back) (rest-leads-compared t (ap is_shift e)))
 rest-from-compared x (empties z o) = empties (no_trailer, (no_power, (no_scaling, (no_addition, z)))) cc
 
 rest-from-added : (x : Added) (ycompared : Compared) → Made grammar added_s x → Made grammar compared_s ycompared → Made grammar rest_s (no_trailer, (no_power, (no_scaling, (x, ycompared))))
@@ -268,8 +268,8 @@ first-leads-compared : (t : Terminal) → is_shift (moves.compared_move t) ≡ t
 first-leads-compared (plain (compares c p)) h = refl
 first-leads-compared t h = absurd cc
 
-first-from-compared : (x : Compared)  → Made grammar compared_s x → Made grammar after_first_s (begins (no_trailer, (no_power, (no_scaling, (no_addition, x)))))
-first-from-compared x  (shifts t push make e z back)  =
+first-from-compared : (x : Compared) → Made grammar compared_s x → Made grammar after_first_s (begins (no_trailer, (no_power, (no_scaling, (no_addition, x)))))
+first-from-compared x (shifts t push make e z back) =
     let b : Built rest_s (no_trailer, (no_power, (no_scaling, (no_addition, z)))) = lead-made grammar compared_s rest_s (λ ss. ss) moves.rest_compared z (no_trailer, (no_power, (no_scaling, (no_addition, z)))) (λ ss g. (g, refl)) (made_by t push make e z back) (rest-leads-compared t (ap is_shift e)) in
     as_made grammar after_first_s _ (lead-made grammar rest_s after_first_s (λ ss. ss) moves.after_first_join (no_trailer, (no_power, (no_scaling, (no_addition, z)))) (begins (no_trailer, (no_power, (no_scaling, (no_addition, z))))) (λ ss g. (g, refl)) b (first-leads-compared t (ap is_shift e)))
 first-from-compared x (empties z o) = empties (begins (no_trailer, (no_power, (no_scaling, (no_addition, z))))) cc

@@ -1,6 +1,6 @@
 -- Trees are read from their spelling, where one token decides.
 use Rattle.std.proofs.Common.{◌≡◌, Bool, true, false, cond, List, [], ◌∷◌, ◌++◌, Option, Some, None, Ok, refl, sym, ap, subst, ◌∙◌}
-use Rattle.dcx_read.specs.Reading.{Trees, Forest, Move, shift, pass, Grammar, on_ok, skipped, shifted, step, finish, read}
+use Rattle.dcx_read.specs.Reading.{Trees, Forest, Move, shift, pass, Grammar, skipped, shifted, step, finish, read}
 use Rattle.dcx_read.proofs.Sound.{Spelling, spelling, Spells, SpellsNothing, Faithful}
 
 -- kinds of tokens: which go on a tree of a symbol, and which may begin one

@@ -1,5 +1,5 @@
 -- One token decides the grammar.
-use Rattle.std.proofs.Common.{◌≡◌, Bool, true, false, refl}
+use Rattle.std.proofs.Common.{◌≡◌, true, refl}
 use Rattle.dcx_read.specs.Moves.{Symbol, empty, grammar}
 use Rattle.dcx_read.specs.Moves as symbols
 use Rattle.dcx_read.proofs.Sound.{SpellsNothing}

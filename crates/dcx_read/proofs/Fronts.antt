@@ -1,27 +1,21 @@
 -- What stands at the front of the tokens, as terminals.
-use Rattle.std.proofs.Common.{◌≡◌, ◌<◌, ◌≤◌, ◌-◌, length, take, drop, get_or, arith, ℕ, Bool, true, false, List, [], ◌∷◌, ◌++◌, Option, Some, None, Err, refl, sym, ap, subst, ◌∙◌}
+use Rattle.std.proofs.Common.{◌≡◌, ◌<◌, ◌≤◌, ◌-◌, length, take, drop, get_or, arith, ℕ, List, [], ◌∷◌, ◌++◌, Some, Err, refl, sym, ap, ◌∙◌}
 use Rattle.dcx_shape.specs.declared.place.Place.{Place}
 use Rattle.dcx_tokens.specs.declared.token.Token.{Token}
 use Rattle.dcx_read.specs.declared.role.Role.{Role}
 use Rattle.dcx_read.specs.declared.role.Role.TheVariants as roles
-use Rattle.dcx_read.specs.declared.role.Bracket.{Bracket}
-use Rattle.dcx_read.specs.declared.role.Bracket.TheVariants.{Round, Square, Curly}
-use Rattle.dcx_read.specs.declared.tree.Comparison.{Comparison}
 use Rattle.dcx_read.specs.declared.tree.Sign.{Sign}
-use Rattle.dcx_read.specs.declared.tree.Scaling.{Scaling}
 use Rattle.dcx_read.specs.declared.role.Mark.{Mark}
 use Rattle.dcx_read.specs.declared.role.Mark.TheVariants as marks
 use Rattle.dcx_read.specs.Role.{role_of, role_with, mark_of}
 use Rattle.dcx_read.specs.declared.tree.Signed.{Signed}
 use Rattle.dcx_read.specs.Expressions.{signs_text}
-use Rattle.dcx_read.specs.Terminal.{plain, signs, Terminal, terminal, terminal_of, terminals, spelled, named_by}
+use Rattle.dcx_read.specs.Terminal.{plain, signs, Terminal, terminal, terminals, spelled, named_by}
 use Rattle.std.proofs.lemmas.List.{take_rest}
-use Rattle.dcx_read.specs.Reading.{Move, shift, pass, leading, on_ok, read}
-use Rattle.dcx_read.specs.Moves.{Symbol, expr_s, compared_s, added_s, scaled_s, raised_s, trailers_s, args_s, more_args_s, indices_s, after_index_s, optional_s, step_s, items_s, more_items_s, after_round_s, after_square_s, closes_s, colon_s, in_s, newline_s, indent_s, dedent_s, name_s, power_s, factor_s, postfix_s, exponent_s, index_s, in_round_s, in_square_s, alias_s, opens_s, Tree, trees, move, empty, grammar}
-use Rattle.dcx_read.specs.Moves as moves
-use Rattle.dcx_read.specs.Steps.{Gives, StopsAt, Front, Lacks, begins_expr, starts_expr}
+use Rattle.dcx_read.specs.Reading.{pass, on_ok, read}
+use Rattle.dcx_read.specs.Moves.{Symbol, name_s, move, grammar}
+use Rattle.dcx_read.specs.Steps.{Gives, StopsAt, Front, Lacks}
 use Rattle.dcx_read.proofs.Progress.{front}
-use Rattle.dcx_read.proofs.Complete.{is_shift}
 
 pub front-terminals : (r : Role) (p : Place) (ts rest : List Token) (source : List ℕ) → Front r p ts rest → (bytes : List ℕ) × (terminals source ts ≡ terminal r bytes p ∷ terminals source rest)
 front-terminals r p ts rest source f = (spelled source f.token, ap (terminals source) f.parts ∙ rw (f.role, f.at) refl)

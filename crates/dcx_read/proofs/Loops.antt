@@ -1,5 +1,5 @@
 -- Repetitions, read one item after the other.
-use Rattle.std.proofs.Common.{◌≡◌, ℕ, Bool, true, false, List, [], ◌∷◌, ◌++◌, map, Option, Some, None, refl, sym, ap, ◌∙◌}
+use Rattle.std.proofs.Common.{◌≡◌, ℕ, true, false, List, [], ◌∷◌, ◌++◌, map, refl, sym, ap, ◌∙◌}
 use Rattle.std.proofs.lemmas.List.{map_push}
 use Rattle.dcx_tokens.specs.declared.token.Token.{Token}
 use Rattle.dcx_read.specs.declared.role.Role.{Role}
@@ -7,15 +7,14 @@ use Rattle.dcx_read.specs.declared.role.Role.TheVariants as roles
 use Rattle.dcx_read.specs.declared.tree.Sign.{Sign}
 use Rattle.dcx_read.specs.declared.tree.Signed.{Signed}
 use Rattle.dcx_read.specs.declared.front.Stop.{Stop}
-use Rattle.dcx_read.specs.declared.front.Stop.TheVariants.{Memory, At}
-use Rattle.dcx_read.specs.Terminal.{Terminal, terminals, terminal, terminal_of, plain, signs}
+use Rattle.dcx_read.specs.Terminal.{Terminal, terminals, terminal, plain, signs}
 use Rattle.dcx_read.specs.Expressions.{Expr, Factor, factor, Power, Exponent, exponent, Postfix, Arg, Args, no_args, args, args_end, MoreArgs, Items, no_items, items, items_end, MoreItems, signs_text}
-use Rattle.dcx_read.specs.View.{chained, then_arg, then_item, args_ending, items_ending, args_of, items_of}
+use Rattle.dcx_read.specs.View.{chained, then_arg, then_item, args_of, items_of}
 use Rattle.dcx_read.specs.Moves.{Symbol, Tree, trees, factor_s, exponent_s, power_s, postfix_s, signed_factor, signed_exponent, args_behind, items_behind}
 use Rattle.dcx_read.specs.Moves as moves
-use Rattle.dcx_read.specs.Reading.{Move, shift, pass, leading}
-use Rattle.dcx_read.specs.Steps.{Gives, Progress, Loop, StopsAt, Stops, Lacks, IsSigns}
-use Rattle.dcx_read.proofs.Progress.{Join, front, begun, goes, joins, done, turns, stops, loop-done}
+use Rattle.dcx_read.specs.Reading.{leading}
+use Rattle.dcx_read.specs.Steps.{Gives, Progress, Loop, Stops, Lacks, IsSigns}
+use Rattle.dcx_read.proofs.Progress.{front, begun, goes, joins, done, turns, stops}
 use Rattle.dcx_read.proofs.Rules.{shifts, leads, LeadsAt}
 
 chained-push : {A : Type 0} (fs : List (A → A)) (f : A → A) (x : A) → chained (fs ++ f ∷ []) x ≡ chained fs (f x)

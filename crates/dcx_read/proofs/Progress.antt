@@ -1,10 +1,10 @@
 -- A tree read part by part.
-use Rattle.std.proofs.Common.{◌≡◌, List, [], ◌∷◌, ◌++◌, Option, Some, None, Result, Ok, Err, refl, sym, ap, subst, ◌∙◌}
+use Rattle.std.proofs.Common.{◌≡◌, List, [], ◌∷◌, ◌++◌, Result, Ok, Err, refl, sym, ap, subst, ◌∙◌}
 use Rattle.dcx_read.specs.declared.front.Stop.{Stop}
 use Rattle.dcx_read.specs.declared.front.Stop.TheVariants.{Memory, At}
 use Rattle.dcx_read.specs.Terminal.{Terminal, terminals}
-use Rattle.dcx_read.specs.Reading.{Forest, Move, shift, pass, Read, on_ok, leading, otherwise, skipped, shifted, step, read}
-use Rattle.dcx_read.specs.Moves.{Symbol, Tree, trees, move, empty, grammar}
+use Rattle.dcx_read.specs.Reading.{Forest, on_ok, read}
+use Rattle.dcx_read.specs.Moves.{Symbol, Tree, trees, grammar}
 use Rattle.dcx_read.specs.Steps.{Gives, Progress, Loop, StopsAt, Stops}
 
 pub twice : {A B C E : Type 0} (g : B → C) (f : A → B) (r : Result A E) → on_ok g (on_ok f r) ≡ on_ok (λ x. g (f x)) r

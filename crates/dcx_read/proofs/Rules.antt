@@ -1,5 +1,5 @@
 -- The rules of the grammar, as the code takes them: what is read where, by the first token.
-use Rattle.std.proofs.Common.{◌≡◌, ℕ, Bool, true, false, List, [], ◌∷◌, ◌++◌, Option, Some, None, Result, Ok, Err, ◌⊎◌, inl, inr, refl, sym, ap, ◌∙◌}
+use Rattle.std.proofs.Common.{◌≡◌, ℕ, Bool, true, false, List, [], ◌∷◌, ◌++◌, Some, None, Result, Ok, Err, ◌⊎◌, inl, inr, refl, sym, ap, ◌∙◌}
 use Rattle.dcx_shape.specs.declared.place.Place.{Place}
 use Rattle.dcx_tokens.specs.declared.token.Token.{Token}
 use Rattle.dcx_read.specs.declared.role.Role.{Role}
@@ -8,21 +8,20 @@ use Rattle.dcx_read.specs.declared.role.Bracket.{Bracket}
 use Rattle.dcx_read.specs.declared.role.Bracket.TheVariants.{Round, Square, Curly}
 use Rattle.dcx_read.specs.declared.tree.Comparison.{Comparison}
 use Rattle.dcx_read.specs.declared.tree.Sign.{Sign}
-use Rattle.dcx_read.specs.declared.tree.Signed.{Signed}
 use Rattle.dcx_read.specs.declared.tree.Named.{Named}
 use Rattle.dcx_read.specs.declared.tree.Scaling.{Scaling}
 use Rattle.dcx_read.specs.declared.front.Stop.{Stop}
 use Rattle.dcx_read.specs.declared.front.Stop.TheVariants.{Memory, At}
 use Rattle.dcx_read.specs.Role.{role_of}
 use Rattle.dcx_read.specs.Terminal.{Terminal, opens, closes, plain, name, signs, comma, colon, in_word, newline, indent, dedent, terminal, terminal_of, terminals, spelled, named_by}
-use Rattle.dcx_read.specs.Expressions.{named, Factor, factor, Exponent, exponent, Power, Postfix, signs_text, no_comparison, no_addition, no_scaling, no_power, no_trailer, no_args, args_end, no_items, items_end, no_index, no_step, absent, Expr, expr, compared, added, scaled, raised, attribute, call, indexed, more_indices, step, slice, Optional, Step, Index, Trailers, Items, items, Args, args, Arg, by_place, by_name, at}
+use Rattle.dcx_read.specs.Expressions.{named, no_comparison, no_addition, no_scaling, no_power, no_trailer, no_args, args_end, no_items, items_end, no_index, no_step, absent, compared, added, scaled, raised, attribute, call, indexed, more_indices, step, slice, by_name}
 use Rattle.dcx_read.specs.Reading.{Forest, Move, shift, pass, leading, otherwise, on_ok, shifted, read}
 use Rattle.dcx_read.specs.Moves.{Symbol, expr_s, compared_s, sum_s, added_s, term_s, scaled_s, factor_s, power_s, raised_s, exponent_s, postfix_s, trailers_s, args_s, more_args_s, arg_s, after_name_s, rest_s, indices_s, index_s, after_index_s, optional_s, step_s, primary_s, in_round_s, after_round_s, in_square_s, after_square_s, items_s, more_items_s, name_s, opens_s, closes_s, colon_s, in_s, newline_s, indent_s, dedent_s, module_s, alias_s, balanced_s, after_first_s, after_dot_s, line_s, lines_s, Tree, trees, move, empty, grammar}
 use Rattle.dcx_read.specs.Moves as moves
-use Rattle.dcx_read.specs.Steps.{Gives, Progress, Loop, StopsAt, Stops, Front, FrontOf, FrontName, FrontPair, Lacks, LacksPair, Refuses, begins_expr, starts_expr}
+use Rattle.dcx_read.specs.Steps.{Gives, Progress, Loop, StopsAt, Stops, Front, FrontOf, FrontPair, Lacks, LacksPair, Refuses, begins_expr, starts_expr}
 use Rattle.dcx_read.proofs.Complete.{is_shift}
 use Rattle.dcx_read.specs.Terminal as marks_of
-use Rattle.dcx_read.proofs.Progress.{Join, front, twice, same, pointwise, begun, turns, joins, goes, done, stops, stops-at}
+use Rattle.dcx_read.proofs.Progress.{Join, front, twice, pointwise, turns, goes, done}
 use Rattle.dcx_read.proofs.Fronts.{front-terminals, Passes, passes}
 
 shifts-reads : (s : Symbol) (u : Terminal) (us rest : List Terminal) (parts : List Symbol) (join : Join s parts) → us ≡ u ∷ rest → move s u ≡ shift (λ ss. parts ++ ss) join → (ss : List Symbol) → read grammar us (s ∷ ss) ≡ on_ok (join ss) (read grammar rest (parts ++ ss))
@@ -246,7 +245,6 @@ power-rule us = always postfix_s power_s (raised_s ∷ []) moves.power_join refl
 
 pub postfix-rule : (us : List Terminal) → Progress postfix_s us us (primary_s ∷ trailers_s ∷ []) moves.postfix_join
 postfix-rule us = always primary_s postfix_s (trailers_s ∷ []) moves.postfix_join refl refl (λ u. refl) us
-
 
 -- the items of repetitions
 pub compared-item : (source : List ℕ) (ts rest : List Token) (c : Comparison) (p : Place) → Front (roles.Compares c) p ts rest → Progress compared_s (terminals source ts) (terminals source rest) (sum_s ∷ compared_s ∷ []) (λ ss f. front compared_s ss (compared c p f.0 f.1.0) f.1.1)
@@ -591,8 +589,8 @@ arg-begins source t ts l (inl n) =
     let lacks : Lacks roles.Equal ts = λ u more h k. l t u.place more (pair-front roles.Equal t u ts more n h k) in
     rw (head-terminals roles.Name source (t ∷ ts) ts t refl n)
     (from-name arg_s [] (named_by source t) (terminals source ts) (λ ss f. front arg_s ss (moves.as_arg (named_by source t) (moves.goes_on f.0)) f.1) moves.arg_join (λ ss f. refl)
-        (turns arg_s after_name_s (named (named_by source t) ∷ terminals source ts) (terminals source ts) (terminals source ts) (rest_s ∷ []) (moves.as_arg (named_by source t)) moves.after_name_join
-            (shifts arg_s (named (named_by source t)) (named (named_by source t) ∷ terminals source ts) (terminals source ts) (after_name_s ∷ []) _ refl refl) (after_name-goes source ts lacks)))
+    (turns arg_s after_name_s (named (named_by source t) ∷ terminals source ts) (terminals source ts) (terminals source ts) (rest_s ∷ []) (moves.as_arg (named_by source t)) moves.after_name_join
+    (shifts arg_s (named (named_by source t)) (named (named_by source t) ∷ terminals source ts) (terminals source ts) (after_name_s ∷ []) _ refl refl) (after_name-goes source ts lacks)))
 arg-begins source t ts l (inr n) = leads expr_s arg_s [] moves.arg_join refl refl (terminals source (t ∷ ts)) (arg-role (role_of t.kind) (spelled source t) t.place n)
 
 pub arg-place : (source : List ℕ) (ts : List Token) → LacksPair roles.Equal ts → Progress arg_s (terminals source ts) (terminals source ts) (expr_s ∷ []) moves.arg_join

@@ -1,5 +1,5 @@
 -- What reading gives is spelled so, where each move keeps how trees are spelled.
-use Rattle.std.proofs.Common.{◌≡◌, List, [], ◌∷◌, ◌++◌, Option, Some, None, Ok, Err, sym, ap, ◌∙◌, refl}
+use Rattle.std.proofs.Common.{◌≡◌, List, [], ◌∷◌, ◌++◌, Option, Some, None, Ok, Err, ap, ◌∙◌, refl}
 use Rattle.dcx_read.specs.Reading.{Trees, Forest, Move, shift, pass, Grammar, on_ok, Read, skipped, shifted, step, finish, read}
 
 abbrev pub Spelling : Trees → Type 0

@@ -1,8 +1,8 @@
 -- Grammars that one token decides, part by part: moves that lead, and what is clear by a check of finitely many kinds.
-use Rattle.std.proofs.Common.{◌≡◌, Bool, true, false, cond, List, [], ◌∷◌, ◌++◌, Option, Some, None, refl, sym, ap, subst, ◌∙◌}
+use Rattle.std.proofs.Common.{◌≡◌, Bool, true, false, cond, List, [], ◌∷◌, ◌++◌, refl, sym, ap, ◌∙◌}
 use Rattle.dcx_read.specs.Reading.{Trees, Forest, Move, shift, pass, Grammar, leading, otherwise}
 use Rattle.dcx_read.proofs.Sound.{Spelling, spelling}
-use Rattle.dcx_read.proofs.Complete.{Sets, front, is_shift, is_there, firsts, Clear, IsRight, Right, Made, shifts}
+use Rattle.dcx_read.proofs.Complete.{Sets, front, is_shift, is_there, firsts, Clear, Right, Made, shifts}
 
 abbrev pub not_both : Bool → Bool → Bool
 not_both b c = cond b (cond c false true) true
@@ -43,7 +43,7 @@ module _ (G : Grammar) (S : Sets G.trees) where
   firsts-append (m ∷ more) ss k =
       rw (firsts-append more ss k)
       (elim (S.begins m k) as (λ (b : Bool). cond b true (cond (is_there (G.empty m)) (cond (firsts G S more k) true (cond (reach more) (firsts G S ss k) false)) false) ≡ cond (cond b true (cond (is_there (G.empty m)) (firsts G S more k) false)) true (cond (cond (is_there (G.empty m)) (reach more) false) (firsts G S ss k) false))
-          [ true ↦ refl | false ↦ elim (is_there (G.empty m)) as (λ (b : Bool). cond b (cond (firsts G S more k) true (cond (reach more) (firsts G S ss k) false)) false ≡ cond (cond b (firsts G S more k) false) true (cond (cond b (reach more) false) (firsts G S ss k) false)) [ true ↦ refl | false ↦ refl ] ])
+      [ true ↦ refl | false ↦ elim (is_there (G.empty m)) as (λ (b : Bool). cond b (cond (firsts G S more k) true (cond (reach more) (firsts G S ss k) false)) false ≡ cond (cond b (firsts G S more k) false) true (cond (cond b (reach more) false) (firsts G S ss k) false)) [ true ↦ refl | false ↦ refl ] ])
 
   none-after : (f r g : Bool) → f ≡ false → (r ≡ true → g ≡ false) → cond f true (cond r g false) ≡ false
   none-after true r g h k = absurd cc
@@ -60,11 +60,12 @@ module _ (G : Grammar) (S : Sets G.trees) where
       let one = both-left (S.all (λ k. not_both (S.on m k) (firsts G S more k))) _ h in
       let others = both-right (S.all (λ k. not_both (S.on m k) (firsts G S more k))) _ h in
       let within = both-left (cond (reach more) (S.all (λ k. implies (S.on m k) (S.on s k))) true) _ others in
-      let later = both-right (cond (reach more) (S.all (λ k. implies (S.on m k) (S.on s k))) true) _ others in
-      (λ k o. firsts-append more ss k ∙ none-after (firsts G S more k) (reach more) (firsts G S ss k)
-          (apart (S.on m k) (firsts G S more k) (S.every (λ k. not_both (S.on m k) (firsts G S more k)) one k) o)
-          (λ r. c.0 k (implied (S.on m k) (S.on s k) (S.every (λ k. implies (S.on m k) (S.on s k)) (reached (reach more) _ within r) k) o)),
-        cleared s more ss later c)
+      let later = both-right (cond (reach more) (S.all (λ k. implies (S.on m k) (S.on s k))) true) _ others in (
+        λ k o. firsts-append more ss k ∙ none-after (firsts G S more k) (reach more) (firsts G S ss k)
+            (apart (S.on m k) (firsts G S more k) (S.every (λ k. not_both (S.on m k) (firsts G S more k)) one k) o)
+            (λ r. c.0 k (implied (S.on m k) (S.on s k) (S.every (λ k. implies (S.on m k) (S.on s k)) (reached (reach more) _ within r) k) o)),
+        cleared s more ss later c,
+      )
 
 -- a move that leads is right where what it leads is
 pub leading-right : (G : Grammar) (spell : Spelling G.trees) (S : Sets G.trees) (s s' : G.trees.Symbol) (behind : List G.trees.Symbol) (join : (ss : List G.trees.Symbol) → Forest G.trees (s ∷ (behind ++ ss)) → Forest G.trees (s' ∷ ss))

@@ -1,5 +1,5 @@
 -- Reading all terminals as one script.
-use Rattle.std.proofs.Common.{◌≡◌, ◌⊎◌, inl, inr, List, [], ◌∷◌, ◌++◌, Option, Some, None, Result, Ok, Err, refl, sym, ap, subst, ◌∙◌}
+use Rattle.std.proofs.Common.{◌≡◌, ◌⊎◌, inl, inr, List, [], ◌∷◌, ◌++◌, None, Ok, Err, refl, sym, ap, subst, ◌∙◌}
 use Rattle.std.proofs.lemmas.List.{append-nil, append_cancel_right}
 use Rattle.dcx_shape.specs.declared.place.Place.{Place}
 use Rattle.dcx_read.specs.declared.tree.Module.TheVariants.{Numpy}
@@ -9,7 +9,7 @@ use Rattle.dcx_read.specs.Statements.{nothing, evaluate, Lines, no_lines, lines_
 use Rattle.dcx_read.specs.Reading.{Forest, Read, read}
 use Rattle.dcx_read.specs.Moves.{Symbol, lines_s, Tree, trees, grammar}
 use Rattle.dcx_read.specs.Moves as moves
-use Rattle.dcx_read.specs.Whole.{GoesOn, IsUnexpected, IsScript}
+use Rattle.dcx_read.specs.Whole.{IsUnexpected, IsScript}
 use Rattle.dcx_read.proofs.Sound.{SpelledBy, read-sound}
 use Rattle.dcx_read.proofs.Viable.{Viable, read-viable}
 use Rattle.dcx_read.proofs.Local.{Blocks, read-blocks}

@@ -1,9 +1,7 @@
 -- The grammar of `Expressions` and `Statements` as one that one token decides.
-use Rattle.std.specs.Prelude.{ℕ, Bool, true, false, Option, Some, None, List, [], ◌∷◌, codes}
-use Rattle.std.specs.Prelude.{if◌then◌else◌}
+use Rattle.std.specs.Prelude.{Bool, true, false, Option, Some, None, List, [], ◌∷◌}
 use Rattle.dcx_shape.specs.declared.place.Place.{Place}
 use Rattle.dcx_read.specs.declared.tree.Module.{Module}
-use Rattle.dcx_read.specs.declared.tree.Module.TheVariants.{Cvxpy, Numpy}
 use Rattle.dcx_read.specs.declared.tree.Named.{Named}
 use Rattle.dcx_read.specs.declared.tree.Signed.{Signed}
 use Rattle.dcx_read.specs.declared.role.Bracket.{Bracket}
@@ -279,9 +277,9 @@ abbrev pub rest_move : Terminal → Move trees rest_s
 rest_move t =
     otherwise trees rest_s (leading trees trailers_s rest_s (λ ss. raised_s ∷ scaled_s ∷ added_s ∷ compared_s ∷ ss) rest_trailers (trailers_move t))
     (otherwise trees rest_s (leading trees raised_s rest_s (λ ss. scaled_s ∷ added_s ∷ compared_s ∷ ss) rest_raised (raised_move t))
-        (otherwise trees rest_s (leading trees scaled_s rest_s (λ ss. added_s ∷ compared_s ∷ ss) rest_scaled (scaled_move t))
-            (otherwise trees rest_s (leading trees added_s rest_s (λ ss. compared_s ∷ ss) rest_added (added_move t))
-                (leading trees compared_s rest_s (λ ss. ss) rest_compared (compared_move t)))))
+    (otherwise trees rest_s (leading trees scaled_s rest_s (λ ss. added_s ∷ compared_s ∷ ss) rest_scaled (scaled_move t))
+    (otherwise trees rest_s (leading trees added_s rest_s (λ ss. compared_s ∷ ss) rest_added (added_move t))
+    (leading trees compared_s rest_s (λ ss. ss) rest_compared (compared_move t)))))
 
 abbrev pub no_rest : Rest
 no_rest = (no_trailer, (no_power, (no_scaling, (no_addition, no_comparison))))

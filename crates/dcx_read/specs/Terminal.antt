@@ -1,5 +1,5 @@
 -- The tokens as the grammar sees them: what a token is, with the bytes and the place that a syntax tree keeps of it.
-use Rattle.std.specs.Prelude.{◌≡◌, ℕ, Bool, List, map}
+use Rattle.std.specs.Prelude.{ℕ, Bool, List, map}
 use Rattle.std.specs.List.{slice_range}
 use Rattle.dcx_frac.specs.declared.fraction.Frac.{Frac}
 use Rattle.dcx_shape.specs.declared.place.Place.{Place}

@@ -1,5 +1,5 @@
 -- The syntax trees of the code, as those of `Expressions` and `Statements`.
-use Rattle.std.specs.Prelude.{ℕ, Bool, true, false, List, [], ◌∷◌, map, Option, Some, None}
+use Rattle.std.specs.Prelude.{Bool, true, false, List, [], ◌∷◌, map, Option, Some, None}
 use Rattle.dcx_read.specs.declared.tree.Arg as code_arg
 use Rattle.dcx_read.specs.declared.tree.Index as code_index
 use Rattle.dcx_read.specs.declared.tree.Primary as code_primary

@@ -1,5 +1,5 @@
 -- Scripts as whole texts: the one tree that the terminals spell, or the first of them that goes on no text.
-use Rattle.std.specs.Prelude.{◌≡◌, ◌⊎◌, List, [], ◌∷◌, ◌++◌}
+use Rattle.std.specs.Prelude.{◌≡◌, List, [], ◌∷◌, ◌++◌}
 use Rattle.dcx_read.specs.Terminal.{Terminal}
 use Rattle.dcx_read.specs.Statements.{Lines, lines_text}
 

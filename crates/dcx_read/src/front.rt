@@ -137,7 +137,10 @@ pub fn named(alloc: Global, text: &[u8], token: &Token) -> Result<Named, AllocEr
     ensures { IfOk result (λ n. n ≡ named_by text.now token.now) }
 {
     let bytes = slice(text, token).to_vec(alloc)?;
-    Ok(Named { name: Name::from_vec(bytes), place: token.place })
+    Ok(Named {
+        name: Name::from_vec(bytes),
+        place: token.place,
+    })
 }
 
 /// The first token and those behind it.
@@ -166,7 +169,10 @@ pub fn eat_name<'a>(tokens: &'a [Token]) -> Option<(&'a Token, &'a [Token])>
 }
 
 /// A name token and a mark at the front of the tokens, the mark's place, and the tokens behind it.
-pub fn eat_name_and<'a>(tokens: &'a [Token], wanted: Mark) -> Option<(&'a Token, Place, &'a [Token])>
+pub fn eat_name_and<'a>(
+    tokens: &'a [Token],
+    wanted: Mark,
+) -> Option<(&'a Token, Place, &'a [Token])>
     ensures front { MatchOption result (LacksPair (role_with wanted) tokens.now) (λ x. FrontPair (role_with wanted) tokens.now x.0.now x.1 x.2.now) }
     ensures shorter { IfSome result (λ x. length x.2.now < length tokens.now) }
 {
@@ -175,7 +181,11 @@ pub fn eat_name_and<'a>(tokens: &'a [Token], wanted: Mark) -> Option<(&'a Token,
     Some((head, place, rest))
 }
 
-pub fn name<'a>(alloc: Global, text: &[u8], tokens: &'a [Token]) -> Result<(Named, &'a [Token]), Stop<'a>>
+pub fn name<'a>(
+    alloc: Global,
+    text: &[u8],
+    tokens: &'a [Token],
+) -> Result<(Named, &'a [Token]), Stop<'a>>
     ensures read { Reads name_s text.now (λ x. (x.0, x.1.now)) result (terminals text.now tokens.now) }
     ensures shorter { IfOk result (λ x. length x.1.now < length tokens.now) }
 {

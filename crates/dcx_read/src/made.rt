@@ -18,7 +18,11 @@ pub fn expr_of(first: Sum, rest: Vec<Compared>) -> Expr
 pub fn compared_of(comparison: Comparison, place: Place, operand: Sum) -> Compared
     ensures { compared_view result ≡ (λ x. compared comparison place (sum_view operand) x) }
 {
-    Compared { comparison, place, sum: operand }
+    Compared {
+        comparison,
+        place,
+        sum: operand,
+    }
 }
 
 pub fn sum_of(first: Term, rest: Vec<Added>) -> Sum
@@ -30,7 +34,11 @@ pub fn sum_of(first: Term, rest: Vec<Added>) -> Sum
 pub fn added_of(sign: Sign, place: Place, operand: Term) -> Added
     ensures { added_view result ≡ (λ x. added sign place (term_view operand) x) }
 {
-    Added { sign, place, term: operand }
+    Added {
+        sign,
+        place,
+        term: operand,
+    }
 }
 
 pub fn term_of(first: Factor, rest: Vec<Scaled>) -> Term
@@ -42,13 +50,20 @@ pub fn term_of(first: Factor, rest: Vec<Scaled>) -> Term
 pub fn scaled_of(scaling: Scaling, place: Place, operand: Factor) -> Scaled
     ensures { scaled_view result ≡ (λ x. scaled scaling place (factor_view operand) x) }
 {
-    Scaled { scaling, place, factor: operand }
+    Scaled {
+        scaling,
+        place,
+        factor: operand,
+    }
 }
 
 pub fn factor_of(signs: Vec<Signed>, operand: Power) -> Factor
     ensures { factor_view result ≡ factor signs.items (power_view operand) }
 {
-    Factor { signs, power: operand }
+    Factor {
+        signs,
+        power: operand,
+    }
 }
 
 pub fn raised_power(first: Postfix, rest: Vec<Raised>) -> Power
@@ -60,13 +75,20 @@ pub fn raised_power(first: Postfix, rest: Vec<Raised>) -> Power
 pub fn raised_of(place: Place, signs: Vec<Signed>, operand: Postfix) -> Raised
     ensures { raised_view result ≡ (λ x. raised place (exponent signs.items (postfix_view operand)) x) }
 {
-    Raised { place, signs, postfix: operand }
+    Raised {
+        place,
+        signs,
+        postfix: operand,
+    }
 }
 
 pub fn postfix_of(first: Primary, trailers: Vec<Trailer>) -> Postfix
     ensures { postfix_view result ≡ postfix (primary_view first) (chained (map trailer_view trailers.items) no_trailer) }
 {
-    Postfix { primary: first, trailers }
+    Postfix {
+        primary: first,
+        trailers,
+    }
 }
 
 pub fn attribute_of(name: Named) -> Trailer
@@ -108,7 +130,11 @@ pub fn at_of(value: Expr) -> Index
 pub fn slice_of(start: Option<Expr>, stop: Option<Expr>, by: Step) -> Index
     ensures { index_view result ≡ slice (optional_view start) (optional_view stop) (step_view by) }
 {
-    Index::Slice { start, stop, step: by }
+    Index::Slice {
+        start,
+        stop,
+        step: by,
+    }
 }
 
 pub fn absent_step() -> Step
@@ -165,7 +191,13 @@ pub fn round_of(alloc: Global, place: Place, inner: Expr) -> Result<Primary, All
     Ok(Primary::Round(place, Box::new(alloc, inner)?))
 }
 
-pub fn tuple_of(alloc: Global, place: Place, first: Expr, rest: Vec<Expr>, comma: bool) -> Result<Primary, AllocError>
+pub fn tuple_of(
+    alloc: Global,
+    place: Place,
+    first: Expr,
+    rest: Vec<Expr>,
+    comma: bool,
+) -> Result<Primary, AllocError>
     ensures { IfOk result (λ x. primary_view x ≡ tuple place (expr_view first) (items_of (map expr_view rest.items) comma)) }
 {
     Ok(Primary::Tuple {
@@ -182,7 +214,13 @@ pub fn empty_list_of(place: Place) -> Primary
     Primary::EmptyList(place)
 }
 
-pub fn list_of(alloc: Global, place: Place, first: Expr, rest: Vec<Expr>, comma: bool) -> Result<Primary, AllocError>
+pub fn list_of(
+    alloc: Global,
+    place: Place,
+    first: Expr,
+    rest: Vec<Expr>,
+    comma: bool,
+) -> Result<Primary, AllocError>
     ensures { IfOk result (λ x. primary_view x ≡ list place (expr_view first) (more_items_of (map expr_view rest.items) comma)) }
 {
     Ok(Primary::List {

@@ -243,7 +243,10 @@ pub enum Line {
     /// `import`
     Import(Import),
     /// `NAME "=" expr NEWLINE`
-    Assign { name: Named, value: Expr },
+    Assign {
+        name: Named,
+        value: Expr,
+    },
     /// `NAME "+=" expr NEWLINE`: the place of `+=`.
     AddTo {
         name: Named,
@@ -259,7 +262,10 @@ pub enum Line {
     /// `expr NEWLINE`
     Evaluate(Expr),
     /// `"print" "(" balanced ")" NEWLINE`: the places of `print` and of `(`. What stands between the brackets isn't kept.
-    Print { place: Place, open: Place },
+    Print {
+        place: Place,
+        open: Place,
+    },
     /// `"for" NAME "in" expr ":" NEWLINE INDENT line { line } DEDENT`: the place of `for`.
     For {
         place: Place,
