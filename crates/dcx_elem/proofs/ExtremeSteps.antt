@@ -203,11 +203,6 @@ ne-eqb m n h = by (m == n) refl
     by true e = absurd (h (eqb-true m n e))
     by false e = e
 
--- the shape of the value is that of the arguments
-pub shape_of_some : (count : ℕ) (args : List Sides) (s : Sides) (o : Option Sides) → alike count args ≡ o → IsSome o → sides_at args 0 ≡ s → alike count args ≡ Some s
-shape_of_some count args s None e h f = cc
-shape_of_some count args s (Some r) e h f = e ∙ ap Some (sym (alike_are count args r e).first ∙ f)
-
 -- ---- what follows where there is a shape
 -- what holds of each shape that the call gives
 pub if_alike : (count : ℕ) (args : List Sides) (P : Sides → Type 0) → ((s : Sides) → alike count args ≡ Some s → P s) → IfSome (alike count args) P

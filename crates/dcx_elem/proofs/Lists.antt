@@ -5,16 +5,12 @@ use Rattle.dcx_math.specs.Rational.{ℚ}
 use Rattle.dcx_math.specs.Sums.{rat_at}
 use Rattle.dcx_frac.specs.declared.fraction.Frac.{Frac}
 use Rattle.dcx_frac.specs.Frac.{value}
-use Rattle.dcx_atom.specs.Arrays.{list_below, joined_below, number_at}
+use Rattle.dcx_atom.specs.Arrays.{list_below, number_at}
 use Rattle.dcx_elem.specs.BoundRows.{list_below-first}
 
 -- one more of a list
 pub list_below-next : {A : Type 0} (n : ℕ) (f : ℕ → A) → list_below (n + 1) f ≡ list_below n f ++ f n ∷ []
 list_below-next n f = let e : n + 1 ≡ suc n = omega arith in rw e refl
-
--- one more of joined lists
-pub joined_below-next : {A : Type 0} (n : ℕ) (f : ℕ → List A) → joined_below (n + 1) f ≡ joined_below n f ++ f n
-joined_below-next n f = let e : n + 1 ≡ suc n = omega arith in rw e refl
 
 -- a list that is that of the first n, with one more at its end
 pub list_below-push : {A B : Type 0} (n : ℕ) (f : ℕ → B) (g : A → B) (xs : List A) (x : A) → map g xs ≡ list_below n f → g x ≡ f n → map g (xs ++ x ∷ []) ≡ list_below (n + 1) f

@@ -1,11 +1,12 @@
 -- Good settings are read from their spelling.
-use Rattle.std.proofs.Common.{◌≡◌, ◌≢◌, ℕ, zero, suc, ◌+◌, ◌*◌, ◌<◌, ◌≤◌, Bool, true, false, List, [], ◌∷◌, ◌++◌, map, length, Option, Some, None, Result, Ok, Err, refl, sym, ap, ap₂, ◌∙◌, subst, arith, append_assoc, ℤ, pos, negsuc}
-use Rattle.std.specs.Prelude.{nat_le, nat_eq, not, ◌&&◌, if◌then◌else◌}
+use Rattle.std.proofs.Common.{◌≡◌, ◌≢◌, ℕ, suc, ◌+◌, ◌*◌, ◌<◌, ◌≤◌, Bool, true, false, List, [], ◌∷◌, ◌++◌, map, length, Ok, refl, sym, ap, ◌∙◌, subst, arith, append_assoc, ℤ, pos}
+use Rattle.std.specs.Prelude.{nat_le, nat_eq, not, ◌&&◌}
 use Rattle.std.proofs.lemmas.Bool.Decides.{nat_tests}
 use Rattle.std.proofs.lemmas.List.{append-nil, map-append, length-append}
-use Rattle.dcx_settings.specs.Terminal.{Terminal, name, digits, decimal, minus, slash, equal, comma, semicolon, open_square, close_square, open_curly, close_curly, newline, other}
-use Rattle.dcx_settings.specs.Grammar.{Size, integer, point, quotient, size_text, sign_text, Number, number_text, Value, one, row, matrix, preceded, separated, bracketed, row_text, value_text, Item, item_text, Line, nothing, items, line_text, settings_text, names_of, is_among, are_new, Every, IsGoodSize, IsGoodNumber, IsGoodRow, AreGoodRows, IsGoodValue, AreGoodItems, IsGoodLine}
-use Rattle.dcx_settings.specs.Machine.{Part, start, negated, whole_read, divided, complete, Outer, no_matrix, rows_before, Context, alone, in_row, Phase, fresh, opened, closed, next_item, named, assigned, bracket, number, row_closed, next_row, ended, State, at, when, is_zero, number_of, size_begun, number_begun, quotient_read, divisor_read, reading, with_item, value_read, limit, may_end, row_ended, in_row_read, number_read, whole_read_on, width, after_fresh, after_opened, after_closed, after_semicolon, after_name, after_equal, after_bracket, in_number, after_row, before_row, step, go, run}
+use Rattle.dcx_settings.specs.Terminal.{Terminal, name, digits, decimal, minus, slash, equal, comma, semicolon, open_square, close_square, newline}
+use Rattle.dcx_settings.specs.Grammar.{Size, integer, point, quotient, size_text, sign_text, Number, number_text, Value, one, row, matrix, preceded, separated, row_text, value_text, Item, item_text, Line, nothing, items, line_text, settings_text, names_of, is_among, are_new, Every, IsGoodSize, IsGoodNumber, IsGoodRow, IsGoodValue, IsGoodLine}
+use Rattle.dcx_settings.specs.Machine.{Part, start, whole_read, complete, Outer, no_matrix, rows_before, Context, alone, in_row, Phase, fresh, named, assigned, bracket, number, row_closed, ended, at, number_of, number_begun, reading, value_read, limit, may_end, row_ended, number_read, width, in_number, step, go, run}
+use Rattle.dcx_settings.proofs.Facts.{every_more, not_zero}
 
 -- ---- numbers
 -- how far a number is read at its end: digits may go on
@@ -27,11 +28,6 @@ begins_number t = false
 -- at this phase a number may begin
 abbrev pub Awaits : List Line → List Item → List ℕ → Context → Phase → Type 0
 Awaits lines is n c phase = (t : Terminal) → begins_number t ≡ true → step lines phase t ≡ reading lines is n c (number_begun t)
-
-not_zero : (d : ℤ) → (d ≡ pos 0 → ⊥) → is_zero d ≡ false
-not_zero (pos zero) h = absurd (h refl)
-not_zero (pos (suc n)) h = refl
-not_zero (negsuc n) h = refl
 
 module _ (lines : List Line) (is : List Item) (n : List ℕ) (c : Context) where
   run_divisor : (s : Bool) (f d : ℤ) → (d ≡ pos 0 → ⊥) → (ts : List Terminal) → run (slash ∷ digits d ∷ ts) (at lines (number is n c (whole_read s f))) ≡ run ts (at lines (number is n c (part_by s (quotient f d))))
@@ -122,10 +118,6 @@ row_may_end w (r ∷ rs) h = same w (length r) (sym h.0)
 width_is : (w : ℕ) (rows : List (List Number)) → 0 < length rows → Every (λ r. length r ≡ w) rows → width rows ≡ w
 width_is w [] l h = absurd (omega arith)
 width_is w (r ∷ rs) l h = h.0
-
-every_more : {A : Type 0} (P : A → Type 0) (xs : List A) (x : A) → Every P xs → P x → Every P (xs ++ x ∷ [])
-every_more P [] x h p = (p, tt)
-every_more P (y ∷ ys) x h p = (h.0, every_more P ys x h.1 p)
 
 less_room : (k m w : ℕ) → (k + suc m) * w ≤ 20000 → (k + 1) * w ≤ 20000
 less_room k m w h = grind arith

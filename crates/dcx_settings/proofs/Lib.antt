@@ -1,4 +1,5 @@
 -- The lemmas of this crate.
+pub mod Facts
 pub mod Soundness
 pub mod Completeness
 pub mod Viability

@@ -1,25 +1,26 @@
 -- Reading lines, step by step.
-use Rattle.std.proofs.Common.{◌≡◌, ℕ, suc, ◌+◌, ◌<◌, ◌≤◌, Bool, true, false, List, [], ◌∷◌, ◌++◌, map, length, Option, Some, None, Result, Ok, Err, Bor, cond, refl, sym, ap, ap₂, ◌∙◌, subst, arith}
-use Rattle.std.specs.Prelude.{IfOk, bytes_eq, ◌||◌}
+use Rattle.std.proofs.Common.{◌≡◌, ℕ, ◌<◌, Bool, true, false, List, [], ◌∷◌, ◌++◌, length, Err, Bor, cond, refl, sym, ap, ◌∙◌, subst, arith}
+use Rattle.std.specs.Prelude.{bytes_eq, ◌||◌}
 use Rattle.std.specs.List.{list_any}
 use Rattle.std.specs.Ordering.{nat_cmp}
 use Rattle.std.specs.BTreeMap.{is_at}
 use Rattle.std.specs.Cmp.Lexicographic.{slice_cmp}
 use Rattle.std.specs.BTreeSet.{BTreeSet, contains, Updates}
 use Rattle.std.proofs.lemmas.Map.Text.{is_eq-slice_cmp}
-use Rattle.std.proofs.lemmas.List.{length-append, map-append, append-nil}
+use Rattle.std.proofs.lemmas.List.{length-append, map-append}
 use Rattle.dcx_tokens.specs.declared.token.Token.{Token}
 use Rattle.dcx_settings.specs.Terminal.{Terminal, name, equal, semicolon, open_curly, close_curly, newline, terminals}
-use Rattle.dcx_settings.specs.Grammar.{Value, Item, Line, nothing, items, names_of, is_among, are_new, Every, IsGoodValue, AreGoodItems, IsGoodLine}
-use Rattle.dcx_settings.specs.Machine.{State, at, Phase, fresh, opened, closed, next_item, named, assigned, value_read}
+use Rattle.dcx_settings.specs.Grammar.{Item, Line, nothing, items, names_of, is_among, are_new, IsGoodValue}
+use Rattle.dcx_settings.specs.Machine.{at, fresh, opened, closed, next_item, named, assigned, value_read}
 use Rattle.dcx_settings.specs.Meaning.{IsItemOf, AreItemsOf, IsLineOf, AreLinesOf}
 use Rattle.dcx_settings.specs.declared.settings.SettingItem.{SettingItem}
 use Rattle.dcx_settings.specs.declared.stop.Stop.{Stop}
 use Rattle.dcx_settings.specs.declared.stop.Stop.TheVariants.{Memory, At}
-use Rattle.dcx_settings.specs.Steps.{further, read, read_by, Lacks, LacksName, IsStopAt, IsValueRead, ValueStopsAt, HasNames, IsItemRead, ItemStopsAt, IsNewItemRead, NewItemStopsAt, GainsName, AreItemsRead, IsLineRead, LineStopsAt, AreLinesRead}
+use Rattle.dcx_settings.specs.Steps.{read, read_by, Lacks, LacksName, IsStopAt, IsValueRead, ValueStopsAt, HasNames, IsItemRead, ItemStopsAt, IsNewItemRead, NewItemStopsAt, GainsName, AreItemsRead, IsLineRead, LineStopsAt, AreLinesRead}
 use Rattle.dcx_settings.specs.Reading.{StopsUnexpected}
 use Rattle.dcx_settings.specs.Meaning.{AreSettings}
-use Rattle.dcx_settings.proofs.Soundness.{every_more, new_more}
+use Rattle.dcx_settings.proofs.Facts.{every_more}
+use Rattle.dcx_settings.proofs.Soundness.{new_more}
 use Rattle.dcx_settings.proofs.Whole.{read_lines, read_unexpected}
 
 -- ---- an item behind its name

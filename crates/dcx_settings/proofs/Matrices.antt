@@ -1,6 +1,6 @@
 -- Reading the rows of a matrix, step by step.
-use Rattle.std.proofs.Common.{◌≡◌, ◌≢◌, ℕ, zero, suc, ◌+◌, ◌*◌, ◌<◌, ◌≤◌, Bool, true, false, List, [], ◌∷◌, ◌++◌, map, length, Option, Some, None, Result, Ok, Err, refl, sym, ap, ap₂, ◌∙◌, subst, arith}
-use Rattle.std.specs.Prelude.{nat_le, ◌==◌}
+use Rattle.std.proofs.Common.{◌≡◌, ℕ, ◌+◌, ◌*◌, ◌<◌, ◌≤◌, true, List, [], ◌∷◌, ◌++◌, map, length, Some, None, Err, refl, sym, ap, ap₂, ◌∙◌, subst, arith}
+use Rattle.std.specs.Prelude.{◌==◌}
 use Rattle.std.proofs.lemmas.Bool.Decides.{nat_tests}
 use Rattle.std.proofs.lemmas.List.{length-append, map-append, append-nil, append_assoc}
 use Rattle.dcx_frac.specs.declared.fraction.Frac.{Frac}
@@ -10,13 +10,13 @@ use Rattle.dcx_shape.specs.declared.shape.Sides.TheVariants.{Matrix}
 use Rattle.dcx_tokens.specs.declared.token.Token.{Token}
 use Rattle.dcx_settings.specs.Terminal.{Terminal, comma, open_square, close_square, terminals}
 use Rattle.dcx_settings.specs.Grammar.{Number, Item, Line, Every, IsGoodRow, AreGoodRows, matrix}
-use Rattle.dcx_settings.specs.Machine.{State, at, start, in_row, Outer, rows_before, Phase, number, row_closed, next_row, ended, after_row, before_row, width, when}
-use Rattle.dcx_settings.specs.Meaning.{number_value, AreNumbers, joined}
+use Rattle.dcx_settings.specs.Machine.{at, start, in_row, rows_before, row_closed, next_row, ended, before_row, width, when}
+use Rattle.dcx_settings.specs.Meaning.{number_value, joined}
 use Rattle.dcx_settings.specs.declared.stop.Stop.{Stop}
 use Rattle.dcx_settings.specs.declared.stop.Stop.TheVariants.{Memory, At}
 use Rattle.dcx_settings.specs.Steps.{further, read, read_by, Lacks, number_from, HasWidth, IsRowRead, RowStopsAt, IsStopAt, AreRowsRead, RowsStopAt}
 use Rattle.dcx_settings.proofs.Numbers.{read_part}
-use Rattle.dcx_settings.proofs.Soundness.{every_more}
+use Rattle.dcx_settings.proofs.Facts.{every_more}
 use Rattle.dcx_settings.proofs.Rows.{le_is, le_not, same_length}
 
 -- the first row

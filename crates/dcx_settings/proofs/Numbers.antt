@@ -1,8 +1,8 @@
 -- Reading a number, step by step.
-use Rattle.std.proofs.Common.{◌≡◌, ◌≢◌, ℕ, zero, suc, ◌<◌, ◌≤◌, Bool, true, false, ℤ, pos, negsuc, ◌*ℤ◌, ◌<ℤ◌, ◌≤ℤ◌, unsigned_abs, List, [], ◌∷◌, ◌++◌, map, Option, Some, None, Result, Ok, Err, refl, sym, ap, ◌∙◌, subst, arith}
+use Rattle.std.proofs.Common.{◌≡◌, ◌≢◌, ℕ, zero, suc, ◌≤◌, Bool, true, false, ℤ, pos, negsuc, ◌*ℤ◌, ◌<ℤ◌, ◌≤ℤ◌, unsigned_abs, List, [], ◌∷◌, Option, Some, None, Result, Ok, Err, refl, sym, ap, ◌∙◌, subst, arith}
 use Rattle.std.proofs.lemmas.Int.{ints}
 use Rattle.std.specs.Prelude.{IfOk, IfErr, IfNone, IsSome, ◌↔◌}
-use Rattle.dcx_math.specs.Rational.{ℚ, whole, ratio, ◌/ℚ◌}
+use Rattle.dcx_math.specs.Rational.{whole, ratio, ◌/ℚ◌}
 use Rattle.dcx_math.specs.Divisors.{gcd, divided as quotient_of}
 use Rattle.dcx_math.proofs.Divisors.{unsigned_abs-divided}
 use Rattle.dcx_math.proofs.LowestTerms.{lowest_num, lowest_den, lowest_of_ratio}
@@ -11,18 +11,14 @@ use native.Mathlib.Nat.{div-le_self}
 use Rattle.dcx_frac.specs.Fits.{Fits, IsRepresentable, representable}
 use Rattle.dcx_frac.specs.declared.fraction.Frac.{Frac}
 use Rattle.dcx_frac.specs.Frac.{value}
-use Rattle.dcx_settings.specs.Terminal.{Terminal, name, digits, decimal, minus, slash, equal, comma, semicolon, open_square, close_square, open_curly, close_curly, newline, other}
-use Rattle.dcx_settings.specs.Grammar.{Size, integer, point, quotient, Number, Item, Line, IsGoodNumber}
-use Rattle.dcx_settings.specs.Machine.{Part, negated, whole_read, divided, complete, Context, Phase, number, State, at, is_zero, number_of, size_begun, number_begun, quotient_read, divisor_read, reading, number_read, whole_read_on, in_number, step}
-use Rattle.dcx_settings.specs.Meaning.{size_value, signed_value, number_value}
+use Rattle.dcx_settings.specs.Terminal.{Terminal, digits, decimal, minus, slash}
+use Rattle.dcx_settings.specs.Grammar.{integer, point, quotient, Item, Line}
+use Rattle.dcx_settings.specs.Machine.{Part, negated, whole_read, divided, complete, Context, number, State, at, number_of, number_read, in_number}
+use Rattle.dcx_settings.specs.Meaning.{signed_value}
+use Rattle.dcx_settings.proofs.Facts.{not_zero}
 use Rattle.dcx_settings.specs.declared.stop.Stop.{Stop}
 use Rattle.dcx_settings.specs.declared.stop.Stop.TheVariants.{Memory, At}
-use Rattle.dcx_settings.specs.Steps.{IsWhole, StopsAt, at_end, further, read, read_by, Lacks, LacksDigits, LacksDecimal, IsNumberRead, number_from, size_from, digits_from, divisor_from}
-
-not_zero : (d : ℤ) → d ≢ pos 0 → is_zero d ≡ false
-not_zero (pos zero) h = absurd (h refl)
-not_zero (pos (suc n)) h = refl
-not_zero (negsuc n) h = refl
+use Rattle.dcx_settings.specs.Steps.{IsWhole, StopsAt, read, read_by, Lacks, LacksDigits, LacksDecimal, IsNumberRead, number_from, size_from, digits_from, divisor_from}
 
 module _ (lines : List Line) (is : List Item) (n : List ℕ) (c : Context) where
   -- within a number reading goes on by its part

@@ -1,21 +1,20 @@
 -- Reading a row of numbers, step by step.
-use Rattle.std.proofs.Common.{◌≡◌, ◌≢◌, ℕ, zero, suc, ◌+◌, ◌*◌, ◌<◌, ◌≤◌, Bool, true, false, List, [], ◌∷◌, ◌++◌, map, length, Option, Some, None, Result, Ok, Err, refl, sym, ap, ap₂, ◌∙◌, subst, arith}
-use Rattle.std.specs.Prelude.{nat_le, nat_eq, ◌==◌, IfErr}
+use Rattle.std.proofs.Common.{◌≡◌, ℕ, ◌+◌, ◌<◌, ◌≤◌, true, false, List, [], ◌∷◌, ◌++◌, length, Option, Some, None, Result, Ok, Err, refl, sym, ap, ap₂, ◌∙◌, subst, arith}
+use Rattle.std.specs.Prelude.{nat_le, nat_eq, IfErr}
 use Rattle.std.specs.Result.{IsErrAnd}
 use Rattle.std.proofs.lemmas.Bool.Decides.{nat_tests}
 use Rattle.std.proofs.lemmas.List.{length-append, map-append, length-map}
 use Rattle.dcx_frac.specs.declared.fraction.Frac.{Frac}
 use Rattle.dcx_frac.specs.Frac.{value}
-use Rattle.dcx_tokens.specs.declared.token.Token.{Token}
-use Rattle.dcx_settings.specs.Terminal.{Terminal, comma, close_square, terminals}
-use Rattle.dcx_settings.specs.Grammar.{Number, Item, Line, Every, IsGoodNumber, IsGoodRow}
-use Rattle.dcx_settings.specs.Machine.{State, at, start, Context, in_row, Outer, no_matrix, rows_before, Phase, number, number_read, in_row_read, limit, may_end, row_ended, when}
+use Rattle.dcx_settings.specs.Terminal.{Terminal, comma, close_square}
+use Rattle.dcx_settings.specs.Grammar.{Number, Item, Line, IsGoodNumber}
+use Rattle.dcx_settings.specs.Machine.{at, start, in_row, Outer, no_matrix, rows_before, number, number_read, in_row_read, limit, may_end, row_ended, when}
 use Rattle.dcx_settings.specs.Meaning.{number_value, AreNumbers}
 use Rattle.dcx_settings.specs.declared.stop.Stop.{Stop}
 use Rattle.dcx_settings.specs.declared.stop.Stop.TheVariants.{Memory, At}
 use Rattle.dcx_settings.specs.Steps.{further, read, read_by, Lacks, StopsAt, IsNumberRead, number_from, most_numbers, is_full_row, HasWidth, IsRowBegun, IsRowRead, RowStopsAt}
 use Rattle.dcx_settings.proofs.Numbers.{read_part}
-use Rattle.dcx_settings.proofs.Soundness.{every_more}
+use Rattle.dcx_settings.proofs.Facts.{every_more}
 
 limit_is : (o : Outer) (width : Option ℕ) → HasWidth o width → limit o ≡ most_numbers width
 limit_is no_matrix None h = refl
@@ -69,7 +68,7 @@ module _ (width : Option ℕ) (us : List Terminal) (fs : List Frac) where
   module _ (from rest : List Terminal) (e : from ≡ comma ∷ rest) (h : IsRowBegun width us fs from) where
     -- a comma goes on where there is room
     pub comma_goes : length fs < most_numbers width → (lines : List Line) (is : List Item) (n : List ℕ) (o : Outer) → HasWidth o width
-      → read_by (number_from lines is n (in_row o [])) us ≡ read_by (number_from lines is n (in_row o (h.before ++ h.last ∷ []))) rest
+        → read_by (number_from lines is n (in_row o [])) us ≡ read_by (number_from lines is n (in_row o (h.before ++ h.last ∷ []))) rest
     comma_goes room lines is n o w =
         let k : length (h.before ++ h.last ∷ []) + 1 ≤ limit o = let l = limit_is o width w in let c = count from h in let d = length-append h.before (h.last ∷ []) in omega (arith, room, l, c, d) in
         h.reads lines is n o w ∙ ap (read_by (number_read lines is n (in_row o h.before) h.last)) e
@@ -78,7 +77,7 @@ module _ (width : Option ℕ) (us : List Terminal) (fs : List Frac) where
 
     -- and stops where there is none
     pub comma_stops : most_numbers width ≤ length fs → (lines : List Line) (is : List Item) (n : List ℕ) (o : Outer) → HasWidth o width
-      → read_by (number_from lines is n (in_row o [])) us ≡ Err from
+        → read_by (number_from lines is n (in_row o [])) us ≡ Err from
     comma_stops full lines is n o w =
         let k : limit o < length (h.before ++ h.last ∷ []) + 1 = let l = limit_is o width w in let c = count from h in let d = length-append h.before (h.last ∷ []) in omega (arith, full, l, c, d) in
         h.reads lines is n o w ∙ ap (read_by (number_read lines is n (in_row o h.before) h.last)) e
@@ -119,7 +118,7 @@ module _ (width : Option ℕ) (us : List Terminal) (fs : List Frac) where
 
     -- it is too short
     pub row_short : (rest : List Terminal) → from ≡ close_square ∷ rest → is_full_row width (length fs) ≡ false → (lines : List Line) (is : List Item) (n : List ℕ) (o : Outer) → HasWidth o width
-      → read_by (number_from lines is n (in_row o [])) us ≡ Err from
+        → read_by (number_from lines is n (in_row o [])) us ≡ Err from
     row_short rest e short lines is n o w =
         let c = count from h in
         let d = length-append h.before (h.last ∷ []) in
@@ -129,7 +128,7 @@ module _ (width : Option ℕ) (us : List Terminal) (fs : List Frac) where
 
     -- it goes on with neither a comma nor a bracket
     pub row_open : Lacks comma from → Lacks close_square from → (lines : List Line) (is : List Item) (n : List ℕ) (o : Outer) → HasWidth o width
-      → read_by (number_from lines is n (in_row o [])) us ≡ Err from
+        → read_by (number_from lines is n (in_row o [])) us ≡ Err from
     row_open k l lines is n o w = h.reads lines is n o w ∙ other lines is n o (h.before ++ h.last ∷ []) from k l
       where
         other : (lines : List Line) (is : List Item) (n : List ℕ) (o : Outer) (xs : List Number) (ts : List Terminal) → Lacks comma ts → Lacks close_square ts → read_by (in_row_read lines is n o xs) ts ≡ Err ts

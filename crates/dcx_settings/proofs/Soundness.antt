@@ -1,11 +1,12 @@
 -- What is read so far is spelled by the tokens so far, and is good.
-use Rattle.std.proofs.Common.{◌≡◌, ℕ, zero, suc, ◌+◌, ◌*◌, ◌<◌, ◌≤◌, Bool, true, false, IsTrue, ℤ, pos, negsuc, List, [], ◌∷◌, ◌++◌, map, length, Option, Some, None, Result, Ok, Err, refl, sym, ap, ap₂, ◌∙◌, subst, arith, append_assoc}
-use Rattle.std.specs.Prelude.{⊤, nat_le, nat_eq, not, ◌&&◌, if◌then◌else◌}
+use Rattle.std.proofs.Common.{◌≡◌, ℕ, suc, ◌+◌, ◌*◌, ◌<◌, ◌≤◌, Bool, true, false, IsTrue, ℤ, pos, List, [], ◌∷◌, ◌++◌, map, length, Option, Some, None, Result, Ok, Err, refl, sym, ap, ◌∙◌, subst, arith, append_assoc}
+use Rattle.std.specs.Prelude.{⊤, nat_le, nat_eq, ◌&&◌, if◌then◌else◌}
 use Rattle.std.proofs.lemmas.Bool.Decides.{nat_tests}
 use Rattle.std.proofs.lemmas.List.{append-nil, map-append, length-append}
-use Rattle.dcx_settings.specs.Terminal.{Terminal, name, digits, decimal, minus, slash, equal, comma, semicolon, open_square, close_square, open_curly, close_curly, newline, other}
-use Rattle.dcx_settings.specs.Grammar.{Size, integer, point, quotient, size_text, sign_text, Number, number_text, Value, one, row, matrix, preceded, separated, bracketed, row_text, value_text, Item, item_text, Line, nothing, items, line_text, settings_text, names_of, is_among, are_new, Every, IsGoodSize, IsGoodNumber, IsGoodRow, AreGoodRows, IsGoodValue, AreGoodItems, IsGoodLine}
+use Rattle.dcx_settings.specs.Terminal.{Terminal, name, digits, decimal, minus, slash, equal, comma, semicolon, open_square, close_square, open_curly, close_curly, newline}
+use Rattle.dcx_settings.specs.Grammar.{integer, point, quotient, sign_text, Number, number_text, Value, one, matrix, preceded, separated, row_text, value_text, Item, item_text, Line, nothing, items, line_text, settings_text, names_of, is_among, are_new, Every, IsGoodNumber, IsGoodRow, AreGoodRows, IsGoodValue, IsGoodLine}
 use Rattle.dcx_settings.specs.Machine.{Part, start, negated, whole_read, divided, complete, Outer, no_matrix, rows_before, Context, alone, in_row, Phase, fresh, opened, closed, next_item, named, assigned, bracket, number, row_closed, next_row, ended, State, at, when, is_zero, number_of, size_begun, number_begun, quotient_read, divisor_read, reading, with_item, value_read, limit, may_end, row_ended, in_row_read, number_read, whole_read_on, width, after_fresh, after_opened, after_closed, after_semicolon, after_name, after_equal, after_bracket, in_number, after_row, before_row, step, go, run}
+use Rattle.dcx_settings.proofs.Facts.{every_more}
 
 -- ---- how a state is spelled
 abbrev pub part_text : Part → List Terminal
@@ -118,11 +119,7 @@ pub record Reaches (lines : List Line) (phase : Phase) (t : Terminal) (s : State
   pub text : state_text s ≡ snoc (state_text (at lines phase)) t
   pub good : IsGoodState s
 
--- ---- lists with one more item
-pub every_more : {A : Type 0} (P : A → Type 0) (xs : List A) (x : A) → Every P xs → P x → Every P (xs ++ x ∷ [])
-every_more P [] x h p = (p, tt)
-every_more P (y ∷ ys) x h p = (h.0, every_more P ys x h.1 p)
-
+-- ---- one more name
 both_true : (a b : Bool) → a ≡ true → b ≡ true → a && b ≡ true
 both_true a b e f = rw (e, f) refl
 

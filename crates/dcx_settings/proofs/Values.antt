@@ -1,5 +1,5 @@
 -- Reading a value, step by step.
-use Rattle.std.proofs.Common.{◌≡◌, ℕ, ◌+◌, ◌*◌, ◌<◌, ◌≤◌, List, [], ◌∷◌, ◌++◌, map, length, Option, Some, None, Result, Ok, Err, refl, sym, ap, ap₂, ◌∙◌, subst, arith}
+use Rattle.std.proofs.Common.{◌≡◌, ℕ, ◌<◌, ◌≤◌, List, [], ◌∷◌, map, length, None, Err, refl, sym, ap, ap₂, ◌∙◌, arith}
 use Rattle.dcx_frac.specs.declared.fraction.Frac.{Frac}
 use Rattle.dcx_frac.specs.Frac.{value}
 use Rattle.dcx_shape.specs.declared.shape.Shape.{Shape}
@@ -8,7 +8,7 @@ use Rattle.dcx_shape.specs.Shape.{sides_of}
 use Rattle.dcx_tokens.specs.declared.token.Token.{Token}
 use Rattle.dcx_settings.specs.Terminal.{Terminal, comma, open_square, close_square, terminals}
 use Rattle.dcx_settings.specs.Grammar.{Number, Value, one, row, matrix, Item, Line, AreGoodRows}
-use Rattle.dcx_settings.specs.Machine.{at, start, alone, in_row, no_matrix, rows_before, Phase, assigned, bracket, ended, value_read}
+use Rattle.dcx_settings.specs.Machine.{at, start, alone, in_row, no_matrix, rows_before, assigned, bracket, ended, value_read}
 use Rattle.dcx_settings.specs.Meaning.{row_length}
 use Rattle.dcx_settings.specs.declared.stop.Stop.{Stop}
 use Rattle.dcx_settings.specs.declared.stop.Stop.TheVariants.{Memory, At}

@@ -1,14 +1,14 @@
 -- Every good state leads to good settings, so the first token that may not follow is the first that is unexpected.
-use Rattle.std.proofs.Common.{◌≡◌, ◌≢◌, ℕ, zero, suc, ◌+◌, ◌-◌, ◌*◌, ◌<◌, ◌≤◌, Bool, true, false, List, [], ◌∷◌, ◌++◌, map, length, replicate, Option, Some, None, Result, Ok, Err, refl, sym, ap, ap₂, ◌∙◌, subst, arith, append_assoc, ℤ, pos, lit<}
-use Rattle.std.specs.Prelude.{nat_eq, ⊤, bytes_eq}
+use Rattle.std.proofs.Common.{◌≡◌, ◌≢◌, ℕ, zero, suc, ◌+◌, ◌-◌, ◌<◌, ◌≤◌, Bool, true, false, List, [], ◌∷◌, ◌++◌, map, length, replicate, None, Result, Ok, Err, refl, sym, ap, ◌∙◌, subst, arith, append_assoc, pos}
+use Rattle.std.specs.Prelude.{nat_eq, bytes_eq}
 use Rattle.std.proofs.lemmas.Slice.Eq.{bytes_eq-Decides}
 use Rattle.std.proofs.lemmas.Bool.Decides.{nat_tests}
-use Rattle.std.proofs.lemmas.List.{append-nil, append_cancel_right, length-append, length-replicate}
-use Rattle.dcx_settings.specs.Terminal.{Terminal, name, digits, decimal, minus, slash, equal, comma, semicolon, open_square, close_square, open_curly, close_curly, newline, other}
-use Rattle.dcx_settings.specs.Grammar.{Size, integer, point, quotient, Number, number_text, Value, one, row, matrix, preceded, Item, Line, nothing, items, line_text, settings_text, names_of, is_among, Every, IsGoodNumber, AreGoodRows, IsGoodLine}
+use Rattle.std.proofs.lemmas.List.{append-nil, length-append, length-replicate}
+use Rattle.dcx_settings.specs.Terminal.{Terminal, name, digits, slash, equal, comma, open_square, close_square, close_curly, newline}
+use Rattle.dcx_settings.specs.Grammar.{integer, quotient, Number, number_text, Value, one, row, matrix, preceded, Item, Line, nothing, items, settings_text, names_of, is_among, Every, IsGoodNumber, IsGoodLine}
 use Rattle.dcx_settings.specs.Reading.{AreSpelled, GoesOn, IsUnexpected}
-use Rattle.dcx_settings.specs.Machine.{Part, start, negated, whole_read, divided, complete, Outer, no_matrix, rows_before, Context, alone, in_row, Phase, fresh, opened, closed, next_item, named, assigned, bracket, number, row_closed, next_row, ended, State, at, number_of, with_item, limit, may_end, row_ended, width, step, go, run}
-use Rattle.dcx_settings.proofs.Soundness.{state_text, IsGoodPart, IsGoodContext, IsGoodPhase, IsGoodState, Leads, IsLed, run_sound, rows_outer}
+use Rattle.dcx_settings.specs.Machine.{Part, start, negated, whole_read, divided, complete, Outer, no_matrix, rows_before, Context, alone, in_row, Phase, fresh, opened, closed, next_item, named, assigned, bracket, number, row_closed, next_row, ended, State, at, number_of, with_item, limit, may_end, row_ended, step, go, run}
+use Rattle.dcx_settings.proofs.Soundness.{state_text, IsGoodContext, IsGoodPhase, IsGoodState, Leads, IsLed, run_sound, rows_outer}
 use Rattle.dcx_settings.proofs.Completeness.{part_of, Ends, number_ends, run_row, run_lines}
 
 -- tokens that complete a state
@@ -72,7 +72,7 @@ module _ (lines : List Line) (is : List Item) (n : List ℕ) where
       let l = length-replicate (lacking o (length xs + 1)) some_number in
       behind _ (at lines (row_ended is n o (xs ++ x ∷ ys))) (preceded comma (map number_text ys) ++ close_square ∷ [])
       (λ more. ap (λ us. run us (at lines (number is n (in_row o xs) part))) (append_assoc (preceded comma (map number_text ys)) (close_square ∷ []) more)
-          ∙ run_row lines is n o xs x part e ys (many_numbers (lacking o (length xs + 1))) (let h = f.0 in omega (arith, l, h)) f.1 more)
+      ∙ run_row lines is n o xs x part e ys (many_numbers (lacking o (length xs + 1))) (let h = f.0 in omega (arith, l, h)) f.1 more)
       (row_completes o (xs ++ x ∷ ys))
 
   read_completes : (c : Context) (x : Number) → IsGoodContext c → Completes (at lines (number is n c (part_of x)))
@@ -87,7 +87,6 @@ module _ (lines : List Line) (is : List Item) (n : List ℕ) where
 
   assigned_completes : Completes (at lines (assigned is n))
   assigned_completes = behind _ (at lines (number is n alone (part_of some_number))) (digits (pos 1) ∷ []) (λ more. refl) (read_completes alone some_number tt)
-
 
 -- a name that isn't among these: it is longer than each
 longest : List (List ℕ) → ℕ

@@ -1,5 +1,5 @@
 -- Reading to the end of the tokens.
-use Rattle.std.proofs.Common.{◌≡◌, List, [], ◌∷◌, ◌++◌, Option, Some, None, Result, Ok, Err, refl, sym, ap, ap₂, ◌∙◌, subst}
+use Rattle.std.proofs.Common.{◌≡◌, List, [], ◌∷◌, Option, Some, None, Result, Ok, Err, refl, sym, ap, ◌∙◌, subst}
 use Rattle.dcx_settings.specs.Terminal.{Terminal}
 use Rattle.dcx_settings.specs.Grammar.{Line}
 use Rattle.dcx_settings.specs.Reading.{AreSpelled, IsUnexpected}

@@ -1,5 +1,5 @@
 -- What the functions that read settings answer, against reading token by token.
-use Rattle.std.specs.Prelude.{◌≡◌, ◌≤◌, ◌+◌, ◌*◌, ◌==◌, ◌&&◌, ⊤, ℕ, List, [], ◌∷◌, ◌++◌, map, length, Bool, true, false, Option, Some, None, Result, Ok, Err, ℤ, pos, ◌≤ℤ◌}
+use Rattle.std.specs.Prelude.{◌≡◌, ◌≤◌, ◌+◌, ◌*◌, ◌==◌, ⊤, ℕ, List, [], ◌∷◌, ◌++◌, length, Bool, true, false, Option, Some, None, Result, Ok, Err, ℤ, pos, ◌≤ℤ◌}
 use Rattle.std.proofs.Common.{Bor}
 use Rattle.std.specs.Ordering.{nat_cmp}
 use Rattle.std.specs.Cmp.Lexicographic.{slice_cmp}
@@ -18,7 +18,7 @@ use Rattle.dcx_settings.specs.declared.stop.Stop.{Stop}
 use Rattle.dcx_settings.specs.declared.stop.Stop.TheVariants.{Memory, At}
 use Rattle.dcx_settings.specs.Terminal.{Terminal, name, digits, decimal, minus, slash, equal, comma, semicolon, open_square, close_square, open_curly, close_curly, newline, other, terminals}
 use Rattle.dcx_settings.specs.Grammar.{Number, Line, Item, Value, Every, IsGoodNumber, IsGoodRow, AreGoodRows, IsGoodValue, AreGoodItems, IsGoodLine, names_of, is_among}
-use Rattle.dcx_settings.specs.Machine.{State, at, Phase, fresh, next_item, named, number, Context, in_row, start, Outer, no_matrix, rows_before, number_begun, size_begun, divisor_read, whole_read_on, reading, number_read, value_read, row_ended, row_closed, limit, may_end, step}
+use Rattle.dcx_settings.specs.Machine.{State, at, Phase, fresh, next_item, named, number, Context, in_row, start, Outer, no_matrix, rows_before, number_begun, size_begun, divisor_read, whole_read_on, reading, number_read, value_read, row_ended, row_closed, step}
 use Rattle.dcx_settings.specs.Meaning.{number_value, AreNumbers, joined, value_sides, value_numbers, IsItemOf, AreItemsOf, IsLineOf, AreLinesOf}
 
 -- ---- reading to the end

@@ -13,7 +13,12 @@ use std::alloc::Global;
 use std::collections::BTreeSet;
 
 /// The item behind its name, and the tokens behind it.
-fn named_item<'a>(alloc: Global, text: &[u8], tokens: &'a [Token], called: &[u8]) -> Result<(SettingItem, &'a [Token]), Stop<'a>>
+fn named_item<'a>(
+    alloc: Global,
+    text: &[u8],
+    tokens: &'a [Token],
+    called: &[u8],
+) -> Result<(SettingItem, &'a [Token]), Stop<'a>>
     ensures ok { IfOk result (λ x. IsItemRead called.now (terminals text.now tokens.now) x.0 (terminals text.now x.1.now)) }
     ensures stop { IfErr result (ItemStopsAt called.now text.now (terminals text.now tokens.now)) }
     ensures shorter { IfOk result (λ x. length x.1.now < length tokens.now) }
@@ -21,11 +26,23 @@ fn named_item<'a>(alloc: Global, text: &[u8], tokens: &'a [Token], called: &[u8]
     let inner = expect(text, tokens, Mark::Equal)?;
     let (shape, numbers, rest) = value(alloc, text, inner)?;
     let name = Name::from_vec(called.to_vec(alloc)?);
-    Ok((SettingItem { name, shape, numbers }, rest))
+    Ok((
+        SettingItem {
+            name,
+            shape,
+            numbers,
+        },
+        rest,
+    ))
 }
 
 /// The item at the front of the tokens, under a name that isn't among those before, and the tokens behind it.
-fn item<'a, 'b>(alloc: Global, text: &'b [u8], tokens: &'a [Token], names: &mut BTreeSet<&'b [u8]>) -> Result<(SettingItem, &'a [Token]), Stop<'a>>
+fn item<'a, 'b>(
+    alloc: Global,
+    text: &'b [u8],
+    tokens: &'a [Token],
+    names: &mut BTreeSet<&'b [u8]>,
+) -> Result<(SettingItem, &'a [Token]), Stop<'a>>
     ensures ok { IfOk result (λ x. IsNewItemRead names.old (terminals text.now tokens.now) x.0 (terminals text.now x.1.now)) }
     ensures stop { IfErr result (NewItemStopsAt names.old text.now (terminals text.now tokens.now)) }
     ensures names { IfOk result (λ x. GainsName names.old names.new x.0.name) }
@@ -44,7 +61,11 @@ fn item<'a, 'b>(alloc: Global, text: &'b [u8], tokens: &'a [Token], names: &mut 
 }
 
 /// The line of items at the front of the tokens, and the tokens behind it.
-fn items<'a>(alloc: Global, text: &[u8], tokens: &'a [Token]) -> Result<(SettingLine, &'a [Token]), Stop<'a>>
+fn items<'a>(
+    alloc: Global,
+    text: &[u8],
+    tokens: &'a [Token],
+) -> Result<(SettingLine, &'a [Token]), Stop<'a>>
     requires some { 0 < length tokens.now }
     requires not_empty { Lacks open_curly (terminals text.now tokens.now) }
     ensures ok { IfOk result (λ x. IsLineRead (terminals text.now tokens.now) x.0 (terminals text.now x.1.now)) }
@@ -66,7 +87,11 @@ fn items<'a>(alloc: Global, text: &[u8], tokens: &'a [Token]) -> Result<(Setting
 }
 
 /// The line at the front of the tokens, and the tokens behind it.
-pub fn line<'a>(alloc: Global, text: &[u8], tokens: &'a [Token]) -> Result<(SettingLine, &'a [Token]), Stop<'a>>
+pub fn line<'a>(
+    alloc: Global,
+    text: &[u8],
+    tokens: &'a [Token],
+) -> Result<(SettingLine, &'a [Token]), Stop<'a>>
     requires { 0 < length tokens.now }
     ensures ok { IfOk result (λ x. IsLineRead (terminals text.now tokens.now) x.0 (terminals text.now x.1.now)) }
     ensures stop { IfErr result (LineStopsAt text.now (terminals text.now tokens.now)) }

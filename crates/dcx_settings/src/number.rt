@@ -29,7 +29,12 @@ fn quotient(front: Frac, back: Frac) -> Option<Frac>
 }
 
 /// Digits behind a slash, and the tokens behind them: the number `front / digits`.
-fn divisor<'a>(text: &[u8], tokens: &'a [Token], is_negative: bool, front: Frac) -> Result<(Frac, &'a [Token]), Stop<'a>>
+fn divisor<'a>(
+    text: &[u8],
+    tokens: &'a [Token],
+    is_negative: bool,
+    front: Frac,
+) -> Result<(Frac, &'a [Token]), Stop<'a>>
     requires { IsWhole front }
     ensures ok { IfOk result (λ x. IsNumberRead (divisor_from is_negative front.num) (terminals text.now tokens.now) x.0 (terminals text.now x.1.now)) }
     ensures stop { IfErr result (StopsAt (divisor_from is_negative front.num) text.now (terminals text.now tokens.now)) }
@@ -45,7 +50,12 @@ fn divisor<'a>(text: &[u8], tokens: &'a [Token], is_negative: bool, front: Frac)
 }
 
 /// What may follow digits, and the tokens behind it.
-fn behind_digits<'a>(text: &[u8], tokens: &'a [Token], is_negative: bool, front: Frac) -> Result<(Frac, &'a [Token]), Stop<'a>>
+fn behind_digits<'a>(
+    text: &[u8],
+    tokens: &'a [Token],
+    is_negative: bool,
+    front: Frac,
+) -> Result<(Frac, &'a [Token]), Stop<'a>>
     requires { IsWhole front }
     ensures ok { IfOk result (λ x. IsNumberRead (digits_from is_negative front.num) (terminals text.now tokens.now) x.0 (terminals text.now x.1.now)) }
     ensures stop { IfErr result (StopsAt (digits_from is_negative front.num) text.now (terminals text.now tokens.now)) }
@@ -58,7 +68,11 @@ fn behind_digits<'a>(text: &[u8], tokens: &'a [Token], is_negative: bool, front:
 }
 
 /// A number behind its sign, and the tokens behind it.
-fn unsigned<'a>(text: &[u8], tokens: &'a [Token], is_negative: bool) -> Result<(Frac, &'a [Token]), Stop<'a>>
+fn unsigned<'a>(
+    text: &[u8],
+    tokens: &'a [Token],
+    is_negative: bool,
+) -> Result<(Frac, &'a [Token]), Stop<'a>>
     ensures ok { IfOk result (λ x. IsNumberRead (size_from is_negative) (terminals text.now tokens.now) x.0 (terminals text.now x.1.now)) }
     ensures stop { IfErr result (StopsAt (size_from is_negative) text.now (terminals text.now tokens.now)) }
     ensures shorter { IfOk result (λ x. length x.1.now < length tokens.now) }

@@ -11,7 +11,11 @@ use dcx_tokens::Token;
 use std::alloc::Global;
 
 /// The settings that the tokens of a text spell, or the tokens from the first one on that no settings go on with.
-pub fn read_tokens<'a>(alloc: Global, text: &[u8], tokens: &'a [Token]) -> Result<Settings, Stop<'a>>
+pub fn read_tokens<'a>(
+    alloc: Global,
+    text: &[u8],
+    tokens: &'a [Token],
+) -> Result<Settings, Stop<'a>>
     ensures ok { IfOk result (AreSettings (terminals text.now tokens.now)) }
     ensures stop { IfErr result (StopsUnexpected text.now (terminals text.now tokens.now)) }
 {

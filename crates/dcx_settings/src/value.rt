@@ -38,7 +38,12 @@ fn is_full(width: Option<usize>, count: usize) -> bool
 }
 
 /// The numbers at the front of a row, and the tokens behind them.
-fn numbers<'a>(alloc: Global, text: &[u8], tokens: &'a [Token], width: Option<usize>) -> Result<(Vec<Frac>, &'a [Token]), Stop<'a>>
+fn numbers<'a>(
+    alloc: Global,
+    text: &[u8],
+    tokens: &'a [Token],
+    width: Option<usize>,
+) -> Result<(Vec<Frac>, &'a [Token]), Stop<'a>>
     requires { 1 ≤ most_numbers width }
     ensures ok { IfOk result (λ x. IsRowBegun width (terminals text.now tokens.now) x.0.items (terminals text.now x.1.now)) }
     ensures stop { IfErr result (RowStopsAt width text.now (terminals text.now tokens.now)) }
@@ -61,7 +66,12 @@ fn numbers<'a>(alloc: Global, text: &[u8], tokens: &'a [Token], width: Option<us
 }
 
 /// The numbers of a row behind its bracket, and the tokens behind it.
-fn row<'a>(alloc: Global, text: &[u8], tokens: &'a [Token], width: Option<usize>) -> Result<(Vec<Frac>, &'a [Token]), Stop<'a>>
+fn row<'a>(
+    alloc: Global,
+    text: &[u8],
+    tokens: &'a [Token],
+    width: Option<usize>,
+) -> Result<(Vec<Frac>, &'a [Token]), Stop<'a>>
     requires { 1 ≤ most_numbers width }
     ensures ok { IfOk result (λ x. IsRowRead width (terminals text.now tokens.now) x.0.items (terminals text.now x.1.now)) }
     ensures stop { IfErr result (RowStopsAt width text.now (terminals text.now tokens.now)) }
@@ -71,7 +81,11 @@ fn row<'a>(alloc: Global, text: &[u8], tokens: &'a [Token], width: Option<usize>
     match eat(text, rest, Mark::CloseSquare) {
         None => Err(Stop::At(rest)),
         Some(behind) => {
-            if is_full(width, found.len()) { Ok((found, behind)) } else { Err(Stop::At(rest)) }
+            if is_full(width, found.len()) {
+                Ok((found, behind))
+            } else {
+                Err(Stop::At(rest))
+            }
         }
     }
 }
@@ -85,7 +99,11 @@ struct MatrixRows {
 }
 
 /// The rows of a matrix behind the first two brackets, and the tokens behind them.
-fn rows<'a>(alloc: Global, text: &[u8], tokens: &'a [Token]) -> Result<(MatrixRows, &'a [Token]), Stop<'a>>
+fn rows<'a>(
+    alloc: Global,
+    text: &[u8],
+    tokens: &'a [Token],
+) -> Result<(MatrixRows, &'a [Token]), Stop<'a>>
     ensures ok { IfOk result (λ x. AreRowsRead x.0.width x.0.count (terminals text.now tokens.now) x.0.numbers.items (terminals text.now x.1.now)) }
     ensures stop { IfErr result (RowsStopAt text.now (terminals text.now tokens.now)) }
     ensures ends { IfOk result (λ x. Lacks comma (terminals text.now x.1.now)) }
@@ -105,7 +123,14 @@ fn rows<'a>(alloc: Global, text: &[u8], tokens: &'a [Token]) -> Result<(MatrixRo
         count += 1;
         rest = behind;
     }
-    Ok((MatrixRows { count, width, numbers }, rest))
+    Ok((
+        MatrixRows {
+            count,
+            width,
+            numbers,
+        },
+        rest,
+    ))
 }
 
 /// The shape of so many rows that are so long.
@@ -132,7 +157,11 @@ fn vector_shape(count: usize) -> Shape
 }
 
 /// The matrix behind its first two brackets, and the tokens behind it.
-fn matrix<'a>(alloc: Global, text: &[u8], tokens: &'a [Token]) -> Result<(Shape, Fracs, &'a [Token]), Stop<'a>>
+fn matrix<'a>(
+    alloc: Global,
+    text: &[u8],
+    tokens: &'a [Token],
+) -> Result<(Shape, Fracs, &'a [Token]), Stop<'a>>
     ensures ok { IfOk result (λ x. IsValueRead matrix_begun (terminals text.now tokens.now) x.0 x.1 (terminals text.now x.2.now)) }
     ensures stop { IfErr result (ValueStopsAt matrix_begun text.now (terminals text.now tokens.now)) }
     ensures shorter { IfOk result (λ x. length x.2.now < length tokens.now) }
@@ -144,7 +173,11 @@ fn matrix<'a>(alloc: Global, text: &[u8], tokens: &'a [Token]) -> Result<(Shape,
 }
 
 /// The list behind its bracket, and the tokens behind it.
-fn vector<'a>(alloc: Global, text: &[u8], tokens: &'a [Token]) -> Result<(Shape, Fracs, &'a [Token]), Stop<'a>>
+fn vector<'a>(
+    alloc: Global,
+    text: &[u8],
+    tokens: &'a [Token],
+) -> Result<(Shape, Fracs, &'a [Token]), Stop<'a>>
     requires { Lacks open_square (terminals text.now tokens.now) }
     ensures ok { IfOk result (λ x. IsValueRead bracket (terminals text.now tokens.now) x.0 x.1 (terminals text.now x.2.now)) }
     ensures stop { IfErr result (ValueStopsAt bracket text.now (terminals text.now tokens.now)) }
@@ -156,7 +189,11 @@ fn vector<'a>(alloc: Global, text: &[u8], tokens: &'a [Token]) -> Result<(Shape,
 }
 
 /// The number that is a value, and the tokens behind it.
-fn scalar<'a>(alloc: Global, text: &[u8], tokens: &'a [Token]) -> Result<(Shape, Fracs, &'a [Token]), Stop<'a>>
+fn scalar<'a>(
+    alloc: Global,
+    text: &[u8],
+    tokens: &'a [Token],
+) -> Result<(Shape, Fracs, &'a [Token]), Stop<'a>>
     requires { Lacks open_square (terminals text.now tokens.now) }
     ensures ok { IfOk result (λ x. IsValueRead assigned (terminals text.now tokens.now) x.0 x.1 (terminals text.now x.2.now)) }
     ensures stop { IfErr result (ValueStopsAt assigned text.now (terminals text.now tokens.now)) }
@@ -169,7 +206,11 @@ fn scalar<'a>(alloc: Global, text: &[u8], tokens: &'a [Token]) -> Result<(Shape,
 }
 
 /// The list or the matrix behind its bracket, and the tokens behind it.
-fn bracketed<'a>(alloc: Global, text: &[u8], tokens: &'a [Token]) -> Result<(Shape, Fracs, &'a [Token]), Stop<'a>>
+fn bracketed<'a>(
+    alloc: Global,
+    text: &[u8],
+    tokens: &'a [Token],
+) -> Result<(Shape, Fracs, &'a [Token]), Stop<'a>>
     ensures ok { IfOk result (λ x. IsValueRead bracket (terminals text.now tokens.now) x.0 x.1 (terminals text.now x.2.now)) }
     ensures stop { IfErr result (ValueStopsAt bracket text.now (terminals text.now tokens.now)) }
     ensures shorter { IfOk result (λ x. length x.2.now < length tokens.now) }
@@ -181,7 +222,11 @@ fn bracketed<'a>(alloc: Global, text: &[u8], tokens: &'a [Token]) -> Result<(Sha
 }
 
 /// The value behind an equal sign: its shape, its numbers row after row, and the tokens behind it.
-pub fn value<'a>(alloc: Global, text: &[u8], tokens: &'a [Token]) -> Result<(Shape, Fracs, &'a [Token]), Stop<'a>>
+pub fn value<'a>(
+    alloc: Global,
+    text: &[u8],
+    tokens: &'a [Token],
+) -> Result<(Shape, Fracs, &'a [Token]), Stop<'a>>
     ensures ok { IfOk result (λ x. IsValueRead assigned (terminals text.now tokens.now) x.0 x.1 (terminals text.now x.2.now)) }
     ensures stop { IfErr result (ValueStopsAt assigned text.now (terminals text.now tokens.now)) }
     ensures shorter { IfOk result (λ x. length x.2.now < length tokens.now) }

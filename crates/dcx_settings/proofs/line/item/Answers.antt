@@ -2,7 +2,7 @@
 use Rattle.std.proofs.Common.{subst, sym}
 use Rattle.dcx_settings.specs.Terminal.{terminals}
 use Rattle.dcx_settings.specs.Steps.{GainsName}
-use Rattle.dcx_settings.proofs.Numbers.{if_ok, if_err}
+use Rattle.dcx_settings.proofs.Numbers.{if_ok}
 use Rattle.dcx_settings.proofs.Lines.{gains_name, nameless_stops}
 use Rattle.dcx_settings.proofs.line.item.Goals as goal
 

@@ -1,5 +1,5 @@
 -- Items go on by a semicolon and end with their line.
-use Rattle.std.proofs.Common.{◌≡◌, ◌<◌, ◌≤◌, length, ℕ, ◌+◌, List, [], ◌∷◌, ◌++◌, arith, subst, sym, ◌∙◌, ap, refl}
+use Rattle.std.proofs.Common.{[], ◌∷◌, ◌++◌, arith, subst, sym, ◌∙◌, ap, refl}
 use Rattle.std.proofs.lemmas.List.{length-map}
 use Rattle.dcx_settings.specs.Terminal.{terminals, terminal_of}
 use Rattle.dcx_settings.specs.Steps.{AreItemsRead, LineStopsAt, IsLineRead}
@@ -16,10 +16,11 @@ pub items-init : goal.items-init
 items-init c =
     let us = terminals c.args.text.now c.args.tokens.now in
     let rest = terminals c.args.text.now c.in_ok-first.behind.now in
-    let e = c.in_ok-push.ensures.items ∙ ap (λ xs. xs ++ c.in_ok-first.first ∷ []) c.new-found.ensures.items in
-    (subst (λ xs. AreItemsRead c.item.new.names us xs rest) (sym e)
-        (items_first c.new-names.result c.item.new.names (no_names c.new-names.result c.new-names.ensures.empty) us rest c.in_ok-first.first c.in_ok-first.ensures.names c.in_ok-first.ensures.ok),
-      c.in_ok-first.ensures.shorter)
+    let e = c.in_ok-push.ensures.items ∙ ap (λ xs. xs ++ c.in_ok-first.first ∷ []) c.new-found.ensures.items in (
+      subst (λ xs. AreItemsRead c.item.new.names us xs rest) (sym e)
+          (items_first c.new-names.result c.item.new.names (no_names c.new-names.result c.new-names.ensures.empty) us rest c.in_ok-first.first c.in_ok-first.ensures.names c.in_ok-first.ensures.ok),
+      c.in_ok-first.ensures.shorter,
+    )
 
 pub returns-in_err-next-clause-stop : goal.returns-in_err-next-clause-stop
 returns-in_err-next-clause-stop c =
@@ -29,10 +30,11 @@ returns-in_err-next-clause-stop c =
 pub items-preserved : goal.items-preserved
 items-preserved c =
     let us = terminals c.args.text.now c.args.tokens.now in
-    let rest = terminals c.args.text.now c.in_ok-next.behind.now in
-    (subst (λ xs. AreItemsRead c.item-in-Some.new.names us xs rest) (sym c.in_ok-push-2.ensures.items)
-        (items_next c.items.names us c.items.found.items _ c.items.invariant.0 _ c.in-Some.ensures.first c.item-in-Some.new.names c.in_ok-next.next rest c.in_ok-next.ensures.names c.in_ok-next.ensures.ok),
-      let a = c.in-Some.ensures.shorter in let b = c.in_ok-next.ensures.shorter in let d = c.items.invariant.1 in omega (arith, a, b, d))
+    let rest = terminals c.args.text.now c.in_ok-next.behind.now in (
+      subst (λ xs. AreItemsRead c.item-in-Some.new.names us xs rest) (sym c.in_ok-push-2.ensures.items)
+          (items_next c.items.names us c.items.found.items _ c.items.invariant.0 _ c.in-Some.ensures.first c.item-in-Some.new.names c.in_ok-next.next rest c.in_ok-next.ensures.names c.in_ok-next.ensures.ok),
+      let a = c.in-Some.ensures.shorter in let b = c.in_ok-next.ensures.shorter in let d = c.items.invariant.1 in omega (arith, a, b, d),
+    )
 
 pub returns-in_err-behind-clause-stop : goal.returns-in_err-behind-clause-stop
 returns-in_err-behind-clause-stop c =

@@ -1,5 +1,5 @@
 -- The items so far, their names, and that tokens were read.
-use Rattle.std.proofs.Common.{◌≡◌, ◌<◌, ◌≤◌, length}
+use Rattle.std.proofs.Common.{◌<◌, length}
 use Rattle.dcx_settings.specs.Terminal.{terminals}
 use Rattle.dcx_settings.specs.Steps.{AreItemsRead}
 use Rattle.dcx_settings.proofs.line.items.Given as goal

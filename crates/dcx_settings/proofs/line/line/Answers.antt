@@ -1,5 +1,4 @@
 -- A brace begins a line with nothing.
-use Rattle.std.proofs.Common.{◌≡◌, length, List, [], ◌∷◌}
 use Rattle.dcx_settings.specs.Terminal.{terminals}
 use Rattle.dcx_settings.specs.Steps.{LineStopsAt}
 use Rattle.dcx_settings.proofs.Rows.{err_from}

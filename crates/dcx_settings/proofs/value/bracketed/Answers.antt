@@ -1,5 +1,4 @@
 -- A second bracket begins a matrix.
-use Rattle.dcx_settings.specs.Terminal.{terminals}
 use Rattle.dcx_settings.proofs.Numbers.{if_ok, if_err}
 use Rattle.dcx_settings.proofs.Values.{brackets_read, brackets_stop}
 use Rattle.dcx_settings.proofs.value.bracketed.Goals as goal

@@ -1,7 +1,6 @@
 -- Rows and a bracket are a matrix.
-use Rattle.std.proofs.Common.{◌≡◌, ◌<◌, ◌≤◌, length, ℕ, ◌+◌, List, [], ◌∷◌, ◌++◌, arith, subst, sym, ◌∙◌, ap, refl}
+use Rattle.std.proofs.Common.{subst, sym, refl}
 use Rattle.dcx_settings.specs.Terminal.{terminals}
-use Rattle.dcx_settings.specs.Machine.{assigned, bracket}
 use Rattle.dcx_settings.specs.Steps.{IsValueRead, ValueStopsAt, matrix_begun}
 use Rattle.dcx_settings.proofs.Rows.{err_from}
 use Rattle.dcx_settings.proofs.Matrices.{width_few, count_few, rows_entries}

@@ -1,7 +1,7 @@
 -- A row goes on by a comma and a number while there is room.
-use Rattle.std.proofs.Common.{rules, ◌≡◌, ◌<◌, ◌≤◌, length, IfOk, IfErr, ℕ, ◌+◌, ◌-◌, ◌*◌, Bool, true, false, List, [], ◌∷◌, ◌++◌, arith, subst, sym, ◌∙◌, ap}
+use Rattle.std.proofs.Common.{[], ◌∷◌, ◌++◌, arith, subst, sym, ◌∙◌, ap}
 use Rattle.dcx_settings.specs.Terminal.{terminals}
-use Rattle.dcx_settings.specs.Steps.{most_numbers, is_full_row, IsRowBegun, IsRowRead, RowStopsAt}
+use Rattle.dcx_settings.specs.Steps.{IsRowBegun, RowStopsAt}
 use Rattle.dcx_settings.proofs.Rows.{err_from, row_first, comma_stops, row_more, row_stops}
 use Rattle.dcx_settings.proofs.value.numbers.Goals as goal
 
@@ -32,10 +32,11 @@ numbers-smaller c = let a = c.in-Some.ensures.shorter in let b = c.in_ok-next.en
 pub numbers-preserved : goal.numbers-preserved
 numbers-preserved c =
     let us = terminals c.args.text.now c.args.tokens.now in
-    let rest = terminals c.args.text.now c.in_ok-next.behind.now in
-    (subst (λ fs. IsRowBegun c.args.width us fs rest) (sym c.in_ok-push-2.ensures.items)
-        (row_more c.args.width us c.numbers.found.items _ _ c.in-Some.ensures.first c.numbers.invariant.0 (let a = c.if-len-most.false in let b = c.most.ensures in let d = c.len.ensures in omega (arith, a, b, d)) c.in_ok-next.next rest c.in_ok-next.ensures.ok),
-      let a = c.in-Some.ensures.shorter in let b = c.in_ok-next.ensures.shorter in let d = c.numbers.invariant.1 in omega (arith, a, b, d))
+    let rest = terminals c.args.text.now c.in_ok-next.behind.now in (
+      subst (λ fs. IsRowBegun c.args.width us fs rest) (sym c.in_ok-push-2.ensures.items)
+          (row_more c.args.width us c.numbers.found.items _ _ c.in-Some.ensures.first c.numbers.invariant.0 (let a = c.if-len-most.false in let b = c.most.ensures in let d = c.len.ensures in omega (arith, a, b, d)) c.in_ok-next.next rest c.in_ok-next.ensures.ok),
+      let a = c.in-Some.ensures.shorter in let b = c.in_ok-next.ensures.shorter in let d = c.numbers.invariant.1 in omega (arith, a, b, d),
+    )
 
 -- src/value.rt:37:1
 pub returns-clause-ok : goal.returns-clause-ok

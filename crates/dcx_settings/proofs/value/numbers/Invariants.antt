@@ -1,7 +1,7 @@
 -- The numbers so far, and that tokens were read.
-use Rattle.std.proofs.Common.{◌≡◌, ◌<◌, ◌≤◌, length, IfOk, IfErr, ℕ, ◌+◌, ◌-◌, ◌*◌}
+use Rattle.std.proofs.Common.{◌<◌, length}
 use Rattle.dcx_settings.specs.Terminal.{terminals}
-use Rattle.dcx_settings.specs.Steps.{most_numbers, is_full_row, IsRowBegun, IsRowRead, RowStopsAt}
+use Rattle.dcx_settings.specs.Steps.{IsRowBegun}
 use Rattle.dcx_settings.proofs.value.numbers.Given as goal
 
 abbrev pub invariant-numbers : goal.invariant-numbers

@@ -1,5 +1,5 @@
 -- The rows so far, and that tokens were read.
-use Rattle.std.proofs.Common.{◌≡◌, ◌<◌, ◌≤◌, length, ℕ, ◌+◌}
+use Rattle.std.proofs.Common.{◌<◌, length}
 use Rattle.dcx_settings.specs.Terminal.{terminals}
 use Rattle.dcx_settings.specs.Steps.{AreRowsRead}
 use Rattle.dcx_settings.proofs.value.rows.Given as goal

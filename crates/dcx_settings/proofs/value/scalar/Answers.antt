@@ -1,8 +1,8 @@
 -- A number alone is a scalar.
-use Rattle.std.proofs.Common.{◌≡◌, ◌<◌, ◌≤◌, length, ℕ, ◌+◌, List, [], ◌∷◌, ◌++◌, arith, subst, sym, ◌∙◌, ap, refl}
+use Rattle.std.proofs.Common.{[], ◌∷◌, ◌++◌, ◌∙◌, ap}
 use Rattle.dcx_settings.specs.Terminal.{terminals}
-use Rattle.dcx_settings.specs.Machine.{assigned, bracket}
-use Rattle.dcx_settings.specs.Steps.{IsValueRead, ValueStopsAt, matrix_begun}
+use Rattle.dcx_settings.specs.Machine.{assigned}
+use Rattle.dcx_settings.specs.Steps.{ValueStopsAt}
 use Rattle.dcx_settings.proofs.Rows.{err_from}
 use Rattle.dcx_settings.proofs.Values.{scalar_read, scalar_stops}
 use Rattle.dcx_settings.proofs.value.scalar.Goals as goal

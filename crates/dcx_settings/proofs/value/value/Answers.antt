@@ -1,5 +1,4 @@
 -- A bracket begins a list or a matrix.
-use Rattle.dcx_settings.specs.Terminal.{terminals}
 use Rattle.dcx_settings.proofs.Numbers.{if_ok, if_err}
 use Rattle.dcx_settings.proofs.Values.{bracket_read, bracket_stops}
 use Rattle.dcx_settings.proofs.value.value.Goals as goal

@@ -1,8 +1,8 @@
 -- A row alone is a list.
-use Rattle.std.proofs.Common.{◌≡◌, ◌<◌, ◌≤◌, length, ℕ, ◌+◌, List, [], ◌∷◌, ◌++◌, arith, subst, sym, ◌∙◌, ap, refl}
+use Rattle.std.proofs.Common.{arith, subst, sym, ◌∙◌, ap}
 use Rattle.dcx_settings.specs.Terminal.{terminals}
-use Rattle.dcx_settings.specs.Machine.{assigned, bracket}
-use Rattle.dcx_settings.specs.Steps.{IsValueRead, ValueStopsAt, matrix_begun}
+use Rattle.dcx_settings.specs.Machine.{bracket}
+use Rattle.dcx_settings.specs.Steps.{IsValueRead, ValueStopsAt}
 use Rattle.dcx_shape.specs.declared.shape.Sides.TheVariants.{Vector}
 use Rattle.dcx_settings.proofs.Rows.{err_from}
 use Rattle.dcx_settings.proofs.Values.{vector_read, vector_stops}
