@@ -5,7 +5,6 @@ use Rattle.dcx_settings.specs.Steps.{IsRowBegun, RowStopsAt}
 use Rattle.dcx_settings.proofs.Rows.{err_from, row_first, comma_stops, row_more, row_stops}
 use Rattle.dcx_settings.proofs.value.numbers.Goals as goal
 
--- src/value.rt:47:5
 pub numbers-init : goal.numbers-init
 numbers-init c =
     let us = terminals c.args.text.now c.args.tokens.now in
@@ -13,22 +12,18 @@ numbers-init c =
     let e = c.in_ok-push.ensures.items ∙ ap (λ xs. xs ++ c.in_ok-first.first ∷ []) c.new-found.ensures.items in
     (subst (λ fs. IsRowBegun c.args.width us fs rest) (sym e) (row_first c.args.width us rest c.in_ok-first.first c.requires c.in_ok-first.ensures.ok), c.in_ok-first.ensures.shorter)
 
--- src/value.rt:49:13
 pub returns-then-len-most-clause-stop : goal.returns-then-len-most-clause-stop
 returns-then-len-most-clause-stop c =
     comma_stops c.args.width _ c.numbers.found.items _ _ c.in-Some.ensures.first c.numbers.invariant.0 (let a = c.if-len-most.true in let b = c.most.ensures in let d = c.len.ensures in omega (arith, a, b, d))
 
--- src/value.rt:51:30
 pub returns-in_err-next-clause-stop : goal.returns-in_err-next-clause-stop
 returns-in_err-next-clause-stop c =
     err_from (RowStopsAt c.args.width c.args.text.now (terminals c.args.text.now c.args.tokens.now)) c.from_residual-in_err-next.result c.in_err-next.field-0.0 c.from_residual-in_err-next.ensures.1
     (row_stops c.args.width _ c.numbers.found.items _ _ c.in-Some.ensures.first c.numbers.invariant.0 (let a = c.if-len-most.false in let b = c.most.ensures in let d = c.len.ensures in omega (arith, a, b, d)) c.args.text.now _ c.in_err-next.ensures.stop)
 
--- src/value.rt:47:5
 pub numbers-smaller : goal.numbers-smaller
 numbers-smaller c = let a = c.in-Some.ensures.shorter in let b = c.in_ok-next.ensures.shorter in omega (arith, a, b)
 
--- src/value.rt:47:5
 pub numbers-preserved : goal.numbers-preserved
 numbers-preserved c =
     let us = terminals c.args.text.now c.args.tokens.now in
@@ -38,11 +33,9 @@ numbers-preserved c =
       let a = c.in-Some.ensures.shorter in let b = c.in_ok-next.ensures.shorter in let d = c.numbers.invariant.1 in omega (arith, a, b, d),
     )
 
--- src/value.rt:37:1
 pub returns-clause-ok : goal.returns-clause-ok
 returns-clause-ok c = c.numbers.invariant.0
 
--- src/value.rt:37:1
 pub returns-clause-shorter : goal.returns-clause-shorter
 returns-clause-shorter c = c.numbers.invariant.1
 
