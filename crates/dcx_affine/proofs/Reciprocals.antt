@@ -1,8 +1,8 @@
 -- 1 / n as a fraction.
-use Rattle.std.proofs.Common.{◌≡◌, ℕ, zero, suc, ◌<◌, ◌^◌, arith, sym, ◌∙◌, pos}
+use Rattle.std.proofs.Common.{◌≡◌, ℕ, zero, suc, ◌<◌, ◌^◌, arith, ◌∙◌, pos}
 use Rattle.std.proofs.lemmas.Int.{ints}
 use native.Mathlib.Nat.{eq-one_of_dvd-one}
-use Rattle.dcx_math.specs.Rational.{ℚ, whole, ◌/ℚ◌, inverse}
+use Rattle.dcx_math.specs.Rational.{whole, ◌/ℚ◌, inverse}
 use Rattle.dcx_math.specs.LowestTerms.{IsInLowestTerms}
 use Rattle.dcx_math.proofs.Ring.{/ℚ-is}
 use Rattle.dcx_math.proofs.Orders.{*ℚ_idl}

@@ -1,9 +1,8 @@
 -- Sums and differences of entries: `a + b`, `-a`, and the differences of a vector.
-use Rattle.std.specs.Prelude.{◌≡◌, ℕ, ◌+◌, ◌-◌, ◌<◌, nat_lt, if◌then◌else◌, List, [], ◌∷◌, Option, Some, None, option_and_then, pos, negsuc}
+use Rattle.std.specs.Prelude.{ℕ, ◌+◌, ◌-◌, nat_lt, if◌then◌else◌, List, [], ◌∷◌, Option, Some, None, option_and_then, pos, negsuc}
 use Rattle.dcx_math.specs.Rational.{ℚ, whole, ◌+ℚ◌, ◌-ℚ◌, neg_ℚ}
 use Rattle.dcx_shape.specs.declared.shape.Sides.{Sides}
 use Rattle.dcx_shape.specs.declared.shape.Sides.TheVariants.{Scalar, Vector, Matrix}
-use Rattle.dcx_atom.specs.declared.flags.Sign.{Sign}
 use Rattle.dcx_atom.specs.Signs.{sign_at, rises, falls, no_trend, common_sign, flipped, zero_or_unknown}
 use Rattle.dcx_atom.specs.Linear.{LinearTerm, LinearMeaning}
 use Rattle.dcx_affine.specs.Strided.{only}

@@ -1,6 +1,6 @@
 -- The laws of sums and differences of entries.
-use Rattle.std.specs.Prelude.{◌≡◌, ℕ, suc, ◌+◌, ◌<◌, Bool, true, false, ◌&&◌, IsTrue, List, [], ◌∷◌, Some, None, length, pos, negsuc}
-use Rattle.std.proofs.Common.{refl, sym, ap, subst, inl, inr, arith}
+use Rattle.std.specs.Prelude.{◌≡◌, ◌+◌, ◌<◌, Bool, true, false, ◌&&◌, List, [], ◌∷◌, Some, length, pos, negsuc}
+use Rattle.std.proofs.Common.{refl, sym, ap, inl, inr, arith}
 use Rattle.std.proofs.lemmas.List.Elements.{All-cons, All-nil}
 use Rattle.dcx_math.specs.Rational.{ℚ, whole, ◌+ℚ◌, ◌-ℚ◌, ◌*ℚ◌, neg_ℚ, ◌≤ℚ◌}
 use Rattle.dcx_math.specs.Sums.{IsNonnegative}
@@ -10,8 +10,8 @@ use Rattle.dcx_shape.specs.declared.shape.Sides.{Sides}
 use Rattle.dcx_atom.specs.declared.flags.Sign.{Sign}
 use Rattle.dcx_atom.specs.declared.flags.Bend.{Bend}
 use Rattle.dcx_atom.specs.declared.flags.Bend.TheVariants.{Convex, Concave}
-use Rattle.dcx_atom.specs.Signs.{HasSign, sign_at, Follows, IsBeyond, falls, no_trend, flipped, zero_or_unknown}
-use Rattle.dcx_atom.specs.Linear.{LinearTerm, IsLinear, KeepsSign, KeepsTrend}
+use Rattle.dcx_atom.specs.Signs.{HasSign, sign_at, Follows, IsBeyond, falls, no_trend}
+use Rattle.dcx_atom.specs.Linear.{IsLinear, KeepsSign, KeepsTrend}
 use Rattle.dcx_atom.proofs.LinearSums.{HasNoNegative, HasOnlyArguments, rising_trend, shared_sign}
 use Rattle.dcx_affine.specs.StridedLaws.{one_nonneg}
 use Rattle.dcx_affine.specs.Added.{term, two_alike, plus_meaning, minus_meaning, diff_meaning}

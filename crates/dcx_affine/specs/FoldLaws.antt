@@ -1,7 +1,7 @@
 -- Sums along a side, means, running sums and traces are sums of strides.
-use Rattle.std.specs.Prelude.{◌≡◌, ℕ, zero, suc, ◌+◌, ◌*◌, ◌/◌, ◌%◌, ◌<◌, nat_eq, if◌then◌else◌, Option, Some, None, pos}
+use Rattle.std.specs.Prelude.{◌≡◌, ℕ, zero, suc, ◌+◌, ◌*◌, ◌/◌, ◌%◌, pos}
 use Rattle.std.proofs.Common.{refl, sym, ap, ◌∙◌, arith}
-use Rattle.dcx_math.specs.Rational.{ℚ, whole, ◌+ℚ◌, ◌*ℚ◌, ◌/ℚ◌, inverse}
+use Rattle.dcx_math.specs.Rational.{ℚ, whole, ◌*ℚ◌, inverse}
 use Rattle.dcx_math.specs.Sums.{IsNonnegative, rat_sum_below}
 use Rattle.dcx_math.proofs.Ring.{/ℚ-is}
 use Rattle.dcx_math.proofs.Orders.{*ℚ_comm, ≤ℚ-from_≡, <ℚ-≤ℚ}
@@ -14,7 +14,7 @@ use Rattle.dcx_shape.specs.Sides.{cols_of, entries_of}
 use Rattle.dcx_atom.specs.declared.axis.Axis.{Axis}
 use Rattle.dcx_atom.specs.declared.axis.Axis.TheVariants.{All, Zero, One}
 use Rattle.dcx_atom.specs.declared.axis.Stride.{Stride}
-use Rattle.dcx_atom.specs.Axis.{folded, folded_stride, whole_stride, stride_entry}
+use Rattle.dcx_atom.specs.Axis.{folded_stride, whole_stride, stride_entry}
 use Rattle.dcx_affine.specs.Strided.{stride_sum, IsStrided}
 use Rattle.dcx_affine.specs.StridedLaws.{once, one_nonneg}
 use Rattle.dcx_affine.specs.Folds.{folded_sum, folded_count, running_sum, running_stride, sum_call, mean_call, running_call, trace_call}

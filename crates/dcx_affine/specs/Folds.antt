@@ -1,5 +1,5 @@
 -- Sums along a side, means, running sums and traces.
-use Rattle.std.specs.Prelude.{◌≡◌, ℕ, suc, ◌+◌, ◌*◌, ◌/◌, ◌%◌, ◌<◌, nat_eq, if◌then◌else◌, Option, Some, None, pos}
+use Rattle.std.specs.Prelude.{ℕ, suc, ◌+◌, ◌*◌, ◌/◌, ◌%◌, nat_eq, if◌then◌else◌, Option, Some, None, pos}
 use Rattle.dcx_math.specs.Rational.{ℚ, whole, ◌/ℚ◌, inverse}
 use Rattle.dcx_math.specs.Sums.{rat_sum_below}
 use Rattle.dcx_shape.specs.declared.shape.Sides.{Sides}
@@ -9,7 +9,7 @@ use Rattle.dcx_atom.specs.declared.axis.Axis.{Axis}
 use Rattle.dcx_atom.specs.declared.axis.Axis.TheVariants.{All, Zero, One}
 use Rattle.dcx_atom.specs.declared.axis.Stride.{Stride}
 use Rattle.dcx_atom.specs.Arrays.{entry_at, by_rows}
-use Rattle.dcx_atom.specs.Axis.{folded, folded_stride, whole_stride}
+use Rattle.dcx_atom.specs.Axis.{folded, folded_stride}
 use Rattle.dcx_affine.specs.Strided.{StridedCall, plain}
 
 -- ---- sums along a side

@@ -8,3 +8,5 @@ pub mod PlaceLaws
 pub mod Added
 pub mod AddedLaws
 pub mod Pairing
+pub mod Joined
+pub mod JoinedLaws

@@ -1,6 +1,6 @@
 -- Calls whose entries are entries of the argument are sums of strides of one entry or none.
-use Rattle.std.specs.Prelude.{◌≡◌, ℕ, ◌+◌, ◌*◌, ◌/◌, ◌%◌, ◌<◌, nat_eq, Bool, true, false, if◌then◌else◌, List, Option, Some, pos, slice_index}
-use Rattle.std.proofs.Common.{refl, sym, ap, ◌∙◌}
+use Rattle.std.specs.Prelude.{◌≡◌, ℕ, ◌+◌, ◌*◌, ◌/◌, ◌%◌, nat_eq, Bool, true, false, if◌then◌else◌, List, pos, slice_index}
+use Rattle.std.proofs.Common.{refl, ◌∙◌}
 use Rattle.dcx_math.specs.Rational.{ℚ, whole, ◌*ℚ◌}
 use Rattle.dcx_shape.specs.declared.shape.Sides.{Sides}
 use Rattle.dcx_shape.specs.declared.shape.Sides.TheVariants.{Scalar, Vector, Matrix}

@@ -1,5 +1,5 @@
 -- Calls whose entries are entries of the argument: indices, reshapes, transposes, diagonals and promotion.
-use Rattle.std.specs.Prelude.{◌≡◌, ℕ, ◌+◌, ◌*◌, ◌/◌, ◌%◌, ◌<◌, nat_eq, nat_le, Bool, true, false, ◌&&◌, ◌||◌, if◌then◌else◌, List, Option, Some, None, pos, slice_index}
+use Rattle.std.specs.Prelude.{ℕ, ◌+◌, ◌*◌, ◌/◌, ◌%◌, nat_eq, nat_le, Bool, true, false, ◌&&◌, ◌||◌, if◌then◌else◌, List, Option, Some, None, pos, slice_index}
 use Rattle.dcx_math.specs.Rational.{ℚ, whole}
 use Rattle.dcx_shape.specs.declared.shape.Sides.{Sides}
 use Rattle.dcx_shape.specs.declared.shape.Sides.TheVariants.{Scalar, Vector, Matrix}

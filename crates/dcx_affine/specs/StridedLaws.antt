@@ -1,16 +1,15 @@
 -- The laws of strided calls.
-use Rattle.std.specs.Prelude.{◌≡◌, ℕ, ◌+◌, ◌*◌, ◌<◌, List, [], ◌∷◌, Option, Some, None, option_and_then, pos}
+use Rattle.std.specs.Prelude.{◌≡◌, ℕ, ◌+◌, ◌*◌, List, [], ◌∷◌, Some, option_and_then, pos}
 use Rattle.std.proofs.Common.{refl, sym, ap, ◌∙◌, arith}
 use Rattle.dcx_math.specs.Rational.{ℚ, whole, ◌*ℚ◌, ◌+ℚ◌}
-use Rattle.dcx_math.specs.Sums.{IsNonnegative, rat_sum_below}
+use Rattle.dcx_math.specs.Sums.{IsNonnegative}
 use Rattle.dcx_math.proofs.Orders.{*ℚ_idl, +ℚ_idl, whole-≤ℤ}
 use Rattle.dcx_math.proofs.Sums.{rat_sum_below-*ℚ}
 use Rattle.dcx_shape.specs.declared.shape.Sides.{Sides}
-use Rattle.dcx_shape.specs.Sides.{entries_of}
 use Rattle.dcx_atom.specs.declared.axis.Stride.{Stride}
 use Rattle.dcx_atom.specs.Arrays.{Entries, sides_at}
 use Rattle.dcx_atom.specs.Axis.{stride_entry}
-use Rattle.dcx_atom.specs.Linear.{LinearTerm, terms_at, IsLinear, KeepsSign, KeepsTrend}
+use Rattle.dcx_atom.specs.Linear.{terms_at, IsLinear, KeepsSign, KeepsTrend}
 use Rattle.dcx_atom.proofs.LinearSums.{HasNoNegative, HasOnlyFirst, rising_trend, first_sign, All-list_below, terms_at-list_below}
 use Rattle.dcx_affine.specs.Strided.{only, stride_terms, stride_sum, one_entry, StridedCall, strided_meaning, IsStrided}
 

@@ -9,18 +9,22 @@
 //! | the value of a sum, mean, running sum or trace is the sum of its terms | `specs/Folds.antt`, `specs/FoldLaws.antt` |
 //! | the value of an index, reshape, transpose, diagonal or promotion is the sum of its terms | `specs/Places.antt`, `specs/PlaceLaws.antt` |
 //! | the value of `a + b`, `-a` and of differences is the sum of its terms | `specs/Added.antt`, `specs/AddedLaws.antt` |
+//! | the value of arrays side by side, or one below the other, is the sum of its terms | `specs/Joined.antt`, `specs/JoinedLaws.antt` |
 //! | signs and trends are true of the values | the laws beside each of these |
 //! | an index keeps as many places as its result has entries, each within its argument | `Index` |
 //! | the pairs of a product or quotient are those of the defined rows and columns | `Pairing`, `specs/Pairing.antt` |
 #![tactic(auto)]
 
 mod added;
+mod joined;
 mod pairing;
 mod places;
+mod slots;
 mod strided;
 mod sums;
 
 pub use added::{Diff, Minus, Plus};
+pub use joined::{HStack, VStack};
 pub use pairing::{EntryPairs, Pair, Pairing, Pairs};
 pub use places::{Diag, Index, Promote, Reshape, Transpose};
 pub use sums::{CumSum, Mean, Sum, Trace};

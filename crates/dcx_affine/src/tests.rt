@@ -1,7 +1,8 @@
 //! Every linear call and every product, with shapes that fit beside shapes that don't. The expected terms are worked out
 //! by hand.
 use crate::{
-    CumSum, Diag, Diff, Index, Mean, Minus, Pairing, Plus, Promote, Reshape, Sum, Trace, Transpose,
+    CumSum, Diag, Diff, HStack, Index, Mean, Minus, Pairing, Plus, Promote, Reshape, Sum, Trace,
+    Transpose, VStack,
 };
 use dcx_atom::{Axis, LinearOp, Sign, Trend};
 use dcx_shape::Sides::{self, Matrix, Scalar, Vector};
@@ -421,6 +422,75 @@ fn sums_of_two(rt: HostRuntime) -> Result<(), Fail> {
     ] {
         let terms = found(rt.alloc(), &Plus, &[shape(a)?, shape(b)?])?;
         assert_eq!(rt; terms.as_slice(), wanted, "{a:?} {b:?}");
+    }
+    Ok(())
+}
+
+#[test]
+fn arrays_side_by_side(rt: HostRuntime) -> Result<(), Fail> {
+    for (args, wanted) in [
+        (
+            [Scalar, Vector(2)],
+            [(0, 0, 0, 1, 1), (1, 1, 0, 1, 1), (2, 1, 1, 1, 1)].as_slice(),
+        ),
+        (
+            [Matrix(2, 1), Matrix(2, 2)],
+            [
+                (0, 0, 0, 1, 1),
+                (1, 1, 0, 1, 1),
+                (2, 1, 1, 1, 1),
+                (3, 0, 1, 1, 1),
+                (4, 1, 2, 1, 1),
+                (5, 1, 3, 1, 1),
+            ]
+            .as_slice(),
+        ),
+        ([Matrix(2, 1), Matrix(1, 2)], [].as_slice()),
+        ([Vector(2), Matrix(1, 2)], [].as_slice()),
+        ([Vector(20_000), Scalar], [].as_slice()),
+    ] {
+        let shapes = [shape(args[0])?, shape(args[1])?];
+        let terms = found(rt.alloc(), &HStack, &shapes)?;
+        assert_eq!(rt; terms.as_slice(), wanted, "{args:?}");
+    }
+    Ok(())
+}
+
+#[test]
+fn arrays_one_below_the_other(rt: HostRuntime) -> Result<(), Fail> {
+    for (args, wanted) in [
+        (
+            [Scalar, Scalar],
+            [(0, 0, 0, 1, 1), (1, 1, 0, 1, 1)].as_slice(),
+        ),
+        (
+            [Vector(2), Vector(2)],
+            [
+                (0, 0, 0, 1, 1),
+                (1, 0, 1, 1, 1),
+                (2, 1, 0, 1, 1),
+                (3, 1, 1, 1, 1),
+            ]
+            .as_slice(),
+        ),
+        (
+            [Matrix(2, 2), Vector(2)],
+            [
+                (0, 0, 0, 1, 1),
+                (1, 0, 1, 1, 1),
+                (2, 0, 2, 1, 1),
+                (3, 0, 3, 1, 1),
+                (4, 1, 0, 1, 1),
+                (5, 1, 1, 1, 1),
+            ]
+            .as_slice(),
+        ),
+        ([Scalar, Vector(2)], [].as_slice()),
+        ([Matrix(2, 2), Matrix(2, 3)], [].as_slice()),
+    ] {
+        let shapes = [shape(args[0])?, shape(args[1])?];
+        let terms = found(rt.alloc(), &VStack, &shapes)?;
+        assert_eq!(rt; terms.as_slice(), wanted, "{args:?}");
     }
     Ok(())
 }

@@ -1,5 +1,5 @@
 -- The only argument gives the shape and the terms.
-use Rattle.std.proofs.Common.{◌≡◌, ℕ, List, [], ◌∷◌, map, get_or, refl, sym, ap, ◌∙◌, subst, Option, Some, Result, Ok, Err, IsSome, IfSome, IfOk, option_map}
+use Rattle.std.proofs.Common.{◌≡◌, ℕ, List, [], ◌∷◌, map, get_or, sym, ap, ◌∙◌, subst, Option, Some, Result, Ok, Err, IsSome, IfSome, IfOk, option_map}
 use Rattle.std.specs.Prelude.{option_and_then}
 use Rattle.dcx_shape.specs.declared.shape.Shape.{Shape}
 use Rattle.dcx_shape.specs.Shape.{sides_of}

@@ -1,6 +1,5 @@
 -- 1 / n is in lowest terms and fits.
-use Rattle.std.proofs.Common.{◌≡◌, ℕ, ◌<◌, ◌^◌, ◌∙◌, sym, ap, subst, rules, Some, IfSome, pos, to_z, of_z, SFits, arith}
-use Rattle.std.specs.Prelude.{ℤ}
+use Rattle.std.proofs.Common.{◌≡◌, ℕ, ◌<◌, ◌^◌, ◌∙◌, sym, ap, subst, rules, pos, to_z, of_z, SFits, arith}
 use Rattle.std.proofs.lemmas.Int.{ints, to_z-of_z}
 use mir.Syntax.{w128}
 use Rattle.dcx_math.specs.Rational.{whole, ◌/ℚ◌}
