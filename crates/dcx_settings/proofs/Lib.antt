@@ -9,3 +9,4 @@ pub mod Matrices
 pub mod Values
 pub mod Whole
 pub mod Lines
+pub mod OneReading

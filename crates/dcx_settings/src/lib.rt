@@ -9,6 +9,7 @@
 //! | how numbers, values, items and lines are spelled, and which are good: nothing divided by 0, rows of one length, at most 20,000 numbers, no name twice in a line | `specs/Grammar.antt` |
 //! | which shape and which exact numbers a spelled value has | `specs/Meaning.antt` |
 //! | good lines that the tokens spell, or the first token that no good lines go on with | `specs/Reading.antt`; `read_tokens` |
+//! | tokens spell one list of good lines at most, and have no unexpected token then | `laws::readings` |
 //!
 //! The proof goes by reading token by token (`specs/Machine.antt`): tokens that are read spell good lines
 //! (`proofs/Soundness.antt`), good lines are read (`proofs/Completeness.antt`), and whatever is read so far begins some
@@ -16,6 +17,7 @@
 //! (`specs/Steps.antt`).
 #![tactic(auto)]
 
+pub mod laws;
 mod line;
 mod number;
 mod read;
