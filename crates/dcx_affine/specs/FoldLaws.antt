@@ -14,10 +14,10 @@ use Rattle.dcx_shape.specs.Sides.{cols_of, entries_of}
 use Rattle.dcx_atom.specs.declared.axis.Axis.{Axis}
 use Rattle.dcx_atom.specs.declared.axis.Axis.TheVariants.{All, Zero, One}
 use Rattle.dcx_atom.specs.declared.axis.Stride.{Stride}
-use Rattle.dcx_atom.specs.Axis.{folded_stride, whole_stride, stride_entry}
+use Rattle.dcx_atom.specs.Axis.{folded_count, folded_stride, whole_stride, stride_entry}
 use Rattle.dcx_affine.specs.Strided.{stride_sum, IsStrided}
 use Rattle.dcx_affine.specs.StridedLaws.{once, one_nonneg}
-use Rattle.dcx_affine.specs.Folds.{folded_sum, folded_count, running_sum, running_stride, sum_call, mean_call, running_call, trace_call}
+use Rattle.dcx_affine.specs.Folds.{folded_sum, running_sum, running_stride, sum_call, mean_call, running_call, trace_call}
 
 -- a sum is that of a stride whose entries are the same in order
 pub as_stride : (s : Stride) (n : ℕ) (x : ℕ → ℚ) (place : ℕ → ℕ) → n ≡ s.count → ((i : ℕ) → place i ≡ stride_entry s i) → rat_sum_below n (λ i. x (place i)) ≡ stride_sum s x

@@ -9,7 +9,7 @@ use Rattle.dcx_atom.specs.declared.axis.Axis.{Axis}
 use Rattle.dcx_atom.specs.declared.axis.Axis.TheVariants.{All, Zero, One}
 use Rattle.dcx_atom.specs.declared.axis.Stride.{Stride}
 use Rattle.dcx_atom.specs.Arrays.{entry_at, by_rows}
-use Rattle.dcx_atom.specs.Axis.{folded, folded_stride}
+use Rattle.dcx_atom.specs.Axis.{folded, folded_stride, folded_count}
 use Rattle.dcx_affine.specs.Strided.{StridedCall, plain}
 
 -- ---- sums along a side
@@ -20,14 +20,6 @@ folded_sum One (Matrix m n) x k = rat_sum_below n (λ j. entry_at (Matrix m n) x
 folded_sum All s x k = rat_sum_below (entries_of s) x
 folded_sum Zero s x k = rat_sum_below (entries_of s) x
 folded_sum One s x k = rat_sum_below (entries_of s) x
-
--- how many entries are summed
-abbrev pub folded_count : Axis → Sides → ℕ
-folded_count Zero (Matrix m n) = m
-folded_count One (Matrix m n) = n
-folded_count All s = entries_of s
-folded_count Zero s = entries_of s
-folded_count One s = entries_of s
 
 abbrev pub sum_call : Axis → StridedCall
 sum_call axis = record { result = folded axis; value = folded_sum axis; coefficient = plain; stride = folded_stride axis }

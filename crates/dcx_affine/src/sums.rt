@@ -5,7 +5,7 @@ ghost use Rattle.dcx_frac.specs.Frac.{value};
 ghost use Rattle.dcx_shape.specs.Shape.{sides_of};
 ghost use Rattle.dcx_affine.specs.Strided.{strided_meaning};
 ghost use Rattle.dcx_affine.specs.StridedLaws.{strided_linear, strided_sign, strided_trend};
-ghost use Rattle.dcx_affine.specs.Folds.{folded_count, sum_call, mean_call, running_call, trace_call};
+ghost use Rattle.dcx_affine.specs.Folds.{sum_call, mean_call, running_call, trace_call};
 ghost use Rattle.dcx_affine.specs.FoldLaws.{sum_is, mean_is, running_is, trace_is};
 
 use crate::strided::{Strided, first_sign, rising, strided_map, strided_shape};
@@ -70,18 +70,6 @@ pub struct Mean {
     pub axis: Axis,
 }
 
-/// How many entries become one.
-fn folded_count(axis: Axis, from: Shape) -> u32
-    ensures count { result ≡ folded_count axis (sides_of from) }
-    ensures some { 0 < result }
-{
-    match (axis, from.sides()) {
-        (Axis::Zero, Sides::Matrix(m, _)) => m,
-        (Axis::One, Sides::Matrix(_, n)) => n,
-        _ => from.size(),
-    }
-}
-
 /// The number 1 / n.
 fn reciprocal(n: u32) -> Frac
     requires { 0 < n }
@@ -98,7 +86,7 @@ impl Strided for Mean {
     }
 
     fn coefficient(&self, from: Shape) -> Frac {
-        reciprocal(folded_count(self.axis, from))
+        reciprocal(self.axis.folded_count(from))
     }
 
     fn stride(&self, from: Shape, k: u32) -> Stride {

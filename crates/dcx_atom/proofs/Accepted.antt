@@ -1,5 +1,5 @@
 -- Steps without a stop: the weights are accepted, so the slopes bound the sum of coefficients times values.
-use Rattle.std.proofs.Common.{◌≡◌, ◌⊎◌, ℕ, zero, suc, ◌<◌, arith, Bool, true, false, List, [], ◌∷◌, ◌++◌, map, length, All, refl, sym, ap, ◌∙◌, subst, Option, Some, None, Result, Ok, Err}
+use Rattle.std.proofs.Common.{◌≡◌, ℕ, zero, suc, ◌<◌, arith, Bool, true, false, List, [], ◌∷◌, ◌++◌, map, length, All, refl, sym, ap, ◌∙◌, subst, Option, Some, None, Result, Ok, Err}
 use Rattle.std.proofs.lemmas.List.Elements.{All-cons, All-nil}
 use Rattle.std.proofs.Common.{⊎_elim}
 use Rattle.dcx_math.specs.Rational.{ℚ, ◌*ℚ◌, ◌≤ℚ◌}
@@ -16,6 +16,7 @@ use Rattle.dcx_atom.specs.Formed.{formed, exact}
 use Rattle.dcx_atom.specs.Meaning.{Meaning, Coefficients, Weights, Relation, at_most, equal, at_least, Condition, Relates, IsMet}
 use Rattle.dcx_atom.specs.Steps.{Step, test, form, relates, is_met, is_weight, condition_stop, step_stop, earlier, first_stop, weights_stop, entry_stop, weights_of, slope_at, AreSlopesOf}
 use Rattle.dcx_atom.specs.Laws.{AreAccepted, HasSubgradients}
+use Rattle.dcx_atom.proofs.BoundRows.{below_or_last}
 use Rattle.dcx_atom.proofs.FirstStops.{first_stop-append, weights_stop-append}
 
 -- where the earlier of two stops is none, neither is one
@@ -43,9 +44,6 @@ met_of j k e = related k.relation (exact k.left) (exact k.right) (kept j (is_met
 pub all_met : (j : ℕ) (ks : List Condition) → first_stop j (map test ks) ≡ None → All IsMet ks
 all_met j [] e = All-nil IsMet
 all_met j (k ∷ ks) e = let p = earlier-none _ _ e in All-cons IsMet k ks (met_of j k p.0) (all_met j ks p.1)
-
-below_or_last : (r n : ℕ) → r < suc n → (r < n) ⊎ (r ≡ n)
-below_or_last r n h = grind arith
 
 -- weights without a stop are at least 0
 pub all_weights : (j n : ℕ) (w : ℕ → ℚ) → weights_stop j (list_below n w) ≡ None → (r : ℕ) → r < n → IsNonnegative (w r)

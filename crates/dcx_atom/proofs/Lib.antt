@@ -7,3 +7,7 @@ pub mod FirstStops
 pub mod Accepted
 pub mod LinearSums
 pub mod Halves
+pub mod Lists
+pub mod Totals
+pub mod Weights
+pub mod BoundRows

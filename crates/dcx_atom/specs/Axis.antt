@@ -34,3 +34,11 @@ folded_stride Zero (Matrix m n) k = record { first = k; step = n; count = m }
 folded_stride One Scalar k = whole_stride Scalar
 folded_stride One (Vector n) k = whole_stride (Vector n)
 folded_stride One (Matrix m n) k = record { first = k * n; step = 1; count = n }
+
+-- how many entries become one
+abbrev pub folded_count : Axis → Sides → ℕ
+folded_count Zero (Matrix m n) = m
+folded_count One (Matrix m n) = n
+folded_count All s = entries_of s
+folded_count Zero s = entries_of s
+folded_count One s = entries_of s

@@ -9,6 +9,9 @@ pub mod Graph
 pub mod Steps
 pub mod Laws
 pub mod Linear
+pub mod Lawful
 pub mod Axis
 pub mod Hinge
 pub mod Uses
+pub mod Bounding
+pub mod Farthest

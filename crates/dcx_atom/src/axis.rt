@@ -2,7 +2,7 @@
 ghost use Rattle.std.specs.Prelude.{◌≡◌, ◌+◌, ◌*◌, ◌<◌, ◌≤◌, ◌⊎◌, IfSome, option_map};
 ghost use Rattle.dcx_shape.specs.Shape.{sides_of};
 ghost use Rattle.dcx_shape.specs.Sides.{entries_of};
-ghost use Rattle.dcx_atom.specs.Axis.{folded, folded_stride};
+ghost use Rattle.dcx_atom.specs.Axis.{folded, folded_stride, folded_count};
 
 use dcx_shape::{Shape, Sides};
 
@@ -39,6 +39,19 @@ impl Axis {
             (Axis::Zero, Sides::Matrix(_, n)) => Shape::vector(n),
             (Axis::One, Sides::Matrix(m, _)) => Shape::vector(m),
             _ => None,
+        }
+    }
+
+    /// How many entries of an argument become one.
+    pub fn folded_count(self, from: Shape) -> u32
+        ensures count { result ≡ folded_count self (sides_of from) }
+        ensures some { 0 < result }
+        ensures most { result ≤ 20000 }
+    {
+        match (self, from.sides()) {
+            (Axis::Zero, Sides::Matrix(m, _)) => m,
+            (Axis::One, Sides::Matrix(_, n)) => n,
+            _ => from.size(),
         }
     }
 

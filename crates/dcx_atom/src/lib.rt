@@ -14,11 +14,14 @@
 //! | sign, monotonicity, curvature, graph soundness and tightness, subgradient, recession | laws of `Atom`, `specs/Laws.antt` |
 //! | linearity, sign, monotonicity | laws of `LinearOp`, `specs/Linear.antt` |
 //! | curvature, recession and subgradient follow from the graph | `proofs/Sublinear.antt`, `proofs/Duality.antt` |
+//! | where rows that put one unknown beyond some terms hold, and what their weights balance | `proofs/BoundRows.antt` |
+//! | each weight at least 0, then their sum at most the coefficient, or equal to it where the unknown is free | `check_total`, `specs/Bounding.antt` |
 #![tactic(auto)]
 
 mod array;
 mod atom;
 mod axis;
+mod bounding;
 mod flags;
 mod forming;
 mod graph;
@@ -29,6 +32,10 @@ mod terms;
 pub use array::Array;
 pub use atom::Atom;
 pub use axis::{Axis, Stride};
+pub use bounding::{
+    bounding_row, check_sum, check_total, each_alone, farther_of, greater, lesser, magnitude,
+    of_kind, only_shape, outward_of, row_weights,
+};
 pub use flags::{Bend, Sign, Trend};
 pub use forming::{
     check_at_most, check_equal, check_weights, is_at_most, is_equal, minus_one, sum_all,

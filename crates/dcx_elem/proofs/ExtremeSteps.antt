@@ -3,7 +3,7 @@ use Rattle.std.proofs.Common.{◌≡◌, ◌≢◌, ℕ, zero, suc, ◌+◌, ◌
 use Rattle.std.specs.List.{list_all}
 use Rattle.std.proofs.Math.Nat.{div-lt_iff_lt-mul, mod-lt}
 use Rattle.std.proofs.lemmas.Nat.{mod-mul-add, div-mul-add}
-use Rattle.std.proofs.lemmas.List.{length-map, map-append}
+use Rattle.std.proofs.lemmas.List.{length-map}
 use Rattle.std.proofs.lemmas.List.Folds.{list_all-map}
 use Rattle.std.proofs.lemmas.Bool.{eqb-true}
 use Rattle.std.specs.declared.alloc.AllocError.{AllocError}
@@ -26,16 +26,16 @@ use Rattle.dcx_atom.specs.Graph.{placed_row, form_term, rows_below, IsGraphOf}
 use Rattle.dcx_atom.specs.Value.{IsValueOf}
 use Rattle.dcx_atom.specs.Steps.{test, form, is_weight, earlier, first_stop, entry_stop, rows_before, weights_of, slope_at, AreSlopesOf}
 use Rattle.dcx_atom.proofs.FirstStops.{first_stop-append}
-use Rattle.dcx_atom.proofs.FormedSums.{take-next}
 use Rattle.dcx_elem.specs.declared.rows.Piece.{Piece}
-use Rattle.dcx_elem.specs.Rows.{argument_term, bound_row, outward, unknown_form, piece_term, piece_rows, total_condition, total_steps, HaveNoStop}
-use Rattle.dcx_elem.specs.BoundRows.{list_below-first, length-list_below, map-list_below}
-use Rattle.dcx_elem.specs.Extremes.{farther, extreme_from, extreme, same_sides, alike, extreme_meaning}
+use Rattle.dcx_atom.specs.Bounding.{argument_term, bound_row, outward, unknown_form, total_condition, total_steps, HaveNoStop}
+use Rattle.dcx_elem.specs.Rows.{piece_term, piece_rows}
+use Rattle.dcx_atom.proofs.BoundRows.{list_below-first, length-list_below, map-list_below}
+use Rattle.dcx_atom.specs.Farthest.{extreme}
+use Rattle.dcx_elem.specs.Extremes.{same_sides, alike, extreme_meaning}
 use Rattle.dcx_elem.specs.ExtremeLaws.{AreAlike, alike_are}
-use Rattle.dcx_elem.proofs.Lists.{list_below-numbers, list_below-same, number_is, rat_at-list_below}
-use Rattle.dcx_elem.proofs.Totals.{earlier-none_right}
-use Rattle.dcx_elem.proofs.Weights.{rows_before-same, within_rows, own_length, own_weight}
-use Rattle.dcx_elem.proofs.Values.{one_forms}
+use Rattle.dcx_atom.proofs.Lists.{one_forms, list_below-numbers, list_below-same, number_is, rat_at-list_below}
+use Rattle.dcx_atom.proofs.Totals.{earlier-none_right}
+use Rattle.dcx_atom.proofs.Weights.{rows_before-same, within_rows, own_length, own_weight}
 
 -- ---- shape
 -- the shape of two or more arguments
@@ -53,23 +53,6 @@ first_sides [] x h e = absurd (omega arith)
 first_sides (y ∷ ys) x h e = ap sides_of (sym e)
 
 -- ---- value
-pub extreme_from-next : (bend : Bend) (x : ℚ) (ys : List ℚ) (y : ℚ) → extreme_from bend x (ys ++ y ∷ []) ≡ farther bend (extreme_from bend x ys) y
-extreme_from-next bend x [] y = refl
-extreme_from-next bend x (z ∷ zs) y = extreme_from-next bend (farther bend x z) zs y
-
--- the farthest of one more argument
-pub one_farther : (bend : Bend) (x : ℚ) (f : Array → ℚ) (others : List Array) (i : ℕ) (y : Array) → i < length others → y ≡ get_or others i y →
-    extreme_from bend x (map f (take (i + 1) others)) ≡ farther bend (extreme_from bend x (map f (take i others))) (f y)
-one_farther bend x f others i y h e =
-    ap (λ ys. extreme_from bend x (map f ys)) (take-next others i y h) ∙ ap (extreme_from bend x) (map-append f (take i others) (get_or others i y ∷ []))
-    ∙ extreme_from-next bend x (map f (take i others)) (f (get_or others i y)) ∙ ap (λ z. farther bend (extreme_from bend x (map f (take i others))) (f z)) (sym e)
-
--- the first of a list and the others
-pub first_and_others : (bend : Bend) (f : Array → ℚ) (args : List Array) (x : Array) → 0 < length args → x ≡ get_or args 0 x →
-    extreme_from bend (f x) (map f (drop 1 args)) ≡ extreme bend (map f args)
-first_and_others bend f [] x h e = absurd (omega arith)
-first_and_others bend f (y ∷ ys) x h e = ap (λ z. extreme_from bend (f z) (map f ys)) e
-
 -- the entries at one place, by argument
 pub numbers_at : (args : List Array) (j : ℕ) → list_below (length args) (λ i. numbers_of args i j) ≡ map (λ x. number_at x.entries j) args
 numbers_at [] j = refl

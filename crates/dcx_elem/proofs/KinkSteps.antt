@@ -14,11 +14,11 @@ use Rattle.dcx_atom.specs.Meaning.{Coefficients, Weights}
 use Rattle.dcx_atom.specs.Steps.{first_stop, entry_stop, rows_before, weights_of, slope_at, AreSlopesOf}
 use Rattle.dcx_elem.specs.declared.kinks.Kink.{Kink}
 use Rattle.dcx_elem.specs.declared.kinks.Kink.TheVariants.{Abs, Pos, Neg}
-use Rattle.dcx_elem.specs.Rows.{argument_term, bound_row}
-use Rattle.dcx_elem.specs.BoundRows.{length-list_below}
+use Rattle.dcx_atom.specs.Bounding.{argument_term, bound_row}
+use Rattle.dcx_atom.proofs.BoundRows.{length-list_below}
 use Rattle.dcx_elem.specs.Kinks.{kink_factors, kink_rows, kink_slope, kink_steps, kink_meaning}
-use Rattle.dcx_elem.proofs.Lists.{rat_at-list_below}
-use Rattle.dcx_elem.proofs.Weights.{rows_before-same, within_rows, own_weight}
+use Rattle.dcx_atom.proofs.Lists.{rat_at-list_below}
+use Rattle.dcx_atom.proofs.Weights.{rows_before-same, within_rows, own_weight}
 
 -- each entry has the same number of rows
 pub kink_rows_before : (p : Kink) (args : List Sides) (j : ℕ) → rows_before (kink_meaning p) args j ≡ j * kink_rows p

@@ -1,7 +1,4 @@
 -- The lemmas.
-pub mod Lists
-pub mod Totals
-pub mod Weights
 pub mod KinkSteps
 pub mod Values
 pub mod ExtremeSteps

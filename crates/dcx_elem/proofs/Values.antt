@@ -1,6 +1,5 @@
 -- Values as the code has them.
-use Rattle.std.proofs.Common.{◌≡◌, ℕ, zero, suc, ◌<◌, arith, List, [], ◌∷◌, map, length, get_or, Some, IsSome, IsOk, refl, sym, ap, subst, ◌∙◌}
-use Rattle.dcx_frac.specs.declared.fraction.Frac.{Frac}
+use Rattle.std.proofs.Common.{◌≡◌, ℕ, ◌<◌, arith, List, [], ◌∷◌, map, get_or, Some, IsSome, IsOk, sym, ap, subst, ◌∙◌}
 use Rattle.dcx_frac.specs.Frac.{value}
 use Rattle.dcx_shape.specs.Shape.{sides_of}
 use Rattle.dcx_shape.specs.Sides.{entries_of}
@@ -8,17 +7,10 @@ use Rattle.dcx_atom.specs.declared.array.Array.{Array}
 use Rattle.dcx_atom.specs.Arrays.{array_sides, number_at}
 use Rattle.dcx_atom.specs.Formed.{sum_in_order}
 use Rattle.dcx_atom.specs.Value.{IsValueOf}
-use Rattle.dcx_atom.proofs.FormedSums.{sum_in_order-one}
 use Rattle.dcx_elem.specs.declared.kinks.Kink.{Kink}
-use Rattle.dcx_elem.specs.Rows.{only}
+use Rattle.dcx_atom.specs.Bounding.{only}
 use Rattle.dcx_elem.specs.Kinks.{kink_at, kink_meaning}
-use Rattle.dcx_elem.proofs.Lists.{number_at-map}
-
--- of one number of a list nothing is formed
-pub one_forms : (fs : List Frac) (j : ℕ) → j < length fs → IsOk (sum_in_order (number_at fs j ∷ []))
-one_forms [] j h = absurd (omega arith)
-one_forms (f ∷ fs) zero h = rw (sum_in_order-one f) refl
-one_forms (f ∷ fs) (suc j) h = one_forms fs j (omega arith)
+use Rattle.dcx_atom.proofs.Lists.{number_at-map, one_forms}
 
 -- the value, made entry by entry of the only argument
 pub kink_value : (p : Kink) (args : List Array) (x v : Array) → IsSome (only (array_sides args)) → x ≡ get_or args 0 x → sides_of v.shape ≡ sides_of x.shape →

@@ -1,14 +1,12 @@
 -- The laws of the greatest and the least.
-use Rattle.std.proofs.Common.{◌≡◌, ℕ, zero, suc, ◌<◌, ◌==◌, ◌&&◌, ◌||◌, arith, Bool, true, false, if◌then◌else◌, List, [], ◌∷◌, map, length, All, Some, None, replicate, refl, sym, ap, ap₂, ◌∙◌, subst, pos, negsuc}
+use Rattle.std.proofs.Common.{◌≡◌, ℕ, zero, suc, ◌<◌, ◌==◌, ◌&&◌, ◌||◌, arith, Bool, true, false, if◌then◌else◌, List, [], ◌∷◌, map, length, Some, None, refl, sym, ap, ap₂, ◌∙◌, subst, pos, negsuc}
 use Rattle.std.specs.List.{list_any, list_all}
 use Rattle.std.proofs.lemmas.Bool.{eqb-true}
-use Rattle.std.specs.Prelude.{slice_index_or}
-use Rattle.std.proofs.lemmas.List.Elements.{All-head, All-tail, All-cons, All-nil}
+use Rattle.std.proofs.lemmas.List.Elements.{All-head}
 use Rattle.dcx_math.specs.Rational.{ℚ, whole, neg_ℚ, ◌+ℚ◌, ◌*ℚ◌}
 use Rattle.dcx_math.specs.Sums.{IsNonnegative, rat_sum, rat_sum_below}
 use Rattle.dcx_math.proofs.Ring.{ring, reads}
-use Rattle.dcx_math.proofs.Orders.{≤ℚ_refl, ≤ℚ_trans, +ℚ_idr}
-use Rattle.dcx_math.proofs.Bounds.{≤ℚ-rat_max_left, ≤ℚ-rat_max_right, rat_max-≤ℚ, rat_min-≤ℚ_left, rat_min-≤ℚ_right, ≤ℚ-rat_min}
+use Rattle.dcx_math.proofs.Orders.{≤ℚ_trans, +ℚ_idr}
 use Rattle.dcx_math.proofs.Sums.{rat_sum_below-same, rat_sum_below-nonnegative, rat_sum_below-exchange}
 use Rattle.dcx_shape.specs.declared.shape.Sides.{Sides}
 use Rattle.dcx_shape.specs.declared.shape.Sides.TheVariants.{Scalar, Vector, Matrix}
@@ -16,7 +14,6 @@ use Rattle.dcx_shape.specs.Sides.{entries_of}
 use Rattle.dcx_atom.specs.declared.flags.Sign.{Sign}
 use Rattle.dcx_atom.specs.declared.flags.Bend.{Bend}
 use Rattle.dcx_atom.specs.declared.flags.Bend.TheVariants.{Convex, Concave}
-use Rattle.dcx_atom.specs.declared.graph.AuxKind.TheVariants.{Free, Nonneg}
 use Rattle.dcx_atom.specs.Arrays.{Entries, list_below, sides_at}
 use Rattle.dcx_atom.specs.Signs.{sign_at, IsBeyond}
 use Rattle.dcx_atom.specs.Rows.{row_at, form_at, RowsHold, weighted}
@@ -24,10 +21,11 @@ use Rattle.dcx_atom.specs.Meaning.{IsMet}
 use Rattle.dcx_atom.specs.Laws.{SumsUp, KeepsSign, KeepsTrend, IsBent, IsSoundGraph, IsTightGraph, HasSubgradients, Recedes}
 use Rattle.dcx_atom.proofs.Sublinear.{curvature_of, recession_of}
 use Rattle.dcx_atom.proofs.Duality.{no_entries, no_filling, AreRowSlopes, AreBalanced, subgradient_of}
-use Rattle.dcx_atom.proofs.LinearSums.{follows_rising}
-use Rattle.dcx_elem.specs.Rows.{argument_term, bound_row, outward, unknown_form}
-use Rattle.dcx_elem.specs.BoundRows.{map-list_below, length-list_below, All-list_below, All-at, RowsHold-list_below, weighted-list_below, beyond_of_rows, row_of_beyond, alone_is, times_one, free_balanced}
-use Rattle.dcx_elem.specs.Extremes.{farther, extreme_from, extreme, same_sides, alike, extreme_meaning}
+use Rattle.dcx_atom.proofs.LinearSums.{follows_rising, All-list_below}
+use Rattle.dcx_atom.specs.Bounding.{argument_term, bound_row, outward, unknown_form, free_kinds}
+use Rattle.dcx_atom.proofs.BoundRows.{map-list_below, length-list_below, All-at, RowsHold-list_below, weighted-list_below, beyond_of_rows, row_of_beyond, alone_is, times_one, free_balanced}
+use Rattle.dcx_atom.specs.Farthest.{extreme, beyond_trans, extreme_each, extreme_within}
+use Rattle.dcx_elem.specs.Extremes.{same_sides, alike, extreme_meaning}
 
 -- ---- arguments of one shape
 eq_of : (m n : ℕ) → m == n ≡ true → m ≡ n
@@ -73,55 +71,6 @@ alike_are count (r ∷ q ∷ qs) s e = by (count == length (r ∷ q ∷ qs)) (li
         record { count_is = eq_of count (length (r ∷ q ∷ qs)) f; some = omega arith; first = k; each = λ i b. each_same r (r ∷ q ∷ qs) g i b ∙ k }
     by true false f g h = cc
     by false b f g h = cc
-
--- ---- the greatest and the least of numbers
-pub beyond_refl : (bend : Bend) (x : ℚ) → IsBeyond bend x x
-beyond_refl Convex x = ≤ℚ_refl x
-beyond_refl Concave x = ≤ℚ_refl x
-
-pub beyond_trans : (bend : Bend) (x y z : ℚ) → IsBeyond bend x y → IsBeyond bend y z → IsBeyond bend x z
-beyond_trans Convex x y z h k = ≤ℚ_trans h k
-beyond_trans Concave x y z h k = ≤ℚ_trans k h
-
-farther_left : (bend : Bend) (x y : ℚ) → IsBeyond bend x (farther bend x y)
-farther_left Convex x y = ≤ℚ-rat_max_left x y
-farther_left Concave x y = rat_min-≤ℚ_left x y
-
-farther_right : (bend : Bend) (x y : ℚ) → IsBeyond bend y (farther bend x y)
-farther_right Convex x y = ≤ℚ-rat_max_right x y
-farther_right Concave x y = rat_min-≤ℚ_right x y
-
-farther_within : (bend : Bend) (x y z : ℚ) → IsBeyond bend x z → IsBeyond bend y z → IsBeyond bend (farther bend x y) z
-farther_within Convex x y z h k = rat_max-≤ℚ h k
-farther_within Concave x y z h k = ≤ℚ-rat_min h k
-
--- it is beyond the first
-from_first : (bend : Bend) (x : ℚ) (ys : List ℚ) → IsBeyond bend x (extreme_from bend x ys)
-from_first bend x [] = beyond_refl bend x
-from_first bend x (y ∷ ys) = beyond_trans bend _ _ _ (farther_left bend x y) (from_first bend (farther bend x y) ys)
-
--- and beyond the others
-from_others : (bend : Bend) (x : ℚ) (ys : List ℚ) → All (λ y. IsBeyond bend y (extreme_from bend x ys)) ys
-from_others bend x [] = All-nil (λ y. IsBeyond bend y x)
-from_others bend x (y ∷ ys) =
-    All-cons (λ z. IsBeyond bend z (extreme_from bend (farther bend x y) ys)) y ys
-    (beyond_trans bend _ _ _ (farther_right bend x y) (from_first bend (farther bend x y) ys)) (from_others bend (farther bend x y) ys)
-
--- it isn't beyond what is beyond all of them
-from_within : (bend : Bend) (x : ℚ) (ys : List ℚ) (z : ℚ) → IsBeyond bend x z → All (λ y. IsBeyond bend y z) ys → IsBeyond bend (extreme_from bend x ys) z
-from_within bend x [] z h k = h
-from_within bend x (y ∷ ys) z h k =
-    from_within bend (farther bend x y) ys z (farther_within bend x y z h (All-head (λ y. IsBeyond bend y z) y ys k)) (All-tail (λ y. IsBeyond bend y z) y ys k)
-
--- the greatest or least of a list is beyond each number
-pub extreme_each : (bend : Bend) (xs : List ℚ) → All (λ x. IsBeyond bend x (extreme bend xs)) xs
-extreme_each bend [] = All-nil (λ x. IsBeyond bend x (whole (pos 0)))
-extreme_each bend (x ∷ xs) = All-cons (λ y. IsBeyond bend y (extreme_from bend x xs)) x xs (from_first bend x xs) (from_others bend x xs)
-
--- and what is beyond each number is beyond it
-pub extreme_within : (bend : Bend) (xs : List ℚ) (z : ℚ) → 0 < length xs → All (λ x. IsBeyond bend x z) xs → IsBeyond bend (extreme bend xs) z
-extreme_within bend [] z n h = absurd (omega arith)
-extreme_within bend (x ∷ xs) z n h = from_within bend x xs z (All-head (λ y. IsBeyond bend y z) x xs h) (All-tail (λ y. IsBeyond bend y z) x xs h)
 
 -- ---- signs
 all_each : (p : Sign → Bool) (signs : List Sign) → list_all p signs ≡ true → (i : ℕ) → i < length signs → p (sign_at signs i) ≡ true
@@ -188,12 +137,6 @@ extreme_soundness bend count args sides is a t holds j below =
     (all_arguments bend count a j (t j) (omega (arith, alike.count_is, alike.some))
     (λ i l. subst (λ y. IsBeyond bend y (t j)) (times_one (a i j))
     (All-at (λ i. IsBeyond bend (whole (pos 1) *ℚ a i j) (t j)) count (λ i. i) rows i l)))
-
--- a free unknown has no sign
-free_kinds : (n k : ℕ) → slice_index_or (replicate n Free) k Free ≡ Nonneg → ⊥
-free_kinds zero k e = cc
-free_kinds (suc n) zero e = cc
-free_kinds (suc n) (suc k) e = free_kinds n k e
 
 pub extreme_tightness : (bend : Bend) (count : ℕ) → IsTightGraph (extreme_meaning bend count)
 extreme_tightness bend count args sides is a = record {

@@ -1,7 +1,7 @@
 -- The greatest and the least of several arrays, entry by entry: one is the other turned round.
 use Rattle.std.specs.Prelude.{ℕ, ◌==◌, ◌&&◌, Bool, true, false, if◌then◌else◌, List, [], ◌∷◌, length, replicate, Option, Some, None, pos}
 use Rattle.std.specs.List.{list_any, list_all}
-use Rattle.dcx_math.specs.Rational.{ℚ, whole, rat_max, rat_min}
+use Rattle.dcx_math.specs.Rational.{whole}
 use Rattle.dcx_shape.specs.declared.shape.Sides.{Sides}
 use Rattle.dcx_shape.specs.declared.shape.Sides.TheVariants.{Scalar, Vector, Matrix}
 use Rattle.dcx_shape.specs.Sides.{entries_of}
@@ -13,22 +13,8 @@ use Rattle.dcx_atom.specs.Arrays.{list_below, sides_at}
 use Rattle.dcx_atom.specs.Signs.{rises}
 use Rattle.dcx_atom.specs.Formed.{number}
 use Rattle.dcx_atom.specs.Meaning.{Meaning}
-use Rattle.dcx_elem.specs.Rows.{argument_term, bound_row, outward, unknown_form, total_condition}
-
--- the greater of two numbers, or the lesser for a concave call
-abbrev pub farther : Bend → ℚ → ℚ → ℚ
-farther Convex x y = rat_max x y
-farther Concave x y = rat_min x y
-
--- the greatest of x and the others, or the least
-abbrev pub extreme_from : Bend → ℚ → List ℚ → ℚ
-extreme_from bend x [] = x
-extreme_from bend x (y ∷ ys) = extreme_from bend (farther bend x y) ys
-
--- the greatest number of a list, or the least; 0 of none
-abbrev pub extreme : Bend → List ℚ → ℚ
-extreme bend [] = whole (pos 0)
-extreme bend (x ∷ xs) = extreme_from bend x xs
+use Rattle.dcx_atom.specs.Bounding.{argument_term, bound_row, outward, unknown_form, total_condition}
+use Rattle.dcx_atom.specs.Farthest.{extreme}
 
 -- the sides are the same
 abbrev pub same_sides : Sides → Sides → Bool

@@ -1,5 +1,5 @@
 -- The laws of the magnitude and of the parts above and below 0.
-use Rattle.std.proofs.Common.{◌≡◌, ℕ, List, [], ◌∷◌, Some, arith, inl, inr, refl, sym, ap, subst, ◌∙◌, pos, negsuc}
+use Rattle.std.proofs.Common.{◌≡◌, ℕ, List, [], ◌∷◌, arith, inl, inr, refl, sym, ap, subst, ◌∙◌, pos, negsuc}
 use Rattle.std.proofs.lemmas.List.{get_or-replicate}
 use Rattle.std.proofs.lemmas.List.Elements.{All-head}
 use Rattle.dcx_math.specs.Rational.{ℚ, whole, neg_ℚ, ◌+ℚ◌, ◌-ℚ◌, ◌*ℚ◌, ◌≤ℚ◌}
@@ -23,15 +23,9 @@ use Rattle.dcx_atom.proofs.Sublinear.{curvature_of, recession_of}
 use Rattle.dcx_atom.proofs.Duality.{no_filling, AreRowSlopes, AreBalanced, subgradient_of}
 use Rattle.dcx_elem.specs.declared.kinks.Kink.{Kink}
 use Rattle.dcx_elem.specs.declared.kinks.Kink.TheVariants.{Abs, Pos, Neg}
-use Rattle.dcx_elem.specs.Rows.{argument_term, only}
+use Rattle.dcx_atom.specs.Bounding.{argument_term, only_is}
 use Rattle.dcx_elem.specs.Kinks.{kink_at, kink_trend, kink_factors, kink_slope, kink_meaning}
-use Rattle.dcx_elem.specs.BoundRows.{beyond_of_row, row_of_beyond, times_one, alone_is, nonneg_balanced}
-
--- the only argument has the sides of the value
-pub only_is : (args : List Sides) (s : Sides) → only args ≡ Some s → args ≡ s ∷ []
-only_is [] s e = cc
-only_is (r ∷ []) s e = let f : r ≡ s = cc in ap (λ x. x ∷ []) f
-only_is (q ∷ r ∷ rs) s e = cc
+use Rattle.dcx_atom.proofs.BoundRows.{beyond_of_row, row_of_beyond, times_one, alone_is, nonneg_balanced}
 
 minus : (x : ℚ) → whole (negsuc 0) *ℚ x ≡ neg_ℚ x
 minus x = ring (x ∷ []) (search reads depth 30) tt

@@ -12,7 +12,7 @@ use Rattle.dcx_atom.specs.Meaning.{Meaning}
 use Rattle.dcx_atom.specs.Steps.{Step, form}
 use Rattle.dcx_elem.specs.declared.kinks.Kink.{Kink}
 use Rattle.dcx_elem.specs.declared.kinks.Kink.TheVariants.{Abs, Pos, Neg}
-use Rattle.dcx_elem.specs.Rows.{argument_term, bound_row, unknown_form, total_condition, total_steps, only}
+use Rattle.dcx_atom.specs.Bounding.{argument_term, bound_row, unknown_form, total_condition, total_steps, only}
 
 -- |x|, max(x, 0) and max(-x, 0)
 abbrev pub kink_at : Kink → ℚ → ℚ

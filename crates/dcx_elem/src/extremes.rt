@@ -7,12 +7,17 @@ ghost use Rattle.dcx_shape.specs.Sides.{entries_of};
 ghost use Rattle.dcx_math.specs.Rational.{whole};
 ghost use Rattle.dcx_atom.specs.Arrays.{sides_list, sides_at, list_below, number_at};
 ghost use Rattle.dcx_atom.specs.Steps.{IsSlopeStop};
-ghost use Rattle.dcx_elem.specs.Rows.{outward, argument_term, piece_term, HaveNoStop};
-ghost use Rattle.dcx_elem.specs.Extremes.{farther, extreme_from, extreme, same_sides, alike, extreme_sign, extreme_meaning};
+ghost use Rattle.dcx_atom.specs.Bounding.{outward, argument_term, HaveNoStop};
+ghost use Rattle.dcx_elem.specs.Rows.{piece_term};
+ghost use Rattle.dcx_atom.specs.Farthest.{farther, extreme_from, extreme};
+ghost use Rattle.dcx_elem.specs.Extremes.{same_sides, alike, extreme_sign, extreme_meaning};
 ghost use Rattle.dcx_elem.specs.ExtremeLaws.{extreme_formation, extreme_sign_law, extreme_monotonicity, extreme_curvature, extreme_soundness, extreme_tightness, extreme_subgradient, extreme_recession};
 
-use crate::rows::{Piece, check_total, entrywise_graph, greater, lesser, row_weights};
-use dcx_atom::{Array, Atom, AuxKind, Bend, Graph, Sign, SlopeStop, Trend, ValueStop};
+use crate::rows::{Piece, entrywise_graph};
+use dcx_atom::{
+    Array, Atom, AuxKind, Bend, Graph, Sign, SlopeStop, Trend, ValueStop, check_total, farther_of,
+    outward_of, row_weights,
+};
 use dcx_frac::{Frac, Fracs};
 use dcx_shape::{Shape, Sides};
 use std::alloc::{AllocError, Global};
@@ -56,26 +61,6 @@ fn alike_shape(count: u32, args: &[Shape]) -> Option<Shape>
             }
         }
         _ => None,
-    }
-}
-
-/// The number as a convex call counts it, with its sign turned for a concave one.
-fn outward_of(bend: Bend, x: Frac) -> Frac
-    ensures { value result ≡ outward bend (value x) }
-{
-    match bend {
-        Bend::Convex => x,
-        Bend::Concave => x.neg(),
-    }
-}
-
-/// The greater of two numbers, or the lesser for a concave call.
-fn farther_of(bend: Bend, x: Frac, y: Frac) -> Frac
-    ensures { value result ≡ farther bend (value x) (value y) }
-{
-    match bend {
-        Bend::Convex => greater(x, y),
-        Bend::Concave => lesser(x, y),
     }
 }
 

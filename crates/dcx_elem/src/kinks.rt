@@ -11,8 +11,11 @@ ghost use Rattle.dcx_atom.specs.Steps.{first_stop, rows_before, AreSlopesOf, IsS
 ghost use Rattle.dcx_elem.specs.Kinks.{kink_at, kink_rows, kink_slope, kink_steps, kink_meaning};
 ghost use Rattle.dcx_elem.specs.KinkLaws.{kink_formation, kink_sign, kink_monotonicity, kink_curvature, kink_soundness, kink_tightness, kink_subgradient, kink_recession};
 
-use crate::rows::{Piece, check_total, entrywise_graph, greater, only_shape, row_weights};
-use dcx_atom::{Array, Atom, AuxKind, Bend, Graph, Sign, SlopeStop, Trend, ValueStop, minus_one};
+use crate::rows::{Piece, entrywise_graph};
+use dcx_atom::{
+    Array, Atom, AuxKind, Bend, Graph, Sign, SlopeStop, Trend, ValueStop, check_total, greater,
+    magnitude, minus_one, only_shape, row_weights,
+};
 use dcx_frac::{Frac, Fracs, Passes};
 use dcx_shape::Shape;
 use std::alloc::{AllocError, Global};
@@ -106,7 +109,7 @@ fn at_number(kink: Kink, x: Frac) -> Frac
     ensures { value result ≡ kink_at kink (value x) }
 {
     match kink {
-        Kink::Abs => greater(x, x.neg()),
+        Kink::Abs => magnitude(x),
         Kink::Pos => greater(x, Frac::zero()),
         Kink::Neg => greater(x.neg(), Frac::zero()),
     }

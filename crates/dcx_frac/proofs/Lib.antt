@@ -10,3 +10,4 @@ pub mod Turns
 pub mod Orders
 pub mod Results
 pub mod Texts
+pub mod Representable

@@ -12,4 +12,8 @@ pub mod Decided
 pub mod Fronts
 pub mod Rules
 pub mod Loops
+pub mod Descent
+pub mod LineRules
+pub mod LineDescent
 pub mod Whole
+pub mod Parsing

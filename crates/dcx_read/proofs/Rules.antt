@@ -323,7 +323,7 @@ passed : (s : Symbol) (m : Move trees s) → is_shift m ≡ false → m ≡ pass
 passed s (shift push make) h = absurd cc
 passed s pass h = refl
 
-leads-nothing : (s s' : Symbol) (parts : List Symbol) (join : Join s' (s ∷ parts)) (m : Move trees s) → is_shift m ≡ false → leading trees s s' (λ ss. parts ++ ss) join m ≡ pass
+pub leads-nothing : (s s' : Symbol) (parts : List Symbol) (join : Join s' (s ∷ parts)) (m : Move trees s) → is_shift m ≡ false → leading trees s s' (λ ss. parts ++ ss) join m ≡ pass
 leads-nothing s s' parts join (shift push make) h = absurd cc
 leads-nothing s s' parts join pass h = refl
 
@@ -533,7 +533,7 @@ rest-step ss pass pass pass (shift push make) m5 after later = elim (after (push
 rest-step ss pass pass pass pass (shift push make) after later = elim (after (push (ss))) as (λ (r : Result (Forest trees (push (ss))) (List Terminal)). on_ok (λ f. moves.rest_compared ss (make (ss) f)) r ≡ on_ok (moves.rest_trailers ss) (on_ok (λ f. front trailers_s (raised_s ∷ scaled_s ∷ added_s ∷ compared_s ∷ ss) no_trailer f) (on_ok (λ f. front raised_s (scaled_s ∷ added_s ∷ compared_s ∷ ss) no_power f) (on_ok (λ f. front scaled_s (added_s ∷ compared_s ∷ ss) no_scaling f) (on_ok (λ f. front added_s (compared_s ∷ ss) no_addition f) (on_ok (make (ss)) r)))))) [ Ok f ↦ refl | Err e ↦ refl ]
 rest-step ss pass pass pass pass pass after later = rest-later ss later
 
-rest-reads : (us : List Terminal) (ss : List Symbol) → read grammar us (rest_s ∷ ss) ≡ on_ok (moves.rest_trailers ss) (read grammar us (trailers_s ∷ raised_s ∷ scaled_s ∷ added_s ∷ compared_s ∷ ss))
+pub rest-reads : (us : List Terminal) (ss : List Symbol) → read grammar us (rest_s ∷ ss) ≡ on_ok (moves.rest_trailers ss) (read grammar us (trailers_s ∷ raised_s ∷ scaled_s ∷ added_s ∷ compared_s ∷ ss))
 unfolding read
 rest-reads [] ss = rest-later ss (read grammar [] ss)
 rest-reads (u ∷ us) ss = rest-step ss (moves.trailers_move u) (moves.raised_move u) (moves.scaled_move u) (moves.added_move u) (moves.compared_move u) (read grammar us) (read grammar (u ∷ us) ss)

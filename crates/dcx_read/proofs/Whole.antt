@@ -9,6 +9,7 @@ use Rattle.dcx_read.specs.Statements.{nothing, evaluate, Lines, no_lines, lines_
 use Rattle.dcx_read.specs.Reading.{Forest, Read, read}
 use Rattle.dcx_read.specs.Moves.{Symbol, lines_s, Tree, trees, grammar}
 use Rattle.dcx_read.specs.Moves as moves
+use Rattle.dcx_read.specs.Steps.{Gives, StopsAt}
 use Rattle.dcx_read.specs.Whole.{IsUnexpected, IsScript}
 use Rattle.dcx_read.proofs.Sound.{SpelledBy, read-sound}
 use Rattle.dcx_read.proofs.Viable.{Viable, read-viable}
@@ -158,3 +159,18 @@ decided-whole us = decided-as us (read grammar us (lines_s ∷ [])) refl
 pub apart : (us rest : List Terminal) (x : Lines) → IsUnexpected us rest → lines_text x ≡ us → ⊥
 apart us [] x u e = u.never x (e ∙ u.parts ∙ append-nil u.front)
 apart us (t ∷ rest) x u e = u.never x (rest, e ∙ u.parts)
+
+-- a tree is read, and nothing is left
+pub read-whole : (us : List Terminal) (x : Lines) → Gives lines_s us x [] → IsScript us x
+unfolding alone done read
+read-whole us x g = script us x (g.reads [])
+
+-- a tree is read, and a terminal is left
+pub read-more : (us rest : List Terminal) (u : Terminal) (x : Lines) → Gives lines_s us x (u ∷ rest) → IsUnexpected us (u ∷ rest)
+unfolding stuck read
+read-more us rest u x g = unexpected us (u ∷ rest) (g.reads [])
+
+-- reading stops
+pub read-stops : (us rest : List Terminal) → StopsAt lines_s us rest → IsUnexpected us rest
+unfolding stuck
+read-stops us rest h = unexpected us rest (h.reads [])

@@ -7,5 +7,8 @@ pub mod Reading
 pub mod Moves
 pub mod View
 pub mod Steps
+pub mod Leaves
+pub mod Lines
 pub mod Whole
+pub mod Parses
 pub mod Laws

@@ -1,17 +1,23 @@
 //! What stands at the front of the tokens.
-ghost use Rattle.std.specs.Prelude.{◌≡◌, ◌<◌, ◌≤◌, [], ◌∷◌, length, IfOk, IfErr, IfSome, MatchOption};
+ghost use Rattle.std.specs.Prelude.{◌≡◌, ◌<◌, ◌≤◌, Bool, [], ◌∷◌, length, IfOk, IfErr, IfSome, MatchOption};
 ghost use Rattle.dcx_read.specs.declared.front.Stop.TheVariants as stops;
 ghost use Rattle.dcx_read.specs.declared.role.Role.TheVariants as roles;
 ghost use Rattle.dcx_read.specs.declared.tree.Comparison.{Comparison};
 ghost use Rattle.dcx_read.specs.declared.tree.Sign.{Sign};
 ghost use Rattle.dcx_read.specs.declared.tree.Scaling.{Scaling};
+ghost use Rattle.dcx_frac.specs.declared.fraction.Frac.{Frac};
 ghost use Rattle.dcx_read.specs.Role.{role_with};
 ghost use Rattle.dcx_read.specs.Terminal.{spelled, named_by, terminals};
 ghost use Rattle.dcx_read.specs.Moves.{name_s};
+ghost use Rattle.dcx_read.specs.declared.role.Bracket.{Bracket};
+ghost use Rattle.dcx_read.specs.Leaves.{FrontText};
+ghost use Rattle.dcx_read.specs.Words.{module_named, is_value_word};
+ghost use Rattle.dcx_read.specs.Lines.{FrontValue, LacksValue, FrontPlain, LacksPlain, starts_line};
 ghost use Rattle.dcx_read.specs.Steps.{Front, FrontOf, Lacks, Refuses, Reads, starts_expr, FrontName, FrontPair, LacksPair};
 
 use crate::role::{Bracket, Mark, Role, mark_in, role_in};
-use crate::tree::{Comparison, Named, Scaling, Sign};
+use crate::tree::{Comparison, Module, Named, Scaling, Sign};
+use dcx_frac::Frac;
 use dcx_shape::{Name, Place};
 use dcx_tokens::Token;
 use std::alloc::{AllocError, AllocFailed, Global};
@@ -143,17 +149,6 @@ pub fn named(alloc: Global, text: &[u8], token: &Token) -> Result<Named, AllocEr
     })
 }
 
-/// The first token and those behind it.
-pub fn split<'a>(tokens: &'a [Token]) -> Option<(&'a Token, &'a [Token])>
-    ensures front { MatchOption result (tokens.now ≡ []) (λ x. tokens.now ≡ x.0.now ∷ x.1.now) }
-    ensures shorter { IfSome result (λ x. length x.1.now < length tokens.now) }
-{
-    match tokens {
-        [] => None,
-        [head, rest @ ..] => Some((head, rest)),
-    }
-}
-
 /// A name token at the front of the tokens, and the tokens behind it.
 pub fn eat_name<'a>(tokens: &'a [Token]) -> Option<(&'a Token, &'a [Token])>
     ensures front { MatchOption result (Lacks roles.Name tokens.now) (λ x. FrontName tokens.now x.0.now x.1.now) }
@@ -163,6 +158,59 @@ pub fn eat_name<'a>(tokens: &'a [Token]) -> Option<(&'a Token, &'a [Token])>
         [] => None,
         [head, rest @ ..] => match role_in(head.kind) {
             Role::Name => Some((head, rest)),
+            _ => None,
+        },
+    }
+}
+
+pub fn eat_number<'a>(tokens: &'a [Token]) -> Option<(Frac, Place, &'a [Token])>
+    ensures front { MatchOption result ((v : Frac) → Lacks (roles.Number v) tokens.now) (λ x. Front (roles.Number x.0) x.1 tokens.now x.2.now) }
+    ensures shorter { IfSome result (λ x. length x.2.now < length tokens.now) }
+{
+    match tokens {
+        [] => None,
+        [head, rest @ ..] => match role_in(head.kind) {
+            Role::Number(value) => Some((value, head.place, rest)),
+            _ => None,
+        },
+    }
+}
+
+pub fn eat_truth<'a>(tokens: &'a [Token]) -> Option<(bool, Place, &'a [Token])>
+    ensures front { MatchOption result ((v : Bool) → Lacks (roles.Truth v) tokens.now) (λ x. Front (roles.Truth x.0) x.1 tokens.now x.2.now) }
+    ensures shorter { IfSome result (λ x. length x.2.now < length tokens.now) }
+{
+    match tokens {
+        [] => None,
+        [head, rest @ ..] => match role_in(head.kind) {
+            Role::Truth(truth) => Some((truth, head.place, rest)),
+            _ => None,
+        },
+    }
+}
+
+/// A text token at the front of the tokens, and the tokens behind it.
+pub fn eat_text<'a>(tokens: &'a [Token]) -> Option<(&'a Token, &'a [Token])>
+    ensures front { MatchOption result (Lacks roles.Text tokens.now) (λ x. FrontText tokens.now x.0.now x.1.now) }
+    ensures shorter { IfSome result (λ x. length x.1.now < length tokens.now) }
+{
+    match tokens {
+        [] => None,
+        [head, rest @ ..] => match role_in(head.kind) {
+            Role::Text => Some((head, rest)),
+            _ => None,
+        },
+    }
+}
+
+pub fn eat_none<'a>(tokens: &'a [Token]) -> Option<(Place, &'a [Token])>
+    ensures front { MatchOption result (Lacks roles.None tokens.now) (λ x. Front roles.None x.0 tokens.now x.1.now) }
+    ensures shorter { IfSome result (λ x. length x.1.now < length tokens.now) }
+{
+    match tokens {
+        [] => None,
+        [head, rest @ ..] => match role_in(head.kind) {
+            Role::None => Some((head.place, rest)),
             _ => None,
         },
     }
@@ -195,5 +243,86 @@ pub fn name<'a>(
             Ok((named, rest))
         }
         None => Err(Stop::At(tokens)),
+    }
+}
+
+/// The module that a name is, if it is one.
+pub fn module_in(bytes: &[u8]) -> Option<Module>
+    ensures { result ≡ module_named bytes.now }
+{
+    if bytes == "cvxpy".as_bytes() {
+        return Some(Module::Cvxpy);
+    }
+    if bytes == "numpy".as_bytes() {
+        return Some(Module::Numpy);
+    }
+    None
+}
+
+/// Whether a name is `value`.
+fn is_value(bytes: &[u8]) -> bool
+    ensures { result ≡ is_value_word bytes.now }
+{
+    bytes == "value".as_bytes()
+}
+
+/// A name token, a dot, the name `value` and `=` at the front of the tokens, the place of `value`, and the tokens behind.
+pub fn eat_value<'a>(text: &[u8], tokens: &'a [Token]) -> Option<(&'a Token, Place, &'a [Token])>
+    ensures front { MatchOption result (LacksValue text.now tokens.now) (λ x. FrontValue text.now tokens.now x.0.now x.1 x.2.now) }
+    ensures shorter { IfSome result (λ x. length x.2.now < length tokens.now) }
+{
+    let Some((head, _, dotted)) = eat_name_and(tokens, Mark::Dot) else {
+        return None;
+    };
+    let Some((word, _, rest)) = eat_name_and(dotted, Mark::Equal) else {
+        return None;
+    };
+    if !is_value(slice(text, word)) {
+        return None;
+    }
+    Some((head, word.place, rest))
+}
+
+/// A token that is no bracket, and the tokens behind it: only these.
+pub fn eat_plain<'a>(tokens: &'a [Token]) -> Option<&'a [Token]>
+    ensures front { MatchOption result (LacksPlain tokens.now) (λ x. FrontPlain tokens.now x.now) }
+    ensures shorter { IfSome result (λ x. length x.now < length tokens.now) }
+{
+    match tokens {
+        [] => None,
+        [head, rest @ ..] => match role_in(head.kind) {
+            Role::Opens(_) => None,
+            Role::Closes(_) => None,
+            _ => Some(rest),
+        },
+    }
+}
+
+/// A bracket of any kind that opens.
+pub fn eat_opener<'a>(tokens: &'a [Token]) -> Option<(Bracket, Place, &'a [Token])>
+    ensures front { MatchOption result ((b : Bracket) → Lacks (roles.Opens b) tokens.now) (λ x. Front (roles.Opens x.0) x.1 tokens.now x.2.now) }
+    ensures shorter { IfSome result (λ x. length x.2.now < length tokens.now) }
+{
+    match tokens {
+        [] => None,
+        [head, rest @ ..] => match role_in(head.kind) {
+            Role::Opens(bracket) => Some((bracket, head.place, rest)),
+            _ => None,
+        },
+    }
+}
+
+/// Whether the first token may begin a line.
+pub fn starts_line(tokens: &[Token]) -> bool
+    ensures { result ≡ starts_line tokens.now }
+{
+    match tokens {
+        [] => false,
+        [head, ..] => match role_in(head.kind) {
+            Role::Import => true,
+            Role::Print => true,
+            Role::For => true,
+            _ => starts_expr(tokens),
+        },
     }
 }

@@ -2,6 +2,8 @@
 
 ghost use Rattle.std.specs.Prelude.{◌≡◌, map, IfOk};
 ghost use Rattle.dcx_read.specs.Expressions.{expr, no_comparison, compared, sum, no_addition, added, term, no_scaling, scaled, factor, power_of, no_power, raised, exponent, postfix, no_trailer, attribute, call, indexed, by_place, by_name, at, slice, no_step, step, number_at, text_at, name_at, truth_at, none_at, unit, round, tuple, empty_list, list, comprehension};
+ghost use Rattle.dcx_read.specs.Statements.{nothing, importing, assign, add_to, set_value, evaluate, prints, repeats};
+ghost use Rattle.dcx_read.specs.Lines.{line_view, lines_of};
 ghost use Rattle.dcx_read.specs.View.{chained, args_of, items_of, more_items_of, indices_of, arg_view, index_view, primary_view, step_view, trailer_view, added_view, compared_view, expr_view, factor_view, postfix_view, power_view, raised_view, scaled_view, sum_view, term_view, optional_view};
 
 use crate::tree::*;
@@ -247,5 +249,63 @@ pub fn comprehension_of(
         for_place,
         name,
         source: Box::new(alloc, source)?,
+    })
+}
+
+pub fn import_of(import: Import) -> Line
+    ensures { line_view result ≡ importing import }
+{
+    Line::Import(import)
+}
+
+pub fn assign_of(name: Named, value: Expr) -> Line
+    ensures { line_view result ≡ assign name (expr_view value) }
+{
+    Line::Assign { name, value }
+}
+
+pub fn add_to_of(name: Named, place: Place, value: Expr) -> Line
+    ensures { line_view result ≡ add_to name place (expr_view value) }
+{
+    Line::AddTo { name, place, value }
+}
+
+pub fn set_value_of(name: Named, place: Place, value: Expr) -> Line
+    ensures { line_view result ≡ set_value name place (expr_view value) }
+{
+    Line::SetValue { name, place, value }
+}
+
+pub fn evaluate_of(value: Expr) -> Line
+    ensures { line_view result ≡ evaluate (expr_view value) }
+{
+    Line::Evaluate(value)
+}
+
+pub fn print_of(place: Place, opener: Place) -> Line
+    ensures { line_view result ≡ prints place opener nothing }
+{
+    Line::Print {
+        place,
+        open: opener,
+    }
+}
+
+pub fn for_of(
+    alloc: Global,
+    place: Place,
+    name: Named,
+    source: Expr,
+    first: Line,
+    rest: Vec<Line>,
+) -> Result<Line, AllocError>
+    ensures { IfOk result (λ x. line_view x ≡ repeats place name (expr_view source) (line_view first) (lines_of (map line_view rest.items))) }
+{
+    Ok(Line::For {
+        place,
+        name,
+        source,
+        first: Box::new(alloc, first)?,
+        rest,
     })
 }

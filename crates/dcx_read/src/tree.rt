@@ -202,7 +202,7 @@ pub enum Primary {
     Unit(Place),
     /// `"(" expr ")"`
     Round(Place, Box<Expr>),
-    /// `"(" expr "," [ expr { "," expr } [ "," ] ] ")"`, and whether a comma ends the items behind the first comma.
+    /// `"(" expr "," [ expr { "," expr } [ "," ] ] ")"`, and whether a comma stands before the `)`.
     Tuple {
         place: Place,
         first: Box<Expr>,
@@ -211,7 +211,7 @@ pub enum Primary {
     },
     /// `"[" "]"`
     EmptyList(Place),
-    /// `"[" expr { "," expr } [ "," ] "]"`, and whether a comma ends the items.
+    /// `"[" expr { "," expr } [ "," ] "]"`, and whether a comma stands before the `]`.
     List {
         place: Place,
         first: Box<Expr>,

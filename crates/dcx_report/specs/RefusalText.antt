@@ -5,8 +5,8 @@ use Rattle.dcx_report.specs.declared.refusal.RefusalSource.{RefusalSource}
 use Rattle.dcx_report.specs.declared.refusal.RefusalSource.TheVariants.{Script, Settings, Certificate}
 use Rattle.dcx_report.specs.declared.refusal.Carried.{Carried}
 use Rattle.dcx_report.specs.declared.refusal.Carried.TheVariants as carried
-use Rattle.dcx_report.specs.declared.tree.Count.{Count}
-use Rattle.dcx_report.specs.declared.tree.Count.TheVariants.{Nodes, Entries, Items, Steps, Events}
+use Rattle.dcx_arena.specs.declared.fault.Count.{Count}
+use Rattle.dcx_arena.specs.declared.fault.Count.TheVariants.{Nodes, Entries, Items, Steps, Events}
 use Rattle.dcx_report.specs.declared.rules.Rule.{Rule}
 use Rattle.dcx_report.specs.declared.rules.Rule.TheVariants.{Composition, Minimize, Maximize, Equal, AtMost}
 use Rattle.dcx_report.specs.Pieces.{place_text, passes_text}

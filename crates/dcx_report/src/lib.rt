@@ -19,6 +19,7 @@ mod sink;
 mod stop_line;
 mod tree;
 
+pub use dcx_arena::{Count, NodeId};
 pub use dcx_atom::Array;
 pub use graph::{Answer, Duals, Site, Stop};
 pub use library::{FetchFault, Library};
@@ -31,4 +32,4 @@ pub use report::report_text;
 pub use rules::Rule;
 pub use run::{Run, Word};
 pub use sink::{Sink, SinkFault};
-pub use tree::{Count, Named, NodeId, Point, Sense};
+pub use tree::{Named, Point, Sense};

@@ -1,28 +1,9 @@
-//! What names a node of a problem, its variables' values, and which way its objective goes.
+//! The values of a problem's variables, and which way its objective goes.
 ghost use Rattle.std.specs.Prelude.{◌≡◌};
 
 use crate::Array;
 use dcx_shape::Name;
 use std::marker::Model;
-
-/// The number of a node of a problem, counted from 0.
-#[derive(Clone, Copy, Debug, PartialEq, Eq)]
-pub struct NodeId(pub u32);
-
-/// What was counted where a script is refused for too many.
-#[derive(Clone, Copy, Debug, PartialEq, Eq)]
-pub enum Count {
-    /// The nodes of a tree.
-    Nodes,
-    /// The entries over all nodes of a tree.
-    Entries,
-    /// The items of a list, or the entries of a plain array.
-    Items,
-    /// The statements that were carried out, and the turns of comprehensions.
-    Steps,
-    /// The times that the script asks for a solution.
-    Events,
-}
 
 /// Whether an objective is to be small or large.
 #[derive(Clone, Copy, Debug, PartialEq, Eq)]

@@ -10,3 +10,5 @@ pub mod Values
 pub mod Whole
 pub mod Lines
 pub mod OneReading
+pub mod Files
+pub mod OneAnswer

@@ -1,20 +1,16 @@
 -- Reading a number, step by step.
-use Rattle.std.proofs.Common.{◌≡◌, ◌≢◌, ℕ, zero, suc, ◌≤◌, Bool, true, false, ℤ, pos, negsuc, ◌*ℤ◌, ◌<ℤ◌, ◌≤ℤ◌, unsigned_abs, List, [], ◌∷◌, Option, Some, None, Result, Ok, Err, refl, sym, ap, ◌∙◌, subst, arith}
-use Rattle.std.proofs.lemmas.Int.{ints}
+use Rattle.std.proofs.Common.{◌≡◌, ◌≢◌, ℕ, zero, suc, Bool, true, false, ℤ, pos, negsuc, ◌*ℤ◌, ◌<ℤ◌, List, [], ◌∷◌, Option, Some, None, Result, Ok, Err, refl, sym, ap, ◌∙◌, subst}
 use Rattle.std.specs.Prelude.{IfOk, IfErr, IfNone, IsSome, ◌↔◌}
 use Rattle.dcx_math.specs.Rational.{whole, ratio, ◌/ℚ◌}
-use Rattle.dcx_math.specs.Divisors.{gcd, divided as quotient_of}
-use Rattle.dcx_math.proofs.Divisors.{unsigned_abs-divided}
-use Rattle.dcx_math.proofs.LowestTerms.{lowest_num, lowest_den, lowest_of_ratio}
-use Rattle.dcx_math.proofs.Ratios.{ratio-≡-ratio, ratio-one, ratio-is-/ℚ}
-use native.Mathlib.Nat.{div-le_self}
-use Rattle.dcx_frac.specs.Fits.{Fits, IsRepresentable, representable}
+use Rattle.dcx_math.proofs.Ratios.{ratio-≡-ratio, ratio-one}
+use Rattle.dcx_frac.specs.Fits.{IsRepresentable}
 use Rattle.dcx_frac.specs.declared.fraction.Frac.{Frac}
 use Rattle.dcx_frac.specs.Frac.{value}
 use Rattle.dcx_settings.specs.Terminal.{Terminal, digits, decimal, minus, slash}
 use Rattle.dcx_settings.specs.Grammar.{integer, point, quotient, Item, Line}
 use Rattle.dcx_settings.specs.Machine.{Part, negated, whole_read, divided, complete, Context, number, State, at, number_of, number_read, in_number}
 use Rattle.dcx_settings.specs.Meaning.{signed_value}
+use Rattle.dcx_frac.proofs.Representable.{representable_quotient}
 use Rattle.dcx_settings.proofs.Facts.{not_zero}
 use Rattle.dcx_settings.specs.declared.stop.Stop.{Stop}
 use Rattle.dcx_settings.specs.declared.stop.Stop.TheVariants.{Memory, At}
@@ -113,27 +109,12 @@ pub if_err : {X E : Type 0} (P Q : E → Type 0) (r : Result X E) → ((e : E) �
 if_err P Q (Ok x) f h = tt
 if_err P Q (Err e) f h = f e h
 
-divided_fits : (g : ℕ) (z : ℤ) → Fits z → Fits (quotient_of g z)
-divided_fits g z h = let l : unsigned_abs (quotient_of g z) ≤ unsigned_abs z = rw (unsigned_abs-divided g z) (div-le_self (unsigned_abs z) g) in omega arith
-
--- the quotient of the parts of two fractions fits
-pub quotient_fits : (f g : Frac) → pos 0 ≤ℤ g.num → g.num ≢ pos 0 → IsRepresentable (whole f.num /ℚ whole g.num)
-quotient_fits f g h k =
-    let p : pos 0 <ℤ g.num = positive g.num h k in
-    let d = gcd (unsigned_abs f.num) (unsigned_abs g.num) in
-    subst IsRepresentable (sym (ratio-is-/ℚ f.num g.num p)) (representable (ratio f.num g.num p) (lowest_num f.num g.num) (lowest_den f.num g.num) (lowest_of_ratio f.num g.num p) (divided_fits d f.num f.num_fits) (divided_fits d g.num g.num_fits))
-  where
-    positive : (z : ℤ) → pos 0 ≤ℤ z → z ≢ pos 0 → pos 0 <ℤ z
-    positive (pos zero) h k = absurd (k refl)
-    positive (pos (suc n)) h k = omega (arith, ints)
-    positive (negsuc n) h k = absurd (omega (arith, ints, h))
-
-pub none_zero : (o : Option Frac) (f g : Frac) → pos 0 ≤ℤ g.num → (IsSome o ↔ ((g.num ≢ pos 0) × IsRepresentable (whole f.num /ℚ whole g.num))) → IfNone o (g.num ≡ pos 0)
-none_zero (Some x) f g h e = tt
-none_zero None f g h e = by g.num refl
+pub none_zero : (o : Option Frac) (f g : Frac) → (IsSome o ↔ ((g.num ≢ pos 0) × IsRepresentable (whole f.num /ℚ whole g.num))) → IfNone o (g.num ≡ pos 0)
+none_zero (Some x) f g e = tt
+none_zero None f g e = by g.num refl
   where
     there : g.num ≢ pos 0 → ⊥
-    there k = let some = e.1 (k, quotient_fits f g h k) in cc
+    there k = let some = e.1 (k, representable_quotient f.num g.num f.num_fits g.num_fits k) in cc
 
     by : (z : ℤ) → g.num ≡ z → z ≡ pos 0
     by (pos zero) d = refl
@@ -147,5 +128,5 @@ none_zero None f g h e = by g.num refl
         unlike z = cc
 
 -- the same, by other names for the parts
-pub none_zero_by : (o : Option Frac) (n d : ℤ) (f g : Frac) → n ≡ f.num → d ≡ g.num → pos 0 ≤ℤ g.num → (IsSome o ↔ ((d ≢ pos 0) × IsRepresentable (whole n /ℚ whole d))) → IfNone o (g.num ≡ pos 0)
-none_zero_by o n d f g e k h i = none_zero o f g h (subst (λ x. IsSome o ↔ ((g.num ≢ pos 0) × IsRepresentable (whole x /ℚ whole g.num))) e (subst (λ x. IsSome o ↔ ((x ≢ pos 0) × IsRepresentable (whole n /ℚ whole x))) k i))
+pub none_zero_by : (o : Option Frac) (n d : ℤ) (f g : Frac) → n ≡ f.num → d ≡ g.num → (IsSome o ↔ ((d ≢ pos 0) × IsRepresentable (whole n /ℚ whole d))) → IfNone o (g.num ≡ pos 0)
+none_zero_by o n d f g e k i = none_zero o f g (subst (λ x. IsSome o ↔ ((g.num ≢ pos 0) × IsRepresentable (whole x /ℚ whole g.num))) e (subst (λ x. IsSome o ↔ ((x ≢ pos 0) × IsRepresentable (whole n /ℚ whole x))) k i))

@@ -1,5 +1,5 @@
 -- Tokens that spell good lines have no unexpected one.
-use Rattle.std.proofs.Common.{◌≡◌, List, [], ◌∷◌, ◌++◌, ◌∙◌, sym}
+use Rattle.std.proofs.Common.{List, [], ◌∷◌, ◌∙◌}
 use Rattle.std.proofs.lemmas.List.{append-nil}
 use Rattle.dcx_settings.specs.Terminal.{Terminal}
 use Rattle.dcx_settings.specs.Grammar.{Line}

@@ -1,7 +1,8 @@
 //! The settings of parameters: one line each, as `p = 4; q = [1/2, 2]`.
 //!
-//! `read_tokens` reads the tokens of a text. It answers the settings that they spell, or the tokens from the first one on
-//! that no settings go on with; want of memory alone is free.
+//! `parse_settings` reads the bytes of a file: it answers the settings that they spell, or the first fault of one order,
+//! with its place. `read_tokens` reads the tokens of a text: it answers the settings that they spell, or the tokens from
+//! the first one on that no settings go on with. Want of memory alone is free.
 //!
 //! | what must hold | where |
 //! |---|---|
@@ -9,7 +10,8 @@
 //! | how numbers, values, items and lines are spelled, and which are good: nothing divided by 0, rows of one length, at most 20,000 numbers, no name twice in a line | `specs/Grammar.antt` |
 //! | which shape and which exact numbers a spelled value has | `specs/Meaning.antt` |
 //! | good lines that the tokens spell, or the first token that no good lines go on with | `specs/Reading.antt`; `read_tokens` |
-//! | tokens spell one list of good lines at most, and have no unexpected token then | `laws::readings` |
+//! | where digits are divided by 0; where the 1,001st setting stands; the settings of a file, or the first fault of one order | `specs/File.antt`; `parse_settings` |
+//! | tokens spell one list of good lines at most, and have no unexpected token then; bytes are refused for one fault at most, and spell no settings then | `laws` |
 //!
 //! The proof goes by reading token by token (`specs/Machine.antt`): tokens that are read spell good lines
 //! (`proofs/Soundness.antt`), good lines are read (`proofs/Completeness.antt`), and whatever is read so far begins some
@@ -17,6 +19,7 @@
 //! (`specs/Steps.antt`).
 #![tactic(auto)]
 
+mod file;
 pub mod laws;
 mod line;
 mod number;
@@ -28,6 +31,7 @@ mod stop;
 mod tests;
 mod value;
 
+pub use file::parse_settings;
 pub use read::read_tokens;
 pub use settings::{SettingItem, SettingLine, Settings};
 pub use stop::Stop;

@@ -18,10 +18,8 @@ fn signed(is_negative: bool, number: Frac) -> Frac
     if is_negative { number.neg() } else { number }
 }
 
-/// The quotient of whole numbers of at least 0; `None` where the lower one is 0.
+/// The quotient of whole numbers; `None` where the lower one is 0.
 fn quotient(front: Frac, back: Frac) -> Option<Frac>
-    requires front { IsWhole front }
-    requires back { IsWhole back }
     ensures none { IfNone result (back.num ≡ pos 0) }
     ensures some { IfSome result (λ f. (back.num ≢ pos 0) × (value f ≡ whole front.num /ℚ whole back.num)) }
 {

@@ -9,3 +9,4 @@ pub mod Nesting
 pub mod OneReading
 pub mod Readings
 pub mod Spans
+pub mod Texts

@@ -7,8 +7,14 @@ use Rattle.dcx_tokens.specs.declared.fault.ReadFault.TheVariants as fault
 use Rattle.dcx_tokens.specs.declared.token.Token.{Token}
 use Rattle.dcx_tokens.specs.declared.token.TokenKind.{TokenKind}
 use Rattle.dcx_tokens.specs.declared.token.TokenKind.TheVariants as kind
+use Rattle.dcx_tokens.specs.File.{IsText, IsNoText}
 use Rattle.dcx_tokens.specs.Layout.{opens, closes}
 use Rattle.dcx_tokens.specs.Reading.{IsLexed}
+
+-- bytes are a text, or none for one reason
+pub record HasOneText : Type 0 where
+  pub apart : (bytes : List ℕ) (f : ReadFault) → IsText bytes → IsNoText bytes f → ⊥
+  pub one : (bytes : List ℕ) (f g : ReadFault) → IsNoText bytes f → IsNoText bytes g → f ≡ g
 
 -- a text has one list of tokens and at most one first fault
 abbrev pub HasOneReading : Type 0

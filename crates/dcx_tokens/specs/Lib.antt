@@ -1,4 +1,5 @@
 -- The words that contracts cite.
+pub mod File
 pub mod Front
 pub mod Laws
 pub mod Layout

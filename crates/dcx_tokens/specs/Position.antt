@@ -29,9 +29,13 @@ moved_over at (c ∷ cs) = moved_over (next_at at c) cs
 abbrev pub line_behind : Place → Place
 line_behind p = if p.column == 1 then p else record { line = p.line + 1; column = 1 }
 
+-- behind a whole text
+abbrev pub position_behind : List ℕ → Position
+position_behind text = moved_over start_of_text (chars text)
+
 -- where the end of a text stands
 abbrev pub end_of : List ℕ → Place
-end_of text = line_behind (moved_over start_of_text (chars text)).place
+end_of text = line_behind (position_behind text).place
 
 -- the line and the column are no further than the bytes in front allow
 pub record IsInText (at : Position) : Type 0 where

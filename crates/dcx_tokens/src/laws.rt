@@ -1,5 +1,10 @@
 //! Laws above the definitions of `specs/`. There is no code: each clause is a statement about all texts.
-ghost use Rattle.dcx_tokens.specs.Laws.{HasFaultsOfTokens, HasOneReading, HasSpans, NestsTokens};
+ghost use Rattle.dcx_tokens.specs.Laws.{HasFaultsOfTokens, HasOneReading, HasOneText, HasSpans, NestsTokens};
+
+/// The bytes of a file are a text, or none for one reason.
+pub fn texts()
+    ensures { HasOneText }
+{}
 
 /// A text has one list of tokens, and at most one first fault.
 pub fn readings()

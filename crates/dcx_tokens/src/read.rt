@@ -1,7 +1,7 @@
 //! Reading a whole text.
 ghost use Rattle.std.specs.Prelude.{◌≡◌, ◌<◌, ◌-◌, ◌^◌, ◌↔◌, length, IfOk, IsTrue};
 ghost use Rattle.std.specs.Str.{chars};
-ghost use Rattle.dcx_tokens.specs.Position.{end_of, IsInText};
+ghost use Rattle.dcx_tokens.specs.Position.{end_of, position_behind, IsInText};
 ghost use Rattle.dcx_tokens.specs.State.{start};
 ghost use Rattle.dcx_tokens.specs.View.{state_of, HasRoom, IsBefore};
 ghost use Rattle.dcx_tokens.specs.Reading.{Reads, IsLexed};
@@ -9,7 +9,7 @@ ghost use Rattle.dcx_tokens.specs.Lexed.{Lexes};
 
 use crate::fault::ReadFault;
 use crate::list::{Lexed, Tokens};
-use crate::position::{behind, behind_last_line, start_of_text};
+use crate::position::{Position, behind, behind_last_line, start_of_text};
 use crate::reader::{Line, Reader};
 use dcx_shape::Place;
 use std::alloc::{AllocError, Global};
@@ -112,15 +112,25 @@ pub fn tokens(alloc: Global, text: &str) -> Result<Tokens, ReadFault>
     }
 }
 
+/// The position behind a whole text.
+pub(crate) fn behind_text(text: &str) -> Position
+    requires { length text.now < 2 ^ 32 - 1 }
+    ensures value { result ≡ position_behind text.now }
+    ensures within { IsInText result }
+    ensures offset { result.offset ≡ length text.now }
+{
+    let mut at = start_of_text();
+    for c in text.chars() {
+        at = behind(at, c);
+    }
+    at
+}
+
 /// Where the end of a text stands: the first column of the line behind its last. The text has fewer than 2^32 - 1
 /// bytes.
 pub fn end_place(text: &str) -> Place
     requires { length text.now < 2 ^ 32 - 1 }
     ensures { result ≡ end_of text.now }
 {
-    let mut at = start_of_text();
-    for c in text.chars() {
-        at = behind(at, c);
-    }
-    behind_last_line(at)
+    behind_last_line(behind_text(text))
 }

@@ -1,6 +1,7 @@
 //! Tokens, spans, places, values and faults of short texts, worked out by hand.
 
 use crate::fault::ReadFault;
+use crate::file::read_text;
 use crate::list::Tokens;
 use crate::read::{end_place, lexed, tokens};
 use crate::token::{Keyword, Symbol, Token, TokenKind};
@@ -61,6 +62,51 @@ fn nested(alloc: Global, depth: usize) -> Result<String, AllocError> {
         text.push_str(")")?;
     }
     Ok(text)
+}
+
+/// Why bytes are no text.
+fn fault_of_bytes(bytes: &[u8]) -> Option<ReadFault> {
+    read_text(bytes).err()
+}
+
+#[test]
+fn the_first_byte_that_is_no_text_is_told(rt: HostRuntime) {
+    for (bytes, wanted) in [
+        (b"".as_slice(), None),
+        (b"p = 1\r\n".as_slice(), None),
+        ("é €😀".as_bytes(), None),
+        (b"\xff".as_slice(), Some(at(1, 1))),
+        (b"p\n\xc3\xa9\xff".as_slice(), Some(at(2, 3))),
+        (b"p\r\n\nq\x80".as_slice(), Some(at(3, 2))),
+        (b"p = \xc3".as_slice(), Some(at(1, 5))),
+        (b"\n \xe2\x82 \n".as_slice(), Some(at(2, 2))),
+        (b"\xc3\xa9\xc0\x80".as_slice(), Some(at(1, 3))),
+        (b"a\xed\xa0\x80".as_slice(), Some(at(1, 2))),
+        (b"\xf4\x90\x80\x80".as_slice(), Some(at(1, 1))),
+        (b"$ 1_0 \xff".as_slice(), Some(at(1, 7))),
+    ] {
+        assert_eq!(rt;
+            fault_of_bytes(bytes),
+            wanted.map(ReadFault::NotText),
+            "{bytes:?}"
+        );
+    }
+}
+
+#[test]
+fn a_file_has_1_048_576_bytes_at_most(rt: HostRuntime) -> Result<(), Fail> {
+    let mut bytes = vec![in rt.alloc(); b' '; 1_048_575]?;
+    bytes.push(0xff)?;
+    assert_eq!(rt;
+        fault_of_bytes(&bytes),
+        Some(ReadFault::NotText(at(1, 1_048_576)))
+    );
+    bytes.pop();
+    bytes.push(b'\n')?;
+    assert_eq!(rt; fault_of_bytes(&bytes), None);
+    bytes.push(0xff)?;
+    assert_eq!(rt; fault_of_bytes(&bytes), Some(ReadFault::TooLong(at(1, 1))));
+    Ok(())
 }
 
 #[test]

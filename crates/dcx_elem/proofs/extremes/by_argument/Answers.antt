@@ -2,8 +2,8 @@
 use Rattle.std.proofs.Common.{◌<◌, ◌+◌, ◌*◌, ◌/◌, ◌%◌, ◌∙◌, sym, ap, map, length, subst}
 use Rattle.dcx_frac.specs.Frac.{value}
 use Rattle.dcx_atom.specs.Arrays.{number_at}
-use Rattle.dcx_elem.specs.Rows.{outward}
-use Rattle.dcx_elem.proofs.Lists.{number_is, list_below-push}
+use Rattle.dcx_atom.specs.Bounding.{outward}
+use Rattle.dcx_atom.proofs.Lists.{number_is, list_below-push}
 use Rattle.dcx_elem.proofs.ExtremeSteps.{spot_within}
 use Rattle.dcx_elem.proofs.extremes.by_argument.Goals as goal
 

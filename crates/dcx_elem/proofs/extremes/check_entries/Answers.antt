@@ -4,8 +4,8 @@ use Rattle.std.proofs.lemmas.Result.{err_from_is_err_and}
 use Rattle.dcx_shape.specs.Sides.{entries_of}
 use Rattle.dcx_atom.specs.Arrays.{sides_list, sides_at}
 use Rattle.dcx_elem.specs.Extremes.{extreme_meaning}
-use Rattle.dcx_elem.proofs.Lists.{number_is}
-use Rattle.dcx_elem.proofs.Weights.{stop_at}
+use Rattle.dcx_atom.proofs.Lists.{number_is}
+use Rattle.dcx_atom.proofs.Weights.{stop_at}
 use Rattle.dcx_elem.proofs.ExtremeSteps.{own_stop, first_sides, among}
 use Rattle.dcx_elem.proofs.extremes.check_entries.Goals as goal
 

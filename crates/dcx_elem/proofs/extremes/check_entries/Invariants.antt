@@ -1,6 +1,6 @@
 -- So many entries have no stop.
 use Rattle.dcx_atom.specs.Arrays.{sides_list}
-use Rattle.dcx_elem.specs.Rows.{HaveNoStop}
+use Rattle.dcx_atom.specs.Bounding.{HaveNoStop}
 use Rattle.dcx_elem.specs.Extremes.{extreme_meaning}
 use Rattle.dcx_elem.proofs.extremes.check_entries.Given as goal
 

@@ -2,7 +2,8 @@
 use Rattle.std.proofs.Common.{◌≡◌, ℕ, map, pos}
 use Rattle.dcx_math.specs.Rational.{whole}
 use Rattle.dcx_atom.specs.Arrays.{list_below}
-use Rattle.dcx_elem.specs.Rows.{argument_term, piece_term}
+use Rattle.dcx_atom.specs.Bounding.{argument_term}
+use Rattle.dcx_elem.specs.Rows.{piece_term}
 use Rattle.dcx_elem.proofs.extremes.each_once.Given as goal
 
 abbrev pub invariant-loop-argument : goal.invariant-loop-argument

@@ -3,8 +3,9 @@ use Rattle.std.proofs.Common.{◌∙◌, sym, ap, map, drop}
 use Rattle.dcx_frac.specs.Frac.{value}
 use Rattle.dcx_atom.specs.declared.array.Array.{Array}
 use Rattle.dcx_atom.specs.Arrays.{number_at}
-use Rattle.dcx_elem.specs.Extremes.{extreme_from}
-use Rattle.dcx_elem.proofs.ExtremeSteps.{first_and_others, entry_is}
+use Rattle.dcx_atom.specs.Farthest.{extreme_from}
+use Rattle.dcx_atom.proofs.Lists.{first_and_others}
+use Rattle.dcx_elem.proofs.ExtremeSteps.{entry_is}
 use Rattle.dcx_elem.proofs.extremes.extreme_at.Goals as goal
 
 pub returns : goal.returns

@@ -2,7 +2,7 @@
 use Rattle.std.proofs.Common.{◌≡◌, map}
 use Rattle.dcx_frac.specs.Frac.{value}
 use Rattle.dcx_atom.specs.Arrays.{list_below, number_at}
-use Rattle.dcx_elem.specs.Extremes.{extreme}
+use Rattle.dcx_atom.specs.Farthest.{extreme}
 use Rattle.dcx_elem.proofs.extremes.extreme_entries.Given as goal
 
 abbrev pub invariant-loop-place : goal.invariant-loop-place

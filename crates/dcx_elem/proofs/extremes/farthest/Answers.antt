@@ -2,8 +2,9 @@
 use Rattle.std.proofs.Common.{◌∙◌, sym, ap}
 use Rattle.dcx_frac.specs.Frac.{value}
 use Rattle.dcx_atom.specs.Arrays.{number_at}
-use Rattle.dcx_elem.specs.Extremes.{farther}
-use Rattle.dcx_elem.proofs.ExtremeSteps.{one_farther, entry_is}
+use Rattle.dcx_atom.specs.Farthest.{farther}
+use Rattle.dcx_atom.proofs.Lists.{one_farther}
+use Rattle.dcx_elem.proofs.ExtremeSteps.{entry_is}
 use Rattle.dcx_elem.proofs.extremes.farthest.Goals as goal
 
 pub loop-other-preserved : goal.loop-other-preserved

@@ -2,7 +2,7 @@
 use Rattle.std.proofs.Common.{◌≡◌, map, take}
 use Rattle.dcx_frac.specs.Frac.{value}
 use Rattle.dcx_atom.specs.Arrays.{number_at}
-use Rattle.dcx_elem.specs.Extremes.{extreme_from}
+use Rattle.dcx_atom.specs.Farthest.{extreme_from}
 use Rattle.dcx_elem.proofs.extremes.farthest.Given as goal
 
 abbrev pub invariant-loop-other : goal.invariant-loop-other

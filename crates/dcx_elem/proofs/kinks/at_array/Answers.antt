@@ -3,7 +3,7 @@ use Rattle.std.proofs.Common.{◌≡◌, ◌∙◌, ap, arith, length, map, take
 use Rattle.std.proofs.lemmas.List.{take_all}
 use Rattle.dcx_frac.specs.Frac.{value}
 use Rattle.dcx_elem.specs.Kinks.{kink_at}
-use Rattle.dcx_elem.proofs.Lists.{length-same}
+use Rattle.dcx_atom.proofs.Lists.{length-same}
 use Rattle.dcx_elem.proofs.kinks.at_array.Goals as goal
 
 pub invariant_of-result : goal.invariant_of-result

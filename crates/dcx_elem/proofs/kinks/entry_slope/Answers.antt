@@ -6,10 +6,10 @@ use Rattle.dcx_atom.specs.declared.graph.AuxKind.TheVariants.{Nonneg}
 use Rattle.dcx_atom.specs.Arrays.{list_below, number_at}
 use Rattle.dcx_atom.specs.Steps.{form, first_stop, slope_stop}
 use Rattle.dcx_atom.proofs.FirstStops.{first_stop-stopped}
-use Rattle.dcx_elem.specs.Rows.{total_steps}
+use Rattle.dcx_atom.specs.Bounding.{total_steps}
 use Rattle.dcx_elem.specs.Kinks.{kink_rows, kink_slope}
-use Rattle.dcx_elem.proofs.Lists.{list_below-numbers}
-use Rattle.dcx_elem.proofs.Totals.{slope_stops}
+use Rattle.dcx_atom.proofs.Lists.{list_below-numbers}
+use Rattle.dcx_atom.proofs.Totals.{slope_stops}
 use Rattle.dcx_elem.proofs.kinks.entry_slope.Goals as goal
 
 pub returns-in_err-check_total-clause-stop : goal.returns-in_err-check_total-clause-stop

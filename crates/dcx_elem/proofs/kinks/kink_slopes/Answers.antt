@@ -8,8 +8,8 @@ use Rattle.dcx_atom.specs.Arrays.{number_at, list_below}
 use Rattle.dcx_atom.specs.Formed.{exact}
 use Rattle.dcx_atom.specs.Steps.{first_stop, weights_of}
 use Rattle.dcx_elem.specs.Kinks.{kink_slope, kink_steps, kink_meaning}
-use Rattle.dcx_elem.proofs.Lists.{number_is, list_below-push}
-use Rattle.dcx_elem.proofs.Weights.{stop_at, own_length}
+use Rattle.dcx_atom.proofs.Lists.{number_is, list_below-push}
+use Rattle.dcx_atom.proofs.Weights.{stop_at, own_length}
 use Rattle.dcx_elem.proofs.KinkSteps.{room, own_stop, own_slope, kink_slopes_are}
 use Rattle.dcx_elem.proofs.kinks.kink_slopes.Goals as goal
 

@@ -4,8 +4,8 @@ use Rattle.dcx_math.specs.Rational.{neg_ℚ}
 use Rattle.dcx_atom.specs.Formed.{frac_at}
 use Rattle.dcx_atom.proofs.FormedSums.{frac_at-value}
 use Rattle.dcx_elem.specs.Kinks.{kink_rows}
-use Rattle.dcx_elem.proofs.Lists.{number_is}
-use Rattle.dcx_elem.proofs.Totals.{difference_formed}
+use Rattle.dcx_atom.proofs.Lists.{number_is}
+use Rattle.dcx_atom.proofs.Totals.{difference_formed}
 use Rattle.dcx_elem.proofs.kinks.slope.Goals as goal
 
 pub returns-in-Abs-clause-answer : goal.returns-in-Abs-clause-answer

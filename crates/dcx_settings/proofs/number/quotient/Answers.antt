@@ -8,4 +8,4 @@ pub returns-clause-none : goal.returns-clause-none
 returns-clause-none c =
     let f : SFits w128 c.num.result = search rules in
     let g : SFits w128 c.num-2.result = search rules in
-    none_zero_by c.of.result c.num.result c.num-2.result c.args.front c.args.back c.num.ensures c.num-2.ensures c.requires.back.num (simp to_z-of_z at c.of.ensures.exists)
+    none_zero_by c.of.result c.num.result c.num-2.result c.args.front c.args.back c.num.ensures c.num-2.ensures (simp to_z-of_z at c.of.ensures.exists)

@@ -1,7 +1,7 @@
 use Rattle.std.proofs.Common.{◌≡◌, ◌≢◌, ◌<◌, ◌^◌, pos, arith, subst, IsSome}
 use Rattle.std.proofs.lemmas.Int.{ints, to_z_pos}
 use Rattle.std.specs.Int.{w128}
-use Rattle.dcx_tokens.proofs.Fractions.{representable_quotient}
+use Rattle.dcx_frac.proofs.Representable.{representable_quotient}
 use Rattle.dcx_tokens.proofs.number.quotient.Goals as goal
 
 pub unreachable-requires : goal.unreachable-requires
@@ -12,7 +12,7 @@ unreachable-requires c =
     let den_fits : d < 2 ^ 127 = omega arith in
     let exists = rw (to_z_pos w128 n num_fits, to_z_pos w128 d den_fits) at c.of.ensures.exists in
     let some : pos d ≢ pos 0 = λ e. let z : d ≡ 0 = omega (arith, ints) in absurd (omega arith) in
-    let r = representable_quotient n d num_fits c.requires.positive den_fits in
+    let r = representable_quotient (pos n) (pos d) num_fits den_fits some in
     let is = exists.1 (some, r) in
     let none = subst IsSome c.in-None.is is in
     cc

@@ -5,7 +5,7 @@ use Rattle.dcx_frac.specs.Frac.{value}
 use Rattle.dcx_shape.specs.Shape.{sides_of}
 use Rattle.dcx_shape.specs.Sides.{entries_of}
 use Rattle.dcx_atom.specs.declared.array.Array.{Array}
-use Rattle.dcx_elem.specs.BoundRows.{length-list_below}
+use Rattle.dcx_atom.proofs.BoundRows.{length-list_below}
 use Rattle.dcx_elem.proofs.ExtremeSteps.{sizes_at, value_at}
 use Rattle.dcx_elem.proofs.extremes.ExtremeAtom.value.Goals as goal
 

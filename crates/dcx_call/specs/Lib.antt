@@ -1,0 +1,9 @@
+-- What the contracts of this crate cite.
+pub mod Attributes
+pub mod Atoms
+pub mod Linears
+pub mod Calls
+pub mod Buckets
+pub mod Forming
+pub mod Values
+pub mod Laws

@@ -1,0 +1,53 @@
+//! Variables and parameters, as a script declares them.
+
+use dcx_shape::{Name, Shape};
+
+/// What is known of each value of a variable or a parameter.
+#[derive(Clone, Copy, Debug, PartialEq, Eq)]
+pub enum Attribute {
+    /// Nothing.
+    Free,
+    /// Each entry is at least 0.
+    Nonneg,
+    /// Each entry is at most 0.
+    Nonpos,
+    /// A square matrix that is its own transpose.
+    Symmetric,
+    /// A square matrix that is 0 off its diagonal.
+    Diag,
+}
+
+/// Which entries of a variable are whole.
+#[derive(Clone, Copy, Debug, PartialEq, Eq)]
+pub enum Whole {
+    /// Any numbers.
+    Not,
+    /// Each entry is whole.
+    Integer,
+    /// Each entry is 0 or 1.
+    Boolean,
+}
+
+/// An unknown array.
+#[derive(Drop)]
+pub struct Variable {
+    /// The name in the script.
+    pub name: Name,
+    /// How long the sides are.
+    pub shape: Shape,
+    /// What is known of each value.
+    pub attribute: Attribute,
+    /// Which entries are whole.
+    pub whole: Whole,
+}
+
+/// An array that a setting gives.
+#[derive(Drop)]
+pub struct Parameter {
+    /// The name in the script.
+    pub name: Name,
+    /// How long the sides are.
+    pub shape: Shape,
+    /// What is known of each value.
+    pub attribute: Attribute,
+}

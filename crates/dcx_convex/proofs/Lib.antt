@@ -1,0 +1,20 @@
+-- The lemmas by which the laws are proved.
+pub mod Told
+pub mod Mapped
+pub mod Arguments
+pub mod Signs
+pub mod Beyond
+pub mod Convexity
+pub mod Acceptance
+pub mod OneAnswer
+pub mod Dpp
+pub mod PairLaws
+pub mod AtomLaws
+pub mod SideInduction
+pub mod MapBack
+pub mod Reached
+pub mod Certified
+pub mod DualCones
+pub mod Examples
+pub mod LeastAbs
+pub mod LawsHold

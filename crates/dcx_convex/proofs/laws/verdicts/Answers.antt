@@ -1,0 +1,6 @@
+-- The rules compute.
+use Rattle.dcx_convex.proofs.LawsHold.{verdicts}
+use Rattle.dcx_convex.proofs.laws.verdicts.Goals as goal
+
+pub returns : goal.returns
+returns c = verdicts

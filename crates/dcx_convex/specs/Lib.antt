@@ -1,0 +1,12 @@
+-- What the laws of this crate cite.
+pub mod Calls
+pub mod Atoms
+pub mod Pairs
+pub mod Nodes
+pub mod Rules
+pub mod Problems
+pub mod Answers
+pub mod Reductions
+pub mod Certificates
+pub mod Laws
+pub mod Examples

@@ -1,0 +1,10 @@
+-- The lemmas.
+pub mod FoldValues
+pub mod StepLists
+pub mod FoldSlopes
+pub mod FoldShapes
+pub mod FallingLists
+pub mod LargestSteps
+pub mod LargestCalls
+pub mod RunningSteps
+pub mod RunningCalls

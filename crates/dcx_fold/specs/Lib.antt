@@ -1,0 +1,12 @@
+-- What the contracts of this crate cite.
+pub mod Groups
+pub mod GroupLaws
+pub mod Folds
+pub mod FoldLaws
+pub mod Stops
+pub mod Sorted
+pub mod Largest
+pub mod LargestLaws
+pub mod Calls
+pub mod Running
+pub mod RunningLaws

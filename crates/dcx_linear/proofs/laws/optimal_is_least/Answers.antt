@@ -1,0 +1,5 @@
+use Rattle.dcx_linear.proofs.RowAnswers.{least}
+use Rattle.dcx_linear.proofs.laws.optimal_is_least.Goals as goal
+
+pub returns : goal.returns
+returns c = least

@@ -1,0 +1,19 @@
+-- What the contracts of this crate cite.
+pub mod Changes
+pub mod ChangeLaws
+pub mod Stops
+pub mod Terms
+pub mod TermLaws
+pub mod TermSums
+pub mod Parameters
+pub mod NumberLaws
+pub mod ParamTerms
+pub mod ParamTermLaws
+pub mod Affine
+pub mod ParamForms
+pub mod ParamLaws
+pub mod FormTerms
+pub mod Forms
+pub mod FormLaws
+pub mod Rows
+pub mod Widths

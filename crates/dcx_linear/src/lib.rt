@@ -1,0 +1,48 @@
+//! Linear forms: coefficients that are fractions or affine in parameters, forms over unknowns, and rows of them.
+//!
+//! Both kinds of coefficient are used through one trait, `Coef`; forms and rows are generic in it. An affine number
+//! (`ParamForm`) and a form (`Form`) are a constant and a list of terms with rising keys, none of them 0. One module,
+//! `term`, adds such lists and multiplies them. `specs/Terms.antt` says what these operations form: at each key what
+//! stands there, or the least key at which forming passes 128 bits.
+//!
+//! | what must hold | where |
+//! |---|---|
+//! | adding, multiplying and dividing give the exact number at every assignment of the parameters' entries | `Coef`: `sum_value`, `change_value` |
+//! | the constant is formed first, then the coefficients by rising keys; `Passes` is the first operation that passes | `Coef::add`, `Coef::scale`, `Coef::divide`, `Form::add`, `Form::scale`, `Form::divide` |
+//! | each operation has one answer | `Coef`: `one_sum`, `one_change`; `laws::one_sum_of_forms`, `laws::one_changed_form` |
+//! | keys rise and no coefficient 0 is listed | `ParamTerms::as_slice`, `FormTerms::as_slice` |
+//! | such a list is known from what stands at each key | `laws::entries_determine_terms` |
+//! | a parameter's entry is the setting's number, or the entry itself | `Coef::parameter`, `Coef`: `parameter_value` |
+//! | an affine number at a setting is formed from its constant on, by rising entries | `ParamForm::at` |
+//! | it is the exact number, where each entry is listed under its parameter's name | `laws::number_at_setting` |
+//! | operations keep these names | `Coef`: `sum_named`, `change_named` |
+//! | sums and multiples of forms are so at all unknowns and parameters | `laws::sum_of_forms`, `laws::changed_forms` |
+//! | each unknown of the rows has a kind | `Rows`, `laws::widths_bound_unknowns`, `laws::widths_of_sums`, `laws::widths_of_changed` |
+//! | multipliers show that no solution is better, or that there is none | `laws::optimal_is_least`, `laws::infeasible_has_no_solution` |
+#![tactic(auto)]
+
+mod change;
+mod coef;
+mod entry;
+mod form;
+pub mod laws;
+mod number;
+mod param_form;
+mod param_term;
+mod row;
+mod rows;
+mod site;
+mod stop;
+mod term;
+#[cfg(test)]
+mod tests;
+
+pub use change::Change;
+pub use coef::Coef;
+pub use form::{Form, FormTerm, FormTerms};
+pub use param_form::ParamForm;
+pub use param_term::{ParamTerm, ParamTerms};
+pub use row::{Row, RowKind, RowList, UnknownKind, UnknownKinds};
+pub use rows::Rows;
+pub use site::Site;
+pub use stop::CoefStop;

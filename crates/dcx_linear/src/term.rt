@@ -1,0 +1,136 @@
+//! Lists of terms with rising keys: their sum, and each term changed. Forms and affine numbers both stand on it.
+ghost use Rattle.std.specs.Prelude.{◌≡◌, ℕ, Bool, List, Result, Ok, IfOk, OnOk, ◌++◌};
+ghost use Rattle.std.specs.Ordering.{nat_cmp};
+ghost use Rattle.dcx_frac.specs.declared.fraction.Passes.{Passes};
+ghost use Rattle.dcx_linear.specs.declared.change.Change.{Change};
+ghost use Rattle.dcx_linear.specs.Changes.{IsAllowed};
+ghost use Rattle.dcx_linear.specs.Stops.{Gives, GivesBy};
+ghost use Rattle.std.specs.Option.{option_to_list};
+ghost use Rattle.dcx_linear.specs.Terms.{kept, IsSparse, SumsTerms, ChangesTerms};
+
+use crate::change::Change;
+use crate::stop::CoefStop;
+use std::alloc::{AllocError, Global};
+use std::cmp::Ordering;
+
+/// A coefficient with a key, by which the terms of a list rise.
+pub(crate) trait Term: Drop {
+    /// The key.
+    ghost key: { Self → ℕ };
+
+    /// The coefficient is the number 0.
+    ghost is_zero: { Self → Bool };
+
+    /// What forming the sum of the coefficients answers, at one key.
+    ghost sum_gives: { Self → Self → Result Self Passes → Type 0 };
+
+    /// What forming the changed coefficient answers.
+    ghost change_gives: { Change → Self → Result Self Passes → Type 0 };
+
+    /// How the keys compare.
+    fn order(&self, other: &Self) -> Ordering
+        ensures { result ≡ nat_cmp (key self.now) (key other.now) };
+
+    /// Whether the coefficient is the number 0.
+    fn vanishes(&self) -> bool
+        ensures { result ≡ is_zero self.now };
+
+    /// The same term.
+    fn copy(&self, alloc: Global) -> Result<Self, AllocError>
+        ensures { IfOk result (λ t. t ≡ self.now) };
+
+    /// The term with the sum of the coefficients.
+    fn sum(&self, alloc: Global, other: &Self) -> Result<Self, CoefStop>
+        requires { key self.now ≡ key other.now }
+        ensures { Gives result (sum_gives self.now other.now) };
+
+    /// The term with the coefficient changed.
+    fn changed(&self, alloc: Global, change: Change) -> Result<Self, CoefStop>
+        requires { IsAllowed change }
+        ensures { Gives result (change_gives change self.now) };
+
+    /// A sum has the key of its summands.
+    ghost sum_key: { (t u v : Self) → sum_gives t u (Ok v) → key v ≡ key t };
+
+    /// A changed term keeps its key.
+    ghost change_key: { (change : Change) (t v : Self) → change_gives change t (Ok v) → key v ≡ key t };
+}
+
+/// Puts copies of the terms at the end.
+fn push_copies<T: Term>(alloc: Global, list: &mut Vec<T>, terms: &[T]) -> Result<(), AllocError>
+    ensures { OnOk result (list.new.items ≡ list.old.items ++ terms.now) }
+{
+    for term in terms {
+        list.push(term.copy(alloc)?)?;
+    }
+    Ok(())
+}
+
+/// Copies of the terms.
+pub(crate) fn copy_terms<T: Term>(alloc: Global, terms: &[T]) -> Result<Vec<T>, AllocError>
+    ensures { IfOk result (λ v. v.items ≡ terms.now) }
+{
+    let mut copies = Vec::new(alloc);
+    push_copies(alloc, &mut copies, terms)?;
+    Ok(copies)
+}
+
+/// Puts the term at the end, unless it is 0.
+fn push_nonzero<T: Term>(list: &mut Vec<T>, term: T) -> Result<(), AllocError>
+    ensures { OnOk result (list.new.items ≡ list.old.items ++ option_to_list (kept T.is_zero term)) }
+{
+    if !term.vanishes() {
+        list.push(term)?;
+    }
+    Ok(())
+}
+
+/// The sum of two lists of terms, formed by rising keys.
+pub(crate) fn sum_terms<T: Term>(alloc: Global, a: &[T], b: &[T]) -> Result<Vec<T>, CoefStop>
+    requires left { IsSparse T.key T.is_zero a.now }
+    requires right { IsSparse T.key T.is_zero b.now }
+    ensures { GivesBy result (λ v. v.items) (SumsTerms T.key T.is_zero T.sum_gives a.now b.now) }
+{
+    let mut sum = Vec::new(alloc);
+    let mut i = 0;
+    let mut j = 0;
+    'terms: while i < a.len() && j < b.len() {
+        let left = &a[i];
+        let right = &b[j];
+        match left.order(right) {
+            Ordering::Less => {
+                sum.push(left.copy(alloc)?)?;
+                i += 1;
+            }
+            Ordering::Greater => {
+                sum.push(right.copy(alloc)?)?;
+                j += 1;
+            }
+            Ordering::Equal => {
+                push_nonzero(&mut sum, left.sum(alloc, right)?)?;
+                i += 1;
+                j += 1;
+            }
+        }
+    }
+    push_copies(alloc, &mut sum, &a[i..])?;
+    push_copies(alloc, &mut sum, &b[j..])?;
+    Ok(sum)
+}
+
+/// A list of terms, each changed, formed by rising keys.
+pub(crate) fn change_terms<T: Term>(
+    alloc: Global,
+    terms: &[T],
+    change: Change,
+) -> Result<Vec<T>, CoefStop>
+    requires terms { IsSparse T.key T.is_zero terms.now }
+    requires allowed { IsAllowed change }
+    ensures { GivesBy result (λ v. v.items) (ChangesTerms T.key T.is_zero (T.change_gives change) terms.now) }
+{
+    let mut changed = Vec::new(alloc);
+    'terms: for term in terms {
+        push_nonzero(&mut changed, term.changed(alloc, change)?)?;
+    }
+    Ok(changed)
+}

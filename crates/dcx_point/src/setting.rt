@@ -1,0 +1,68 @@
+//! Settings: a value for each of some parameters.
+ghost use Rattle.std.specs.Prelude.{◌≡◌, [], length, slice_get, OnOk, OnErr};
+ghost use Rattle.std.specs.Option.{option_copied};
+
+use crate::arrays::Arrays;
+use dcx_atom::Array;
+use dcx_shape::Name;
+use std::alloc::{AllocError, Global};
+use std::marker::Model;
+
+/// Values of parameters, seen by contracts as a list of pairs of a name and an array.
+#[derive(Drop)]
+pub struct Setting {
+    arrays: Arrays,
+}
+
+impl Model for Setting {
+    ghost use Rattle.dcx_point.specs.Pairs.{Pairs};
+
+    ghost Value = { Pairs };
+
+    ghost view = { λ x. x.arrays };
+}
+
+impl Setting {
+    ghost use Rattle.dcx_point.specs.Pairs.{names_of, array_of, with_array, AreDistinct};
+
+    /// The setting without names.
+    pub fn empty(alloc: Global) -> Setting
+        ensures { result ≡ [] }
+    {
+        Setting {
+            arrays: Arrays::empty(alloc),
+        }
+    }
+
+    /// Puts an array under the name of a parameter: in place of the array that the name has, or else at the end.
+    ///
+    /// `AllocError` leaves the setting as it was.
+    pub fn put(&mut self, name: Name, value: Array) -> Result<(), AllocError>
+        ensures ok { OnOk result (self.new ≡ with_array self.old name value) }
+        ensures refused { OnErr result (self.new ≡ self.old) }
+    {
+        self.arrays.put(name, value)
+    }
+
+    /// How many names there are. No name stands twice.
+    pub fn len(&self) -> usize
+        ensures count { result ≡ length self.now }
+        ensures distinct { AreDistinct self.now }
+    {
+        self.arrays.len()
+    }
+
+    /// The name of pair `i`, counted from 0; `None` where there are at most `i` pairs.
+    pub fn name_at(&self, i: usize) -> Option<&Name>
+        ensures { option_copied result ≡ slice_get (names_of self.now) i }
+    {
+        self.arrays.name_at(i)
+    }
+
+    /// The array of a name; `None` where no pair has the name.
+    pub fn get(&self, name: &Name) -> Option<&Array>
+        ensures { option_copied result ≡ array_of self.now name.now }
+    {
+        self.arrays.get(name)
+    }
+}

@@ -1,0 +1,139 @@
+-- Answers of the descent: trees read part by part, where the last part or a stop is at hand.
+use Rattle.std.proofs.lemmas.List.{map_push}
+use Rattle.std.proofs.Common.{◌≡◌, ℕ, Bool, true, false, List, [], ◌∷◌, ◌++◌, map, refl, sym, ap, subst, ◌∙◌}
+use Rattle.dcx_shape.specs.declared.place.Place.{Place}
+use Rattle.dcx_frac.specs.declared.fraction.Frac.{Frac}
+use Rattle.dcx_tokens.specs.declared.token.Token.{Token}
+use Rattle.dcx_read.specs.declared.role.Role.{Role}
+use Rattle.dcx_read.specs.declared.role.Role.TheVariants as roles
+use Rattle.dcx_read.specs.declared.role.Bracket.TheVariants.{Round, Square, Curly}
+use Rattle.dcx_read.specs.declared.front.Stop.{Stop}
+use Rattle.dcx_read.specs.Role.{role_of}
+use Rattle.dcx_read.specs.Terminal.{Terminal, opens, terminal, terminals}
+use Rattle.dcx_read.specs.Expressions.{Primary, postfix, Trailers, args, args_end, no_args, Arg, Expr, items, items_end, no_items, Index, Indices, more_indices}
+use Rattle.dcx_read.specs.View.{chained, then_index, args_of, items_of, more_items_of}
+use Rattle.dcx_read.specs.Moves.{Symbol, Tree, move, leaf, expr_s, arg_s, args_s, more_args_s, items_s, more_items_s, indices_s, postfix_s, trailers_s, primary_s, args_behind, args_join, items_behind, items_join}
+use Rattle.dcx_read.specs.Steps.{Gives, Progress, Loop, StopsAt, Stops, Front, Lacks, starts_expr}
+use Rattle.dcx_read.specs.Leaves.{is_leaf}
+use Rattle.dcx_read.proofs.Progress.{front, begun, goes, joins, done, turns, stops}
+use Rattle.dcx_read.proofs.Rules.{item, begins_primary, primary-stops, primary-none, args-starts, args-comma, args-none, more_args-ends, items-starts, items-comma, items-none, more_items-ends}
+use Rattle.dcx_read.proofs.Loops.{pushed, loop-stops, args_after, args-more, args-last, args-none-behind, items_after, items-more, items-last, items-none-behind}
+
+-- the last part is read
+pub finish : (s p : Symbol) (us rest mid : List Terminal) (make : Tree p → Tree s) (x : Tree p) (y : Tree s) → Progress s us rest (p ∷ []) (λ ss f. front s ss (make f.0) f.1) → Gives p rest x mid → y ≡ make x → Gives s us y mid
+finish s p us rest mid make x y h g e = done s us mid (λ ss f. front s ss (make x) f) y (λ ss f. ap (λ z. front s ss z f) (sym e)) (goes s p us rest mid [] (λ ss f. front s ss (make f.0) f.1) x h g)
+
+-- a token at the front is all of a tree
+pub token-gives : (s : Symbol) (x : Tree s) (r : Role) (p : Place) (source : List ℕ) (ts rest : List Token) → Front r p ts rest → ((bytes : List ℕ) → move s (terminal r bytes p) ≡ leaf s x) → Gives s (terminals source ts) x (terminals source rest)
+token-gives s x r p source ts rest f m = record { reads = (item s r p source ts rest [] (λ ss g. front s ss x g) f m).reads }
+
+-- an item of a repetition, seen otherwise
+pub loop-is : (s s' : Symbol) (us rest : List Terminal) (g g' : Tree s' → Tree s) → Loop s s' us rest g → g' ≡ g → Loop s s' us rest g'
+loop-is s s' us rest g g' h e = subst (λ (k : Tree s' → Tree s). Loop s s' us rest k) (sym e) h
+
+pub loop-same : (s s' : Symbol) (us rest : List Terminal) (g g' : Tree s' → Tree s) → Loop s s' us rest g → ((x : Tree s') → g x ≡ g' x) → Loop s s' us rest g'
+loop-same s s' us rest g g' h e = joins s us rest (s' ∷ []) (λ ss f. front s ss (g f.0) f.1) (λ ss f. front s ss (g' f.0) f.1) (λ ss f. ap (λ z. front s ss z f.1) (e f.0)) h
+
+-- a trailer that is seen as this one
+pub trailer-is : (us rest : List Terminal) (g g' : Trailers → Trailers) → Loop trailers_s trailers_s us rest g → g' ≡ g → Loop trailers_s trailers_s us rest g'
+trailer-is us rest g g' h e = loop-is trailers_s trailers_s us rest g g' h e
+
+not-leaf-role : (r : Role) → (r ≡ roles.Name → ⊥) → ((v : Frac) → r ≡ roles.Number v → ⊥) → (r ≡ roles.Text → ⊥) → ((b : Bool) → r ≡ roles.Truth b → ⊥) → (r ≡ roles.None → ⊥) → is_leaf r ≡ false
+not-leaf-role roles.Name a b c d e = absurd (a refl)
+not-leaf-role (roles.Number n) a b c d e = absurd (b n refl)
+not-leaf-role roles.Text a b c d e = absurd (c refl)
+not-leaf-role (roles.Truth t) a b c d e = absurd (d t refl)
+not-leaf-role roles.None a b c d e = absurd (e refl)
+not-leaf-role r a b c d e = refl
+
+pub not-leaf : (ts : List Token) → Lacks roles.Name ts → ((v : Frac) → Lacks (roles.Number v) ts) → Lacks roles.Text ts → ((v : Bool) → Lacks (roles.Truth v) ts) → Lacks roles.None ts → (t : Token) (rest : List Token) → ts ≡ t ∷ rest → is_leaf (role_of t.kind) ≡ false
+not-leaf ts a b c d e t rest h = not-leaf-role (role_of t.kind) (a t rest h) (λ v. b v t rest h) (c t rest h) (λ v. d v t rest h) (e t rest h)
+
+no-primary-role : (r : Role) → is_leaf r ≡ false → (r ≡ roles.Opens Round → ⊥) → (r ≡ roles.Opens Square → ⊥) → begins_primary r ≡ false
+no-primary-role (roles.Opens Round) l a b = absurd (a refl)
+no-primary-role (roles.Opens Square) l a b = absurd (b refl)
+no-primary-role (roles.Opens Curly) l a b = refl
+no-primary-role roles.Name l a b = absurd cc
+no-primary-role (roles.Number n) l a b = absurd cc
+no-primary-role roles.Text l a b = absurd cc
+no-primary-role (roles.Truth t) l a b = absurd cc
+no-primary-role roles.None l a b = absurd cc
+no-primary-role r l a b = refl
+
+pub no-primary : (source : List ℕ) (ts : List Token) → ((t : Token) (rest : List Token) → ts ≡ t ∷ rest → is_leaf (role_of t.kind) ≡ false) → Lacks (roles.Opens Round) ts → Lacks (roles.Opens Square) ts → StopsAt primary_s (terminals source ts) (terminals source ts)
+no-primary source [] l a b = primary-none source [] refl
+no-primary source (t ∷ ts) l a b = primary-stops source (t ∷ ts) ts t refl (no-primary-role (role_of t.kind) (l t ts refl) (a t ts refl) (b t ts refl))
+
+-- a bracket at the front
+pub front-opens-round : (source : List ℕ) (p : Place) (ts rest : List Token) → Front (roles.Opens Round) p ts rest → terminals source ts ≡ opens Round p ∷ terminals source rest
+front-opens-round source p ts rest f = ap (terminals source) f.parts ∙ rw (f.role, f.at) refl
+
+pub front-opens-square : (source : List ℕ) (p : Place) (ts rest : List Token) → Front (roles.Opens Square) p ts rest → terminals source ts ≡ opens Square p ∷ terminals source rest
+front-opens-square source p ts rest f = ap (terminals source) f.parts ∙ rw (f.role, f.at) refl
+
+-- the items behind a comma of a list
+pub list-items : {C : Type 0} (view : C → Expr) (xs : List C) (comma : Bool) → (xs ≡ [] → comma ≡ true) → items_behind (items_of (map view xs) comma) ≡ more_items_of (map view xs) comma
+list-items view [] comma h = rw (h refl) refl
+list-items view (x ∷ xs) comma h = refl
+
+-- one item more is read
+pub loop-turn : (s s' : Symbol) (us rest mid : List Terminal) (complete complete' : Tree s' → Tree s) (g : Tree s' → Tree s') → Loop s s' us rest complete → Loop s' s' rest mid g → ((y : Tree s') → complete (g y) ≡ complete' y) → Loop s s' us mid complete'
+loop-turn s s' us rest mid complete complete' g l h e = loop-same s s' us mid (λ y. complete (g y)) complete' (turns s s' us rest mid (s' ∷ []) complete (λ ss f. front s' ss (g f.0) f.1) l h) e
+
+pub indices-begun : {C : Type 0} (view : C → Index) (none : List C) (us : List Terminal) → none ≡ [] → Loop indices_s indices_s us us (λ a. chained (map then_index (map view none)) a)
+indices-begun view none us e = rw e (begun indices_s us)
+
+pub indices-pushed : {C : Type 0} (view : C → Index) (new old : List C) (y : C) → new ≡ old ++ y ∷ [] → (a : Indices) → chained (map then_index (map view new)) a ≡ chained (map then_index (map view old)) (more_indices (view y) a)
+indices-pushed view new old y e a = rw e (rw map_push (pushed then_index (map view old ++ view y ∷ []) (map view old) (view y) (then_index (view y)) refl refl a))
+
+pub args-begun : {C : Type 0} (view : C → Arg) (none : List C) (us : List Terminal) → none ≡ [] → Loop args_s args_s us us (args_after (map view none))
+args-begun view none us e = loop-same args_s args_s us us (λ a. a) (args_after (map view none)) (begun args_s us) (λ a. rw e refl)
+
+pub items-begun : {C : Type 0} (view : C → Expr) (none : List C) (us : List Terminal) → none ≡ [] → Loop items_s items_s us us (items_after (map view none))
+items-begun view none us e = loop-same items_s items_s us us (λ a. a) (items_after (map view none)) (begun items_s us) (λ a. rw e refl)
+
+-- an argument, and what may follow it
+module _ {C : Type 0} (source : List ℕ) (us : List Terminal) (ts : List Token) (view : C → Arg) (old : List C) (l : Loop args_s args_s us (terminals source ts) (args_after (map view old))) where
+  pub args-stop : starts_expr ts ≡ true → (e : Stop) → Stops arg_s source (terminals source ts) e → Stops args_s source us e
+  args-stop b e h = loop-stops args_s args_s us (terminals source ts) (args_after (map view old)) source e l (stops args_s arg_s (terminals source ts) (terminals source ts) (more_args_s ∷ []) args_join source e (args-starts source ts b) h)
+
+  pub args-step : (behind next : List Token) (y : C) (new : List C) (p : Place) → starts_expr ts ≡ true → Gives arg_s (terminals source ts) (view y) (terminals source behind) → Front roles.Comma p behind next → new ≡ old ++ y ∷ [] → Loop args_s args_s us (terminals source next) (args_after (map view new))
+  args-step behind next y new p b g f n =
+      loop-turn args_s args_s us (terminals source ts) (terminals source next) (args_after (map view old)) (args_after (map view new)) (λ a. args (view y) (args_behind a)) l
+      (turns args_s more_args_s (terminals source ts) (terminals source behind) (terminals source next) (args_s ∷ []) (λ a. args (view y) a) (λ ss f. front more_args_s ss (args_behind f.0) f.1)
+      (goes args_s arg_s (terminals source ts) (terminals source ts) (terminals source behind) (more_args_s ∷ []) args_join (view y) (args-starts source ts b) g) (args-comma source behind next p f))
+      (λ a. args-more view new old y n a)
+
+  pub args-last-one : (behind : List Token) (y : C) (new : List C) → starts_expr ts ≡ true → Gives arg_s (terminals source ts) (view y) (terminals source behind) → Lacks roles.Comma behind → new ≡ old ++ y ∷ [] → Gives args_s us (args_of (map view new) false) (terminals source behind)
+  args-last-one behind y new b g f n =
+      finish args_s args_s us (terminals source ts) (terminals source behind) (args_after (map view old)) (args (view y) args_end) (args_of (map view new) false) l
+      (finish args_s more_args_s (terminals source ts) (terminals source behind) (terminals source behind) (λ a. args (view y) a) args_end (args (view y) args_end) (goes args_s arg_s (terminals source ts) (terminals source ts) (terminals source behind) (more_args_s ∷ []) args_join (view y) (args-starts source ts b) g) (more_args-ends source behind f) refl)
+      (args-last view new old y n)
+
+  pub args-close : starts_expr ts ≡ false → Gives args_s us (args_of (map view old) true) (terminals source ts)
+  args-close b = finish args_s args_s us (terminals source ts) (terminals source ts) (args_after (map view old)) no_args (args_of (map view old) true) l (args-none source ts b) (args-none-behind (map view old))
+
+-- an item, and what may follow it
+module _ {C : Type 0} (source : List ℕ) (us : List Terminal) (ts : List Token) (view : C → Expr) (old : List C) (l : Loop items_s items_s us (terminals source ts) (items_after (map view old))) where
+  pub items-stop : starts_expr ts ≡ true → (e : Stop) → Stops expr_s source (terminals source ts) e → Stops items_s source us e
+  items-stop b e h = loop-stops items_s items_s us (terminals source ts) (items_after (map view old)) source e l (stops items_s expr_s (terminals source ts) (terminals source ts) (more_items_s ∷ []) items_join source e (items-starts source ts b) h)
+
+  pub items-step : (behind next : List Token) (y : C) (new : List C) (p : Place) → starts_expr ts ≡ true → Gives expr_s (terminals source ts) (view y) (terminals source behind) → Front roles.Comma p behind next → new ≡ old ++ y ∷ [] → Loop items_s items_s us (terminals source next) (items_after (map view new))
+  items-step behind next y new p b g f n =
+      loop-turn items_s items_s us (terminals source ts) (terminals source next) (items_after (map view old)) (items_after (map view new)) (λ a. items (view y) (items_behind a)) l
+      (turns items_s more_items_s (terminals source ts) (terminals source behind) (terminals source next) (items_s ∷ []) (λ a. items (view y) a) (λ ss f. front more_items_s ss (items_behind f.0) f.1)
+      (goes items_s expr_s (terminals source ts) (terminals source ts) (terminals source behind) (more_items_s ∷ []) items_join (view y) (items-starts source ts b) g) (items-comma source behind next p f))
+      (λ a. items-more view new old y n a)
+
+  pub items-last-one : (behind : List Token) (y : C) (new : List C) → starts_expr ts ≡ true → Gives expr_s (terminals source ts) (view y) (terminals source behind) → Lacks roles.Comma behind → new ≡ old ++ y ∷ [] → Gives items_s us (items_of (map view new) false) (terminals source behind)
+  items-last-one behind y new b g f n =
+      finish items_s items_s us (terminals source ts) (terminals source behind) (items_after (map view old)) (items (view y) items_end) (items_of (map view new) false) l
+      (finish items_s more_items_s (terminals source ts) (terminals source behind) (terminals source behind) (λ a. items (view y) a) items_end (items (view y) items_end) (goes items_s expr_s (terminals source ts) (terminals source ts) (terminals source behind) (more_items_s ∷ []) items_join (view y) (items-starts source ts b) g) (more_items-ends source behind f) refl)
+      (items-last view new old y n)
+
+  pub items-close : starts_expr ts ≡ false → Gives items_s us (items_of (map view old) true) (terminals source ts)
+  items-close b = finish items_s items_s us (terminals source ts) (terminals source ts) (items_after (map view old)) no_items (items_of (map view old) true) l (items-none source ts b) (items-none-behind (map view old))
+
+-- a trailer more is read
+pub trailers-step : {C : Type 0} (us rest mid : List Terminal) (x : Primary) (view : C → Trailers → Trailers) (old new : List C) (y : C) → Loop postfix_s trailers_s us rest (λ a. postfix x (chained (map view old) a)) → Loop trailers_s trailers_s rest mid (view y) → new ≡ old ++ y ∷ [] → Loop postfix_s trailers_s us mid (λ a. postfix x (chained (map view new) a))
+trailers-step us rest mid x view old new y l h e = loop-turn postfix_s trailers_s us rest mid (λ a. postfix x (chained (map view old) a)) (λ a. postfix x (chained (map view new) a)) (view y) l h (λ a. ap (postfix x) (sym (pushed view new old y (view y) e refl a)))

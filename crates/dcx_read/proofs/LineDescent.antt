@@ -1,0 +1,84 @@
+-- Answers of the descent over lines.
+use Rattle.std.proofs.Common.{◌≡◌, ◌⊎◌, inl, inr, ℕ, true, false, List, [], ◌∷◌, ◌++◌, map, refl, sym, ap, ◌∙◌}
+use Rattle.std.proofs.lemmas.List.{map_push}
+use Rattle.dcx_shape.specs.declared.place.Place.{Place}
+use Rattle.dcx_tokens.specs.declared.token.Token.{Token}
+use Rattle.dcx_read.specs.declared.role.Role.TheVariants as roles
+use Rattle.dcx_read.specs.declared.role.Bracket.{Bracket}
+use Rattle.dcx_read.specs.declared.front.Stop.{Stop}
+use Rattle.dcx_read.specs.Terminal.{Terminal, terminals}
+use Rattle.dcx_read.specs.Expressions.{Expr}
+use Rattle.dcx_read.specs.Statements.{Balanced, nothing, within, Line, Lines, no_lines, lines, trimmed, trimmed_all}
+use Rattle.dcx_read.specs.View.{chained}
+use Rattle.dcx_read.specs.Moves.{Symbol, expr_s, newline_s, balanced_s, closes_s, line_s, lines_s, lines_join, Tree}
+use Rattle.dcx_read.specs.Steps.{Gives, Progress, Loop, Stops, Front, FrontOf, Refuses}
+use Rattle.dcx_read.specs.Lines.{FrontPlain, LacksPlain, BalancedTo, then_line, lines_of, starts_line}
+use Rattle.dcx_read.specs.Steps.{Lacks}
+use Rattle.dcx_read.proofs.Progress.{front, begun, goes, stops}
+use Rattle.dcx_read.proofs.Loops.{pushed, loop-stops}
+use Rattle.dcx_read.proofs.Descent.{finish, loop-turn}
+use Rattle.dcx_read.proofs.LineRules.{balanced-plain, balanced-opens, balanced-ends, closes-gives, closes-stops, lines-starts, lines-none}
+
+-- an expression and the line's end are the last parts
+pub ended-gives : (s : Symbol) (source : List ℕ) (us : List Terminal) (ts rest : List Token) (make : Expr → Tree s) (x : Expr) → Progress s us (terminals source ts) (expr_s ∷ newline_s ∷ []) (λ ss f. front s ss (make f.0) f.1.1)
+    → (mid : List Token) × (Gives expr_s (terminals source ts) x (terminals source mid) × Gives newline_s (terminals source mid) tt (terminals source rest)) → Gives s us (make x) (terminals source rest)
+ended-gives s source us ts rest make x h g = finish s newline_s us (terminals source g.0) (terminals source rest) (λ u. make x) tt (make x) (goes s expr_s us (terminals source ts) (terminals source g.0) (newline_s ∷ []) (λ ss f. front s ss (make f.0) f.1.1) x h g.1.0) g.1.1 refl
+
+pub ended-stops : (s : Symbol) (source : List ℕ) (us : List Terminal) (ts : List Token) (make : Expr → Tree s) (e : Stop) → Progress s us (terminals source ts) (expr_s ∷ newline_s ∷ []) (λ ss f. front s ss (make f.0) f.1.1)
+    → Stops expr_s source (terminals source ts) e ⊎ ((x : Expr) × ((mid : List Token) × (Gives expr_s (terminals source ts) x (terminals source mid) × Stops newline_s source (terminals source mid) e))) → Stops s source us e
+ended-stops s source us ts make e h (inl k) = stops s expr_s us (terminals source ts) (newline_s ∷ []) (λ ss f. front s ss (make f.0) f.1.1) source e h k
+ended-stops s source us ts make e h (inr k) = stops s newline_s us (terminals source k.1.0) [] (λ ss f. front s ss (make k.0) f.1) source e (goes s expr_s us (terminals source ts) (terminals source k.1.0) (newline_s ∷ []) (λ ss f. front s ss (make f.0) f.1.1) k.0 h k.1.1.0) k.1.1.1
+
+-- tokens whose brackets match, one piece after the other
+pub balanced-none : (source : List ℕ) (ts : List Token) → BalancedTo source ts ts
+balanced-none source ts = record { put = λ x. x; reads = begun balanced_s (terminals source ts) }
+
+pub balanced-join : (source : List ℕ) (ts mid rest : List Token) → BalancedTo source ts mid → BalancedTo source mid rest → BalancedTo source ts rest
+balanced-join source ts mid rest a b = record { put = λ x. a.put (b.put x); reads = loop-turn balanced_s balanced_s (terminals source ts) (terminals source mid) (terminals source rest) a.put (λ x. a.put (b.put x)) b.put a.reads b.reads (λ y. refl) }
+
+pub balanced-beside : (source : List ℕ) (ts mid rest : List Token) → BalancedTo source ts mid → FrontPlain mid rest → BalancedTo source ts rest
+balanced-beside source ts mid rest a f = let p = balanced-plain source mid rest f in balanced-join source ts mid rest a (record { put = _; reads = p.1 })
+
+module _ (source : List ℕ) (ts mid inside : List Token) (b : Bracket) (p : Place) (h : BalancedTo source ts mid) (f : Front (roles.Opens b) p mid inside) where
+  pub inner-stops : (e : Stop) → Stops balanced_s source (terminals source inside) e → Stops balanced_s source (terminals source ts) e
+  inner-stops e k = loop-stops balanced_s balanced_s (terminals source ts) (terminals source mid) h.put source e h.reads (stops balanced_s balanced_s (terminals source mid) (terminals source inside) (closes_s b ∷ balanced_s ∷ []) (λ ss g. front balanced_s ss (within b p g.0 g.1.1.0) g.1.1.1) source e (balanced-opens source mid inside b p f) k)
+
+  after-inner : (closing : List Token) (x : Balanced) → Gives balanced_s (terminals source inside) x (terminals source closing) → Progress balanced_s (terminals source mid) (terminals source closing) (closes_s b ∷ balanced_s ∷ []) (λ ss g. front balanced_s ss (within b p x g.1.0) g.1.1)
+  after-inner closing x g = goes balanced_s balanced_s (terminals source mid) (terminals source inside) (terminals source closing) (closes_s b ∷ balanced_s ∷ []) (λ ss g. front balanced_s ss (within b p g.0 g.1.1.0) g.1.1.1) x (balanced-opens source mid inside b p f) g
+
+  pub unclosed-stops : (closing : List Token) (e : Stop) → (x : Balanced) × Gives balanced_s (terminals source inside) x (terminals source closing) → Refuses (roles.Closes b) closing e → Stops balanced_s source (terminals source ts) e
+  unclosed-stops closing e g k = loop-stops balanced_s balanced_s (terminals source ts) (terminals source mid) h.put source e h.reads (stops balanced_s (closes_s b) (terminals source mid) (terminals source closing) (balanced_s ∷ []) (λ ss y. front balanced_s ss (within b p g.0 y.1.0) y.1.1) source e (after-inner closing g.0 g.1) (closes-stops b source closing e k))
+
+  pub balanced-within : (closing behind : List Token) → (x : Balanced) × Gives balanced_s (terminals source inside) x (terminals source closing) → FrontOf (roles.Closes b) closing behind → BalancedTo source ts behind
+  balanced-within closing behind g k =
+      balanced-join source ts mid behind h (record { put = λ y. within b p g.0 y; reads = goes balanced_s (closes_s b) (terminals source mid) (terminals source closing) (terminals source behind) (balanced_s ∷ []) (λ ss y. front balanced_s ss (within b p g.0 y.1.0) y.1.1) tt (after-inner closing g.0 g.1) (closes-gives b source closing behind k) })
+
+pub balanced-done : (source : List ℕ) (ts rest : List Token) → BalancedTo source ts rest → LacksPlain rest → ((b : Bracket) → Lacks (roles.Opens b) rest) → (x : Balanced) × Gives balanced_s (terminals source ts) x (terminals source rest)
+balanced-done source ts rest h a n = (h.put nothing, finish balanced_s balanced_s (terminals source ts) (terminals source rest) (terminals source rest) h.put nothing (h.put nothing) h.reads (balanced-ends source rest a n) refl)
+
+-- lines, one after the other, of which some is kept
+pub record LinesTo (us rest : List Terminal) (kept : Lines → Lines) : Type 0 where
+  pub put : Lines → Lines
+  pub reads : Loop lines_s lines_s us rest put
+  pub same : (y : Lines) → trimmed_all (put y) ≡ kept (trimmed_all y)
+
+pub lines-begun : {C : Type 0} (view : C → Line) (none : List C) (us : List Terminal) → none ≡ [] → LinesTo us us (chained (map then_line (map view none)))
+lines-begun view none us e = record { put = λ y. y; reads = begun lines_s us; same = λ y. rw e refl }
+
+lines-pushed : {C : Type 0} (view : C → Line) (new old : List C) (y : C) → new ≡ old ++ y ∷ [] → (a : Lines) → chained (map then_line (map view new)) a ≡ chained (map then_line (map view old)) (lines (view y) a)
+lines-pushed view new old y e a = rw e (rw map_push (pushed then_line (map view old ++ view y ∷ []) (map view old) (view y) (then_line (view y)) refl refl a))
+
+module _ {C : Type 0} (source : List ℕ) (us : List Terminal) (ts : List Token) (view : C → Line) (old : List C) (l : LinesTo us (terminals source ts) (chained (map then_line (map view old)))) where
+  pub lines-step : (behind : List Token) (y : C) (new : List C) → starts_line ts ≡ true → (t : Line) × (Gives line_s (terminals source ts) t (terminals source behind) × (view y ≡ trimmed t)) → new ≡ old ++ y ∷ [] → LinesTo us (terminals source behind) (chained (map then_line (map view new)))
+  lines-step behind y new b g n = record {
+    put = λ z. l.put (lines g.0 z);
+    reads = loop-turn lines_s lines_s us (terminals source ts) (terminals source behind) l.put (λ z. l.put (lines g.0 z)) (lines g.0) l.reads
+        (goes lines_s line_s (terminals source ts) (terminals source ts) (terminals source behind) (lines_s ∷ []) lines_join g.0 (lines-starts source ts b) g.1.0) (λ z. refl);
+    same = λ z. l.same (lines g.0 z) ∙ ap (λ x. chained (map then_line (map view old)) (lines x (trimmed_all z))) (sym g.1.1) ∙ sym (lines-pushed view new old y n (trimmed_all z));
+  }
+
+  pub lines-stop : starts_line ts ≡ true → (e : Stop) → Stops line_s source (terminals source ts) e → Stops lines_s source us e
+  lines-stop b e k = loop-stops lines_s lines_s us (terminals source ts) l.put source e l.reads (stops lines_s line_s (terminals source ts) (terminals source ts) (lines_s ∷ []) lines_join source e (lines-starts source ts b) k)
+
+  pub lines-done : starts_line ts ≡ false → (t : Lines) × (Gives lines_s us t (terminals source ts) × (lines_of (map view old) ≡ trimmed_all t))
+  lines-done b = (l.put no_lines, (finish lines_s lines_s us (terminals source ts) (terminals source ts) l.put no_lines (l.put no_lines) l.reads (lines-none source ts b) refl, sym (l.same no_lines)))

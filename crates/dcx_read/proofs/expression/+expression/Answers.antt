@@ -1,0 +1,498 @@
+-- What each answer of the descent is read from.
+use Rattle.std.proofs.Common.{arith, Ok, IfSome, ◌∙◌, ◌<◌, false, [], ◌∷◌, length, map, refl, sym, ap, subst}
+use Rattle.std.proofs.lemmas.Result.{err_from_is_err_and}
+use Rattle.dcx_read.specs.declared.role.Bracket.TheVariants.{Round, Square}
+use Rattle.dcx_read.specs.Terminal.{terminals, opens, plain, named_by}
+use Rattle.dcx_read.specs.Terminal as marks_of
+use Rattle.dcx_read.specs.Expressions.{expr, compared, no_comparison, sum, added, no_addition, term, scaled, no_scaling, power_of, raised, no_power, exponent, postfix, no_trailer, attribute, call, indexed, no_index, more_indices, by_name, by_place, slice, absent, present, step, list, items_end}
+use Rattle.dcx_read.specs.View.{args_of, items_of, more_items_of, indices_of, arg_view, index_view, primary_view, step_view, trailer_view, added_view, compared_view, expr_view, factor_view, postfix_view, power_view, raised_view, scaled_view, sum_view, term_view, optional_view}
+use Rattle.dcx_read.specs.Moves.{expr_s, compared_s, sum_s, added_s, term_s, scaled_s, factor_s, power_s, raised_s, exponent_s, postfix_s, trailers_s, args_s, arg_s, indices_s, index_s, after_index_s, optional_s, step_s, primary_s, after_round_s, after_square_s, items_s, name_s, in_s, closes_s, as_index, no_slice, slices, as_round, round_holds, round_closed, round_goes_on, as_square, square_holds, square_lists, square_for, items_behind}
+use Rattle.dcx_read.specs.Steps.{ReadsOne}
+use Rattle.dcx_read.specs.Leaves.{ReadsLeaf}
+use Rattle.dcx_read.proofs.Progress.{goes, stops, gives-is, loop-done}
+use Rattle.dcx_read.proofs.Rules.{expr-rule, sum-rule, term-rule, power-rule, postfix-rule, compared-item, compared-ends, added-item, added-ends, scaled-item, scaled-ends, raised-item, raised-ends, attribute-item, call-item, indexed-item, trailers-end, indices-item, indices-ends, closes_round-gives, closes_round-stops, closes_square-gives, closes_square-stops, in-gives, in-stops, arg-named, arg-place, index-colon, index-rule, after_index-ends, after_index-colon, args-none, optional-none, optional-starts, step-ends, step-colon, round-empty, round-rule, after_round-closes, after_round-stops, after_round-comma, square-empty, square-rule, after_square-closes, after_square-stops, after_square-comma, after_square-for, for-front}
+use Rattle.dcx_read.proofs.Loops.{pushed, none-yet, loop-begin, loop-next, loop-stops, factor-gives, factor-stops, exponent-gives, exponent-stops}
+use Rattle.dcx_read.proofs.Descent.{finish, trailer-is, no-primary, front-opens-round, front-opens-square, list-items, trailers-step, indices-begun, indices-pushed, args-begun, args-stop, args-step, args-last-one, args-close, items-begun, items-stop, items-step, items-last-one, items-close}
+use Rattle.dcx_read.proofs.expression.+expression.Goals as goal
+
+pub expr-returns-in_err-first-clause-read : goal.expr-returns-in_err-first-clause-read
+expr-returns-in_err-first-clause-read t c =
+    let p = err_from_is_err_and c.from_residual.result c.from_residual.ensures.1 in
+    rw (p.1, p.2) (stops expr_s sum_s (terminals c.args.text.now c.args.tokens.now) (terminals c.args.text.now c.args.tokens.now) (compared_s ∷ []) _ c.args.text.now c.in_err-first.field-0.0 (expr-rule (terminals c.args.text.now c.args.tokens.now)) c.in_err-first.ensures.read)
+
+pub expr-more-init : goal.expr-more-init
+expr-more-init t c =
+    (loop-begin expr_s compared_s sum_s (terminals c.args.text.now c.args.tokens.now) (terminals c.args.text.now c.in_ok-first.behind.now) expr (sum_view c.in_ok-first.first) _ (expr-rule (terminals c.args.text.now c.args.tokens.now)) c.in_ok-first.ensures.read (λ y. ap (expr (sum_view c.in_ok-first.first)) (sym (none-yet compared_view _ c.new-others.ensures.items y))), c.in_ok-first.ensures.shorter)
+
+pub expr-returns-in_err-operand-clause-read : goal.expr-returns-in_err-operand-clause-read
+expr-returns-in_err-operand-clause-read t c =
+    let p = err_from_is_err_and c.from_residual-in_err-operand.result c.from_residual-in_err-operand.ensures.1 in
+    rw (p.1, p.2) (loop-stops expr_s compared_s (terminals c.args.text.now c.args.tokens.now) (terminals c.args.text.now c.more.rest.now) _ c.args.text.now c.in_err-operand.field-0.0 c.more.invariant.0 (stops compared_s sum_s (terminals c.args.text.now c.more.rest.now) (terminals c.args.text.now c.in-Some.after.now) (compared_s ∷ []) _ c.args.text.now c.in_err-operand.field-0.0 (compared-item c.args.text.now c.more.rest.now c.in-Some.after.now c.in-Some.comparison c.in-Some.place c.in-Some.ensures.front) c.in_err-operand.ensures.read))
+
+pub expr-more-smaller : goal.expr-more-smaller
+expr-more-smaller t c =
+    let a = c.in-Some.ensures.shorter in let b = c.in_ok-operand.ensures.shorter in let i = c.more.invariant.1 in omega (arith, a, b, i)
+
+pub expr-more-preserved : goal.expr-more-preserved
+expr-more-preserved t c =
+    (loop-next expr_s compared_s sum_s (terminals c.args.text.now c.args.tokens.now) (terminals c.args.text.now c.more.rest.now) (terminals c.args.text.now c.in-Some.after.now) (terminals c.args.text.now c.in_ok-operand.next.now) _ _ (compared c.in-Some.comparison c.in-Some.place) (sum_view c.in_ok-operand.operand) c.more.invariant.0 (compared-item c.args.text.now c.more.rest.now c.in-Some.after.now c.in-Some.comparison c.in-Some.place c.in-Some.ensures.front) c.in_ok-operand.ensures.read (λ y. ap (expr (sum_view c.in_ok-first.first)) (sym (pushed compared_view _ _ _ _ c.in_ok-push.ensures.items c.compared_of.ensures y))), let a = c.in-Some.ensures.shorter in let b = c.in_ok-operand.ensures.shorter in let i = c.more.invariant.1 in omega (arith, a, b, i))
+
+pub expr-returns-clause-read : goal.expr-returns-clause-read
+expr-returns-clause-read t c =
+    loop-done expr_s compared_s (terminals c.args.text.now c.args.tokens.now) (terminals c.args.text.now c.more.rest.now) _ no_comparison _ c.more.invariant.0 (compared-ends c.args.text.now c.more.rest.now c.in_default.ensures.front) c.expr_of.ensures
+
+pub expr-returns-clause-shorter : goal.expr-returns-clause-shorter
+expr-returns-clause-shorter t c =
+    c.more.invariant.1
+
+pub sum-returns-in_err-first-clause-read : goal.sum-returns-in_err-first-clause-read
+sum-returns-in_err-first-clause-read t c =
+    let p = err_from_is_err_and c.from_residual.result c.from_residual.ensures.1 in
+    rw (p.1, p.2) (stops sum_s term_s (terminals c.args.text.now c.args.tokens.now) (terminals c.args.text.now c.args.tokens.now) (added_s ∷ []) _ c.args.text.now c.in_err-first.field-0.0 (sum-rule (terminals c.args.text.now c.args.tokens.now)) c.in_err-first.ensures.read)
+
+pub sum-more-init : goal.sum-more-init
+sum-more-init t c =
+    (loop-begin sum_s added_s term_s (terminals c.args.text.now c.args.tokens.now) (terminals c.args.text.now c.in_ok-first.behind.now) sum (term_view c.in_ok-first.first) _ (sum-rule (terminals c.args.text.now c.args.tokens.now)) c.in_ok-first.ensures.read (λ y. ap (sum (term_view c.in_ok-first.first)) (sym (none-yet added_view _ c.new-others.ensures.items y))), c.in_ok-first.ensures.shorter)
+
+pub sum-returns-in_err-operand-clause-read : goal.sum-returns-in_err-operand-clause-read
+sum-returns-in_err-operand-clause-read t c =
+    let p = err_from_is_err_and c.from_residual-in_err-operand.result c.from_residual-in_err-operand.ensures.1 in
+    rw (p.1, p.2) (loop-stops sum_s added_s (terminals c.args.text.now c.args.tokens.now) (terminals c.args.text.now c.more.rest.now) _ c.args.text.now c.in_err-operand.field-0.0 c.more.invariant.0 (stops added_s term_s (terminals c.args.text.now c.more.rest.now) (terminals c.args.text.now c.in-Some.after.now) (added_s ∷ []) _ c.args.text.now c.in_err-operand.field-0.0 (added-item c.args.text.now c.more.rest.now c.in-Some.after.now c.in-Some.sign c.in-Some.place c.in-Some.ensures.front) c.in_err-operand.ensures.read))
+
+pub sum-more-smaller : goal.sum-more-smaller
+sum-more-smaller t c =
+    let a = c.in-Some.ensures.shorter in let b = c.in_ok-operand.ensures.shorter in let i = c.more.invariant.1 in omega (arith, a, b, i)
+
+pub sum-more-preserved : goal.sum-more-preserved
+sum-more-preserved t c =
+    (loop-next sum_s added_s term_s (terminals c.args.text.now c.args.tokens.now) (terminals c.args.text.now c.more.rest.now) (terminals c.args.text.now c.in-Some.after.now) (terminals c.args.text.now c.in_ok-operand.next.now) _ _ (added c.in-Some.sign c.in-Some.place) (term_view c.in_ok-operand.operand) c.more.invariant.0 (added-item c.args.text.now c.more.rest.now c.in-Some.after.now c.in-Some.sign c.in-Some.place c.in-Some.ensures.front) c.in_ok-operand.ensures.read (λ y. ap (sum (term_view c.in_ok-first.first)) (sym (pushed added_view _ _ _ _ c.in_ok-push.ensures.items c.added_of.ensures y))), let a = c.in-Some.ensures.shorter in let b = c.in_ok-operand.ensures.shorter in let i = c.more.invariant.1 in omega (arith, a, b, i))
+
+pub sum-returns-clause-read : goal.sum-returns-clause-read
+sum-returns-clause-read t c =
+    loop-done sum_s added_s (terminals c.args.text.now c.args.tokens.now) (terminals c.args.text.now c.more.rest.now) _ no_addition _ c.more.invariant.0 (added-ends c.args.text.now c.more.rest.now c.in_default.ensures.front) c.sum_of.ensures
+
+pub sum-returns-clause-shorter : goal.sum-returns-clause-shorter
+sum-returns-clause-shorter t c =
+    c.more.invariant.1
+
+pub term-returns-in_err-first-clause-read : goal.term-returns-in_err-first-clause-read
+term-returns-in_err-first-clause-read t c =
+    let p = err_from_is_err_and c.from_residual.result c.from_residual.ensures.1 in
+    rw (p.1, p.2) (stops term_s factor_s (terminals c.args.text.now c.args.tokens.now) (terminals c.args.text.now c.args.tokens.now) (scaled_s ∷ []) _ c.args.text.now c.in_err-first.field-0.0 (term-rule (terminals c.args.text.now c.args.tokens.now)) c.in_err-first.ensures.read)
+
+pub term-more-init : goal.term-more-init
+term-more-init t c =
+    (loop-begin term_s scaled_s factor_s (terminals c.args.text.now c.args.tokens.now) (terminals c.args.text.now c.in_ok-first.behind.now) term (factor_view c.in_ok-first.first) _ (term-rule (terminals c.args.text.now c.args.tokens.now)) c.in_ok-first.ensures.read (λ y. ap (term (factor_view c.in_ok-first.first)) (sym (none-yet scaled_view _ c.new-others.ensures.items y))), c.in_ok-first.ensures.shorter)
+
+pub term-returns-in_err-operand-clause-read : goal.term-returns-in_err-operand-clause-read
+term-returns-in_err-operand-clause-read t c =
+    let p = err_from_is_err_and c.from_residual-in_err-operand.result c.from_residual-in_err-operand.ensures.1 in
+    rw (p.1, p.2) (loop-stops term_s scaled_s (terminals c.args.text.now c.args.tokens.now) (terminals c.args.text.now c.more.rest.now) _ c.args.text.now c.in_err-operand.field-0.0 c.more.invariant.0 (stops scaled_s factor_s (terminals c.args.text.now c.more.rest.now) (terminals c.args.text.now c.in-Some.after.now) (scaled_s ∷ []) _ c.args.text.now c.in_err-operand.field-0.0 (scaled-item c.args.text.now c.more.rest.now c.in-Some.after.now c.in-Some.scaling c.in-Some.place c.in-Some.ensures.front) c.in_err-operand.ensures.read))
+
+pub term-more-smaller : goal.term-more-smaller
+term-more-smaller t c =
+    let a = c.in-Some.ensures.shorter in let b = c.in_ok-operand.ensures.shorter in let i = c.more.invariant.1 in omega (arith, a, b, i)
+
+pub term-more-preserved : goal.term-more-preserved
+term-more-preserved t c =
+    (loop-next term_s scaled_s factor_s (terminals c.args.text.now c.args.tokens.now) (terminals c.args.text.now c.more.rest.now) (terminals c.args.text.now c.in-Some.after.now) (terminals c.args.text.now c.in_ok-operand.next.now) _ _ (scaled c.in-Some.scaling c.in-Some.place) (factor_view c.in_ok-operand.operand) c.more.invariant.0 (scaled-item c.args.text.now c.more.rest.now c.in-Some.after.now c.in-Some.scaling c.in-Some.place c.in-Some.ensures.front) c.in_ok-operand.ensures.read (λ y. ap (term (factor_view c.in_ok-first.first)) (sym (pushed scaled_view _ _ _ _ c.in_ok-push.ensures.items c.scaled_of.ensures y))), let a = c.in-Some.ensures.shorter in let b = c.in_ok-operand.ensures.shorter in let i = c.more.invariant.1 in omega (arith, a, b, i))
+
+pub term-returns-clause-read : goal.term-returns-clause-read
+term-returns-clause-read t c =
+    loop-done term_s scaled_s (terminals c.args.text.now c.args.tokens.now) (terminals c.args.text.now c.more.rest.now) _ no_scaling _ c.more.invariant.0 (scaled-ends c.args.text.now c.more.rest.now c.in_default.ensures.front) c.term_of.ensures
+
+pub term-returns-clause-shorter : goal.term-returns-clause-shorter
+term-returns-clause-shorter t c =
+    c.more.invariant.1
+
+pub power-returns-in_err-first-clause-read : goal.power-returns-in_err-first-clause-read
+power-returns-in_err-first-clause-read t c =
+    let p = err_from_is_err_and c.from_residual.result c.from_residual.ensures.1 in
+    rw (p.1, p.2) (stops power_s postfix_s (terminals c.args.text.now c.args.tokens.now) (terminals c.args.text.now c.args.tokens.now) (raised_s ∷ []) _ c.args.text.now c.in_err-first.field-0.0 (power-rule (terminals c.args.text.now c.args.tokens.now)) c.in_err-first.ensures.read)
+
+pub power-more-init : goal.power-more-init
+power-more-init t c =
+    (loop-begin power_s raised_s postfix_s (terminals c.args.text.now c.args.tokens.now) (terminals c.args.text.now c.in_ok-first.behind.now) power_of (postfix_view c.in_ok-first.first) _ (power-rule (terminals c.args.text.now c.args.tokens.now)) c.in_ok-first.ensures.read (λ y. ap (power_of (postfix_view c.in_ok-first.first)) (sym (none-yet raised_view _ c.new-others.ensures.items y))), c.in_ok-first.ensures.shorter)
+
+pub power-returns-in_err-operand-clause-read : goal.power-returns-in_err-operand-clause-read
+power-returns-in_err-operand-clause-read t c =
+    let p = err_from_is_err_and c.from_residual-in_err-operand.result c.from_residual-in_err-operand.ensures.1 in
+    rw (p.1, p.2) (loop-stops power_s raised_s (terminals c.args.text.now c.args.tokens.now) (terminals c.args.text.now c.more.rest.now) _ c.args.text.now c.in_err-operand.field-0.0 c.more.invariant.0 (stops raised_s exponent_s (terminals c.args.text.now c.more.rest.now) (terminals c.args.text.now c.in-Some.after.now) (raised_s ∷ []) _ c.args.text.now c.in_err-operand.field-0.0 (raised-item c.args.text.now c.more.rest.now c.in-Some.after.now c.in-Some.place c.in-Some.ensures.front) (exponent-stops c.args.text.now c.in-Some.after.now c.in_ok-before.before.items c.in_ok-before.unsigned.now c.in_err-operand.field-0.0 c.in_ok-before.ensures.signs c.in_err-operand.ensures.read)))
+
+pub power-more-smaller : goal.power-more-smaller
+power-more-smaller t c =
+    let a = c.in-Some.ensures.shorter in let b = c.in_ok-operand.ensures.shorter in let d = c.in_ok-before.ensures.shorter in let i = c.more.invariant.1 in omega (arith, a, b, d, i)
+
+pub power-more-preserved : goal.power-more-preserved
+power-more-preserved t c =
+    (loop-next power_s raised_s exponent_s (terminals c.args.text.now c.args.tokens.now) (terminals c.args.text.now c.more.rest.now) (terminals c.args.text.now c.in-Some.after.now) (terminals c.args.text.now c.in_ok-operand.next.now) _ _ (raised c.in-Some.place) (exponent c.in_ok-before.before.items (postfix_view c.in_ok-operand.operand)) c.more.invariant.0 (raised-item c.args.text.now c.more.rest.now c.in-Some.after.now c.in-Some.place c.in-Some.ensures.front) (exponent-gives c.args.text.now c.in-Some.after.now c.in_ok-before.before.items c.in_ok-before.unsigned.now (postfix_view c.in_ok-operand.operand) (terminals c.args.text.now c.in_ok-operand.next.now) c.in_ok-before.ensures.signs c.in_ok-operand.ensures.read) (λ y. ap (power_of (postfix_view c.in_ok-first.first)) (sym (pushed raised_view _ _ _ _ c.in_ok-push.ensures.items c.raised_of.ensures y))), let a = c.in-Some.ensures.shorter in let b = c.in_ok-operand.ensures.shorter in let d = c.in_ok-before.ensures.shorter in let i = c.more.invariant.1 in omega (arith, a, b, d, i))
+
+pub power-returns-clause-read : goal.power-returns-clause-read
+power-returns-clause-read t c =
+    loop-done power_s raised_s (terminals c.args.text.now c.args.tokens.now) (terminals c.args.text.now c.more.rest.now) _ no_power _ c.more.invariant.0 (raised-ends c.args.text.now c.more.rest.now c.in_default.ensures.front) c.raised_power.ensures
+
+pub power-returns-clause-shorter : goal.power-returns-clause-shorter
+power-returns-clause-shorter t c =
+    c.more.invariant.1
+
+pub factor-returns-in_err-operand-clause-read : goal.factor-returns-in_err-operand-clause-read
+factor-returns-in_err-operand-clause-read t c =
+    let p = err_from_is_err_and c.from_residual-in_err-operand.result c.from_residual-in_err-operand.ensures.1 in
+    rw (p.1, p.2) (factor-stops c.args.text.now c.args.tokens.now c.in_ok-before.before.items c.in_ok-before.behind.now c.in_err-operand.field-0.0 c.in_ok-before.ensures.signs c.in_err-operand.ensures.read)
+
+pub factor-returns-clause-read : goal.factor-returns-clause-read
+factor-returns-clause-read t c =
+    gives-is factor_s (terminals c.args.text.now c.args.tokens.now) (terminals c.args.text.now c.in_ok-operand.rest.now) _ _ (sym c.factor_of.ensures) (factor-gives c.args.text.now c.args.tokens.now c.in_ok-before.before.items c.in_ok-before.behind.now (power_view c.in_ok-operand.operand) (terminals c.args.text.now c.in_ok-operand.rest.now) c.in_ok-before.ensures.signs c.in_ok-operand.ensures.read)
+
+pub postfix-returns-in_err-first-clause-read : goal.postfix-returns-in_err-first-clause-read
+postfix-returns-in_err-first-clause-read t c =
+    let p = err_from_is_err_and c.from_residual.result c.from_residual.ensures.1 in
+    rw (p.1, p.2) (stops postfix_s primary_s (terminals c.args.text.now c.args.tokens.now) (terminals c.args.text.now c.args.tokens.now) (trailers_s ∷ []) _ c.args.text.now c.in_err-first.field-0.0 (postfix-rule (terminals c.args.text.now c.args.tokens.now)) c.in_err-first.ensures.read)
+
+pub postfix-more-init : goal.postfix-more-init
+postfix-more-init t c =
+    (loop-begin postfix_s trailers_s primary_s (terminals c.args.text.now c.args.tokens.now) (terminals c.args.text.now c.in_ok-first.behind.now) postfix (primary_view c.in_ok-first.first) _ (postfix-rule (terminals c.args.text.now c.args.tokens.now)) c.in_ok-first.ensures.read (λ y. ap (postfix (primary_view c.in_ok-first.first)) (sym (none-yet trailer_view _ c.new-trailers.ensures.items y))), c.in_ok-first.ensures.shorter)
+
+pub postfix-returns-clause-shorter : goal.postfix-returns-clause-shorter
+postfix-returns-clause-shorter t c =
+    c.more.invariant.1
+
+pub postfix-returns-in_err-next-clause-read : goal.postfix-returns-in_err-next-clause-read
+postfix-returns-in_err-next-clause-read t c =
+    let p = err_from_is_err_and c.from_residual-in_err-next.result c.from_residual-in_err-next.ensures.1 in
+    rw (p.1, p.2) (loop-stops postfix_s trailers_s (terminals c.args.text.now c.args.tokens.now) (terminals c.args.text.now c.more.rest.now) _ c.args.text.now c.in_err-next.field-0.0 c.more.invariant.0 c.in_err-next.ensures.read)
+
+pub postfix-more-preserved : goal.postfix-more-preserved
+postfix-more-preserved t c =
+    (trailers-step (terminals c.args.text.now c.args.tokens.now) (terminals c.args.text.now c.more.rest.now) (terminals c.args.text.now c.in-Some.after.now) _ trailer_view _ _ c.in-Some.next c.more.invariant.0 (subst (λ o. ReadsOne trailers_s c.args.text.now no_trailer (λ x. (trailer_view x.0, x.1.now)) (Ok o) (terminals c.args.text.now c.more.rest.now)) c.in-Some.is c.in_ok-next.ensures.read) c.in_ok-push.ensures.items, let a = subst (λ o. IfSome o (λ x. length x.1.now < length c.more.rest.now)) c.in-Some.is c.in_ok-next.ensures.shorter in let i = c.more.invariant.1 in omega (arith, a, i))
+
+pub trailer-returns-in_err-word-clause-read : goal.trailer-returns-in_err-word-clause-read
+trailer-returns-in_err-word-clause-read t c =
+    let p = err_from_is_err_and c.from_residual.result c.from_residual.ensures.1 in
+    rw (p.1, p.2) (stops trailers_s name_s (terminals c.args.text.now c.args.tokens.now) (terminals c.args.text.now c.in-Some.behind.now) (trailers_s ∷ []) _ c.args.text.now c.in_err-word.field-0.0 (attribute-item c.args.text.now c.args.tokens.now c.in-Some.behind.now _ c.in-Some.ensures.front) c.in_err-word.ensures.read)
+
+pub trailer-returns-in-Some-clause-read : goal.trailer-returns-in-Some-clause-read
+trailer-returns-in-Some-clause-read t c =
+    trailer-is (terminals c.args.text.now c.args.tokens.now) (terminals c.args.text.now c.in_ok-word.rest.now) (λ x. attribute c.in_ok-word.word x) _ (goes trailers_s name_s (terminals c.args.text.now c.args.tokens.now) (terminals c.args.text.now c.in-Some.behind.now) (terminals c.args.text.now c.in_ok-word.rest.now) (trailers_s ∷ []) _ c.in_ok-word.word (attribute-item c.args.text.now c.args.tokens.now c.in-Some.behind.now _ c.in-Some.ensures.front) c.in_ok-word.ensures.read) c.attribute_of.ensures
+
+pub trailer-returns-in_err-all-clause-read : goal.trailer-returns-in_err-all-clause-read
+trailer-returns-in_err-all-clause-read t c =
+    let p = err_from_is_err_and c.from_residual-in_err-all.result c.from_residual-in_err-all.ensures.1 in
+    rw (p.1, p.2) (stops trailers_s args_s (terminals c.args.text.now c.args.tokens.now) (terminals c.args.text.now c.in-Some-eat.inside.now) ((closes_s Round) ∷ trailers_s ∷ []) _ c.args.text.now c.in_err-all.field-0.0 (call-item c.args.text.now c.args.tokens.now c.in-Some-eat.inside.now c.in-Some-eat.place c.in-Some-eat.ensures.front) c.in_err-all.ensures.read)
+
+pub trailer-returns-in_err-outside-clause-read : goal.trailer-returns-in_err-outside-clause-read
+trailer-returns-in_err-outside-clause-read t c =
+    let p = err_from_is_err_and c.from_residual-in_err-outside.result c.from_residual-in_err-outside.ensures.1 in
+    rw (p.1, p.2) (stops trailers_s (closes_s Round) (terminals c.args.text.now c.args.tokens.now) (terminals c.args.text.now c.in_ok-all.closing.now) (trailers_s ∷ []) _ c.args.text.now c.in_err-outside.field-0.0 (goes trailers_s args_s (terminals c.args.text.now c.args.tokens.now) (terminals c.args.text.now c.in-Some-eat.inside.now) (terminals c.args.text.now c.in_ok-all.closing.now) ((closes_s Round) ∷ trailers_s ∷ []) _ (args_of (map arg_view c.in_ok-all.all.items) c.in_ok-all.comma) (call-item c.args.text.now c.args.tokens.now c.in-Some-eat.inside.now c.in-Some-eat.place c.in-Some-eat.ensures.front) c.in_ok-all.ensures.read) (closes_round-stops c.args.text.now c.in_ok-all.closing.now c.in_err-outside.field-0.0 c.in_err-outside.ensures.refused))
+
+pub trailer-returns-in-Some-eat-clause-read : goal.trailer-returns-in-Some-eat-clause-read
+trailer-returns-in-Some-eat-clause-read t c =
+    trailer-is (terminals c.args.text.now c.args.tokens.now) (terminals c.args.text.now c.in_ok-outside.outside.now) (λ x. call c.in-Some-eat.place (args_of (map arg_view c.in_ok-all.all.items) c.in_ok-all.comma) x) _ (goes trailers_s (closes_s Round) (terminals c.args.text.now c.args.tokens.now) (terminals c.args.text.now c.in_ok-all.closing.now) (terminals c.args.text.now c.in_ok-outside.outside.now) (trailers_s ∷ []) _ tt (goes trailers_s args_s (terminals c.args.text.now c.args.tokens.now) (terminals c.args.text.now c.in-Some-eat.inside.now) (terminals c.args.text.now c.in_ok-all.closing.now) ((closes_s Round) ∷ trailers_s ∷ []) _ (args_of (map arg_view c.in_ok-all.all.items) c.in_ok-all.comma) (call-item c.args.text.now c.args.tokens.now c.in-Some-eat.inside.now c.in-Some-eat.place c.in-Some-eat.ensures.front) c.in_ok-all.ensures.read) (closes_round-gives c.args.text.now c.in_ok-all.closing.now c.in_ok-outside.outside.now c.in_ok-outside.ensures.front)) c.call_of.ensures
+
+pub trailer-returns-in_err-first-clause-read : goal.trailer-returns-in_err-first-clause-read
+trailer-returns-in_err-first-clause-read t c =
+    let p = err_from_is_err_and c.from_residual-in_err-first.result c.from_residual-in_err-first.ensures.1 in
+    rw (p.1, p.2) (stops trailers_s index_s (terminals c.args.text.now c.args.tokens.now) (terminals c.args.text.now c.in-Some-eat-2.within.now) (indices_s ∷ (closes_s Square) ∷ trailers_s ∷ []) _ c.args.text.now c.in_err-first.field-0.0 (indexed-item c.args.text.now c.args.tokens.now c.in-Some-eat-2.within.now c.in-Some-eat-2.place c.in-Some-eat-2.ensures.front) c.in_err-first.ensures.read)
+
+pub trailer-returns-in_err-others-clause-read : goal.trailer-returns-in_err-others-clause-read
+trailer-returns-in_err-others-clause-read t c =
+    let p = err_from_is_err_and c.from_residual-in_err-others.result c.from_residual-in_err-others.ensures.1 in
+    rw (p.1, p.2) (stops trailers_s indices_s (terminals c.args.text.now c.args.tokens.now) (terminals c.args.text.now c.in_ok-first.after.now) ((closes_s Square) ∷ trailers_s ∷ []) _ c.args.text.now c.in_err-others.field-0.0 (goes trailers_s index_s (terminals c.args.text.now c.args.tokens.now) (terminals c.args.text.now c.in-Some-eat-2.within.now) (terminals c.args.text.now c.in_ok-first.after.now) (indices_s ∷ (closes_s Square) ∷ trailers_s ∷ []) _ (index_view c.in_ok-first.first) (indexed-item c.args.text.now c.args.tokens.now c.in-Some-eat-2.within.now c.in-Some-eat-2.place c.in-Some-eat-2.ensures.front) c.in_ok-first.ensures.read) c.in_err-others.ensures.read)
+
+pub trailer-returns-in_err-beyond-clause-read : goal.trailer-returns-in_err-beyond-clause-read
+trailer-returns-in_err-beyond-clause-read t c =
+    let p = err_from_is_err_and c.from_residual-in_err-beyond.result c.from_residual-in_err-beyond.ensures.1 in
+    rw (p.1, p.2) (stops trailers_s (closes_s Square) (terminals c.args.text.now c.args.tokens.now) (terminals c.args.text.now c.in_ok-others.last.now) (trailers_s ∷ []) _ c.args.text.now c.in_err-beyond.field-0.0 (goes trailers_s indices_s (terminals c.args.text.now c.args.tokens.now) (terminals c.args.text.now c.in_ok-first.after.now) (terminals c.args.text.now c.in_ok-others.last.now) ((closes_s Square) ∷ trailers_s ∷ []) _ (indices_of (map index_view c.in_ok-others.others.items)) (goes trailers_s index_s (terminals c.args.text.now c.args.tokens.now) (terminals c.args.text.now c.in-Some-eat-2.within.now) (terminals c.args.text.now c.in_ok-first.after.now) (indices_s ∷ (closes_s Square) ∷ trailers_s ∷ []) _ (index_view c.in_ok-first.first) (indexed-item c.args.text.now c.args.tokens.now c.in-Some-eat-2.within.now c.in-Some-eat-2.place c.in-Some-eat-2.ensures.front) c.in_ok-first.ensures.read) c.in_ok-others.ensures.read) (closes_square-stops c.args.text.now c.in_ok-others.last.now c.in_err-beyond.field-0.0 c.in_err-beyond.ensures.refused))
+
+pub trailer-returns-clause-read : goal.trailer-returns-clause-read
+trailer-returns-clause-read t c =
+    trailer-is (terminals c.args.text.now c.args.tokens.now) (terminals c.args.text.now c.in_ok-beyond.beyond.now) (λ x. indexed c.in-Some-eat-2.place (index_view c.in_ok-first.first) (indices_of (map index_view c.in_ok-others.others.items)) x) _ (goes trailers_s (closes_s Square) (terminals c.args.text.now c.args.tokens.now) (terminals c.args.text.now c.in_ok-others.last.now) (terminals c.args.text.now c.in_ok-beyond.beyond.now) (trailers_s ∷ []) _ tt (goes trailers_s indices_s (terminals c.args.text.now c.args.tokens.now) (terminals c.args.text.now c.in_ok-first.after.now) (terminals c.args.text.now c.in_ok-others.last.now) ((closes_s Square) ∷ trailers_s ∷ []) _ (indices_of (map index_view c.in_ok-others.others.items)) (goes trailers_s index_s (terminals c.args.text.now c.args.tokens.now) (terminals c.args.text.now c.in-Some-eat-2.within.now) (terminals c.args.text.now c.in_ok-first.after.now) (indices_s ∷ (closes_s Square) ∷ trailers_s ∷ []) _ (index_view c.in_ok-first.first) (indexed-item c.args.text.now c.args.tokens.now c.in-Some-eat-2.within.now c.in-Some-eat-2.place c.in-Some-eat-2.ensures.front) c.in_ok-first.ensures.read) c.in_ok-others.ensures.read) (closes_square-gives c.args.text.now c.in_ok-others.last.now c.in_ok-beyond.beyond.now c.in_ok-beyond.ensures.front)) c.index_of.ensures
+
+pub trailer-returns-in_default-eat-2-clause-read : goal.trailer-returns-in_default-eat-2-clause-read
+trailer-returns-in_default-eat-2-clause-read t c =
+    trailers-end c.args.text.now c.args.tokens.now c.in_default.ensures.front c.in_default-eat.ensures.front c.in_default-eat-2.ensures.front
+
+pub indices-more-init : goal.indices-more-init
+indices-more-init t c =
+    (indices-begun index_view _ (terminals c.args.text.now c.args.tokens.now) c.new-all.ensures.items, omega arith)
+
+pub indices-returns-in_err-item-clause-read : goal.indices-returns-in_err-item-clause-read
+indices-returns-in_err-item-clause-read t c =
+    let p = err_from_is_err_and c.from_residual.result c.from_residual.ensures.1 in
+    rw (p.1, p.2) (loop-stops indices_s indices_s (terminals c.args.text.now c.args.tokens.now) (terminals c.args.text.now c.more.rest.now) _ c.args.text.now c.in_err-item.field-0.0 c.more.invariant.0 (stops indices_s index_s (terminals c.args.text.now c.more.rest.now) (terminals c.args.text.now c.in-Some.behind.now) (indices_s ∷ []) _ c.args.text.now c.in_err-item.field-0.0 (indices-item c.args.text.now c.more.rest.now c.in-Some.behind.now _ c.in-Some.ensures.front) c.in_err-item.ensures.read))
+
+pub indices-more-smaller : goal.indices-more-smaller
+indices-more-smaller t c =
+    let a = c.in-Some.ensures.shorter in let b = c.in_ok-item.ensures.shorter in let i = c.more.invariant.1 in omega (arith, a, b, i)
+
+pub indices-more-preserved : goal.indices-more-preserved
+indices-more-preserved t c =
+    (loop-next indices_s indices_s index_s (terminals c.args.text.now c.args.tokens.now) (terminals c.args.text.now c.more.rest.now) (terminals c.args.text.now c.in-Some.behind.now) (terminals c.args.text.now c.in_ok-item.next.now) _ _ more_indices (index_view c.in_ok-item.item) c.more.invariant.0 (indices-item c.args.text.now c.more.rest.now c.in-Some.behind.now _ c.in-Some.ensures.front) c.in_ok-item.ensures.read (λ y. sym (indices-pushed index_view _ _ _ c.in_ok-push.ensures.items y)), let a = c.in-Some.ensures.shorter in let b = c.in_ok-item.ensures.shorter in let i = c.more.invariant.1 in omega (arith, a, b, i))
+
+pub indices-returns-clause-read : goal.indices-returns-clause-read
+indices-returns-clause-read t c =
+    loop-done indices_s indices_s (terminals c.args.text.now c.args.tokens.now) (terminals c.args.text.now c.more.rest.now) _ no_index _ c.more.invariant.0 (indices-ends c.args.text.now c.more.rest.now c.in_default.ensures.front) refl
+
+pub indices-returns-clause-shorter : goal.indices-returns-clause-shorter
+indices-returns-clause-shorter t c =
+    c.more.invariant.1
+
+pub args-more-init : goal.args-more-init
+args-more-init t c =
+    (args-begun arg_view _ (terminals c.args.text.now c.args.tokens.now) c.new-all.ensures.items, omega arith)
+
+pub args-returns-in_err-item-clause-read : goal.args-returns-in_err-item-clause-read
+args-returns-in_err-item-clause-read t c =
+    let p = err_from_is_err_and c.from_residual.result c.from_residual.ensures.1 in
+    rw (p.1, p.2) (args-stop c.args.text.now (terminals c.args.text.now c.args.tokens.now) c.more.rest.now arg_view _ c.more.invariant.0 (sym c.starts_expr-in-more.ensures ∙ c.more-test.true) c.in_err-item.field-0.0 c.in_err-item.ensures.read)
+
+pub args-more-smaller : goal.args-more-smaller
+args-more-smaller t c =
+    let a = c.in-Some.ensures.shorter in let b = c.in_ok-item.ensures.shorter in let i = c.more.invariant.1 in omega (arith, a, b, i)
+
+pub args-more-preserved : goal.args-more-preserved
+args-more-preserved t c =
+    (args-step c.args.text.now (terminals c.args.text.now c.args.tokens.now) c.more.rest.now arg_view _ c.more.invariant.0 c.in_ok-item.behind.now c.in-Some.next.now c.in_ok-item.item _ _ (sym c.starts_expr-in-more.ensures ∙ c.more-test.true) c.in_ok-item.ensures.read c.in-Some.ensures.front c.in_ok-push.ensures.items, let a = c.in-Some.ensures.shorter in let b = c.in_ok-item.ensures.shorter in let i = c.more.invariant.1 in omega (arith, a, b, i))
+
+pub args-returns-in_default-clause-read : goal.args-returns-in_default-clause-read
+args-returns-in_default-clause-read t c =
+    args-last-one c.args.text.now (terminals c.args.text.now c.args.tokens.now) c.more.rest.now arg_view _ c.more.invariant.0 c.in_ok-item.behind.now c.in_ok-item.item _ (sym c.starts_expr-in-more.ensures ∙ c.more-test.true) c.in_ok-item.ensures.read c.in_default.ensures.front c.in_ok-push.ensures.items
+
+pub args-returns-in_default-clause-shorter : goal.args-returns-in_default-clause-shorter
+args-returns-in_default-clause-shorter t c =
+    let b = c.in_ok-item.ensures.shorter in let i = c.more.invariant.1 in omega (arith, b, i)
+
+pub args-returns-clause-read : goal.args-returns-clause-read
+args-returns-clause-read t c =
+    args-close c.args.text.now (terminals c.args.text.now c.args.tokens.now) c.more.rest.now arg_view _ c.more.invariant.0 (sym c.starts_expr-in-more.ensures ∙ c.more-test.false)
+
+pub args-returns-clause-shorter : goal.args-returns-clause-shorter
+args-returns-clause-shorter t c =
+    c.more.invariant.1
+
+pub args-returns-then-not-starts_expr-clause-read : goal.args-returns-then-not-starts_expr-clause-read
+args-returns-then-not-starts_expr-clause-read t c =
+    gives-is args_s (terminals c.args.text.now c.args.tokens.now) (terminals c.args.text.now c.args.tokens.now) _ _ (sym (ap (λ xs. args_of (map arg_view xs) false) c.new-all.ensures.items)) (args-none c.args.text.now c.args.tokens.now (sym c.starts_expr.ensures ∙ c.if-not-starts_expr.true))
+
+pub items-more-init : goal.items-more-init
+items-more-init t c =
+    (items-begun expr_view _ (terminals c.args.text.now c.args.tokens.now) c.new-all.ensures.items, omega arith)
+
+pub items-returns-in_err-item-clause-read : goal.items-returns-in_err-item-clause-read
+items-returns-in_err-item-clause-read t c =
+    let p = err_from_is_err_and c.from_residual.result c.from_residual.ensures.1 in
+    rw (p.1, p.2) (items-stop c.args.text.now (terminals c.args.text.now c.args.tokens.now) c.more.rest.now expr_view _ c.more.invariant.0 (sym c.starts_expr.ensures ∙ c.more-test.true) c.in_err-item.field-0.0 c.in_err-item.ensures.read)
+
+pub items-more-smaller : goal.items-more-smaller
+items-more-smaller t c =
+    let a = c.in-Some.ensures.shorter in let b = c.in_ok-item.ensures.shorter in let i = c.more.invariant.1 in omega (arith, a, b, i)
+
+pub items-more-preserved : goal.items-more-preserved
+items-more-preserved t c =
+    (items-step c.args.text.now (terminals c.args.text.now c.args.tokens.now) c.more.rest.now expr_view _ c.more.invariant.0 c.in_ok-item.behind.now c.in-Some.next.now c.in_ok-item.item _ _ (sym c.starts_expr.ensures ∙ c.more-test.true) c.in_ok-item.ensures.read c.in-Some.ensures.front c.in_ok-push.ensures.items, let a = c.in-Some.ensures.shorter in let b = c.in_ok-item.ensures.shorter in let i = c.more.invariant.1 in omega (arith, a, b, i))
+
+pub items-returns-in_default-clause-read : goal.items-returns-in_default-clause-read
+items-returns-in_default-clause-read t c =
+    items-last-one c.args.text.now (terminals c.args.text.now c.args.tokens.now) c.more.rest.now expr_view _ c.more.invariant.0 c.in_ok-item.behind.now c.in_ok-item.item _ (sym c.starts_expr.ensures ∙ c.more-test.true) c.in_ok-item.ensures.read c.in_default.ensures.front c.in_ok-push.ensures.items
+
+pub items-returns-in_default-clause-shorter : goal.items-returns-in_default-clause-shorter
+items-returns-in_default-clause-shorter t c =
+    let b = c.in_ok-item.ensures.shorter in let i = c.more.invariant.1 in omega (arith, b, i)
+
+pub items-returns-clause-read : goal.items-returns-clause-read
+items-returns-clause-read t c =
+    items-close c.args.text.now (terminals c.args.text.now c.args.tokens.now) c.more.rest.now expr_view _ c.more.invariant.0 (sym c.starts_expr.ensures ∙ c.more-test.false)
+
+pub items-returns-clause-shorter : goal.items-returns-clause-shorter
+items-returns-clause-shorter t c =
+    c.more.invariant.1
+
+pub arg-returns-in_err-value-clause-read : goal.arg-returns-in_err-value-clause-read
+arg-returns-in_err-value-clause-read t c =
+    let p = err_from_is_err_and c.from_residual-in_err-value.result c.from_residual-in_err-value.ensures.1 in
+    rw (p.1, p.2) (stops arg_s expr_s (terminals c.args.text.now c.args.tokens.now) (terminals c.args.text.now c.in-Some.behind.now) ([]) _ c.args.text.now c.in_err-value.field-0.0 (arg-named c.args.text.now c.args.tokens.now c.in-Some.behind.now c.in-Some.head.now _ c.in-Some.ensures.front) c.in_err-value.ensures.read)
+
+pub arg-returns-in-Some-clause-read : goal.arg-returns-in-Some-clause-read
+arg-returns-in-Some-clause-read t c =
+    finish arg_s expr_s (terminals c.args.text.now c.args.tokens.now) (terminals c.args.text.now c.in-Some.behind.now) (terminals c.args.text.now c.in_ok-value.after.now) (λ x. by_name (named_by c.args.text.now c.in-Some.head.now) x) (expr_view c.in_ok-value.value) _ (arg-named c.args.text.now c.args.tokens.now c.in-Some.behind.now c.in-Some.head.now _ c.in-Some.ensures.front) c.in_ok-value.ensures.read (c.by_name_of.ensures ∙ ap (λ m. by_name m (expr_view c.in_ok-value.value)) c.in_ok-word.ensures)
+
+pub arg-returns-in_err-value-2-clause-read : goal.arg-returns-in_err-value-2-clause-read
+arg-returns-in_err-value-2-clause-read t c =
+    let p = err_from_is_err_and c.from_residual-in_err-value-2.result c.from_residual-in_err-value-2.ensures.1 in
+    rw (p.1, p.2) (stops arg_s expr_s (terminals c.args.text.now c.args.tokens.now) (terminals c.args.text.now c.args.tokens.now) ([]) _ c.args.text.now c.in_err-value-2.field-0.0 (arg-place c.args.text.now c.args.tokens.now c.in_default.ensures.front) c.in_err-value-2.ensures.read)
+
+pub arg-returns-clause-read : goal.arg-returns-clause-read
+arg-returns-clause-read t c =
+    finish arg_s expr_s (terminals c.args.text.now c.args.tokens.now) (terminals c.args.text.now c.args.tokens.now) (terminals c.args.text.now c.in_ok-value-2.rest.now) by_place (expr_view c.in_ok-value-2.value) _ (arg-place c.args.text.now c.args.tokens.now c.in_default.ensures.front) c.in_ok-value-2.ensures.read (c.by_place_of.ensures)
+
+pub index-returns-in_err-end-clause-read : goal.index-returns-in_err-end-clause-read
+index-returns-in_err-end-clause-read t c =
+    let p = err_from_is_err_and c.from_residual.result c.from_residual.ensures.1 in
+    rw (p.1, p.2) (stops index_s optional_s (terminals c.args.text.now c.args.tokens.now) (terminals c.args.text.now c.in-Some.inside.now) (step_s ∷ []) _ c.args.text.now c.in_err-end.field-0.0 (index-colon c.args.text.now c.args.tokens.now c.in-Some.inside.now _ c.in-Some.ensures.front) c.in_err-end.ensures.read)
+
+pub index-returns-in_err-by-clause-read : goal.index-returns-in_err-by-clause-read
+index-returns-in_err-by-clause-read t c =
+    let p = err_from_is_err_and c.from_residual-in_err-by.result c.from_residual-in_err-by.ensures.1 in
+    rw (p.1, p.2) (stops index_s step_s (terminals c.args.text.now c.args.tokens.now) (terminals c.args.text.now c.in_ok-end.between.now) ([]) _ c.args.text.now c.in_err-by.field-0.0 (goes index_s optional_s (terminals c.args.text.now c.args.tokens.now) (terminals c.args.text.now c.in-Some.inside.now) (terminals c.args.text.now c.in_ok-end.between.now) (step_s ∷ []) _ (optional_view c.in_ok-end.end) (index-colon c.args.text.now c.args.tokens.now c.in-Some.inside.now _ c.in-Some.ensures.front) c.in_ok-end.ensures.read) c.in_err-by.ensures.read)
+
+pub index-returns-in-Some-clause-read : goal.index-returns-in-Some-clause-read
+index-returns-in-Some-clause-read t c =
+    finish index_s step_s (terminals c.args.text.now c.args.tokens.now) (terminals c.args.text.now c.in_ok-end.between.now) (terminals c.args.text.now c.in_ok-by.outside.now) (λ z. slice absent (optional_view c.in_ok-end.end) z) (step_view c.in_ok-by.by) _ (goes index_s optional_s (terminals c.args.text.now c.args.tokens.now) (terminals c.args.text.now c.in-Some.inside.now) (terminals c.args.text.now c.in_ok-end.between.now) (step_s ∷ []) _ (optional_view c.in_ok-end.end) (index-colon c.args.text.now c.args.tokens.now c.in-Some.inside.now _ c.in-Some.ensures.front) c.in_ok-end.ensures.read) c.in_ok-by.ensures.read (c.slice_of.ensures)
+
+pub index-returns-in_err-first-clause-read : goal.index-returns-in_err-first-clause-read
+index-returns-in_err-first-clause-read t c =
+    let p = err_from_is_err_and c.from_residual-in_err-first.result c.from_residual-in_err-first.ensures.1 in
+    rw (p.1, p.2) (stops index_s expr_s (terminals c.args.text.now c.args.tokens.now) (terminals c.args.text.now c.args.tokens.now) (after_index_s ∷ []) _ c.args.text.now c.in_err-first.field-0.0 (index-rule c.args.text.now c.args.tokens.now c.in_default.ensures.front) c.in_err-first.ensures.read)
+
+pub index-returns-in_default-eat-clause-read : goal.index-returns-in_default-eat-clause-read
+index-returns-in_default-eat-clause-read t c =
+    finish index_s after_index_s (terminals c.args.text.now c.args.tokens.now) (terminals c.args.text.now c.in_ok-first.behind.now) (terminals c.args.text.now c.in_ok-first.behind.now) (λ z. as_index (expr_view c.in_ok-first.first) z) no_slice _ (goes index_s expr_s (terminals c.args.text.now c.args.tokens.now) (terminals c.args.text.now c.args.tokens.now) (terminals c.args.text.now c.in_ok-first.behind.now) (after_index_s ∷ []) _ (expr_view c.in_ok-first.first) (index-rule c.args.text.now c.args.tokens.now c.in_default.ensures.front) c.in_ok-first.ensures.read) (after_index-ends c.args.text.now c.in_ok-first.behind.now c.in_default-eat.ensures.front) (c.at_of.ensures)
+
+pub index-returns-in_err-stop-clause-read : goal.index-returns-in_err-stop-clause-read
+index-returns-in_err-stop-clause-read t c =
+    let p = err_from_is_err_and c.from_residual-in_err-stop.result c.from_residual-in_err-stop.ensures.1 in
+    rw (p.1, p.2) (stops index_s after_index_s (terminals c.args.text.now c.args.tokens.now) (terminals c.args.text.now c.in_ok-first.behind.now) ([]) _ c.args.text.now c.in_err-stop.field-0.0 (goes index_s expr_s (terminals c.args.text.now c.args.tokens.now) (terminals c.args.text.now c.args.tokens.now) (terminals c.args.text.now c.in_ok-first.behind.now) (after_index_s ∷ []) _ (expr_view c.in_ok-first.first) (index-rule c.args.text.now c.args.tokens.now c.in_default.ensures.front) c.in_ok-first.ensures.read) (stops after_index_s optional_s (terminals c.args.text.now c.in_ok-first.behind.now) (terminals c.args.text.now c.in-Some-eat.after.now) (step_s ∷ []) _ c.args.text.now c.in_err-stop.field-0.0 (after_index-colon c.args.text.now c.in_ok-first.behind.now c.in-Some-eat.after.now _ c.in-Some-eat.ensures.front) c.in_err-stop.ensures.read))
+
+pub index-returns-in_err-stride-clause-read : goal.index-returns-in_err-stride-clause-read
+index-returns-in_err-stride-clause-read t c =
+    let p = err_from_is_err_and c.from_residual-in_err-stride.result c.from_residual-in_err-stride.ensures.1 in
+    rw (p.1, p.2) (stops index_s after_index_s (terminals c.args.text.now c.args.tokens.now) (terminals c.args.text.now c.in_ok-first.behind.now) ([]) _ c.args.text.now c.in_err-stride.field-0.0 (goes index_s expr_s (terminals c.args.text.now c.args.tokens.now) (terminals c.args.text.now c.args.tokens.now) (terminals c.args.text.now c.in_ok-first.behind.now) (after_index_s ∷ []) _ (expr_view c.in_ok-first.first) (index-rule c.args.text.now c.args.tokens.now c.in_default.ensures.front) c.in_ok-first.ensures.read) (stops after_index_s step_s (terminals c.args.text.now c.in_ok-first.behind.now) (terminals c.args.text.now c.in_ok-stop.middle.now) ([]) _ c.args.text.now c.in_err-stride.field-0.0 (goes after_index_s optional_s (terminals c.args.text.now c.in_ok-first.behind.now) (terminals c.args.text.now c.in-Some-eat.after.now) (terminals c.args.text.now c.in_ok-stop.middle.now) (step_s ∷ []) _ (optional_view c.in_ok-stop.stop) (after_index-colon c.args.text.now c.in_ok-first.behind.now c.in-Some-eat.after.now _ c.in-Some-eat.ensures.front) c.in_ok-stop.ensures.read) c.in_err-stride.ensures.read))
+
+pub index-returns-clause-read : goal.index-returns-clause-read
+index-returns-clause-read t c =
+    finish index_s after_index_s (terminals c.args.text.now c.args.tokens.now) (terminals c.args.text.now c.in_ok-first.behind.now) (terminals c.args.text.now c.in_ok-stride.rest.now) (λ z. as_index (expr_view c.in_ok-first.first) z) (slices (optional_view c.in_ok-stop.stop) (step_view c.in_ok-stride.stride)) _ (goes index_s expr_s (terminals c.args.text.now c.args.tokens.now) (terminals c.args.text.now c.args.tokens.now) (terminals c.args.text.now c.in_ok-first.behind.now) (after_index_s ∷ []) _ (expr_view c.in_ok-first.first) (index-rule c.args.text.now c.args.tokens.now c.in_default.ensures.front) c.in_ok-first.ensures.read) (finish after_index_s step_s (terminals c.args.text.now c.in_ok-first.behind.now) (terminals c.args.text.now c.in_ok-stop.middle.now) (terminals c.args.text.now c.in_ok-stride.rest.now) (λ z. slices (optional_view c.in_ok-stop.stop) z) (step_view c.in_ok-stride.stride) _ (goes after_index_s optional_s (terminals c.args.text.now c.in_ok-first.behind.now) (terminals c.args.text.now c.in-Some-eat.after.now) (terminals c.args.text.now c.in_ok-stop.middle.now) (step_s ∷ []) _ (optional_view c.in_ok-stop.stop) (after_index-colon c.args.text.now c.in_ok-first.behind.now c.in-Some-eat.after.now _ c.in-Some-eat.ensures.front) c.in_ok-stop.ensures.read) c.in_ok-stride.ensures.read (refl)) (c.slice_of-2.ensures)
+
+pub optional-returns-then-not-starts_expr-clause-read : goal.optional-returns-then-not-starts_expr-clause-read
+optional-returns-then-not-starts_expr-clause-read t c =
+    optional-none c.args.text.now c.args.tokens.now (sym c.starts_expr.ensures ∙ c.if-not-starts_expr.true)
+
+pub optional-returns-in_err-value-clause-read : goal.optional-returns-in_err-value-clause-read
+optional-returns-in_err-value-clause-read t c =
+    let p = err_from_is_err_and c.from_residual.result c.from_residual.ensures.1 in
+    rw (p.1, p.2) (stops optional_s expr_s (terminals c.args.text.now c.args.tokens.now) (terminals c.args.text.now c.args.tokens.now) ([]) _ c.args.text.now c.in_err-value.field-0.0 (optional-starts c.args.text.now c.args.tokens.now (sym c.starts_expr.ensures ∙ c.if-not-starts_expr.false)) c.in_err-value.ensures.read)
+
+pub optional-returns-clause-read : goal.optional-returns-clause-read
+optional-returns-clause-read t c =
+    finish optional_s expr_s (terminals c.args.text.now c.args.tokens.now) (terminals c.args.text.now c.args.tokens.now) (terminals c.args.text.now c.in_ok-value.rest.now) present (expr_view c.in_ok-value.value) _ (optional-starts c.args.text.now c.args.tokens.now (sym c.starts_expr.ensures ∙ c.if-not-starts_expr.false)) c.in_ok-value.ensures.read (refl)
+
+pub step-returns-in_default-clause-read : goal.step-returns-in_default-clause-read
+step-returns-in_default-clause-read t c =
+    gives-is step_s (terminals c.args.text.now c.args.tokens.now) (terminals c.args.text.now c.args.tokens.now) _ _ (sym c.absent_step.ensures) (step-ends c.args.text.now c.args.tokens.now c.in_default.ensures.front)
+
+pub step-returns-in_err-value-clause-read : goal.step-returns-in_err-value-clause-read
+step-returns-in_err-value-clause-read t c =
+    let p = err_from_is_err_and c.from_residual.result c.from_residual.ensures.1 in
+    rw (p.1, p.2) (stops step_s optional_s (terminals c.args.text.now c.args.tokens.now) (terminals c.args.text.now c.in-Some.behind.now) ([]) _ c.args.text.now c.in_err-value.field-0.0 (step-colon c.args.text.now c.args.tokens.now c.in-Some.behind.now _ c.in-Some.ensures.front) c.in_err-value.ensures.read)
+
+pub step-returns-clause-read : goal.step-returns-clause-read
+step-returns-clause-read t c =
+    finish step_s optional_s (terminals c.args.text.now c.args.tokens.now) (terminals c.args.text.now c.in-Some.behind.now) (terminals c.args.text.now c.in_ok-value.rest.now) step (optional_view c.in_ok-value.value) _ (step-colon c.args.text.now c.args.tokens.now c.in-Some.behind.now _ c.in-Some.ensures.front) c.in_ok-value.ensures.read (c.step_of.ensures)
+
+pub primary-returns-in-Some-eat-clause-read : goal.primary-returns-in-Some-eat-clause-read
+primary-returns-in-Some-eat-clause-read t c =
+    rw (front-opens-round c.args.text.now c.in-Some-eat.place c.args.tokens.now c.in-Some-eat.inside.now c.in-Some-eat.ensures.front) (c.round.ensures.read)
+
+pub primary-returns-clause-read : goal.primary-returns-clause-read
+primary-returns-clause-read t c =
+    rw (front-opens-square c.args.text.now c.in-Some-eat-2.place c.args.tokens.now c.in-Some-eat-2.within.now c.in-Some-eat-2.ensures.front) (c.square.ensures.read)
+
+pub primary-returns-in_default-eat-2-clause-read : goal.primary-returns-in_default-eat-2-clause-read
+primary-returns-in_default-eat-2-clause-read t c =
+    no-primary c.args.text.now c.args.tokens.now (subst (λ o. ReadsLeaf c.args.text.now c.args.tokens.now (λ x. (primary_view x.0, x.1.now)) o) c.in_default.is c.in_ok-found.ensures.read) c.in_default-eat.ensures.front c.in_default-eat-2.ensures.front
+
+pub round-returns-in-Some-clause-read : goal.round-returns-in-Some-clause-read
+round-returns-in-Some-clause-read t c =
+    gives-is primary_s (opens Round c.args.place ∷ (terminals c.args.text.now c.args.tokens.now)) (terminals c.args.text.now c.in-Some.outside.now) _ _ (sym c.unit_of.ensures) (round-empty c.args.text.now c.args.place c.args.tokens.now c.in-Some.outside.now (_, c.in-Some.ensures.front))
+
+pub round-returns-in_err-first-clause-read : goal.round-returns-in_err-first-clause-read
+round-returns-in_err-first-clause-read t c =
+    let p = err_from_is_err_and c.from_residual.result c.from_residual.ensures.1 in
+    rw (p.1, p.2) (stops primary_s expr_s (opens Round c.args.place ∷ (terminals c.args.text.now c.args.tokens.now)) (terminals c.args.text.now c.args.tokens.now) (after_round_s ∷ []) _ c.args.text.now c.in_err-first.field-0.0 (round-rule c.args.text.now c.args.place c.args.tokens.now c.in_default.ensures.front) c.in_err-first.ensures.read)
+
+pub round-returns-in-Some-eat-clause-read : goal.round-returns-in-Some-eat-clause-read
+round-returns-in-Some-eat-clause-read t c =
+    finish primary_s after_round_s (opens Round c.args.place ∷ (terminals c.args.text.now c.args.tokens.now)) (terminals c.args.text.now c.in_ok-first.behind.now) (terminals c.args.text.now c.in-Some-eat.beyond.now) (λ z. as_round c.args.place (round_holds (expr_view c.in_ok-first.first) z)) round_closed _ (goes primary_s expr_s (opens Round c.args.place ∷ (terminals c.args.text.now c.args.tokens.now)) (terminals c.args.text.now c.args.tokens.now) (terminals c.args.text.now c.in_ok-first.behind.now) (after_round_s ∷ []) _ (expr_view c.in_ok-first.first) (round-rule c.args.text.now c.args.place c.args.tokens.now c.in_default.ensures.front) c.in_ok-first.ensures.read) (after_round-closes c.args.text.now c.in_ok-first.behind.now c.in-Some-eat.beyond.now (_, c.in-Some-eat.ensures.front)) (c.in_ok-only.ensures)
+
+pub round-returns-in_err-after-clause-read : goal.round-returns-in_err-after-clause-read
+round-returns-in_err-after-clause-read t c =
+    let p = err_from_is_err_and c.from_residual-in_err-after.result c.from_residual-in_err-after.ensures.1 in
+    rw (p.1, p.2) (stops primary_s after_round_s (opens Round c.args.place ∷ (terminals c.args.text.now c.args.tokens.now)) (terminals c.args.text.now c.in_ok-first.behind.now) ([]) _ c.args.text.now c.in_err-after.field-0.0 (goes primary_s expr_s (opens Round c.args.place ∷ (terminals c.args.text.now c.args.tokens.now)) (terminals c.args.text.now c.args.tokens.now) (terminals c.args.text.now c.in_ok-first.behind.now) (after_round_s ∷ []) _ (expr_view c.in_ok-first.first) (round-rule c.args.text.now c.args.place c.args.tokens.now c.in_default.ensures.front) c.in_ok-first.ensures.read) (after_round-stops c.args.text.now c.in_ok-first.behind.now c.in_err-after.field-0.0 c.in_default-eat.ensures.front c.in_err-after.ensures.refused))
+
+pub round-returns-in_err-others-clause-read : goal.round-returns-in_err-others-clause-read
+round-returns-in_err-others-clause-read t c =
+    let p = err_from_is_err_and c.from_residual-in_err-others.result c.from_residual-in_err-others.ensures.1 in
+    rw (p.1, p.2) (stops primary_s after_round_s (opens Round c.args.place ∷ (terminals c.args.text.now c.args.tokens.now)) (terminals c.args.text.now c.in_ok-first.behind.now) ([]) _ c.args.text.now c.in_err-others.field-0.0 (goes primary_s expr_s (opens Round c.args.place ∷ (terminals c.args.text.now c.args.tokens.now)) (terminals c.args.text.now c.args.tokens.now) (terminals c.args.text.now c.in_ok-first.behind.now) (after_round_s ∷ []) _ (expr_view c.in_ok-first.first) (round-rule c.args.text.now c.args.place c.args.tokens.now c.in_default.ensures.front) c.in_ok-first.ensures.read) (stops after_round_s items_s (terminals c.args.text.now c.in_ok-first.behind.now) (terminals c.args.text.now c.in_ok-after.after.now) ((closes_s Round) ∷ []) _ c.args.text.now c.in_err-others.field-0.0 (after_round-comma c.args.text.now c.in_ok-first.behind.now c.in_ok-after.after.now _ c.in_ok-after.ensures.front.1) c.in_err-others.ensures.read))
+
+pub round-returns-in_err-rest-clause-read : goal.round-returns-in_err-rest-clause-read
+round-returns-in_err-rest-clause-read t c =
+    let p = err_from_is_err_and c.from_residual-in_err-rest.result c.from_residual-in_err-rest.ensures.1 in
+    rw (p.1, p.2) (stops primary_s after_round_s (opens Round c.args.place ∷ (terminals c.args.text.now c.args.tokens.now)) (terminals c.args.text.now c.in_ok-first.behind.now) ([]) _ c.args.text.now c.in_err-rest.field-0.0 (goes primary_s expr_s (opens Round c.args.place ∷ (terminals c.args.text.now c.args.tokens.now)) (terminals c.args.text.now c.args.tokens.now) (terminals c.args.text.now c.in_ok-first.behind.now) (after_round_s ∷ []) _ (expr_view c.in_ok-first.first) (round-rule c.args.text.now c.args.place c.args.tokens.now c.in_default.ensures.front) c.in_ok-first.ensures.read) (stops after_round_s (closes_s Round) (terminals c.args.text.now c.in_ok-first.behind.now) (terminals c.args.text.now c.in_ok-others.closing.now) ([]) _ c.args.text.now c.in_err-rest.field-0.0 (goes after_round_s items_s (terminals c.args.text.now c.in_ok-first.behind.now) (terminals c.args.text.now c.in_ok-after.after.now) (terminals c.args.text.now c.in_ok-others.closing.now) ((closes_s Round) ∷ []) _ (items_of (map expr_view c.in_ok-others.others.items) c.in_ok-others.comma) (after_round-comma c.args.text.now c.in_ok-first.behind.now c.in_ok-after.after.now _ c.in_ok-after.ensures.front.1) c.in_ok-others.ensures.read) (closes_round-stops c.args.text.now c.in_ok-others.closing.now c.in_err-rest.field-0.0 c.in_err-rest.ensures.refused)))
+
+pub round-returns-clause-read : goal.round-returns-clause-read
+round-returns-clause-read t c =
+    finish primary_s after_round_s (opens Round c.args.place ∷ (terminals c.args.text.now c.args.tokens.now)) (terminals c.args.text.now c.in_ok-first.behind.now) (terminals c.args.text.now c.in_ok-rest.rest.now) (λ z. as_round c.args.place (round_holds (expr_view c.in_ok-first.first) z)) (round_goes_on (items_of (map expr_view c.in_ok-others.others.items) c.in_ok-others.comma)) _ (goes primary_s expr_s (opens Round c.args.place ∷ (terminals c.args.text.now c.args.tokens.now)) (terminals c.args.text.now c.args.tokens.now) (terminals c.args.text.now c.in_ok-first.behind.now) (after_round_s ∷ []) _ (expr_view c.in_ok-first.first) (round-rule c.args.text.now c.args.place c.args.tokens.now c.in_default.ensures.front) c.in_ok-first.ensures.read) (finish after_round_s (closes_s Round) (terminals c.args.text.now c.in_ok-first.behind.now) (terminals c.args.text.now c.in_ok-others.closing.now) (terminals c.args.text.now c.in_ok-rest.rest.now) (λ z. round_goes_on (items_of (map expr_view c.in_ok-others.others.items) c.in_ok-others.comma)) tt _ (goes after_round_s items_s (terminals c.args.text.now c.in_ok-first.behind.now) (terminals c.args.text.now c.in_ok-after.after.now) (terminals c.args.text.now c.in_ok-others.closing.now) ((closes_s Round) ∷ []) _ (items_of (map expr_view c.in_ok-others.others.items) c.in_ok-others.comma) (after_round-comma c.args.text.now c.in_ok-first.behind.now c.in_ok-after.after.now _ c.in_ok-after.ensures.front.1) c.in_ok-others.ensures.read) (closes_round-gives c.args.text.now c.in_ok-others.closing.now c.in_ok-rest.rest.now c.in_ok-rest.ensures.front) (refl)) (c.in_ok-all.ensures)
+
+pub square-returns-in-Some-clause-read : goal.square-returns-in-Some-clause-read
+square-returns-in-Some-clause-read t c =
+    gives-is primary_s (opens Square c.args.place ∷ (terminals c.args.text.now c.args.tokens.now)) (terminals c.args.text.now c.in-Some.outside.now) _ _ (sym c.empty_list_of.ensures) (square-empty c.args.text.now c.args.place c.args.tokens.now c.in-Some.outside.now (_, c.in-Some.ensures.front))
+
+pub square-returns-in_err-first-clause-read : goal.square-returns-in_err-first-clause-read
+square-returns-in_err-first-clause-read t c =
+    let p = err_from_is_err_and c.from_residual.result c.from_residual.ensures.1 in
+    rw (p.1, p.2) (stops primary_s expr_s (opens Square c.args.place ∷ (terminals c.args.text.now c.args.tokens.now)) (terminals c.args.text.now c.args.tokens.now) (after_square_s ∷ []) _ c.args.text.now c.in_err-first.field-0.0 (square-rule c.args.text.now c.args.place c.args.tokens.now c.in_default.ensures.front) c.in_err-first.ensures.read)
+
+pub square-returns-in_err-each-clause-read : goal.square-returns-in_err-each-clause-read
+square-returns-in_err-each-clause-read t c =
+    let p = err_from_is_err_and c.from_residual-in_err-each.result c.from_residual-in_err-each.ensures.1 in
+    rw (p.1, p.2) (stops primary_s after_square_s (opens Square c.args.place ∷ (terminals c.args.text.now c.args.tokens.now)) (terminals c.args.text.now c.in_ok-first.behind.now) ([]) _ c.args.text.now c.in_err-each.field-0.0 (goes primary_s expr_s (opens Square c.args.place ∷ (terminals c.args.text.now c.args.tokens.now)) (terminals c.args.text.now c.args.tokens.now) (terminals c.args.text.now c.in_ok-first.behind.now) (after_square_s ∷ []) _ (expr_view c.in_ok-first.first) (square-rule c.args.text.now c.args.place c.args.tokens.now c.in_default.ensures.front) c.in_ok-first.ensures.read) (rw (for-front c.args.text.now c.in_ok-first.behind.now c.in-Some-eat.word.now c.in-Some-eat.for_place c.in-Some-eat.ensures.front) c.in_err-each.ensures.read))
+
+pub square-returns-in-Some-eat-clause-read : goal.square-returns-in-Some-eat-clause-read
+square-returns-in-Some-eat-clause-read t c =
+    finish primary_s after_square_s (opens Square c.args.place ∷ (terminals c.args.text.now c.args.tokens.now)) (terminals c.args.text.now c.in_ok-first.behind.now) (terminals c.args.text.now c.in_ok-each.beyond.now) (λ z. as_square c.args.place (square_holds (expr_view c.in_ok-first.first) z)) (square_for c.in-Some-eat.for_place c.in_ok-each.each (expr_view c.in_ok-each.from)) _ (goes primary_s expr_s (opens Square c.args.place ∷ (terminals c.args.text.now c.args.tokens.now)) (terminals c.args.text.now c.args.tokens.now) (terminals c.args.text.now c.in_ok-first.behind.now) (after_square_s ∷ []) _ (expr_view c.in_ok-first.first) (square-rule c.args.text.now c.args.place c.args.tokens.now c.in_default.ensures.front) c.in_ok-first.ensures.read) (rw (for-front c.args.text.now c.in_ok-first.behind.now c.in-Some-eat.word.now c.in-Some-eat.for_place c.in-Some-eat.ensures.front) c.in_ok-each.ensures.read) (c.in_ok-comprehension.ensures)
+
+pub square-returns-in_err-others-clause-read : goal.square-returns-in_err-others-clause-read
+square-returns-in_err-others-clause-read t c =
+    let p = err_from_is_err_and c.from_residual-in_err-others.result c.from_residual-in_err-others.ensures.1 in
+    rw (p.1, p.2) (stops primary_s after_square_s (opens Square c.args.place ∷ (terminals c.args.text.now c.args.tokens.now)) (terminals c.args.text.now c.in_ok-first.behind.now) ([]) _ c.args.text.now c.in_err-others.field-0.0 (goes primary_s expr_s (opens Square c.args.place ∷ (terminals c.args.text.now c.args.tokens.now)) (terminals c.args.text.now c.args.tokens.now) (terminals c.args.text.now c.in_ok-first.behind.now) (after_square_s ∷ []) _ (expr_view c.in_ok-first.first) (square-rule c.args.text.now c.args.place c.args.tokens.now c.in_default.ensures.front) c.in_ok-first.ensures.read) (stops after_square_s items_s (terminals c.args.text.now c.in_ok-first.behind.now) (terminals c.args.text.now c.in-Some-eat-2.after.now) ((closes_s Square) ∷ []) _ c.args.text.now c.in_err-others.field-0.0 (after_square-comma c.args.text.now c.in_ok-first.behind.now c.in-Some-eat-2.after.now _ c.in-Some-eat-2.ensures.front) c.in_err-others.ensures.read))
+
+pub square-returns-in_err-rest-clause-read : goal.square-returns-in_err-rest-clause-read
+square-returns-in_err-rest-clause-read t c =
+    let p = err_from_is_err_and c.from_residual-in_err-rest.result c.from_residual-in_err-rest.ensures.1 in
+    rw (p.1, p.2) (stops primary_s after_square_s (opens Square c.args.place ∷ (terminals c.args.text.now c.args.tokens.now)) (terminals c.args.text.now c.in_ok-first.behind.now) ([]) _ c.args.text.now c.in_err-rest.field-0.0 (goes primary_s expr_s (opens Square c.args.place ∷ (terminals c.args.text.now c.args.tokens.now)) (terminals c.args.text.now c.args.tokens.now) (terminals c.args.text.now c.in_ok-first.behind.now) (after_square_s ∷ []) _ (expr_view c.in_ok-first.first) (square-rule c.args.text.now c.args.place c.args.tokens.now c.in_default.ensures.front) c.in_ok-first.ensures.read) (stops after_square_s (closes_s Square) (terminals c.args.text.now c.in_ok-first.behind.now) (terminals c.args.text.now c.in_ok-others.closing.now) ([]) _ c.args.text.now c.in_err-rest.field-0.0 (goes after_square_s items_s (terminals c.args.text.now c.in_ok-first.behind.now) (terminals c.args.text.now c.in-Some-eat-2.after.now) (terminals c.args.text.now c.in_ok-others.closing.now) ((closes_s Square) ∷ []) _ (items_of (map expr_view c.in_ok-others.others.items) c.in_ok-others.comma) (after_square-comma c.args.text.now c.in_ok-first.behind.now c.in-Some-eat-2.after.now _ c.in-Some-eat-2.ensures.front) c.in_ok-others.ensures.read) (closes_square-stops c.args.text.now c.in_ok-others.closing.now c.in_err-rest.field-0.0 c.in_err-rest.ensures.refused)))
+
+pub square-returns-in-Some-eat-2-clause-read : goal.square-returns-in-Some-eat-2-clause-read
+square-returns-in-Some-eat-2-clause-read t c =
+    finish primary_s after_square_s (opens Square c.args.place ∷ (terminals c.args.text.now c.args.tokens.now)) (terminals c.args.text.now c.in_ok-first.behind.now) (terminals c.args.text.now c.in_ok-rest.rest.now) (λ z. as_square c.args.place (square_holds (expr_view c.in_ok-first.first) z)) (square_lists (items_behind (items_of (map expr_view c.in_ok-others.others.items) c.in_ok-others.comma))) _ (goes primary_s expr_s (opens Square c.args.place ∷ (terminals c.args.text.now c.args.tokens.now)) (terminals c.args.text.now c.args.tokens.now) (terminals c.args.text.now c.in_ok-first.behind.now) (after_square_s ∷ []) _ (expr_view c.in_ok-first.first) (square-rule c.args.text.now c.args.place c.args.tokens.now c.in_default.ensures.front) c.in_ok-first.ensures.read) (finish after_square_s (closes_s Square) (terminals c.args.text.now c.in_ok-first.behind.now) (terminals c.args.text.now c.in_ok-others.closing.now) (terminals c.args.text.now c.in_ok-rest.rest.now) (λ z. square_lists (items_behind (items_of (map expr_view c.in_ok-others.others.items) c.in_ok-others.comma))) tt _ (goes after_square_s items_s (terminals c.args.text.now c.in_ok-first.behind.now) (terminals c.args.text.now c.in-Some-eat-2.after.now) (terminals c.args.text.now c.in_ok-others.closing.now) ((closes_s Square) ∷ []) _ (items_of (map expr_view c.in_ok-others.others.items) c.in_ok-others.comma) (after_square-comma c.args.text.now c.in_ok-first.behind.now c.in-Some-eat-2.after.now _ c.in-Some-eat-2.ensures.front) c.in_ok-others.ensures.read) (closes_square-gives c.args.text.now c.in_ok-others.closing.now c.in_ok-rest.rest.now c.in_ok-rest.ensures.front) (refl)) (c.in_ok-all.ensures ∙ ap (list c.args.place (expr_view c.in_ok-first.first)) (sym (list-items expr_view c.in_ok-others.others.items c.in_ok-others.comma c.in_ok-others.ensures.comma)))
+
+pub square-returns-in_err-last-clause-read : goal.square-returns-in_err-last-clause-read
+square-returns-in_err-last-clause-read t c =
+    let p = err_from_is_err_and c.from_residual-in_err-last.result c.from_residual-in_err-last.ensures.1 in
+    rw (p.1, p.2) (stops primary_s after_square_s (opens Square c.args.place ∷ (terminals c.args.text.now c.args.tokens.now)) (terminals c.args.text.now c.in_ok-first.behind.now) ([]) _ c.args.text.now c.in_err-last.field-0.0 (goes primary_s expr_s (opens Square c.args.place ∷ (terminals c.args.text.now c.args.tokens.now)) (terminals c.args.text.now c.args.tokens.now) (terminals c.args.text.now c.in_ok-first.behind.now) (after_square_s ∷ []) _ (expr_view c.in_ok-first.first) (square-rule c.args.text.now c.args.place c.args.tokens.now c.in_default.ensures.front) c.in_ok-first.ensures.read) (after_square-stops c.args.text.now c.in_ok-first.behind.now c.in_err-last.field-0.0 c.in_default-eat.ensures.front c.in_default-eat-2.ensures.front c.in_err-last.ensures.refused))
+
+pub square-returns-clause-read : goal.square-returns-clause-read
+square-returns-clause-read t c =
+    finish primary_s after_square_s (opens Square c.args.place ∷ (terminals c.args.text.now c.args.tokens.now)) (terminals c.args.text.now c.in_ok-first.behind.now) (terminals c.args.text.now c.in_ok-last.last.now) (λ z. as_square c.args.place (square_holds (expr_view c.in_ok-first.first) z)) (square_lists items_end) _ (goes primary_s expr_s (opens Square c.args.place ∷ (terminals c.args.text.now c.args.tokens.now)) (terminals c.args.text.now c.args.tokens.now) (terminals c.args.text.now c.in_ok-first.behind.now) (after_square_s ∷ []) _ (expr_view c.in_ok-first.first) (square-rule c.args.text.now c.args.place c.args.tokens.now c.in_default.ensures.front) c.in_ok-first.ensures.read) (after_square-closes c.args.text.now c.in_ok-first.behind.now c.in_ok-last.last.now c.in_ok-last.ensures.front) (c.in_ok-single.ensures ∙ ap (λ zs. list c.args.place (expr_view c.in_ok-first.first) (more_items_of (map expr_view zs) false)) c.new-none.ensures.items)
+
+pub source-returns-in_err-each-clause-read : goal.source-returns-in_err-each-clause-read
+source-returns-in_err-each-clause-read t c =
+    let p = err_from_is_err_and c.from_residual.result c.from_residual.ensures.1 in
+    rw (p.1, p.2) (stops after_square_s name_s (plain (marks_of.for c.args.place) ∷ (terminals c.args.text.now c.args.tokens.now)) (terminals c.args.text.now c.args.tokens.now) (in_s ∷ expr_s ∷ (closes_s Square) ∷ []) _ c.args.text.now c.in_err-each.field-0.0 (after_square-for c.args.place (terminals c.args.text.now c.args.tokens.now)) c.in_err-each.ensures.read)
+
+pub source-returns-in_err-after-clause-read : goal.source-returns-in_err-after-clause-read
+source-returns-in_err-after-clause-read t c =
+    let p = err_from_is_err_and c.from_residual-in_err-after.result c.from_residual-in_err-after.ensures.1 in
+    rw (p.1, p.2) (stops after_square_s in_s (plain (marks_of.for c.args.place) ∷ (terminals c.args.text.now c.args.tokens.now)) (terminals c.args.text.now c.in_ok-each.behind.now) (expr_s ∷ (closes_s Square) ∷ []) _ c.args.text.now c.in_err-after.field-0.0 (goes after_square_s name_s (plain (marks_of.for c.args.place) ∷ (terminals c.args.text.now c.args.tokens.now)) (terminals c.args.text.now c.args.tokens.now) (terminals c.args.text.now c.in_ok-each.behind.now) (in_s ∷ expr_s ∷ (closes_s Square) ∷ []) _ c.in_ok-each.each (after_square-for c.args.place (terminals c.args.text.now c.args.tokens.now)) c.in_ok-each.ensures.read) (in-stops c.args.text.now c.in_ok-each.behind.now c.in_err-after.field-0.0 c.in_err-after.ensures.refused))
+
+pub source-returns-in_err-from-clause-read : goal.source-returns-in_err-from-clause-read
+source-returns-in_err-from-clause-read t c =
+    let p = err_from_is_err_and c.from_residual-in_err-from.result c.from_residual-in_err-from.ensures.1 in
+    rw (p.1, p.2) (stops after_square_s expr_s (plain (marks_of.for c.args.place) ∷ (terminals c.args.text.now c.args.tokens.now)) (terminals c.args.text.now c.in_ok-after.after.now) ((closes_s Square) ∷ []) _ c.args.text.now c.in_err-from.field-0.0 (goes after_square_s in_s (plain (marks_of.for c.args.place) ∷ (terminals c.args.text.now c.args.tokens.now)) (terminals c.args.text.now c.in_ok-each.behind.now) (terminals c.args.text.now c.in_ok-after.after.now) (expr_s ∷ (closes_s Square) ∷ []) _ tt (goes after_square_s name_s (plain (marks_of.for c.args.place) ∷ (terminals c.args.text.now c.args.tokens.now)) (terminals c.args.text.now c.args.tokens.now) (terminals c.args.text.now c.in_ok-each.behind.now) (in_s ∷ expr_s ∷ (closes_s Square) ∷ []) _ c.in_ok-each.each (after_square-for c.args.place (terminals c.args.text.now c.args.tokens.now)) c.in_ok-each.ensures.read) (in-gives c.args.text.now c.in_ok-each.behind.now c.in_ok-after.after.now c.in_ok-after.ensures.front)) c.in_err-from.ensures.read)
+
+pub source-returns-in_err-rest-clause-read : goal.source-returns-in_err-rest-clause-read
+source-returns-in_err-rest-clause-read t c =
+    let p = err_from_is_err_and c.from_residual-in_err-rest.result c.from_residual-in_err-rest.ensures.1 in
+    rw (p.1, p.2) (stops after_square_s (closes_s Square) (plain (marks_of.for c.args.place) ∷ (terminals c.args.text.now c.args.tokens.now)) (terminals c.args.text.now c.in_ok-from.closing.now) ([]) _ c.args.text.now c.in_err-rest.field-0.0 (goes after_square_s expr_s (plain (marks_of.for c.args.place) ∷ (terminals c.args.text.now c.args.tokens.now)) (terminals c.args.text.now c.in_ok-after.after.now) (terminals c.args.text.now c.in_ok-from.closing.now) ((closes_s Square) ∷ []) _ (expr_view c.in_ok-from.from) (goes after_square_s in_s (plain (marks_of.for c.args.place) ∷ (terminals c.args.text.now c.args.tokens.now)) (terminals c.args.text.now c.in_ok-each.behind.now) (terminals c.args.text.now c.in_ok-after.after.now) (expr_s ∷ (closes_s Square) ∷ []) _ tt (goes after_square_s name_s (plain (marks_of.for c.args.place) ∷ (terminals c.args.text.now c.args.tokens.now)) (terminals c.args.text.now c.args.tokens.now) (terminals c.args.text.now c.in_ok-each.behind.now) (in_s ∷ expr_s ∷ (closes_s Square) ∷ []) _ c.in_ok-each.each (after_square-for c.args.place (terminals c.args.text.now c.args.tokens.now)) c.in_ok-each.ensures.read) (in-gives c.args.text.now c.in_ok-each.behind.now c.in_ok-after.after.now c.in_ok-after.ensures.front)) c.in_ok-from.ensures.read) (closes_square-stops c.args.text.now c.in_ok-from.closing.now c.in_err-rest.field-0.0 c.in_err-rest.ensures.refused))
+
+pub source-returns-clause-read : goal.source-returns-clause-read
+source-returns-clause-read t c =
+    finish after_square_s (closes_s Square) (plain (marks_of.for c.args.place) ∷ (terminals c.args.text.now c.args.tokens.now)) (terminals c.args.text.now c.in_ok-from.closing.now) (terminals c.args.text.now c.in_ok-rest.rest.now) (λ z. square_for c.args.place c.in_ok-each.each (expr_view c.in_ok-from.from)) tt _ (goes after_square_s expr_s (plain (marks_of.for c.args.place) ∷ (terminals c.args.text.now c.args.tokens.now)) (terminals c.args.text.now c.in_ok-after.after.now) (terminals c.args.text.now c.in_ok-from.closing.now) ((closes_s Square) ∷ []) _ (expr_view c.in_ok-from.from) (goes after_square_s in_s (plain (marks_of.for c.args.place) ∷ (terminals c.args.text.now c.args.tokens.now)) (terminals c.args.text.now c.in_ok-each.behind.now) (terminals c.args.text.now c.in_ok-after.after.now) (expr_s ∷ (closes_s Square) ∷ []) _ tt (goes after_square_s name_s (plain (marks_of.for c.args.place) ∷ (terminals c.args.text.now c.args.tokens.now)) (terminals c.args.text.now c.args.tokens.now) (terminals c.args.text.now c.in_ok-each.behind.now) (in_s ∷ expr_s ∷ (closes_s Square) ∷ []) _ c.in_ok-each.each (after_square-for c.args.place (terminals c.args.text.now c.args.tokens.now)) c.in_ok-each.ensures.read) (in-gives c.args.text.now c.in_ok-each.behind.now c.in_ok-after.after.now c.in_ok-after.ensures.front)) c.in_ok-from.ensures.read) (closes_square-gives c.args.text.now c.in_ok-from.closing.now c.in_ok-rest.rest.now c.in_ok-rest.ensures.front) (refl)

@@ -1,0 +1,11 @@
+-- What the loop has read.
+use Rattle.std.proofs.Common.{◌≤◌, ◌≡◌, ◌++◌, ℕ, List, length}
+use Rattle.dcx_read.specs.Terminal.{terminals}
+use Rattle.dcx_read.specs.Expressions.{signs_text}
+use Rattle.dcx_read.proofs.expression.signs.Given as goal
+
+abbrev pub invariant-more : goal.invariant-more
+invariant-more l = ((source : List ℕ) → terminals source l.fn.tokens ≡ signs_text l.all.items ++ terminals source l.rest) × (length l.rest ≤ length l.fn.tokens)
+
+abbrev pub decreases-more : goal.decreases-more
+decreases-more l = length l.rest

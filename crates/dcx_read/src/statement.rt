@@ -1,0 +1,257 @@
+//! The descent over lines: one function for each rule, that decides by the tokens at the front.
+ghost use Rattle.std.specs.Prelude.{◌≡◌, ◌<◌, ◌≤◌, ◌∷◌, length, map, IfOk};
+ghost use Rattle.dcx_read.specs.Terminal.{terminals, plain};
+ghost use Rattle.dcx_read.specs.Terminal as marks_of;
+ghost use Rattle.dcx_read.specs.Statements.{importing};
+ghost use Rattle.dcx_read.specs.View.{expr_view};
+ghost use Rattle.dcx_read.specs.Moves.{module_s, alias_s, line_s};
+ghost use Rattle.dcx_read.specs.declared.role.Role.TheVariants as roles;
+ghost use Rattle.dcx_read.specs.Steps.{Reads, Lacks};
+ghost use Rattle.dcx_read.specs.Lines.{module_at, line_view, lines_of, LacksPlain, BalancedTo, ReadsBalanced, ReadsEnded, ReadsLine, ReadsHead, ReadsLines};
+
+use crate::expression::expr;
+use crate::front::*;
+use crate::made::*;
+use crate::role::{Bracket, Mark};
+use crate::tree::*;
+use dcx_shape::Place;
+use dcx_tokens::Token;
+use std::alloc::Global;
+
+/// A module's name, and its place.
+fn module<'a>(text: &[u8], tokens: &'a [Token]) -> Result<(Module, Place, &'a [Token]), Stop<'a>>
+    ensures read { Reads module_s text.now (λ x. (module_at x.0 x.1, x.2.now)) result (terminals text.now tokens.now) }
+    ensures shorter { IfOk result (λ x. length x.2.now < length tokens.now) }
+{
+    let Some((head, rest)) = eat_name(tokens) else {
+        return Err(Stop::At(tokens));
+    };
+    match module_in(slice(text, head)) {
+        Some(which) => Ok((which, head.place, rest)),
+        None => Err(Stop::At(tokens)),
+    }
+}
+
+/// The name that a module gets, if it gets one.
+fn alias<'a>(
+    alloc: Global,
+    text: &[u8],
+    tokens: &'a [Token],
+) -> Result<(Option<Named>, &'a [Token]), Stop<'a>>
+    ensures read { Reads alias_s text.now (λ x. (x.0, x.1.now)) result (terminals text.now tokens.now) }
+    ensures shorter { IfOk result (λ x. length x.1.now ≤ length tokens.now) }
+{
+    let Some((_, behind)) = eat(tokens, Mark::As) else {
+        return Ok((None, tokens));
+    };
+    let (word, rest) = name(alloc, text, behind)?;
+    Ok((Some(word), rest))
+}
+
+/// What stands behind the word `import` at this place, up to the line's end.
+fn import<'a>(
+    alloc: Global,
+    text: &[u8],
+    place: Place,
+    tokens: &'a [Token],
+) -> Result<(Import, &'a [Token]), Stop<'a>>
+    ensures read { Reads line_s text.now (λ x. (importing x.0, x.1.now)) result (plain (marks_of.import place) ∷ terminals text.now tokens.now) }
+    ensures shorter { IfOk result (λ x. length x.1.now < length tokens.now) }
+{
+    let (which, module_place, behind) = module(text, tokens)?;
+    let (called, end) = alias(alloc, text, behind)?;
+    let rest = expect(end, Mark::Newline)?;
+    Ok((
+        Import {
+            place,
+            module: which,
+            module_place,
+            alias: called,
+        },
+        rest,
+    ))
+}
+
+/// The tokens from the first bracket on.
+fn behind_plain<'a>(text: &[u8], tokens: &'a [Token]) -> &'a [Token]
+    ensures read { BalancedTo text.now tokens.now result.now }
+    ensures ends { LacksPlain result.now }
+    ensures shorter { length result.now ≤ length tokens.now }
+{
+    let mut rest = tokens;
+    'more: while let Some(behind) = eat_plain(rest) {
+        rest = behind;
+    }
+    rest
+}
+
+/// The tokens behind as many as stand between matching brackets: up to a bracket's end, or to the end of all.
+fn balanced<'a>(text: &[u8], tokens: &'a [Token]) -> Result<&'a [Token], Stop<'a>>
+    ensures read { ReadsBalanced text.now (λ x. x.now) result tokens.now }
+    ensures shorter { IfOk result (λ x. length x.now ≤ length tokens.now) }
+{
+    let mut rest = behind_plain(text, tokens);
+    'more: while let Some((bracket, _, inside)) = eat_opener(rest) {
+        let closing = balanced(text, inside)?;
+        let behind = expect(closing, Mark::Closes(bracket))?;
+        rest = behind_plain(text, behind);
+    }
+    Ok(rest)
+}
+
+/// What stands behind the word `print` at this place, up to the line's end.
+fn printed<'a>(
+    text: &[u8],
+    place: Place,
+    tokens: &'a [Token],
+) -> Result<(Line, &'a [Token]), Stop<'a>>
+    ensures read { ReadsLine text.now (λ x. (line_view x.0, x.1.now)) result (plain (marks_of.print place) ∷ terminals text.now tokens.now) }
+    ensures shorter { IfOk result (λ x. length x.1.now < length tokens.now) }
+{
+    let Some((opener, inside)) = eat(tokens, Mark::Opens(Bracket::Round)) else {
+        return Err(Stop::At(tokens));
+    };
+    let closing = balanced(text, inside)?;
+    let end = expect(closing, Mark::Closes(Bracket::Round))?;
+    let rest = expect(end, Mark::Newline)?;
+    Ok((print_of(place, opener), rest))
+}
+
+/// An expression and the line's end.
+fn ended<'a>(
+    alloc: Global,
+    text: &[u8],
+    tokens: &'a [Token],
+) -> Result<(Expr, &'a [Token]), Stop<'a>>
+    ensures read { ReadsEnded text.now (λ x. (expr_view x.0, x.1.now)) result tokens.now }
+    ensures shorter { IfOk result (λ x. length x.1.now < length tokens.now) }
+{
+    let (value, end) = expr(alloc, text, tokens)?;
+    let rest = expect(end, Mark::Newline)?;
+    Ok((value, rest))
+}
+
+/// A line that sets a name or a value, or that evaluates an expression: the first token is no word that begins another.
+fn simple<'a>(
+    alloc: Global,
+    text: &[u8],
+    tokens: &'a [Token],
+) -> Result<(Line, &'a [Token]), Stop<'a>>
+    requires import { Lacks roles.Import tokens.now }
+    requires print { Lacks roles.Print tokens.now }
+    requires block { Lacks roles.For tokens.now }
+    ensures read { ReadsLine text.now (λ x. (line_view x.0, x.1.now)) result (terminals text.now tokens.now) }
+    ensures shorter { IfOk result (λ x. length x.1.now < length tokens.now) }
+{
+    if let Some((head, _, behind)) = eat_name_and(tokens, Mark::Equal) {
+        let word = named(alloc, text, head)?;
+        let (value, rest) = ended(alloc, text, behind)?;
+        return Ok((assign_of(word, value), rest));
+    }
+    if let Some((head, place, after)) = eat_name_and(tokens, Mark::PlusEqual) {
+        let target = named(alloc, text, head)?;
+        let (added, next) = ended(alloc, text, after)?;
+        return Ok((add_to_of(target, place, added), next));
+    }
+    if let Some((head, place, inside)) = eat_value(text, tokens) {
+        let parameter = named(alloc, text, head)?;
+        let (given, last) = ended(alloc, text, inside)?;
+        return Ok((set_value_of(parameter, place, given), last));
+    }
+    let (alone, end) = ended(alloc, text, tokens)?;
+    Ok((evaluate_of(alone), end))
+}
+
+/// A line that has no lines inside it.
+fn flat<'a>(
+    alloc: Global,
+    text: &[u8],
+    tokens: &'a [Token],
+) -> Result<(Line, &'a [Token]), Stop<'a>>
+    requires block { Lacks roles.For tokens.now }
+    ensures read { ReadsLine text.now (λ x. (line_view x.0, x.1.now)) result (terminals text.now tokens.now) }
+    ensures shorter { IfOk result (λ x. length x.1.now < length tokens.now) }
+{
+    if let Some((place, behind)) = eat(tokens, Mark::Import) {
+        let (found, rest) = import(alloc, text, place, behind)?;
+        return Ok((import_of(found), rest));
+    }
+    if let Some((place, after)) = eat(tokens, Mark::Print) {
+        return printed(text, place, after);
+    }
+    simple(alloc, text, tokens)
+}
+
+/// What stands behind the word `for` at this place: the name, what it goes over, and the tokens of the block's lines.
+fn head<'a>(
+    alloc: Global,
+    text: &[u8],
+    place: Place,
+    tokens: &'a [Token],
+) -> Result<(Named, Expr, &'a [Token]), Stop<'a>>
+    ensures read { ReadsHead text.now place (λ x. (x.0, (expr_view x.1, x.2.now))) result (plain (marks_of.for place) ∷ terminals text.now tokens.now) }
+    ensures shorter { IfOk result (λ x. length x.2.now < length tokens.now) }
+{
+    let (each, behind) = name(alloc, text, tokens)?;
+    let after = expect(behind, Mark::In)?;
+    let (from, colon) = expr(alloc, text, after)?;
+    let end = expect(colon, Mark::Colon)?;
+    let next = expect(end, Mark::Newline)?;
+    let inside = expect(next, Mark::Indent)?;
+    Ok((each, from, inside))
+}
+
+/// A `for` line and the lines inside it, behind the word `for` at this place.
+#[cycle(statement)]
+fn block<'a>(
+    alloc: Global,
+    text: &[u8],
+    place: Place,
+    tokens: &'a [Token],
+) -> Result<(Line, &'a [Token]), Stop<'a>>
+    ensures read { ReadsLine text.now (λ x. (line_view x.0, x.1.now)) result (plain (marks_of.for place) ∷ terminals text.now tokens.now) }
+    ensures shorter { IfOk result (λ x. length x.1.now < length tokens.now) }
+{
+    let (each, from, inside) = head(alloc, text, place, tokens)?;
+    let (first, behind) = line(alloc, text, inside)?;
+    let (others, closing) = lines(alloc, text, behind)?;
+    let rest = expect(closing, Mark::Dedent)?;
+    let whole = for_of(alloc, place, each, from, first, others)?;
+    Ok((whole, rest))
+}
+
+/// A line, with the lines inside it, and the tokens behind.
+#[cycle(statement)]
+fn line<'a>(
+    alloc: Global,
+    text: &[u8],
+    tokens: &'a [Token],
+) -> Result<(Line, &'a [Token]), Stop<'a>>
+    ensures read { ReadsLine text.now (λ x. (line_view x.0, x.1.now)) result (terminals text.now tokens.now) }
+    ensures shorter { IfOk result (λ x. length x.1.now < length tokens.now) }
+{
+    if let Some((place, behind)) = eat(tokens, Mark::For) {
+        return block(alloc, text, place, behind);
+    }
+    flat(alloc, text, tokens)
+}
+
+/// The lines at the front of the tokens, and the tokens behind them.
+#[cycle(statement)]
+pub fn lines<'a>(
+    alloc: Global,
+    text: &[u8],
+    tokens: &'a [Token],
+) -> Result<(Vec<Line>, &'a [Token]), Stop<'a>>
+    ensures read { ReadsLines text.now (λ x. (lines_of (map line_view x.0.items), x.1.now)) result (terminals text.now tokens.now) }
+    ensures shorter { IfOk result (λ x. length x.1.now ≤ length tokens.now) }
+{
+    let mut all = Vec::new(alloc);
+    let mut rest = tokens;
+    'more: while starts_line(rest) {
+        let (next, behind) = line(alloc, text, rest)?;
+        all.push(next)?;
+        rest = behind;
+    }
+    Ok((all, rest))
+}

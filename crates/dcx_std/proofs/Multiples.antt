@@ -1,0 +1,65 @@
+-- Least common multiples, one after another, and whole numbers as fractions.
+use Rattle.std.proofs.Common.{◌≡◌, ℕ, ◌+◌, ◌*◌, ◌/◌, ◌<◌, ◌^◌, Bool, true, false, nat_lt, if◌then◌else◌, List, [], ◌∷◌, ◌++◌, map, length, get_or, drop, Result, Ok, Err, refl, ap, ◌∙◌, subst, pos, ◌<ℤ◌, arith, lit<}
+use Rattle.std.proofs.lemmas.Int.{ints}
+use Rattle.std.proofs.lemmas.Bool.{ltb-true, lt-ltb, le-ltb}
+use native.Mathlib.Nat.{eq-one_of_dvd-one}
+use Rattle.dcx_math.specs.Rational.{whole, ◌/ℚ◌}
+use Rattle.dcx_math.specs.Divisors.{gcd, lcm}
+use Rattle.dcx_math.proofs.Ratios.{ratio-is-/ℚ}
+use Rattle.dcx_frac.specs.declared.fraction.Frac.{Frac}
+use Rattle.dcx_frac.specs.declared.fraction.Passes.{Passes}
+use Rattle.dcx_frac.proofs.Turns.{over_one}
+use Rattle.dcx_frac.specs.Fits.{IsRepresentable, representable}
+use Rattle.dcx_frac.specs.declared.fraction.Op.TheVariants.{Lcm}
+use Rattle.dcx_atom.specs.Formed.{frac_at, and_then}
+use Rattle.dcx_linear.specs.declared.form.FormTerm.{FormTerm}
+use Rattle.dcx_linear.proofs.Formed.{drop_at}
+use Rattle.dcx_std.specs.Multiples.{lcm_gives, multiple_from, denominator_of}
+
+-- a whole number of 127 bits is a fraction
+pub whole_representable : (n : ℕ) → n < 2 ^ 127 → IsRepresentable (whole (pos n) /ℚ whole (pos 1))
+whole_representable n small =
+    let one : pos 0 <ℤ pos 1 = omega (arith, ints) in
+    representable _ (pos n) (pos 1) (record { positive = one; coprime = λ d h k. eq-one_of_dvd-one k; is = ratio-is-/ℚ (pos n) (pos 1) one }) small (lit< tt)
+
+-- a multiple that is answered fits
+pub multiple_fits : (a b c : ℕ) → lcm_gives a b ≡ Ok c → c < 2 ^ 127
+multiple_fits a b c e = by (nat_lt (lcm a b) (2 ^ 127)) refl e
+  where
+    other : Result ℕ Passes
+    other = Err (record { op = Lcm; left = frac_at (whole (pos a)); right = frac_at (whole (pos b)) })
+
+    by : (t : Bool) → nat_lt (lcm a b) (2 ^ 127) ≡ t → (if t then Ok (lcm a b) else other) ≡ Ok c → c < 2 ^ 127
+    by true is e = let d : lcm a b ≡ c = cc in subst (λ n. n < 2 ^ 127) d (ltb-true (lcm a b) (2 ^ 127) is)
+    by false is e = cc
+
+-- the answer where the multiple fits, and where it doesn't
+pub gives_multiple : (a b : ℕ) → lcm a b < 2 ^ 127 → lcm_gives a b ≡ Ok (lcm a b)
+gives_multiple a b h = rw (lt-ltb (lcm a b) (2 ^ 127) h) refl
+
+pub gives_passes : (a b : ℕ) → ¬ (lcm a b < 2 ^ 127) → lcm_gives a b ≡ Err (record { op = Lcm; left = frac_at (whole (pos a)); right = frac_at (whole (pos b)) })
+gives_passes a b h = rw (le-ltb (lcm a b) (2 ^ 127) (omega (arith, h))) refl
+
+-- the next denominator, and then those behind it
+pub multiple_next : (a : ℕ) (ts : List (FormTerm Frac)) (ds : List ℕ) (i : ℕ) (t : FormTerm Frac) → i < length ts → t ≡ get_or ts i t
+    → multiple_from a (map (λ u. denominator_of u.coefficient) (drop i ts) ++ ds) ≡ and_then (lcm_gives a (denominator_of t.coefficient)) (λ c. multiple_from c (map (λ u. denominator_of u.coefficient) (drop (i + 1) ts) ++ ds))
+multiple_next a ts ds i t lt is = ap (λ r. multiple_from a (map (λ u. denominator_of u.coefficient) r ++ ds)) (drop_at ts i t lt is)
+
+-- nothing follows the last number
+pub multiple_last : (a b : ℕ) → multiple_from a (b ∷ []) ≡ lcm_gives a b
+multiple_last a b = by (lcm_gives a b)
+  where
+    by : (r : Result ℕ Passes) → and_then r (λ c. Ok c) ≡ r
+    by (Ok c) = refl
+    by (Err passes) = refl
+
+-- the multiple as it is computed
+pub multiple_is : (a b g : ℕ) → g ≡ gcd a b → a * (b / g) ≡ lcm a b
+unfolding lcm
+multiple_is a b g e = ap (λ d. a * (b / d)) e
+
+-- a whole number over 1
+pub whole_over_one : (n : ℕ) → whole (pos n) /ℚ whole (pos 1) ≡ whole (pos n)
+whole_over_one n =
+    let one : pos 0 <ℤ pos 1 = omega (arith, ints) in
+    ratio-is-/ℚ (pos n) (pos 1) one ∙ over_one (pos n) (pos n) (pos 1) one refl refl

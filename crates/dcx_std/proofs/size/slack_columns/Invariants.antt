@@ -1,0 +1,7 @@
+use Rattle.std.proofs.Common.{◌≡◌, take, sum_by}
+use Rattle.dcx_std.specs.Size.{slacks_for, capped}
+use Rattle.dcx_std.proofs.size.slack_columns.Given as goal
+
+-- the slacks of the rows so far
+abbrev pub invariant-rows : goal.invariant-rows
+invariant-rows l = l.count ≡ capped (sum_by (λ r. slacks_for r.kind) (take l.row-index l.rows))
