@@ -12,6 +12,7 @@
 //! | the value of arrays side by side, or one below the other, is the sum of its terms | `specs/Joined.antt`, `specs/JoinedLaws.antt` |
 //! | signs and trends are true of the values | the laws beside each of these |
 //! | an index keeps as many places as its result has entries, each within its argument | `Index` |
+//! | the entry that stands at a place of a transpose, or of an array broadcast to a shape | `transposed_place`, `promoted_place` |
 //! | the pairs of a product or quotient are those of the defined rows and columns | `Pairing`, `specs/Pairing.antt` |
 #![tactic(auto)]
 
@@ -25,9 +26,6 @@ mod sums;
 
 pub use added::{Diff, Minus, Plus};
 pub use joined::{HStack, VStack};
-pub use pairing::{EntryPairs, Pair, Pairing, Pairs};
-pub use places::{Diag, Index, Promote, Reshape, Transpose};
+pub use pairing::{EntryPairs, Pair, Pairing, Pairs, product_pair};
+pub use places::{Diag, Index, Promote, Reshape, Transpose, promoted_place, transposed_place};
 pub use sums::{CumSum, Mean, Sum, Trace};
-
-#[cfg(test)]
-mod tests;

@@ -182,7 +182,7 @@ fn product_pairs(alloc: Global, a: Shape, b: Shape, k: u32) -> Result<EntryPairs
 }
 
 /// Pair `t` of entry `k` of a matrix product.
-fn product_pair(a: Shape, b: Shape, k: u32, t: u32) -> Pair
+pub fn product_pair(a: Shape, b: Shape, k: u32, t: u32) -> Pair
     requires entry { k < 20000 }
     requires pair { t < cols_of (sides_of a) }
     ensures { result ≡ product_pair (sides_of a) (sides_of b) k t }

@@ -1,5 +1,5 @@
 //! Calls whose entries are entries of the argument: indices, reshapes, transposes, diagonals and promotion.
-ghost use Rattle.std.specs.Prelude.{◌≡◌, ◌+◌, ◌/◌, ◌%◌, ◌<◌, ◌≤◌, true, length};
+ghost use Rattle.std.specs.Prelude.{◌≡◌, ◌+◌, ◌/◌, ◌%◌, ◌^◌, ◌<◌, ◌≤◌, true, length};
 ghost use Rattle.std.specs.List.{All};
 ghost use Rattle.dcx_shape.specs.Shape.{sides_of};
 ghost use Rattle.dcx_shape.specs.Sides.{cols_of, entries_of};
@@ -190,6 +190,18 @@ impl LinearOp for Reshape {
     }
 }
 
+/// Where the entry stands that is entry `k` of the transpose.
+pub fn transposed_place(from: Shape, k: u32) -> u32
+    requires { k < entries_of (sides_of from) }
+    ensures is { result ≡ transposed_place (sides_of from) k }
+    ensures fits { result + 1 < 2 ^ 32 }
+{
+    match from.sides() {
+        Sides::Matrix(m, n) => k % m * n + k / m,
+        _ => k,
+    }
+}
+
 /// A matrix turned over its diagonal; a scalar and a vector stay as they are.
 #[derive(Clone, Copy, Debug, PartialEq, Eq)]
 pub struct Transpose;
@@ -209,10 +221,7 @@ impl Strided for Transpose {
     }
 
     fn stride(&self, from: Shape, k: u32) -> Stride {
-        match from.sides() {
-            Sides::Matrix(m, n) => one_entry(k % m * n + k / m),
-            _ => one_entry(k),
-        }
+        one_entry(transposed_place(from, k))
     }
 }
 
@@ -324,6 +333,17 @@ fn stretched(n: u32, i: u32) -> u32
     if n == 1 { 0 } else { i }
 }
 
+/// Where the entry stands that is entry `k` of the array broadcast to a shape.
+pub fn promoted_place(from: Shape, to: Shape, k: u32) -> u32
+    requires { k < entries_of (sides_of to) }
+    ensures is { result ≡ promoted_place (sides_of from) (sides_of to) k }
+    ensures fits { result + 1 < 2 ^ 32 }
+{
+    let row = stretched(from.rows(), k / to.cols());
+    let column = stretched(from.cols(), k % to.cols());
+    row * from.cols() + column
+}
+
 impl Strided for Promote {
     ghost call = { λ x. promote_call (sides_of x.to) };
 
@@ -342,9 +362,7 @@ impl Strided for Promote {
     }
 
     fn stride(&self, from: Shape, k: u32) -> Stride {
-        let row = stretched(from.rows(), k / self.to.cols());
-        let column = stretched(from.cols(), k % self.to.cols());
-        one_entry(row * from.cols() + column)
+        one_entry(promoted_place(from, self.to, k))
     }
 }
 

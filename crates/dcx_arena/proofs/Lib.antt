@@ -1,6 +1,6 @@
 -- The lemmas by which the functions and the laws of this crate are proved.
 pub mod Nodes
-mod Positions
+pub mod Positions
 mod Cells
 mod Walks
 mod Shapes
@@ -10,4 +10,4 @@ mod Frames
 mod Numbers
 mod Results
 mod Parts
-mod Unfolds
+pub mod Unfolds

@@ -152,6 +152,26 @@ pub fn node_in(cells: &[Cell], count: usize, first: usize, i: u32) -> u32
     cells[at].node
 }
 
+/// The nodes that a chain names.
+pub fn ids_in(
+    alloc: Global,
+    cells: &[Cell],
+    count: usize,
+    first: usize,
+) -> Result<Vec<NodeId>, AllocError>
+    requires { IsChain cells.now count first }
+    ensures { IfOk result (λ v. positions v.items ≡ chain cells.now count first) }
+{
+    let mut ids = Vec::new(alloc);
+    let mut at = first;
+    for _ in 0..count {
+        let cell = cells[at];
+        ids.push(NodeId(cell.node))?;
+        at = cell.next;
+    }
+    Ok(ids)
+}
+
 // Makes room for a head for each bucket.
 fn ready(heads: &mut Vec<Option<u32>>) -> Result<(), AllocError>
     ensures room { OnOk result (number_of_buckets ≤ length heads.new.items) }

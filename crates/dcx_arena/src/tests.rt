@@ -109,6 +109,36 @@ fn seen<C: Operator>(
     ))
 }
 
+/// All arguments of a node; `AllocError` too where the node isn't in the tree.
+fn args<C: Operator>(
+    tree: &Tree<C>,
+    alloc: Global,
+    node: NodeId,
+) -> Result<Vec<NodeId>, AllocError> {
+    if node.0 >= tree.nodes() {
+        return Err(AllocError);
+    }
+    tree.args(alloc, node)
+}
+
+#[test]
+fn arguments_stand_in_order(rt: HostRuntime) -> Result<(), AllocError> {
+    let mut tree = Tree::new(rt.alloc());
+    assert_eq!(rt; leaf(&mut tree, Small::Letter(1), 1), Ok(NodeId(0)));
+    assert_eq!(rt; leaf(&mut tree, Small::Letter(2), 2), Ok(NodeId(1)));
+    assert_eq!(rt; pair(&mut tree, Small::Pair, 1, 0, 3), Ok(NodeId(2)));
+    assert_eq!(rt; pair(&mut tree, Small::Pair, 2, 2, 4), Ok(NodeId(3)));
+    for (node, want) in [
+        (1, [].as_slice()),
+        (2, [NodeId(1), NodeId(0)].as_slice()),
+        (3, [NodeId(2), NodeId(2)].as_slice()),
+    ] {
+        let got = args(&tree, rt.alloc(), NodeId(node))?;
+        assert_eq!(rt; got.as_slice(), want, "node {node}");
+    }
+    Ok(())
+}
+
 #[test]
 fn equal_nodes_are_one(rt: HostRuntime) {
     let mut tree = Tree::new(rt.alloc());

@@ -8,7 +8,7 @@ use crate::fault::TreeFault;
 use crate::gather::{numbers_of, part_of};
 use crate::node::NodeId;
 use crate::operator::Operator;
-use crate::store::{self, Store, node_in};
+use crate::store::{self, Store, ids_in, node_in};
 use crate::walk::finish_all;
 use dcx_shape::{Place, Shape};
 use std::alloc::{AllocError, Global};
@@ -105,6 +105,15 @@ impl<C: Operator> Tree<C> {
             return None;
         }
         Some(NodeId(node_in(&self.store.cells, stored.count, stored.first, i)))
+    }
+
+    /// All arguments of a node, in order.
+    pub fn args(&self, alloc: Global, node: NodeId) -> Result<Vec<NodeId>, AllocError>
+        requires { node.0 < length self.now }
+        ensures { IfOk result (λ v. positions v.items ≡ args_at self.now node.0) }
+    {
+        let stored = &self.store.stored[node.0 as usize];
+        ids_in(alloc, &self.store.cells, stored.count, stored.first)
     }
 
     /// The part of the tree that the roots reach, and where the roots stand in it.

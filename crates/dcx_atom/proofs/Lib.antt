@@ -8,6 +8,7 @@ pub mod Accepted
 pub mod LinearSums
 pub mod Halves
 pub mod Lists
+pub mod Entrywise
 pub mod Totals
 pub mod Weights
 pub mod BoundRows

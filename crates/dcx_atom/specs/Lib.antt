@@ -1,6 +1,7 @@
 -- What the contracts of this crate cite.
 pub mod Arrays
 pub mod Formed
+pub mod Entrywise
 pub mod Signs
 pub mod Rows
 pub mod Meaning

@@ -4,3 +4,4 @@ pub mod Products
 pub mod SignedProducts
 pub mod CallLaws
 pub mod CallValues
+pub mod Given

@@ -1,18 +1,19 @@
 -- Sums of products in order: one more product is added to what was formed of those before it, and the sum is exact.
-use Rattle.std.proofs.Common.{◌≡◌, ℕ, zero, suc, ◌+◌, ◌<◌, arith, List, [], ◌∷◌, ◌++◌, map, length, take, drop, get_or, All, refl, sym, ap, ap₂, ◌∙◌, Result, Ok, Err, IfOk}
-use Rattle.std.proofs.lemmas.List.{take-append-drop, length-map}
+use Rattle.std.proofs.Common.{◌≡◌, ℕ, zero, suc, ◌+◌, ◌<◌, arith, List, [], ◌∷◌, ◌++◌, map, length, take, get_or, All, refl, sym, ap, ap₂, ◌∙◌, Result, Ok, Err, IfOk}
+use Rattle.std.proofs.lemmas.List.{length-map}
 use Rattle.std.proofs.lemmas.List.Elements.{All-head, All-tail}
 use Rattle.dcx_math.specs.Rational.{ℚ, ◌+ℚ◌, ◌*ℚ◌}
 use Rattle.dcx_math.specs.Sums.{rat_sum_by}
-use Rattle.dcx_math.proofs.Orders.{+ℚ_idl, +ℚ_idr, +ℚ_assoc}
+use Rattle.dcx_math.proofs.Orders.{+ℚ_idl}
 use Rattle.dcx_frac.specs.declared.fraction.Frac.{Frac}
 use Rattle.dcx_frac.specs.declared.fraction.Passes.{Passes}
 use Rattle.dcx_frac.specs.Fits.{IsRepresentable}
 use Rattle.dcx_frac.specs.Frac.{value}
-use Rattle.dcx_frac.specs.Results.{sum_of, product_of, dec_fits}
-use Rattle.dcx_frac.proofs.Results.{sum_of_is, product_of_is, value-frac_of}
-use Rattle.dcx_atom.specs.Formed.{zero_frac, frac_at, and_then}
-use Rattle.dcx_atom.proofs.FormedSums.{value-zero_frac, frac_at-value, take-next}
+use Rattle.dcx_frac.specs.Results.{dec_fits}
+use Rattle.dcx_frac.proofs.Results.{value-frac_of}
+use Rattle.dcx_atom.specs.Formed.{zero_frac, frac_at}
+use Rattle.dcx_atom.proofs.FormedSums.{value-zero_frac, frac_at-value}
+use Rattle.dcx_atom.proofs.Entrywise.{products_from-next, products_from-within, products_from-exact}
 use Rattle.dcx_call.specs.Forming.{added_product, products_from, factors_at, products_in_order}
 
 -- a number that is representable is that of its fraction
@@ -24,73 +25,9 @@ value-frac_at x h = by (dec_fits x) refl
     by (yes fits) e = rw e (value-frac_of x fits)
     by (no wide) e = absurd (wide h)
 
--- one more product
-pub products_from-append : (s : Frac) (fs : List (Frac × Frac)) (f : Frac × Frac) → products_from s (fs ++ f ∷ []) ≡ and_then (products_from s fs) (λ t. added_product t f)
-products_from-append s [] f = by (added_product s f)
-  where
-    by : (r : Result Frac Passes) → and_then r (λ t. Ok t) ≡ r
-    by (Ok t) = refl
-    by (Err passes) = refl
-products_from-append s (g ∷ fs) f = by (added_product s g) (λ t. products_from-append t fs f)
-  where
-    by : (r : Result Frac Passes) → ((t : Frac) → products_from t (fs ++ f ∷ []) ≡ and_then (products_from t fs) (λ u. added_product u f)) →
-        and_then r (λ t. products_from t (fs ++ f ∷ [])) ≡ and_then (and_then r (λ t. products_from t fs)) (λ u. added_product u f)
-    by (Ok t) rest = rest t
-    by (Err passes) rest = refl
-
--- what stopped stays stopped
-pub products_from-stopped : (s : Frac) (fs gs : List (Frac × Frac)) (passes : Passes) → products_from s fs ≡ Err passes → products_from s (fs ++ gs) ≡ Err passes
-products_from-stopped s [] gs passes e = cc
-products_from-stopped s (f ∷ fs) gs passes e = by (added_product s f) (λ t. products_from-stopped t fs gs passes) e
-  where
-    by : (r : Result Frac Passes) → ((t : Frac) → products_from t fs ≡ Err passes → products_from t (fs ++ gs) ≡ Err passes) →
-        and_then r (λ t. products_from t fs) ≡ Err passes → and_then r (λ t. products_from t (fs ++ gs)) ≡ Err passes
-    by (Ok t) rest e = rest t e
-    by (Err p) rest e = e
-
--- the next of a list
-pub products_from-next : (s : Frac) (fs : List (Frac × Frac)) (i : ℕ) (d : Frac × Frac) (t : Frac) → i < length fs → products_from s (take i fs) ≡ Ok t →
-    products_from s (take (i + 1) fs) ≡ added_product t (get_or fs i d)
-products_from-next s fs i d t b e =
-    ap (products_from s) (take-next fs i d b) ∙ products_from-append s (take i fs) (get_or fs i d) ∙ ap (λ r. and_then r (λ u. added_product u (get_or fs i d))) e
-
-pub products_from-within : (s : Frac) (fs : List (Frac × Frac)) (i : ℕ) (passes : Passes) → products_from s (take i fs) ≡ Err passes → products_from s fs ≡ Err passes
-products_from-within s fs i passes e = ap (products_from s) (sym (take-append-drop i fs)) ∙ products_from-stopped s (take i fs) (drop i fs) passes e
-
 -- both factors are representable
 abbrev pub AreRepresentable : ℚ × ℚ → Type 0
 AreRepresentable f = IsRepresentable f.0 × IsRepresentable f.1
-
--- a sum with one more product is exact
-pub added_exact : (s : Frac) (f : Frac × Frac) → IfOk (added_product s f) (λ t. value t ≡ value s +ℚ value f.0 *ℚ value f.1)
-added_exact s f = by (product_of f.0 f.1) (product_of_is f.0 f.1).exact
-  where
-    last : (p : Frac) → value p ≡ value f.0 *ℚ value f.1 → (r : Result Frac Passes) → IfOk r (λ t. value t ≡ value s +ℚ value p) → IfOk r (λ t. value t ≡ value s +ℚ value f.0 *ℚ value f.1)
-    last p e (Ok t) h = h ∙ ap (λ x. value s +ℚ x) e
-    last p e (Err passes) h = h
-
-    by : (r : Result Frac Passes) → IfOk r (λ p. value p ≡ value f.0 *ℚ value f.1) → IfOk (and_then r (sum_of s)) (λ t. value t ≡ value s +ℚ value f.0 *ℚ value f.1)
-    by (Ok p) e = last p e (sum_of s p) (sum_of_is s p).exact
-    by (Err passes) e = e
-
--- the sum is exact
-pub products_from-exact : (s : Frac) (fs : List (Frac × Frac)) → IfOk (products_from s fs) (λ t. value t ≡ value s +ℚ rat_sum_by (λ f. value f.0 *ℚ value f.1) fs)
-products_from-exact s [] = sym (+ℚ_idr (value s))
-products_from-exact s (f ∷ fs) = by (added_product s f) (added_exact s f) (λ t. products_from-exact t fs)
-  where
-    rest_sum : ℚ
-    rest_sum = rat_sum_by (λ g. value g.0 *ℚ value g.1) fs
-
-    last : (t : Frac) → value t ≡ value s +ℚ value f.0 *ℚ value f.1 → (r : Result Frac Passes) → IfOk r (λ u. value u ≡ value t +ℚ rat_sum_by (λ g. value g.0 *ℚ value g.1) fs) →
-        IfOk r (λ u. value u ≡ value s +ℚ (value f.0 *ℚ value f.1 +ℚ rat_sum_by (λ g. value g.0 *ℚ value g.1) fs))
-    last t e (Ok u) h = h ∙ ap (λ x. x +ℚ rat_sum_by (λ g. value g.0 *ℚ value g.1) fs) e ∙ +ℚ_assoc (value s) (value f.0 *ℚ value f.1) (rat_sum_by (λ g. value g.0 *ℚ value g.1) fs)
-    last t e (Err passes) h = h
-
-    by : (r : Result Frac Passes) → IfOk r (λ t. value t ≡ value s +ℚ value f.0 *ℚ value f.1) →
-        ((t : Frac) → IfOk (products_from t fs) (λ u. value u ≡ value t +ℚ rat_sum_by (λ g. value g.0 *ℚ value g.1) fs)) →
-        IfOk (and_then r (λ t. products_from t fs)) (λ u. value u ≡ value s +ℚ (value f.0 *ℚ value f.1 +ℚ rat_sum_by (λ g. value g.0 *ℚ value g.1) fs))
-    by (Ok t) e rest = last t e (products_from t fs) (rest t)
-    by (Err passes) e rest = e
 
 factors_exact : (fs : List (ℚ × ℚ)) → All AreRepresentable fs → rat_sum_by (λ f. value f.0 *ℚ value f.1) (map factors_at fs) ≡ rat_sum_by (λ f. f.0 *ℚ f.1) fs
 factors_exact [] h = refl

@@ -1,22 +1,13 @@
 -- Forming one entry in 128 bits: sums of products in order, and quotients, up to the first operation that stops.
-use Rattle.std.specs.Prelude.{◌≡◌, ℕ, ◌<◌, if◌then◌else◌, List, [], ◌∷◌, map, Result, Ok, Err, IsOk, ⊤, pos}
+use Rattle.std.specs.Prelude.{ℕ, if◌then◌else◌, List, map, Result, Ok, Err, ⊤, pos}
 use Rattle.dcx_math.specs.Rational.{ℚ, whole, rat_eq}
 use Rattle.dcx_frac.specs.declared.fraction.Frac.{Frac}
 use Rattle.dcx_frac.specs.declared.fraction.Passes.{Passes}
-use Rattle.dcx_frac.specs.Results.{sum_of, product_of, quotient_of}
+use Rattle.dcx_frac.specs.Results.{quotient_of}
 use Rattle.dcx_atom.specs.declared.stops.ValueStop.{ValueStop}
 use Rattle.dcx_atom.specs.declared.stops.ValueStop.TheVariants as stops
-use Rattle.dcx_atom.specs.Arrays.{list_below}
-use Rattle.dcx_atom.specs.Formed.{zero_frac, frac_at, and_then}
-
--- s + x * y, the product formed before it is added
-abbrev pub added_product : Frac → Frac × Frac → Result Frac Passes
-added_product s f = and_then (product_of f.0 f.1) (sum_of s)
-
--- s + x1 * y1 + x2 * y2 + .., from the left
-abbrev pub products_from : Frac → List (Frac × Frac) → Result Frac Passes
-products_from s [] = Ok s
-products_from s (f ∷ fs) = and_then (added_product s f) (λ t. products_from t fs)
+use Rattle.dcx_atom.specs.Formed.{zero_frac, frac_at}
+pub use Rattle.dcx_atom.specs.Entrywise.{added_product, products_from, AreFormed, IsFirst}
 
 -- the fractions of two factors
 abbrev pub factors_at : ℚ × ℚ → Frac × Frac
@@ -34,17 +25,6 @@ or_passes j (Err passes) = Err (stops.Passes j passes)
 -- entry j of a quotient; a divisor of 0 stops before anything is formed
 abbrev pub divided : ℕ → ℚ → ℚ → Result Frac ValueStop
 divided j x y = if rat_eq y (whole (pos 0)) then Err (stops.ZeroDivisor j) else or_passes j (quotient_of (frac_at x) (frac_at y))
-
--- so many entries are formed, each as told
-abbrev pub AreFormed : (ℕ → Result Frac ValueStop) → ℕ → List Frac → Type 0
-AreFormed formed size entries = map Ok entries ≡ list_below size formed
-
--- the stop is that of the first entry, of so many, that isn't formed
-pub record IsFirst (formed : ℕ → Result Frac ValueStop) (size : ℕ) (stop : ValueStop) : Type 0 where
-  pub entry : ℕ
-  pub within : entry < size
-  pub before : (j : ℕ) → j < entry → IsOk (formed j)
-  pub here : formed entry ≡ Err stop
 
 -- why entries aren't formed: the first stop, or want of memory
 abbrev pub IsStop : (ℕ → Result Frac ValueStop) → ℕ → ValueStop → Type 0

@@ -3,7 +3,7 @@ ghost use Rattle.dcx_call.specs.Atoms.{atom_meaning, atom_lawful};
 
 use dcx_atom::{Array, Atom, Bend, Graph, Sign, SlopeStop, Trend, ValueStop};
 use dcx_elem::{Abs, Maximum, Minimum, Neg, Pos};
-use dcx_fold::{MaxOf, MinOf, Norm1, NormInf};
+use dcx_fold::{CumMax, MaxOf, MinOf, Norm1, NormInf, SumLargest, SumSmallest};
 use dcx_frac::{Frac, Fracs};
 use dcx_shape::Shape;
 use std::alloc::{AllocError, Global};
@@ -29,6 +29,12 @@ pub enum AtomCall {
     Norm1(Norm1),
     /// The greatest magnitude, of all or along a side.
     NormInf(NormInf),
+    /// The sum of the largest entries.
+    SumLargest(SumLargest),
+    /// The sum of the smallest entries.
+    SumSmallest(SumSmallest),
+    /// The running maximum of a vector.
+    CumMax(CumMax),
 }
 
 impl Atom for AtomCall {
@@ -61,6 +67,9 @@ impl Atom for AtomCall {
             AtomCall::MinOf(call) => call.shape(args),
             AtomCall::Norm1(call) => call.shape(args),
             AtomCall::NormInf(call) => call.shape(args),
+            AtomCall::SumLargest(call) => call.shape(args),
+            AtomCall::SumSmallest(call) => call.shape(args),
+            AtomCall::CumMax(call) => call.shape(args),
         }
     }
 
@@ -75,6 +84,9 @@ impl Atom for AtomCall {
             AtomCall::MinOf(call) => call.bend(),
             AtomCall::Norm1(call) => call.bend(),
             AtomCall::NormInf(call) => call.bend(),
+            AtomCall::SumLargest(call) => call.bend(),
+            AtomCall::SumSmallest(call) => call.bend(),
+            AtomCall::CumMax(call) => call.bend(),
         }
     }
 
@@ -89,6 +101,9 @@ impl Atom for AtomCall {
             AtomCall::MinOf(call) => call.trend(i, sign),
             AtomCall::Norm1(call) => call.trend(i, sign),
             AtomCall::NormInf(call) => call.trend(i, sign),
+            AtomCall::SumLargest(call) => call.trend(i, sign),
+            AtomCall::SumSmallest(call) => call.trend(i, sign),
+            AtomCall::CumMax(call) => call.trend(i, sign),
         }
     }
 
@@ -103,6 +118,9 @@ impl Atom for AtomCall {
             AtomCall::MinOf(call) => call.sign(args),
             AtomCall::Norm1(call) => call.sign(args),
             AtomCall::NormInf(call) => call.sign(args),
+            AtomCall::SumLargest(call) => call.sign(args),
+            AtomCall::SumSmallest(call) => call.sign(args),
+            AtomCall::CumMax(call) => call.sign(args),
         }
     }
 
@@ -117,6 +135,9 @@ impl Atom for AtomCall {
             AtomCall::MinOf(call) => call.value(alloc, args),
             AtomCall::Norm1(call) => call.value(alloc, args),
             AtomCall::NormInf(call) => call.value(alloc, args),
+            AtomCall::SumLargest(call) => call.value(alloc, args),
+            AtomCall::SumSmallest(call) => call.value(alloc, args),
+            AtomCall::CumMax(call) => call.value(alloc, args),
         }
     }
 
@@ -131,6 +152,9 @@ impl Atom for AtomCall {
             AtomCall::MinOf(call) => call.graph(alloc, args),
             AtomCall::Norm1(call) => call.graph(alloc, args),
             AtomCall::NormInf(call) => call.graph(alloc, args),
+            AtomCall::SumLargest(call) => call.graph(alloc, args),
+            AtomCall::SumSmallest(call) => call.graph(alloc, args),
+            AtomCall::CumMax(call) => call.graph(alloc, args),
         }
     }
 
@@ -151,6 +175,9 @@ impl Atom for AtomCall {
             AtomCall::MinOf(call) => call.slopes(alloc, args, coefficients, weights),
             AtomCall::Norm1(call) => call.slopes(alloc, args, coefficients, weights),
             AtomCall::NormInf(call) => call.slopes(alloc, args, coefficients, weights),
+            AtomCall::SumLargest(call) => call.slopes(alloc, args, coefficients, weights),
+            AtomCall::SumSmallest(call) => call.slopes(alloc, args, coefficients, weights),
+            AtomCall::CumMax(call) => call.slopes(alloc, args, coefficients, weights),
         }
     }
 }

@@ -11,7 +11,7 @@ use dcx_shape::{Name, Places};
 use std::alloc::{AllocError, Global};
 
 /// The same name again.
-fn copy_name(alloc: Global, name: &Name) -> Result<Name, AllocError>
+pub fn copy_name(alloc: Global, name: &Name) -> Result<Name, AllocError>
     ensures { IfOk result (λ n. n ≡ name.now) }
 {
     let bytes = Vec::from_slice(alloc, name.as_slice())?;
@@ -19,7 +19,7 @@ fn copy_name(alloc: Global, name: &Name) -> Result<Name, AllocError>
 }
 
 /// The same array again.
-pub(crate) fn copy_array(alloc: Global, array: &Array) -> Result<Array, AllocError>
+pub fn copy_array(alloc: Global, array: &Array) -> Result<Array, AllocError>
     ensures { IfOk result (λ x. x ≡ array.now) }
 {
     let entries = Vec::from_slice(alloc, array.entries.as_slice())?;
@@ -30,7 +30,7 @@ pub(crate) fn copy_array(alloc: Global, array: &Array) -> Result<Array, AllocErr
 }
 
 /// The same variable again.
-fn copy_variable(alloc: Global, variable: &Variable) -> Result<Variable, AllocError>
+pub fn copy_variable(alloc: Global, variable: &Variable) -> Result<Variable, AllocError>
     ensures { IfOk result (λ v. v ≡ variable.now) }
 {
     let name = copy_name(alloc, &variable.name)?;
@@ -43,7 +43,7 @@ fn copy_variable(alloc: Global, variable: &Variable) -> Result<Variable, AllocEr
 }
 
 /// The same parameter again.
-fn copy_parameter(alloc: Global, parameter: &Parameter) -> Result<Parameter, AllocError>
+pub fn copy_parameter(alloc: Global, parameter: &Parameter) -> Result<Parameter, AllocError>
     ensures { IfOk result (λ p. p ≡ parameter.now) }
 {
     let name = copy_name(alloc, &parameter.name)?;

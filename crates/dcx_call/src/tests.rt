@@ -152,6 +152,49 @@ fn signs_and_trends_of_products(rt: HostRuntime) -> Result<(), Fail> {
     Ok(())
 }
 
+/// A point that has one scalar and one vector.
+fn small_point(alloc: Global, scalar: &str, other: &str) -> Result<Point, Fail> {
+    let mut point = Point::empty(alloc);
+    point.put(
+        name(alloc, scalar)?,
+        array(alloc, Shape::scalar(), &[(7, 1)])?,
+    )?;
+    point.put(name(alloc, other)?, vector(alloc, &[(7, 1)])?)?;
+    Ok(point)
+}
+
+/// The same as a setting.
+fn small_setting(alloc: Global, scalar: &str, other: &str) -> Result<Setting, Fail> {
+    let mut setting = Setting::empty(alloc);
+    setting.put(
+        name(alloc, scalar)?,
+        array(alloc, Shape::scalar(), &[(7, 1)])?,
+    )?;
+    setting.put(name(alloc, other)?, vector(alloc, &[(7, 1)])?)?;
+    Ok(setting)
+}
+
+#[test]
+fn leaves_are_given_with_their_shape(rt: HostRuntime) -> Result<(), Fail> {
+    let alloc = rt.alloc();
+    let point = small_point(alloc, "x", "y")?;
+    let setting = small_setting(alloc, "p", "q")?;
+    for (text, of_variable, of_parameter) in [
+        ("x", true, false),
+        ("y", false, false),
+        ("p", false, true),
+        ("q", false, false),
+        ("z", false, false),
+    ] {
+        let call = variable(alloc, text, Attribute::Free, Whole::Not)?;
+        assert_eq!(rt; call.is_given(&point, &setting), of_variable, "{text}");
+        let call = parameter(alloc, text, Attribute::Free)?;
+        assert_eq!(rt; call.is_given(&point, &setting), of_parameter, "{text}");
+    }
+    assert!(rt; Call::Pairing(Pairing::Times).is_given(&point, &setting));
+    Ok(())
+}
+
 /// The numbers of an array.
 fn numbers(alloc: Global, array: &Array) -> Result<Vec<(i128, i128)>, AllocError> {
     let mut numbers = Vec::new(alloc);

@@ -1,6 +1,6 @@
 //! The value of a call at given arguments, formed entry by entry in 128 bits.
-ghost use Rattle.std.specs.Prelude.{◌≡◌, [], map, slice_index_or, Some, IfOk, IfErr, IfSome, IsSome};
-ghost use Rattle.std.specs.Option.{option_copied};
+ghost use Rattle.std.specs.Prelude.{◌≡◌, [], map, slice_index_or, Some, IfOk, IfErr, IfSome, IsSome, IsTrue, ◌↔◌};
+ghost use Rattle.std.specs.Option.{option_copied, IsSomeAnd};
 ghost use Rattle.dcx_frac.specs.Frac.{value};
 ghost use Rattle.dcx_shape.specs.Shape.{sides_of};
 ghost use Rattle.dcx_shape.specs.Sides.{entries_of};
@@ -21,10 +21,28 @@ use dcx_affine::{EntryPairs, Pair, Pairing};
 use dcx_atom::{Array, Atom, EntryTerms, LinearOp, Triple, ValueStop};
 use dcx_frac::{Frac, Fracs, Passes};
 use dcx_point::{Point, Setting};
-use dcx_shape::Shape;
+use dcx_shape::{Shape, Sides};
 use std::alloc::{AllocError, Global};
 
 impl Call {
+    /// Whether the point has an array of its shape for the variable that the call is, and the setting one for the parameter.
+    pub fn is_given(&self, point: &Point, setting: &Setting) -> bool
+        ensures { IsTrue result ↔ IsGiven self.now setting.now point.now }
+    {
+        match self {
+            Call::Variable(variable) => {
+                has_sides(point.get(&variable.name), variable.shape.sides())
+            }
+            Call::Parameter(parameter) => {
+                has_sides(setting.get(&parameter.name), parameter.shape.sides())
+            }
+            Call::Constant(_) => true,
+            Call::Atom(_) => true,
+            Call::Linear(_) => true,
+            Call::Pairing(_) => true,
+        }
+    }
+
     /// The value at these arguments. A variable takes its array from the point, and a parameter from the setting.
     ///
     /// `Passes` where an operation passes 128 bits, and `ZeroDivisor` where a divisor entry is 0: the first of both, entry
@@ -49,6 +67,16 @@ impl Call {
             Call::Linear(op) => linear_value(alloc, op, args),
             Call::Pairing(pairing) => pairing_value(alloc, *pairing, args),
         }
+    }
+}
+
+/// Whether there is an array, with these sides.
+fn has_sides(array: Option<&Array>, sides: Sides) -> bool
+    ensures { IsTrue result ↔ IsSomeAnd (option_copied array.entry) (λ x. sides_of x.shape ≡ sides) }
+{
+    match array {
+        Some(array) => array.shape.sides() == sides,
+        None => false,
     }
 }
 

@@ -24,6 +24,3 @@ mod several;
 pub use magnitude::Abs;
 pub use parts::{Neg, Pos};
 pub use several::{Maximum, Minimum};
-
-#[cfg(test)]
-mod tests;

@@ -8,3 +8,4 @@ pub mod LargestSteps
 pub mod LargestCalls
 pub mod RunningSteps
 pub mod RunningCalls
+pub mod Choices

@@ -71,7 +71,7 @@ turned_sum Concave [] = sym neg_ℚ-zero
 turned_sum Concave (x ∷ xs) = ap (λ y. neg_ℚ x +ℚ y) (turned_sum Concave xs) ∙ sym (neg_ℚ-+ℚ x (rat_sum xs))
 
 -- ---- the value, as the call counts
-excess : Bend → ℕ → ℚ → (ℕ → ℚ) → ℚ
+unfoldable pub excess : Bend → ℕ → ℚ → (ℕ → ℚ) → ℚ
 excess bend n q x = rat_sum_below n (λ i. above q (outward bend (x i)))
 
 excess_is : (bend : Bend) (n : ℕ) (q : ℚ) (x : ℕ → ℚ) → rat_sum_by (above q) (ordered bend n x) ≡ excess bend n q x
@@ -92,7 +92,7 @@ under_level bend k n q x h =
     (first-≤ k q (ordered bend n x) (subst (λ m. k ≤ m) (sym (ordered_length bend n x)) h))
 
 -- and its own level is exact
-at_level : (bend : Bend) (k n : ℕ) (x : ℕ → ℚ) → 1 ≤ k → k ≤ n →
+pub at_level : (bend : Bend) (k n : ℕ) (x : ℕ → ℚ) → 1 ≤ k → k ≤ n →
     whole (pos k) *ℚ chosen_level bend k n x +ℚ excess bend n (chosen_level bend k n x) x ≡ rat_sum (take k (ordered bend n x))
 at_level bend zero n x h l = absurd (omega arith)
 at_level bend (suc k) n x h l =
@@ -101,7 +101,7 @@ at_level bend (suc k) n x h l =
     rw e (ap (λ z. whole (pos (suc k)) *ℚ q +ℚ z) (sym (excess_is bend n q x))
     ∙ first-is k (ordered bend n x) (subst (λ m. k < m) (sym (ordered_length bend n x)) (omega arith)) (falling-falls (list_below n (λ i. outward bend (x i)))))
 
-value_is : (bend : Bend) (k n : ℕ) (x : ℕ → ℚ) → rat_sum (chosen bend k n x) ≡ outward bend (rat_sum (take k (ordered bend n x)))
+pub value_is : (bend : Bend) (k n : ℕ) (x : ℕ → ℚ) → rat_sum (chosen bend k n x) ≡ outward bend (rat_sum (take k (ordered bend n x)))
 value_is bend k n x = turned_sum bend (take k (ordered bend n x))
 
 -- ---- values

@@ -7,6 +7,7 @@ pub mod Stops
 pub mod Sorted
 pub mod Largest
 pub mod LargestLaws
+pub mod Choices
 pub mod Calls
 pub mod Running
 pub mod RunningLaws

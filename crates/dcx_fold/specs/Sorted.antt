@@ -101,10 +101,10 @@ level_and_less : (q x : ℚ) → q +ℚ (x -ℚ q) ≡ x
 level_and_less q x = ring (q ∷ x ∷ []) (search reads depth 30) tt
 
 -- a number is at most the level with what stands above it
-within_level : (q x : ℚ) → x ≤ℚ q +ℚ above q x
+pub within_level : (q x : ℚ) → x ≤ℚ q +ℚ above q x
 within_level q x = ≤ℚ_trans (≤ℚ-from_≡ (sym (level_and_less q x))) (+ℚ-≤ℚ (≤ℚ_refl q) (≤ℚ-rat_max_left (x -ℚ q) (whole (pos 0))))
 
-suc_times : (k : ℕ) (q : ℚ) → whole (pos (suc k)) *ℚ q ≡ q +ℚ whole (pos k) *ℚ q
+pub suc_times : (k : ℕ) (q : ℚ) → whole (pos (suc k)) *ℚ q ≡ q +ℚ whole (pos k) *ℚ q
 suc_times k q =
     let e : pos (suc k) ≡ pos 1 +ℤ pos k = omega (arith, ints) in
     ap (λ z. whole z *ℚ q) e ∙ ap (λ z. z *ℚ q) (whole-+ℤ (pos 1) (pos k)) ∙ split (whole (pos k)) q
@@ -112,10 +112,10 @@ suc_times k q =
     split : (m q : ℚ) → (whole (pos 1) +ℚ m) *ℚ q ≡ q +ℚ m *ℚ q
     split m q = ring (m ∷ q ∷ []) (search reads depth 30) tt
 
-no_times : (q e : ℚ) → e ≡ whole (pos 0) *ℚ q +ℚ e
+pub no_times : (q e : ℚ) → e ≡ whole (pos 0) *ℚ q +ℚ e
 no_times q e = ring (q ∷ e ∷ []) (search reads depth 30) tt
 
-four : (q u c e : ℚ) → (q +ℚ u) +ℚ (c +ℚ e) ≡ (q +ℚ c) +ℚ (u +ℚ e)
+pub four : (q u c e : ℚ) → (q +ℚ u) +ℚ (c +ℚ e) ≡ (q +ℚ c) +ℚ (u +ℚ e)
 four q u c e = ring (q ∷ u ∷ c ∷ e ∷ []) (search reads depth 30) tt
 
 -- any level bounds the sum of k numbers

@@ -18,6 +18,7 @@
 //! | slopes in the order of the argument's entries | `by_entry` |
 //! | sign, monotonicity, curvature, graph soundness and tightness, subgradient, recession | `specs/FoldLaws.antt`, `specs/LargestLaws.antt`, `specs/RunningLaws.antt` |
 //! | any level bounds the sum of the largest, and the last of them is exact | `specs/Sorted.antt` |
+//! | the k largest have the greatest sum of all choices of k entries, the k smallest the least | `laws::choices`, `specs/Choices.antt` |
 #![tactic(auto)]
 
 mod chosen;
@@ -28,6 +29,7 @@ mod fold_slopes;
 mod fold_values;
 mod folding;
 mod largest;
+pub mod laws;
 mod norms;
 mod running;
 
@@ -35,6 +37,3 @@ pub use chosen::{SumLargest, SumSmallest};
 pub use cummax::CumMax;
 pub use extremes::{MaxOf, MinOf};
 pub use norms::{Norm1, NormInf};
-
-#[cfg(test)]
-mod tests;

@@ -27,8 +27,6 @@ mod made;
 mod parser;
 mod role;
 mod statement;
-#[cfg(test)]
-mod tests;
 mod tree;
 
 pub use dcx_tokens::ReadFault;

@@ -1,8 +1,8 @@
 //! The answers to a problem at a setting, and what stops a setting.
 ghost use Rattle.std.specs.Prelude.{◌≡◌};
 
-use crate::{Array, NodeId, Point};
-use dcx_frac::{Frac, Passes};
+use crate::{Array, NodeId, Point, Site};
+use dcx_frac::Frac;
 use dcx_shape::{Name, Shape};
 use std::marker::Model;
 
@@ -73,50 +73,6 @@ pub enum Answer {
         bound: Frac,
         /// The minimized objective falls by at least this for each step along the ray.
         slope: Frac,
-    },
-}
-
-/// Where an operation passes 128 bits.
-#[derive(Clone, Copy, Debug, PartialEq, Eq)]
-pub enum Site {
-    /// At an entry of a node, while the problem is reduced.
-    Node {
-        /// The node.
-        node: NodeId,
-        /// The entry, counted from 0.
-        entry: u32,
-        /// The operation and its operands.
-        passes: Passes,
-    },
-    /// At a row, while its numbers are made whole.
-    Row {
-        /// The row, counted from 0.
-        row: u32,
-        /// The operation and its operands.
-        passes: Passes,
-    },
-    /// At a row, while the parameters' values are put in.
-    Map {
-        /// The row, counted from 0.
-        row: u32,
-        /// The operation and its operands.
-        passes: Passes,
-    },
-    /// In a pivot.
-    Pivot {
-        /// How many pivots were done before it.
-        pivots: u64,
-        /// The row of the pivot, counted from 0.
-        row: u32,
-        /// The column of the pivot, counted from 0.
-        column: u32,
-    },
-    /// At a row, while the answer is read.
-    Answer {
-        /// The row, counted from 0.
-        row: u32,
-        /// The operation and its operands.
-        passes: Passes,
     },
 }
 

@@ -21,7 +21,8 @@ mod tree;
 
 pub use dcx_arena::{Count, NodeId};
 pub use dcx_atom::Array;
-pub use graph::{Answer, Duals, Site, Stop};
+pub use dcx_linear::Site;
+pub use graph::{Answer, Duals, Stop};
 pub use library::{FetchFault, Library};
 pub use memory::{MemoryLibrary, MemorySink, SteadyLibrary, SteadySink};
 pub use outcome::{Outcome, OutcomeEnd};

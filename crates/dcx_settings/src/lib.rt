@@ -27,8 +27,6 @@ mod read;
 mod role;
 mod settings;
 mod stop;
-#[cfg(test)]
-mod tests;
 mod value;
 
 pub use file::parse_settings;

@@ -16,8 +16,6 @@ mod reshape;
 mod run;
 mod shape;
 mod slice;
-#[cfg(test)]
-mod tests;
 
 pub use bytes::Bytes;
 pub use combine::{broadcast, matmul_shape};

@@ -22,7 +22,7 @@ fn multiple(a: u128, b: u128) -> Option<u128>
 }
 
 /// The number as a fraction.
-fn whole_number(n: u128) -> Frac
+pub(crate) fn whole_number(n: u128) -> Frac
     requires { n < 2 ^ 127 }
     ensures { result ≡ frac_at (whole (pos n)) }
 {

@@ -30,8 +30,6 @@ mod position;
 mod quoted;
 mod read;
 mod reader;
-#[cfg(test)]
-mod tests;
 mod token;
 mod word;
 

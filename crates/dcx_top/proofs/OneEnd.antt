@@ -6,7 +6,7 @@ use Rattle.dcx_atom.specs.declared.array.Array.{Array}
 use Rattle.dcx_report.specs.declared.tree.Named.{Named}
 use Rattle.dcx_report.specs.declared.graph.Answer.TheVariants as answer
 use Rattle.dcx_report.specs.declared.graph.Stop.TheVariants as stop
-use Rattle.dcx_report.specs.declared.graph.Site.TheVariants as site
+use Rattle.dcx_linear.specs.declared.site.Site.TheVariants as site
 use Rattle.dcx_report.specs.declared.outcome.OutcomeEnd.{OutcomeEnd}
 use Rattle.dcx_report.specs.declared.outcome.OutcomeEnd.TheVariants as end
 use Rattle.dcx_plain.specs.declared.script.Script.{Script}

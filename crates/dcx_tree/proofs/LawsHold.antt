@@ -21,7 +21,8 @@ use Rattle.dcx_tree.specs.Laws.{IsLawful, TreesAreLawful, SignsAreTrue, Accepted
 use Rattle.dcx_tree.proofs.Lawful.{tree_lawful}
 use Rattle.dcx_tree.proofs.Sublists.{contains_at}
 use Rattle.dcx_tree.proofs.Parts.{listed_whole, declared_kept}
-use Rattle.dcx_tree.proofs.Values.{IsNamed, part_value}
+use Rattle.dcx_tree.specs.Values.{IsNamed}
+use Rattle.dcx_tree.proofs.Values.{part_value}
 
 pub trees_are_lawful : TreesAreLawful
 trees_are_lawful names nodes are = tree_lawful names nodes are

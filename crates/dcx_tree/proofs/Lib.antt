@@ -7,3 +7,8 @@ pub mod Numbering
 pub mod Values
 pub mod Gathered
 pub mod Names
+pub mod Marks
+pub mod NodeValues
+pub mod Expressions
+pub mod Forming
+pub mod Premises

@@ -14,7 +14,8 @@ use Rattle.dcx_call.specs.declared.attribute.Parameter.{Parameter}
 use Rattle.dcx_tree.specs.Nodes.{Node}
 use Rattle.dcx_tree.specs.Gather.{is_variable, is_parameter}
 
-found_in : (o : Option Node) (call : Call) → option_map (λ n. n.call) o ≡ Some call → (n : Node) × (o ≡ Some n) × (n.call ≡ call)
+-- the node that has this call
+pub found_in : (o : Option Node) (call : Call) → option_map (λ n. n.call) o ≡ Some call → (n : Node) × (o ≡ Some n) × (n.call ≡ call)
 found_in None call e = absurd (none-some call e)
 found_in (Some n) call e = (n, refl, same_Some n.call call e)
 

@@ -20,6 +20,7 @@ use Rattle.dcx_call.specs.declared.call.Call.TheVariants as calls
 use Rattle.dcx_call.specs.Calls.{shape_of}
 use Rattle.dcx_call.specs.Values.{given_by}
 use Rattle.dcx_tree.specs.Nodes.{Names, Node, number_in, head_of, arg_sides, convex_node, convex_nodes, numbers_by}
+use Rattle.dcx_tree.specs.Values.{IsNamed}
 use Rattle.dcx_tree.proofs.Parts.{part_node}
 use Rattle.dcx_tree.proofs.Lawful.{mapped, tree_lawful}
 
@@ -36,17 +37,8 @@ number_at (n ∷ names) k name e = by (λ h. number_at names h name) k e (same_n
     by rest (suc h) f false t = rest h f
 
 -- the numbers of a name are those that it is given
-taken : (names : List (List ℕ)) (given : Pairs) (k : ℕ) (name : List ℕ) → slice_get names k ≡ Some name → numbers_by names given (number_in names name) ≡ given_by given name
+pub taken : (names : List (List ℕ)) (given : Pairs) (k : ℕ) (name : List ℕ) → slice_get names k ≡ Some name → numbers_by names given (number_in names name) ≡ given_by given name
 taken names given k name e = ap (given_by given) (number_at names k name e)
-
--- a variable or a parameter is named
-abbrev pub IsNamed : Names → Call → Type 0
-IsNamed names (calls.Variable v) = (k : ℕ) × (slice_get names.variables k ≡ Some v.name)
-IsNamed names (calls.Parameter p) = (k : ℕ) × (slice_get names.parameters k ≡ Some p.name)
-IsNamed names (calls.Constant x) = Unit {0}
-IsNamed names (calls.Atom m) = Unit {0}
-IsNamed names (calls.Linear l) = Unit {0}
-IsNamed names (calls.Pairing p) = Unit {0}
 
 -- a head has one value, by whichever names
 same_head : (a b : Names) (setting point : Pairs) (call : Call) (args : List Sides) (sides : Sides) (values : List Numbers) → IsNamed a call → IsNamed b call →

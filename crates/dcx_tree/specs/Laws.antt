@@ -1,10 +1,13 @@
 -- The main statements, as the clauses of the laws say them.
-use Rattle.std.specs.Prelude.{◌≡◌, ℕ, List, Some, slice_get}
+use Rattle.std.specs.Prelude.{◌≡◌, ℕ, List, [], ◌∷◌, Some, slice_get}
 use Rattle.dcx_math.specs.Rational.{ℚ}
 use Rattle.dcx_atom.specs.Signs.{HasSign}
 use Rattle.dcx_point.specs.Pairs.{Pairs}
-use Rattle.dcx_arena.specs.Nodes.{AreNodes}
+use Rattle.dcx_arena.specs.Nodes.{AreNodes, sides_at}
+use Rattle.dcx_arena.specs.Unfold.{Expressions, Unfold}
+use Rattle.dcx_call.specs.declared.call.Call.{Call}
 use Rattle.dcx_call.specs.Calls.{shape_of}
+use Rattle.dcx_call.specs.Values.{given_by}
 use Rattle.dcx_convex.specs.Nodes as convex
 use Rattle.dcx_convex.specs.Nodes.{Setting, Point}
 use Rattle.dcx_convex.specs.Answers.{Multipliers}
@@ -12,6 +15,8 @@ use Rattle.dcx_tree.specs.declared.problem.Problem.{Problem}
 use Rattle.dcx_tree.specs.declared.roots.Roots.{Roots}
 use Rattle.dcx_tree.specs.Nodes.{Names, Node, convex_nodes, source_value}
 use Rattle.dcx_tree.specs.Problems.{roots_of}
+use Rattle.dcx_tree.specs.Values.{AreNamed}
+use Rattle.dcx_tree.specs.Expressions.{values_of}
 use Rattle.dcx_tree.specs.Gather.{positions_of, declared_in, AreDeclarations, IsProblemOf}
 use Rattle.dcx_tree.specs.Meaning.{setting_of, point_of, value_at, sign_at, Fits, IsInDomain, IsAccepted, IsConvex, IsOptimal, IsInfeasible, IsUnbounded}
 
@@ -22,6 +27,11 @@ pub record IsLawful (names : Names) (nodes : List Node) : Type 0 where
 
 abbrev pub TreesAreLawful : Type 0
 TreesAreLawful = (names : Names) (nodes : List Node) → AreNodes shape_of nodes → IsLawful names nodes
+
+-- a node has the sides and the numbers of the expression for which it stands, by whichever names
+abbrev pub ValuesUnfold : Type 0
+ValuesUnfold = (nodes : List Node) (names : Names) → AreNodes shape_of nodes → (setting point : Pairs) (i : ℕ) → AreNamed nodes names i → (t : Expressions Call) → Unfold nodes (i ∷ []) t →
+    values_of (given_by setting) (given_by point) t ≡ record { sides = sides_at nodes i; numbers = source_value nodes names setting point i } ∷ []
 
 -- the sign that is told of a node is true of its value, at every fitting setting and every point of the domain
 abbrev pub SignsAreTrue : Type 0

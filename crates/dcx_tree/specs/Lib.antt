@@ -4,4 +4,6 @@ pub mod Kept
 pub mod Problems
 pub mod Gather
 pub mod Meaning
+pub mod Values
+pub mod Expressions
 pub mod Laws

@@ -12,7 +12,7 @@ use crate::problem::Problem;
 use crate::roots::Roots;
 use crate::tree::Tree;
 use dcx_arena::{NodeId, TreeFault};
-use dcx_call::{Call, Parameter, Variable};
+use dcx_call::{Call, Parameter, Variable, copy_name, copy_parameter, copy_variable};
 use dcx_shape::Name;
 use std::alloc::{AllocError, Global};
 use std::collections::HashSet;
@@ -83,39 +83,6 @@ fn moved(
         })?;
     }
     Ok(moved)
-}
-
-/// The same name again.
-fn copy_name(alloc: Global, name: &Name) -> Result<Name, AllocError>
-    ensures { IfOk result (λ n. n ≡ name.now) }
-{
-    let bytes = Vec::from_slice(alloc, name.as_slice())?;
-    Ok(Name::from_vec(bytes))
-}
-
-/// The same variable again.
-fn copy_variable(alloc: Global, variable: &Variable) -> Result<Variable, AllocError>
-    ensures { IfOk result (λ v. v ≡ variable.now) }
-{
-    let name = copy_name(alloc, &variable.name)?;
-    Ok(Variable {
-        name,
-        shape: variable.shape,
-        attribute: variable.attribute,
-        whole: variable.whole,
-    })
-}
-
-/// The same parameter again.
-fn copy_parameter(alloc: Global, parameter: &Parameter) -> Result<Parameter, AllocError>
-    ensures { IfOk result (λ p. p ≡ parameter.now) }
-{
-    let name = copy_name(alloc, &parameter.name)?;
-    Ok(Parameter {
-        name,
-        shape: parameter.shape,
-        attribute: parameter.attribute,
-    })
 }
 
 /// The names of the variables that stand in a tree.

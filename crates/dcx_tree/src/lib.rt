@@ -12,7 +12,10 @@
 //! | what must hold | where |
 //! |---|---|
 //! | a push finds the node of an equal expression, or adds one, or names the fault that is there; a refused push changes nothing | `Tree::push` |
-//! | readers tell call, arguments, shape and place of the node | `Tree::call`, `Tree::arg`, `Tree::shape`, `Tree::place` |
+//! | readers tell call, arguments, shape and place of the node | `Tree::call`, `Tree::arg`, `Tree::args`, `Tree::shape`, `Tree::place` |
+//! | the value of a node is the defined one, or the first operation that passes 128 bits or divisor that is 0 is named, where the nodes that it reaches are formed in rising order | `Tree::value`, `specs/Values.antt` |
+//! | the value of a node is that of the finite tree to which its arguments unfold | `laws::values_unfold`, `specs/Expressions.antt` |
+//! | whether each leaf is given an array of its shape | `Tree::is_given` |
 //! | ids are nodes, arguments stand first, each node is reached and numbered as it is first finished, both sides of a constraint have its shape, what is listed is what stands in the tree | the type `Problem`, `specs/Problems.antt` |
 //! | a problem is gathered whole and without anything else, and want of memory is the only fault | `gather`, `specs/Gather.antt` |
 //! | gathering keeps the value of each root at every point and setting | `laws::gathering_keeps_values` |
@@ -23,14 +26,18 @@
 #![tactic(auto)]
 
 mod constraint;
+#[cfg(test)]
+mod gather_tests;
 mod gathering;
 pub mod laws;
 mod lists;
 mod problem;
+mod reached;
 mod roots;
 #[cfg(test)]
 mod tests;
 mod tree;
+mod value;
 
 pub use constraint::{Constraint, Kind, Sense};
 pub use dcx_arena::{Count, NodeId, TreeFault};

@@ -1,21 +1,26 @@
-//! Pushes, with the numbers worked out by hand.
-use crate::{Attribute, Call, NodeId, Parameter, Tree, TreeFault, Variable, Whole};
+//! Pushes and values, with the numbers worked out by hand.
+use crate::{Attribute, Call, NodeId, Parameter, Point, Setting, Tree, TreeFault, Variable, Whole};
 use dcx_affine::{Minus, Pairing, Plus};
-use dcx_call::LinearCall;
+use dcx_atom::{Array, ValueStop};
+use dcx_call::{AtomCall, LinearCall};
+use dcx_fold::SumLargest;
+use dcx_frac::{Frac, Fracs, Op};
 use dcx_shape::{Name, Place, Shape};
 use std::alloc::{AllocError, Global};
 use std::test::Fail;
 
-fn name(alloc: Global, text: &str) -> Result<Name, AllocError> {
+pub(crate) fn name(alloc: Global, text: &str) -> Result<Name, AllocError> {
     Ok(Name::from_vec(Vec::from_slice(alloc, text.as_bytes())?))
 }
 
-/// A sum, a negation or a product; else the scalar parameter `p`, or the vector of two entries that has the name.
-fn call(alloc: Global, text: &str) -> Result<Call, Fail> {
+/// A sum, a negation, a product, a quotient or the greatest entry; else the scalar parameter `p`, or the vector of two entries that has the name.
+pub(crate) fn call(alloc: Global, text: &str) -> Result<Call, Fail> {
     Ok(match text {
         "+" => Call::Linear(LinearCall::Plus(Plus)),
         "-" => Call::Linear(LinearCall::Minus(Minus)),
         "*" => Call::Pairing(Pairing::Times),
+        "/" => Call::Pairing(Pairing::Over),
+        "largest" => Call::Atom(AtomCall::SumLargest(SumLargest { k: 1 })),
         "p" => Call::Parameter(Parameter {
             name: name(alloc, text)?,
             shape: Shape::scalar(),
@@ -30,7 +35,12 @@ fn call(alloc: Global, text: &str) -> Result<Call, Fail> {
     })
 }
 
-fn push(tree: &mut Tree, call: Call, args: &[u32], line: u32) -> Result<NodeId, TreeFault> {
+pub(crate) fn push(
+    tree: &mut Tree,
+    call: Call,
+    args: &[u32],
+    line: u32,
+) -> Result<NodeId, TreeFault> {
     let place = Place { line, column: 1 };
     match args {
         [] => tree.push(call, &[], place),
@@ -103,5 +113,175 @@ fn pushes(rt: HostRuntime) -> Result<(), Fail> {
         }
     }
     assert!(rt; tree.arg(NodeId(8), 0).is_none());
+    Ok(())
+}
+
+/// The array of this shape with these fractions, each by its numerator and its denominator.
+fn array(alloc: Global, shape: Shape, numbers: &[(i128, i128)]) -> Result<Array, Fail> {
+    let mut entries = Vec::new(alloc);
+    for (num, den) in numbers {
+        entries.push(Frac::of(*num, *den).ok_or("no fraction")?)?;
+    }
+    if entries.len() != shape.size() as usize {
+        return Err("other entries".into());
+    }
+    Ok(Array {
+        shape,
+        entries: Fracs::from_vec(entries),
+    })
+}
+
+/// The point at which `x` has these two entries.
+fn point(alloc: Global, x: &[(i128, i128)]) -> Result<Point, Fail> {
+    let mut point = Point::empty(alloc);
+    let shape = Shape::vector(2).ok_or("no shape")?;
+    point.put(name(alloc, "x")?, array(alloc, shape, x)?)?;
+    Ok(point)
+}
+
+/// The setting at which `p` is 4.
+fn setting(alloc: Global) -> Result<Setting, Fail> {
+    let mut setting = Setting::empty(alloc);
+    setting.put(name(alloc, "p")?, array(alloc, Shape::scalar(), &[(4, 1)])?)?;
+    Ok(setting)
+}
+
+/// The value of a node, where the tree has it and all leaves are given.
+fn value_of(
+    alloc: Global,
+    tree: &Tree,
+    node: u32,
+    point: &Point,
+    setting: &Setting,
+) -> Option<Result<Array, ValueStop>> {
+    if node < tree.nodes() && tree.is_given(point, setting) {
+        Some(tree.value(alloc, NodeId(node), point, setting))
+    } else {
+        None
+    }
+}
+
+/// The numbers of an array.
+fn numbers(alloc: Global, array: &Array) -> Result<Vec<(i128, i128)>, AllocError> {
+    let mut numbers = Vec::new(alloc);
+    for x in array.entries.as_slice() {
+        numbers.push((x.num(), x.den()))?;
+    }
+    Ok(numbers)
+}
+
+/// Why a node has no value: the entry, and the operands of the operation that passes.
+fn stop_of(found: Result<Array, ValueStop>) -> Option<(u32, Option<(Op, i128, i128)>)> {
+    match found {
+        Ok(_) => None,
+        Err(ValueStop::Memory) => None,
+        Err(ValueStop::ZeroDivisor { entry }) => Some((entry, None)),
+        Err(ValueStop::Passes { entry, passes }) => {
+            Some((
+                entry,
+                Some((passes.op, passes.left.num(), passes.right.num())),
+            ))
+        }
+    }
+}
+
+const MOST: i128 = i128::MAX;
+
+/// 2^126
+const HALF: i128 = 85_070_591_730_234_615_865_843_651_857_942_052_864;
+
+/// A few calls over `x` and `p` with their arguments, each the next node.
+const FEW: [(u32, &str, &[u32]); 11] = [
+    (0, "x", &[]),
+    (1, "p", &[]),
+    (2, "-", &[0]),
+    (3, "+", &[0, 0]),
+    (4, "*", &[0, 3]),
+    (5, "/", &[0, 3]),
+    (6, "largest", &[4]),
+    (7, "+", &[0, 2]),
+    (8, "/", &[0, 7]),
+    (9, "*", &[1, 1]),
+    (10, "*", &[8, 3]),
+];
+
+/// The tree of these calls.
+fn few(alloc: Global) -> Result<Tree, Fail> {
+    let mut tree = Tree::new(alloc);
+    for (node, text, args) in FEW {
+        if push(&mut tree, call(alloc, text)?, args, 1) != Ok(NodeId(node)) {
+            return Err("another node".into());
+        }
+    }
+    Ok(tree)
+}
+
+#[test]
+fn values(rt: HostRuntime) -> Result<(), Fail> {
+    let alloc = rt.alloc();
+    let tree = few(alloc)?;
+    let setting = setting(alloc)?;
+    for (second, node, want) in [
+        (-3, 0, [(1, 2), (-3, 1)].as_slice()),
+        (-3, 1, [(4, 1)].as_slice()),
+        (-3, 3, [(1, 1), (-6, 1)].as_slice()),
+        (-3, 4, [(1, 2), (18, 1)].as_slice()),
+        (-3, 5, [(1, 2), (1, 2)].as_slice()),
+        (-3, 6, [(18, 1)].as_slice()),
+        (-3, 7, [(0, 1), (0, 1)].as_slice()),
+        (-3, 9, [(16, 1)].as_slice()),
+        // node 3 isn't reached
+        (MOST, 7, [(0, 1), (0, 1)].as_slice()),
+    ] {
+        let point = point(alloc, &[(1, 2), (second, 1)])?;
+        let value = value_of(alloc, &tree, node, &point, &setting).ok_or("not given")??;
+        assert_eq!(rt; numbers(alloc, &value)?.as_slice(), want, "node {node}");
+    }
+    Ok(())
+}
+
+#[test]
+fn stops(rt: HostRuntime) -> Result<(), Fail> {
+    let alloc = rt.alloc();
+    let tree = few(alloc)?;
+    let setting = setting(alloc)?;
+    let passing = (1, Some((Op::Add, MOST, MOST)));
+    for (second, node, want) in [
+        (-3, 8, (0, None)),
+        (-3, 10, (0, None)),
+        (MOST, 8, (0, None)),
+        (MOST, 3, passing),
+        (MOST, 6, passing),
+        // node 3 comes before node 8
+        (MOST, 10, passing),
+    ] {
+        let point = point(alloc, &[(1, 2), (second, 1)])?;
+        let found = value_of(alloc, &tree, node, &point, &setting).ok_or("not given")?;
+        assert!(rt; stop_of(found) == Some(want), "node {node} at {second}");
+    }
+    Ok(())
+}
+
+#[test]
+fn tower_of_doublings(rt: HostRuntime) -> Result<(), Fail> {
+    let alloc = rt.alloc();
+    let mut tree = Tree::new(alloc);
+    let mut top = push(&mut tree, call(alloc, "x")?, &[], 1)?.0;
+    for _ in 0..200 {
+        top = push(&mut tree, call(alloc, "+")?, &[top, top], 1)?.0;
+    }
+    assert_eq!(rt; top, 200);
+    let setting = Setting::empty(alloc);
+    for (first, node, want) in [
+        (0, 200, [(0, 1), (0, 1)].as_slice()),
+        (1, 126, [(HALF, 1), (0, 1)].as_slice()),
+    ] {
+        let point = point(alloc, &[(first, 1), (0, 1)])?;
+        let value = value_of(alloc, &tree, node, &point, &setting).ok_or("not given")??;
+        assert_eq!(rt; numbers(alloc, &value)?.as_slice(), want, "node {node}");
+    }
+    let point = point(alloc, &[(1, 1), (0, 1)])?;
+    let found = value_of(alloc, &tree, 200, &point, &setting).ok_or("not given")?;
+    assert!(rt; stop_of(found) == Some((0, Some((Op::Add, HALF, HALF)))));
     Ok(())
 }

@@ -77,6 +77,14 @@ impl Tree {
         self.arena.arg(node, i)
     }
 
+    /// All arguments of a node, in order.
+    pub fn args(&self, alloc: Global, node: NodeId) -> Result<Vec<NodeId>, AllocError>
+        requires { node.0 < length self.now }
+        ensures { IfOk result (λ v. positions v.items ≡ args_at self.now node.0) }
+    {
+        self.arena.args(alloc, node)
+    }
+
     /// The shape of a node's value.
     pub fn shape(&self, node: NodeId) -> Shape
         requires { node.0 < length self.now }

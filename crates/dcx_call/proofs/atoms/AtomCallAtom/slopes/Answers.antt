@@ -40,6 +40,15 @@ slopes-requires-in-Norm1-clause-weights c = subst (HasWeights c.args.args.now c.
 pub slopes-requires-in-NormInf-clause-weights : goal.slopes-requires-in-NormInf-clause-weights
 slopes-requires-in-NormInf-clause-weights c = subst (HasWeights c.args.args.now c.args.weights.now) c.in-NormInf.is c.requires.weights
 
+pub slopes-requires-in-SumLargest-clause-weights : goal.slopes-requires-in-SumLargest-clause-weights
+slopes-requires-in-SumLargest-clause-weights c = subst (HasWeights c.args.args.now c.args.weights.now) c.in-SumLargest.is c.requires.weights
+
+pub slopes-requires-in-SumSmallest-clause-weights : goal.slopes-requires-in-SumSmallest-clause-weights
+slopes-requires-in-SumSmallest-clause-weights c = subst (HasWeights c.args.args.now c.args.weights.now) c.in-SumSmallest.is c.requires.weights
+
+pub slopes-requires-in-CumMax-clause-weights : goal.slopes-requires-in-CumMax-clause-weights
+slopes-requires-in-CumMax-clause-weights c = subst (HasWeights c.args.args.now c.args.weights.now) c.in-CumMax.is c.requires.weights
+
 pub returns-in-MaxOf-clause-ok : goal.returns-in-MaxOf-clause-ok
 returns-in-MaxOf-clause-ok c =
     subst (HasSlopes c.args.args.now c.args.coefficients.now c.args.weights.now c.slopes-in-MaxOf.result) (sym c.in-MaxOf.is) c.slopes-in-MaxOf.ensures.ok
@@ -55,6 +64,18 @@ returns-in-Norm1-clause-ok c =
 pub returns-in-NormInf-clause-ok : goal.returns-in-NormInf-clause-ok
 returns-in-NormInf-clause-ok c =
     subst (HasSlopes c.args.args.now c.args.coefficients.now c.args.weights.now c.slopes-in-NormInf.result) (sym c.in-NormInf.is) c.slopes-in-NormInf.ensures.ok
+
+pub returns-in-SumLargest-clause-ok : goal.returns-in-SumLargest-clause-ok
+returns-in-SumLargest-clause-ok c =
+    subst (HasSlopes c.args.args.now c.args.coefficients.now c.args.weights.now c.slopes-in-SumLargest.result) (sym c.in-SumLargest.is) c.slopes-in-SumLargest.ensures.ok
+
+pub returns-in-SumSmallest-clause-ok : goal.returns-in-SumSmallest-clause-ok
+returns-in-SumSmallest-clause-ok c =
+    subst (HasSlopes c.args.args.now c.args.coefficients.now c.args.weights.now c.slopes-in-SumSmallest.result) (sym c.in-SumSmallest.is) c.slopes-in-SumSmallest.ensures.ok
+
+pub returns-in-CumMax-clause-ok : goal.returns-in-CumMax-clause-ok
+returns-in-CumMax-clause-ok c =
+    subst (HasSlopes c.args.args.now c.args.coefficients.now c.args.weights.now c.slopes-in-CumMax.result) (sym c.in-CumMax.is) c.slopes-in-CumMax.ensures.ok
 
 pub returns-in-Maximum-clause-stop : goal.returns-in-Maximum-clause-stop
 returns-in-Maximum-clause-stop c =
@@ -79,3 +100,15 @@ returns-in-Norm1-clause-stop c =
 pub returns-in-NormInf-clause-stop : goal.returns-in-NormInf-clause-stop
 returns-in-NormInf-clause-stop c =
     subst (HasStop c.args.args.now c.args.coefficients.now c.args.weights.now c.slopes-in-NormInf.result) (sym c.in-NormInf.is) c.slopes-in-NormInf.ensures.stop
+
+pub returns-in-SumLargest-clause-stop : goal.returns-in-SumLargest-clause-stop
+returns-in-SumLargest-clause-stop c =
+    subst (HasStop c.args.args.now c.args.coefficients.now c.args.weights.now c.slopes-in-SumLargest.result) (sym c.in-SumLargest.is) c.slopes-in-SumLargest.ensures.stop
+
+pub returns-in-SumSmallest-clause-stop : goal.returns-in-SumSmallest-clause-stop
+returns-in-SumSmallest-clause-stop c =
+    subst (HasStop c.args.args.now c.args.coefficients.now c.args.weights.now c.slopes-in-SumSmallest.result) (sym c.in-SumSmallest.is) c.slopes-in-SumSmallest.ensures.stop
+
+pub returns-in-CumMax-clause-stop : goal.returns-in-CumMax-clause-stop
+returns-in-CumMax-clause-stop c =
+    subst (HasStop c.args.args.now c.args.coefficients.now c.args.weights.now c.slopes-in-CumMax.result) (sym c.in-CumMax.is) c.slopes-in-CumMax.ensures.stop

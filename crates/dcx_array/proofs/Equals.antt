@@ -1,0 +1,55 @@
+-- Shapes, arrays and calls of indices with equal parts are equal.
+use Rattle.std.specs.Prelude.{◌≡◌, ℕ, ◌<◌, List, [], ◌∷◌, length}
+use Rattle.std.specs.List.{All}
+use Rattle.std.proofs.Common.{suc, zero, get_or, sym, ap₂, ◌∙◌, arith, refl}
+use Rattle.std.proofs.Props.{props}
+use mathlib.Core.HLevel.{is_prop→PathP}
+use native.Mathlib.Nat.{ℕ_set}
+use Rattle.dcx_shape.specs.declared.shape.Sides.{Sides}
+use Rattle.dcx_shape.specs.declared.shape.Shape.{Shape}
+use Rattle.dcx_shape.specs.Shape.{sides_of}
+use Rattle.dcx_shape.specs.Sides.{entries_of, HasFewEntries}
+use Rattle.dcx_atom.specs.declared.array.Array.{Array}
+use Rattle.dcx_atom.specs.Arrays.{list_below}
+use Rattle.dcx_atom.proofs.BoundRows.{list_below-first}
+use Rattle.dcx_affine.specs.declared.places.Index.{Index}
+
+few_prop : (s : Sides) → IsProp (HasFewEntries s)
+few_prop s = hlevel props
+
+pub shape_from_sides : (a b : Shape) → sides_of a ≡ sides_of b → a ≡ b
+shape_from_sides a b p = λ i. record { sides = p i; few = is_prop→PathP (λ j. HasFewEntries (p j)) (λ j. few_prop (p j)) a.few b.few i }
+
+pub array_from_parts : (a b : Array) → a.shape ≡ b.shape → a.entries ≡ b.entries → a ≡ b
+array_from_parts a b p q = λ i. record {
+  shape = p i;
+  entries = q i;
+  full = is_prop→PathP (λ j. length (q j) ≡ entries_of (sides_of (p j))) (λ j. ℕ_set (length (q j)) (entries_of (sides_of (p j)))) a.full b.full i;
+}
+
+places_prop : (n : ℕ) (ps : List ℕ) → IsProp (All (λ p. p < n) ps)
+places_prop n ps = hlevel props
+
+pub index_from_parts : (a b : Index) → a.from ≡ b.from → a.to ≡ b.to → a.places ≡ b.places → a ≡ b
+index_from_parts a b p q r = λ i. record {
+  from = p i;
+  to = q i;
+  places = r i;
+  count = is_prop→PathP (λ j. length (r j) ≡ entries_of (sides_of (q j))) (λ j. ℕ_set (length (r j)) (entries_of (sides_of (q j)))) a.count b.count i;
+  within = is_prop→PathP (λ j. All (λ k. k < entries_of (sides_of (p j))) (r j)) (λ j. places_prop (entries_of (sides_of (p j))) (r j)) a.within b.within i;
+}
+
+-- a list whose element k is f k
+pub list_below-is : {A : Type 0} (n : ℕ) (f : ℕ → A) (xs : List A) → length xs ≡ n → ((k : ℕ) (d : A) → k < n → get_or xs k d ≡ f k) → xs ≡ list_below n f
+list_below-is zero f [] e each = refl
+list_below-is zero f (x ∷ xs) e each = absurd (omega arith)
+list_below-is (suc n) f [] e each = absurd (omega arith)
+list_below-is (suc n) f (x ∷ xs) e each =
+    ap₂ (λ y ys. y ∷ ys) (each 0 x (omega arith)) (list_below-is n (λ i. f (suc i)) xs (omega arith) (λ k d b. each (suc k) d (omega arith)))
+    ∙ sym (list_below-first n f)
+
+-- element k of it
+pub get_or-list_below : {A : Type 0} (n : ℕ) (f : ℕ → A) (k : ℕ) (d : A) → k < n → get_or (list_below n f) k d ≡ f k
+get_or-list_below zero f k d b = absurd (omega arith)
+get_or-list_below (suc n) f zero d b = rw (list_below-first n f) refl
+get_or-list_below (suc n) f (suc k) d b = rw (list_below-first n f) (get_or-list_below n (λ i. f (suc i)) k d (omega arith))

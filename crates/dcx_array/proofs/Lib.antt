@@ -1,0 +1,12 @@
+-- The lemmas.
+pub mod Answered
+pub mod Equals
+pub mod AllowedShapes
+pub mod Broadcasts
+pub mod FormedEntries
+pub mod GivenArrays
+pub mod PairSums
+pub mod Slices
+pub mod PickedPlaces
+pub mod Indices
+pub mod ExactNumbers

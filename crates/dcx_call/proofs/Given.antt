@@ -1,0 +1,19 @@
+-- An array that is there, with the sides of its name.
+use Rattle.std.proofs.Common.{◌≡◌, ℕ, List, Bool, Option, Some, None, IsTrue, refl, sym, ap, subst, ◌∙◌, ◌↔◌}
+use Rattle.std.specs.Option.{IsSomeAnd}
+use Rattle.std.proofs.lemmas.Option.{none-some, same_Some}
+use Rattle.dcx_shape.specs.declared.shape.Sides.{Sides}
+use Rattle.dcx_shape.specs.Shape.{sides_of}
+use Rattle.dcx_atom.specs.declared.array.Array.{Array}
+use Rattle.dcx_point.specs.Pairs.{Pairs, array_of}
+use Rattle.dcx_call.specs.Values.{HasArray}
+
+-- of an array that was looked up
+pub has_array : (pairs : Pairs) (name : List ℕ) (sides : Sides) (o : Option Array) → o ≡ array_of pairs name → IsSomeAnd o (λ x. sides_of x.shape ≡ sides) ↔ HasArray pairs name sides
+has_array pairs name sides None e = ((λ h. absurd h), (λ h. absurd (none-some h.array (e ∙ h.there))))
+has_array pairs name sides (Some x) e =
+    ((λ h. record { array = x; there = sym e; shape = h }), (λ h. ap (λ (y : Array). sides_of y.shape) (same_Some x h.array (e ∙ h.there)) ∙ h.shape))
+
+-- of a test of it
+pub tested : (b : Bool) {P Q : Type 0} → IsTrue b ↔ P → P ↔ Q → IsTrue b ↔ Q
+tested b h k = ((λ t. k.0 (h.0 t)), (λ q. h.1 (k.1 q)))

@@ -1,0 +1,13 @@
+//! Tables of worked cases for shapes, tokens, scripts and settings, over the public calls of their crates.
+//!
+//! They stand in a crate of their own so that those crates are proved once and not again with their tests.
+#![tactic(auto)]
+
+#[cfg(test)]
+mod scripts;
+#[cfg(test)]
+mod settings;
+#[cfg(test)]
+mod shapes;
+#[cfg(test)]
+mod tokens;

@@ -1,0 +1,5 @@
+use Rattle.dcx_std.proofs.ScaledProgram.{scaled_program}
+use Rattle.dcx_std.proofs.laws.rows_are_scaled.Goals as goal
+
+pub returns : goal.returns
+returns c = λ rows q m. scaled_program rows q m

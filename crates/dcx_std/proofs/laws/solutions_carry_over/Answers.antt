@@ -1,0 +1,5 @@
+use Rattle.dcx_std.proofs.Solutions.{solution_of}
+use Rattle.dcx_std.proofs.laws.solutions_carry_over.Goals as goal
+
+pub returns : goal.returns
+returns c = λ rows q zs known scaled solution. solution_of rows q known scaled zs solution
