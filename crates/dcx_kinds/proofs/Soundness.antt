@@ -1,11 +1,12 @@
 -- Values stay sound when nodes come behind, and what is made of sound values is sound.
-use Rattle.std.specs.Prelude.{◌≡◌, ℕ, ◌+◌, ◌<◌, ◌≤◌, nat_lt, nat_le, ◌||◌, Bool, true, false, cond, not, if◌then◌else◌, List, [], ◌∷◌, ◌++◌, length, All, Option, Some, None, option_map, Result, Ok, Err, slice_get, option_and_then}
+use Rattle.std.specs.Prelude.{◌≡◌, ℕ, ◌+◌, ◌^◌, ◌<◌, ◌≤◌, nat_lt, nat_le, ◌||◌, Bool, true, false, cond, not, if◌then◌else◌, List, [], ◌∷◌, ◌++◌, length, All, Option, Some, None, option_map, Result, Ok, Err, slice_get, option_and_then}
 use Rattle.std.specs.List.{list_all, list_any}
 use Rattle.std.specs.Map.{lookup, remove_entry}
 use Rattle.std.specs.Option.{unwrap_or}
 use Rattle.indexmap.specs.IndexMap.{insert_entry}
 use Rattle.std.proofs.Common.{refl, sym, ap, subst, ◌∙◌, arith, length-append, append_assoc}
 use Rattle.std.proofs.lemmas.List.{append-nil}
+use Rattle.std.proofs.lemmas.Option.{slice_get_within, get_or_from_slice_get}
 use Rattle.std.proofs.lemmas.List.Elements.{All-nil, All-cons, All-head, All-tail, All-append, All-weaker}
 use Rattle.dcx_shape.specs.declared.place.Place.{Place}
 use Rattle.dcx_shape.specs.declared.shape.Sides.{Sides}
@@ -17,7 +18,7 @@ use Rattle.dcx_arena.specs.Nodes.{sides_at}
 use Rattle.dcx_arena.proofs.Nodes.{in_front}
 use Rattle.dcx_tree.specs.declared.constraint.Constraint.{Constraint}
 use Rattle.dcx_tree.specs.Nodes.{Node}
-use Rattle.dcx_tree.specs.Problems.{IsObjective, HasSides}
+use Rattle.dcx_tree.specs.Problems.{IsObjective, HasSides, AreConstraints}
 use Rattle.dcx_kinds.specs.declared.fault.ElabFault.{ElabFault}
 use Rattle.dcx_kinds.specs.declared.fault.ElabFault.TheVariants.{NotOffered, EmptyResult}
 use Rattle.dcx_kinds.specs.Values.{Value, Values, plain, text, truth, nothing, tuple, list, range, library, expression, constraint, objective, problem, result, end, item, items_of, values_of, State, and_then, unless, done, room, with_room, joined, too_many, counted, count}
@@ -97,6 +98,17 @@ AreSound-items nodes (item v vs) h = All-cons (IsSound nodes) v (items_of vs) h.
 pub AreSound-values : (nodes : List Node) (vs : List Value) → All (IsSound nodes) vs → AreSound nodes (values_of vs)
 AreSound-values nodes [] h = tt
 AreSound-values nodes (v ∷ vs) h = (All-head (IsSound nodes) v vs h, AreSound-values nodes vs (All-tail (IsSound nodes) v vs h))
+
+-- the constraints of a problem
+pub AreConstraints-all : (nodes : List Node) (cs : List Constraint) → All (HasBothSides nodes) cs → length cs < 2 ^ 32 → AreConstraints nodes cs
+AreConstraints-all nodes cs h few = record {
+  left = λ k c e. (one k c e).left;
+  right = λ k c e. (one k c e).right;
+  few = few;
+}
+  where
+    one : (k : ℕ) (c : Constraint) → slice_get cs k ≡ Some c → HasBothSides nodes c
+    one k c e = subst (HasBothSides nodes) (get_or_from_slice_get cs k c c e) (h k c (slice_get_within cs k c e))
 
 -- ---- one list after the other, and one item more
 appended : (nodes : List Node) (xs ys : List Value) → All (IsSound nodes) xs → All (IsSound nodes) ys → AreSound nodes (values_of (xs ++ ys))

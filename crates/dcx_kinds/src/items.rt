@@ -1,5 +1,5 @@
 //! The items of lists and tuples, and how many there may be.
-ghost use Rattle.std.specs.Prelude.{◌≡◌, ◌≤◌, ◌<◌, ◌+◌, ◌∷◌, ◌++◌, [], map, length, OnOk, IfOk};
+ghost use Rattle.std.specs.Prelude.{◌≡◌, ◌≤◌, ◌<◌, ◌+◌, ◌∷◌, ◌++◌, [], map, length, OnOk, OnErr, IfOk};
 ghost use Rattle.dcx_kinds.specs.Values.{State, items_of, values_of, end, counted, depth, count, deepest, with_room, joined};
 ghost use Rattle.dcx_kinds.specs.Meant.{meant};
 ghost use Rattle.dcx_kinds.specs.View.{Gives};
@@ -89,7 +89,8 @@ impl Items {
     ///
     /// `BadArgument` where it would be nested too deep, else `TooMany` with the count where there would be too many.
     pub fn push(&mut self, place: Place, value: Value) -> Result<(), ElabFault>
-        ensures { (s : State) → Gives (λ _. self.new) result s (with_room place self.old (meant value) s) }
+        ensures gives { (s : State) → Gives (λ _. self.new) result s (with_room place self.old (meant value) s) }
+        ensures same { OnErr result (self.new ≡ self.old) }
     {
         if value.depth() >= MOST_DEPTH {
             return Err(ElabFault::BadArgument(place));
@@ -106,7 +107,8 @@ impl Items {
     fn append(&mut self, value: Value) -> Result<(), AllocError>
         requires few { count self.old + counted (meant value) ≤ 20000 }
         requires shallow { depth (meant value) < 64 }
-        ensures { OnOk result (self.new ≡ values_of (items_of self.old ++ meant value ∷ [])) }
+        ensures added { OnOk result (self.new ≡ values_of (items_of self.old ++ meant value ∷ [])) }
+        ensures same { OnErr result (self.new ≡ self.old) }
     {
         let count = self.count + value.counted();
         let depth = self.depth.max(value.depth());

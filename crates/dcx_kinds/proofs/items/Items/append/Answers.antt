@@ -6,5 +6,5 @@ pub invariant_of-self-2 : goal.invariant_of-self-2
 invariant_of-self-2 c = rw (c.in_ok-push.ensures.items, c.counted.ensures.told, c.max-depth.ensures, c.depth.ensures.told)
     (AreCounted-after c.self.inside.values.items c.args.value c.self.inside.count c.self.inside.depth c.self.invariant (rw c.self.view_is c.requires.few) c.requires.shallow)
 
-pub returns : goal.returns
-returns c = rw (c.in_ok-push.ensures.items, items_meant-after c.self.inside.values.items c.args.value, c.self.view_is) refl
+pub returns-clause-added : goal.returns-clause-added
+returns-clause-added c = rw (c.in_ok-push.ensures.items, items_meant-after c.self.inside.values.items c.args.value, c.self.view_is) refl

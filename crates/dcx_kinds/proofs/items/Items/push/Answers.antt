@@ -3,10 +3,10 @@ use Rattle.dcx_kinds.specs.Meant.{meant}
 use Rattle.dcx_kinds.proofs.Limits.{room-over, room-within}
 use Rattle.dcx_kinds.proofs.items.Items.push.Goals as goal
 
-pub returns-then-count-gt-MOST_ITEMS : goal.returns-then-count-gt-MOST_ITEMS
-returns-then-count-gt-MOST_ITEMS c = λ s. rw (c.too_many.ensures, c.count.ensures.told, c.counted.ensures.told)
+pub returns-then-count-gt-MOST_ITEMS-clause-gives : goal.returns-then-count-gt-MOST_ITEMS-clause-gives
+returns-then-count-gt-MOST_ITEMS-clause-gives c = λ s. rw (c.too_many.ensures, c.count.ensures.told, c.counted.ensures.told)
     (room-over c.args.place c.args.self.now (meant c.args.value) s (omega (arith, c.if-depth-ge-MOST_DEPTH.false, c.depth.ensures.told)) (omega (arith, c.if-count-gt-MOST_ITEMS.true, c.count.ensures.told, c.counted.ensures.told)))
 
-pub returns : goal.returns
-returns c = λ s. rw c.in_ok-append.ensures
+pub returns-clause-gives : goal.returns-clause-gives
+returns-clause-gives c = λ s. rw c.in_ok-append.ensures.added
     (room-within c.args.place c.args.self.now (meant c.args.value) s (omega (arith, c.if-depth-ge-MOST_DEPTH.false, c.depth.ensures.told)) (omega (arith, c.if-count-gt-MOST_ITEMS.false, c.count.ensures.told, c.counted.ensures.told)))
