@@ -1,6 +1,6 @@
 -- What comes of a fault and of a value where something is carried out after something else.
 use Rattle.std.specs.Prelude.{◌≡◌, List, [], ◌∷◌, ◌++◌, Result, Ok, Err}
-use Rattle.std.proofs.Common.{refl, sym, ap, ◌∙◌, subst, append_assoc}
+use Rattle.std.proofs.Common.{refl, sym, ap, subst, append_assoc}
 use Rattle.dcx_shape.specs.declared.place.Place.{Place}
 use Rattle.dcx_kinds.specs.declared.fault.ElabFault.{ElabFault}
 use Rattle.dcx_kinds.specs.declared.fault.ElabFault.TheVariants.{Memory}

@@ -6,7 +6,6 @@ use Rattle.std.proofs.lemmas.Bool.{false≢true}
 use Rattle.dcx_shape.specs.declared.shape.Sides.TheVariants.{Vector}
 use Rattle.dcx_shape.specs.declared.shape.Shape.{Shape}
 use Rattle.dcx_shape.specs.Shape.{sides_of}
-use Rattle.dcx_shape.specs.Sides.{HasFewEntries}
 use Rattle.dcx_atom.specs.declared.array.Array.{Array}
 use Rattle.dcx_array.specs.Shapes.{shape_with}
 use Rattle.dcx_array.proofs.AllowedShapes.{shape_with-few, shape_with-none}

@@ -1,5 +1,5 @@
 -- Items as a list of values, what they count and how deep they are.
-use Rattle.std.proofs.Common.{◌≡◌, refl, sym, ap, ◌∙◌, arith, ℕ, ◌+◌, ◌<◌, ◌≤◌, max, Bool, true, false, ◌&&◌, List, [], ◌∷◌, ◌++◌, map, length}
+use Rattle.std.proofs.Common.{◌≡◌, refl, ap, arith, ℕ, ◌+◌, ◌<◌, ◌≤◌, max, Bool, ◌&&◌, List, [], ◌∷◌, ◌++◌, map, length}
 use Rattle.std.specs.List.{list_all}
 use Rattle.dcx_shape.specs.Shape.{sides_of}
 use Rattle.dcx_kinds.specs.declared.value.Value as code_value

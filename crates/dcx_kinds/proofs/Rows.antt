@@ -1,20 +1,19 @@
 -- Rows of numbers: as many numbers as their array has entries.
-use Rattle.std.specs.Prelude.{◌≡◌, ℕ, ◌+◌, ◌*◌, ◌<◌, ◌≤◌, take, nat_eq, Bool, true, false, ◌&&◌, ◌||◌, List, [], ◌∷◌, map, length, Option, Some, None, if◌then◌else◌}
+use Rattle.std.specs.Prelude.{◌≡◌, ℕ, ◌*◌, ◌<◌, ◌≤◌, take, nat_eq, Bool, true, false, ◌&&◌, ◌||◌, List, [], ◌∷◌, map, length, None, if◌then◌else◌}
 use Rattle.std.specs.List.{list_all, flat_map}
-use Rattle.std.proofs.Common.{refl, sym, ap, ◌∙◌, arith, length-append, take_all}
+use Rattle.std.proofs.Common.{refl, ap, ◌∙◌, arith, length-append, take_all}
 use Rattle.std.proofs.lemmas.Bool.{eqb-true}
 use Rattle.std.proofs.lemmas.List.{length-map}
 use Rattle.dcx_frac.specs.declared.fraction.Frac.{Frac}
 use Rattle.dcx_shape.specs.declared.shape.Sides.TheVariants.{Vector, Matrix}
 use Rattle.dcx_shape.specs.Sides.{entries_of, HasFewEntries}
-use Rattle.dcx_array.specs.Shapes.{shape_with}
 use Rattle.dcx_array.specs.Arrays.{array_with}
 use Rattle.dcx_array.proofs.AllowedShapes.{shape_with-none}
 use Rattle.dcx_kinds.specs.declared.value.Value as code_value
 use Rattle.dcx_kinds.specs.Meant.{meant}
 use Rattle.dcx_kinds.proofs.ShapesAsked.{few_sides}
 use Rattle.dcx_kinds.specs.Values.{Value, plain, list, items_of}
-use Rattle.dcx_kinds.specs.Kinds.{is_number, number_of, is_list, is_flat, list_items, is_long, are_rows, rows_sides, row_numbers, rows_array}
+use Rattle.dcx_kinds.specs.Kinds.{is_number, number_of, is_list, list_items, is_long, are_rows, rows_sides, row_numbers, rows_array}
 
 both : (a b : Bool) → (a && b) ≡ true → (a ≡ true) × (b ≡ true)
 both true b e = (refl, e)

@@ -1,10 +1,10 @@
 -- Shapes of sides of any size, and of the same sides as they are told.
-use Rattle.std.specs.Prelude.{◌≡◌, ◌↔◌, ℕ, ◌*◌, ◌≤◌, Option, Some, None, IsSome, IfSome}
-use Rattle.std.proofs.Common.{refl, sym, ap, ◌∙◌, arith}
+use Rattle.std.specs.Prelude.{◌≡◌, ◌↔◌, ℕ, ◌≤◌, Option, Some, None, IsSome, IfSome}
+use Rattle.std.proofs.Common.{refl, sym, ◌∙◌, arith}
 use Rattle.std.proofs.lemmas.Bool.{false≢true}
 use Rattle.std.proofs.lemmas.Nat.{mul-le}
 use Rattle.dcx_shape.specs.declared.shape.Sides.{Sides}
-use Rattle.dcx_shape.specs.declared.shape.Sides.TheVariants.{Scalar, Vector, Matrix}
+use Rattle.dcx_shape.specs.declared.shape.Sides.TheVariants.{Vector, Matrix}
 use Rattle.dcx_shape.specs.declared.shape.Shape.{Shape}
 use Rattle.dcx_shape.specs.Shape.{sides_of}
 use Rattle.dcx_shape.specs.Sides.{HasFewEntries}

@@ -1,5 +1,5 @@
 -- What a list holds counts less than the list.
-use Rattle.std.specs.Prelude.{◌≡◌, ℕ, ◌≤◌, ◌<◌, ◌+◌, ◌*◌, List, [], ◌∷◌, map}
+use Rattle.std.specs.Prelude.{◌≤◌, ◌<◌, ◌+◌, ◌*◌, List, [], ◌∷◌}
 use Rattle.std.proofs.Common.{arith}
 use denote.Param.Weighed.{most}
 use Rattle.dcx_shape.specs.declared.shape.Sides.{Sides}
@@ -8,7 +8,7 @@ use Rattle.dcx_shape.specs.Shape.{sides_of}
 use Rattle.dcx_kinds.specs.declared.value.Value.{Value}
 use Rattle.dcx_kinds.specs.declared.value.Value.TheVariants as values
 use Rattle.dcx_kinds.specs.declared.items.Items.TheDeep.{deep-Value}
-use Rattle.dcx_kinds.specs.Values.{plain_count, counted, count}
+use Rattle.dcx_kinds.specs.Values.{plain_count, counted}
 use Rattle.dcx_kinds.specs.Meant.{meant, items_meant, twice_count}
 
 pub plain_count-positive : (s : Sides) → 0 < plain_count s

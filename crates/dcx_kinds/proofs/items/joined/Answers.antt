@@ -1,4 +1,4 @@
-use Rattle.std.proofs.Common.{refl, arith}
+use Rattle.std.proofs.Common.{arith}
 use Rattle.dcx_kinds.proofs.Limits.{joined-over}
 use Rattle.dcx_kinds.proofs.items.joined.Goals as goal
 

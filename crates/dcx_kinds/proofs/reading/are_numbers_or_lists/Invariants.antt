@@ -1,4 +1,4 @@
-use Rattle.std.proofs.Common.{◌≡◌, ◌||◌, ◌++◌, map, take, drop}
+use Rattle.std.proofs.Common.{◌≡◌, ◌||◌, map, drop}
 use Rattle.std.specs.List.{list_all}
 use Rattle.dcx_kinds.specs.Meant.{meant}
 use Rattle.dcx_kinds.specs.Kinds.{is_number, is_list}

@@ -1,4 +1,4 @@
-use Rattle.std.proofs.Common.{refl, map}
+use Rattle.std.proofs.Common.{map}
 use Rattle.dcx_kinds.specs.Meant.{meant}
 use Rattle.dcx_kinds.proofs.Forms.{few_meant, is_constant-form}
 use Rattle.dcx_kinds.proofs.reading.is_constant.Goals as goal

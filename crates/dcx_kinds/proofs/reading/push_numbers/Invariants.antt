@@ -1,5 +1,4 @@
-use Rattle.std.proofs.Common.{◌≡◌, ◌||◌, ◌++◌, map, take, drop}
-use Rattle.std.specs.List.{list_all}
+use Rattle.std.proofs.Common.{◌≡◌, ◌++◌, map, take}
 use Rattle.dcx_kinds.specs.Meant.{meant}
 use Rattle.dcx_kinds.specs.Kinds.{number_of}
 use Rattle.dcx_kinds.proofs.reading.push_numbers.Given as goal

@@ -1,9 +1,6 @@
-use Rattle.std.specs.Prelude.{IfNone}
-use Rattle.std.proofs.Common.{sym, subst, map, arith}
+use Rattle.std.proofs.Common.{map, arith}
 use Rattle.std.proofs.lemmas.List.{length-map}
-use Rattle.dcx_shape.specs.Sides.{HasFewEntries}
 use Rattle.dcx_kinds.specs.Meant.{meant}
-use Rattle.dcx_kinds.specs.Kinds.{rows_sides}
 use Rattle.dcx_kinds.proofs.Rows.{many_rows}
 use Rattle.dcx_kinds.proofs.reading.rows_sides.Goals as goal
 

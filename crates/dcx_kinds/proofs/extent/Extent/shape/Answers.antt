@@ -1,4 +1,4 @@
-use Rattle.std.proofs.Common.{refl, sym, ap, ◌∙◌}
+use Rattle.std.proofs.Common.{sym, ap, ◌∙◌}
 use Rattle.dcx_shape.specs.declared.shape.Sides.TheVariants.{Scalar, Vector, Matrix}
 use Rattle.dcx_array.specs.Shapes.{shape_with}
 use Rattle.dcx_array.proofs.AllowedShapes.{shape_with-is}

@@ -1,4 +1,3 @@
-use Rattle.std.proofs.Common.{refl}
 use Rattle.dcx_kinds.proofs.ShapesAsked.{shape_with-told, shape_with-told_side}
 use Rattle.dcx_kinds.proofs.extent.Extent.told.Goals as goal
 

@@ -1,4 +1,4 @@
-use Rattle.std.proofs.Common.{refl, arith}
+use Rattle.std.proofs.Common.{refl}
 use Rattle.dcx_kinds.proofs.Lists.{items_meant-more, AreCounted-more}
 use Rattle.dcx_kinds.proofs.items.Items.extended.Goals as goal
 

@@ -1,4 +1,4 @@
-use Rattle.std.proofs.Common.{refl, arith}
+use Rattle.std.proofs.Common.{arith}
 use Rattle.dcx_kinds.specs.Meant.{meant}
 use Rattle.dcx_kinds.proofs.Limits.{room-over, room-within}
 use Rattle.dcx_kinds.proofs.items.Items.push.Goals as goal
