@@ -1,11 +1,10 @@
 //! A problem that is gathered from a tree, with its nodes worked out by hand.
 ghost use Rattle.std.specs.Prelude.{ℕ, [], IsTrue, IfOk};
 ghost use Rattle.std.specs.List.{IsDistinct};
-ghost use Rattle.dcx_shape.specs.Shape.{sides_of};
 ghost use Rattle.dcx_point.specs.Pairs.{same_name};
 ghost use Rattle.dcx_arena.specs.Nodes.{IsNode};
 ghost use Rattle.dcx_tree.specs.Nodes.{Node};
-ghost use Rattle.dcx_tree.specs.Problems.{IsObjective, HasSides, AreConstraints, IsListed, declared_names};
+ghost use Rattle.dcx_tree.specs.Problems.{IsListed, declared_names};
 
 use crate::tests::{call, name, push};
 use crate::{
@@ -17,44 +16,6 @@ use dcx_call::copy_variable;
 use dcx_shape::{Place, Shape};
 use std::alloc::{AllocError, Global};
 use std::test::Fail;
-
-/// Whether the node is there, with one entry.
-fn is_objective(tree: &Tree, node: NodeId) -> bool
-    ensures { IsTrue result → IsObjective tree.now node }
-{
-    if node.0 >= tree.nodes() {
-        return false;
-    }
-    tree.shape(node).size() == 1
-}
-
-/// Whether the node is there, with this shape.
-fn has_shape(tree: &Tree, node: NodeId, shape: Shape) -> bool
-    ensures { IsTrue result → HasSides tree.now node (sides_of shape) }
-{
-    if node.0 >= tree.nodes() {
-        return false;
-    }
-    tree.shape(node).sides() == shape.sides()
-}
-
-/// Whether the sides of each constraint are there, with its shape.
-fn are_constraints(tree: &Tree, constraints: &[Constraint]) -> bool
-    ensures { IsTrue result → AreConstraints tree.now constraints.now }
-{
-    if constraints.len() > 9 {
-        return false;
-    }
-    for constraint in constraints {
-        if !has_shape(tree, constraint.left, constraint.shape) {
-            return false;
-        }
-        if !has_shape(tree, constraint.right, constraint.shape) {
-            return false;
-        }
-    }
-    true
-}
 
 /// Whether the call is one of these variables.
 fn is_among(alloc: Global, variables: &[Variable], call: &Call) -> Result<bool, AllocError>
@@ -109,10 +70,10 @@ fn gathered(alloc: Global, tree: &Tree, roots: &Roots) -> Result<Problem, Fail> 
     if !roots.parameters.as_slice().is_empty() {
         return Err("a parameter".into());
     }
-    if !is_objective(tree, roots.objective) {
+    if !tree.is_objective(roots.objective) {
         return Err("no objective".into());
     }
-    if !are_constraints(tree, roots.constraints.as_slice()) {
+    if !tree.are_constraints(roots.constraints.as_slice()) {
         return Err("no constraints".into());
     }
     let variables = roots.variables.as_slice();
