@@ -27,8 +27,6 @@
 #![tactic(auto)]
 
 mod constraint;
-#[cfg(test)]
-mod gather_tests;
 mod gathering;
 pub mod laws;
 mod lists;
@@ -36,8 +34,6 @@ mod problem;
 mod reached;
 mod roots;
 mod standing;
-#[cfg(test)]
-mod tests;
 mod tree;
 mod value;
 

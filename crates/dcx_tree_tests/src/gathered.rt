@@ -1,5 +1,5 @@
 //! Problems for the tests. What `gather` asks of its roots is tested first.
-ghost use Rattle.std.specs.Prelude.{◌≡◌, ◌↔◌, ℕ, Contains, IsTrue};
+ghost use Rattle.std.specs.Prelude.{◌≡◌, ◌≢◌, ◌↔◌, ℕ, Contains, IsTrue};
 ghost use Rattle.std.specs.List.{IsDistinct};
 ghost use Rattle.dcx_point.specs.Pairs.{same_name};
 ghost use Rattle.dcx_arena.specs.Nodes.{IsNode};
@@ -11,7 +11,7 @@ use dcx_tree::{Call, NodeId, Parameter, Problem, Roots, Tree, Variable, gather};
 use std::alloc::Global;
 use std::test::Fail;
 
-/// The problem of these roots, which declare at most one variable and one parameter.
+/// The problem of these roots, which declare one variable and one parameter.
 pub fn problem_of(alloc: Global, tree: &Tree, roots: &Roots) -> Result<Problem, Fail> {
     if !tree.is_objective(roots.objective) {
         return Err("another objective".into());
@@ -30,17 +30,20 @@ pub fn problem_of(alloc: Global, tree: &Tree, roots: &Roots) -> Result<Problem, 
     Ok(gather(alloc, tree, roots)?)
 }
 
-/// Whether at most one variable and one parameter are there, of different names.
+/// Whether one variable and one parameter are there, of different names.
 fn is_distinct(variables: &[Variable], parameters: &[Parameter]) -> bool
     ensures { IsTrue result → IsDistinct same_name (declared_names variables.now parameters.now) }
 {
-    match (variables, parameters) {
-        ([], []) => true,
-        ([_], []) => true,
-        ([], [_]) => true,
-        ([variable], [parameter]) => !is_same_name(&variable.name, &parameter.name),
-        _ => false,
+    if variables.len() != 1 || parameters.len() != 1 {
+        return false;
     }
+    differ(&variables[0].name, &parameters[0].name)
+}
+
+fn differ(a: &Name, b: &Name) -> bool
+    ensures { IsTrue result ↔ (a.now ≢ b.now) }
+{
+    a != b
 }
 
 /// Whether a tree has no other variables and no other parameters than these.

@@ -1,6 +1,7 @@
 //! Verdicts on small problems. What is expected is worked out by hand, by the composition rule.
 
 use crate::gathered::problem_of;
+use crate::values::name;
 use Attribute::{Free, Nonneg, Nonpos};
 use Curvature::{Affine, Concave, Constant, Convex};
 use Kind::{AtMost, Equal};
@@ -12,7 +13,7 @@ use dcx_elem::{Abs, Maximum, Minimum, Neg, Pos};
 use dcx_fold::{CumMax, MaxOf, MinOf, Norm1, NormInf, SumLargest, SumSmallest};
 use dcx_frac::{Frac, Fracs};
 use dcx_rules::{Curvature, Rule, RuleFault, RuleSite, check};
-use dcx_shape::{Name, Place, Shape};
+use dcx_shape::{Place, Shape};
 use dcx_tree::{
     Attribute, Call, Constraint, Constraints, Kind, NodeId, Parameter, Parameters, Problem, Roots,
     Sense, Tree, Variable, Variables, Whole,
@@ -25,10 +26,6 @@ use std::test::Fail;
 struct Declared {
     shape: Shape,
     attribute: Attribute,
-}
-
-fn name(alloc: Global, text: &str) -> Result<Name, AllocError> {
-    Ok(Name::from_vec(Vec::from_slice(alloc, text.as_bytes())?))
 }
 
 fn variable(alloc: Global, declared: Declared) -> Result<Variable, AllocError> {

@@ -1,22 +1,22 @@
 //! Pushes and values, with the numbers worked out by hand.
-use crate::{
-    Attribute, Call, Count, NodeId, Parameter, Point, Setting, Tree, TreeFault, Variable, Whole,
-};
 use dcx_affine::{Minus, Pairing, Plus};
 use dcx_atom::{Array, ValueStop};
 use dcx_call::{AtomCall, LinearCall};
 use dcx_fold::SumLargest;
 use dcx_frac::{Frac, Fracs, Op};
 use dcx_shape::{Name, Place, Shape};
+use dcx_tree::{
+    Attribute, Call, Count, NodeId, Parameter, Point, Setting, Tree, TreeFault, Variable, Whole,
+};
 use std::alloc::{AllocError, Global};
 use std::test::Fail;
 
-pub(crate) fn name(alloc: Global, text: &str) -> Result<Name, AllocError> {
+pub fn name(alloc: Global, text: &str) -> Result<Name, AllocError> {
     Ok(Name::from_vec(Vec::from_slice(alloc, text.as_bytes())?))
 }
 
 /// A sum, a negation, a product, a matrix product, a quotient or the greatest entry; else the scalar parameter `p`, or the vector of two entries that has the name.
-pub(crate) fn call(alloc: Global, text: &str) -> Result<Call, Fail> {
+pub fn call(alloc: Global, text: &str) -> Result<Call, Fail> {
     Ok(match text {
         "+" => Call::Linear(LinearCall::Plus(Plus)),
         "-" => Call::Linear(LinearCall::Minus(Minus)),
@@ -38,12 +38,7 @@ pub(crate) fn call(alloc: Global, text: &str) -> Result<Call, Fail> {
     })
 }
 
-pub(crate) fn push(
-    tree: &mut Tree,
-    call: Call,
-    args: &[u32],
-    line: u32,
-) -> Result<NodeId, TreeFault> {
+pub fn push(tree: &mut Tree, call: Call, args: &[u32], line: u32) -> Result<NodeId, TreeFault> {
     let place = Place { line, column: 1 };
     match args {
         [] => tree.push(call, &[], place),

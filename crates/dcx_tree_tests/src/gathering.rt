@@ -1,93 +1,14 @@
 //! A problem that is gathered from a tree, with its nodes worked out by hand.
-ghost use Rattle.std.specs.Prelude.{ℕ, [], IsTrue, IfOk};
-ghost use Rattle.std.specs.List.{IsDistinct};
-ghost use Rattle.dcx_point.specs.Pairs.{same_name};
-ghost use Rattle.dcx_arena.specs.Nodes.{IsNode};
-ghost use Rattle.dcx_tree.specs.Nodes.{Node};
-ghost use Rattle.dcx_tree.specs.Problems.{IsListed, declared_names};
 
-use crate::tests::{call, name, push};
-use crate::{
-    Attribute, Call, Constraint, Constraints, Kind, NodeId, Parameters, Problem, Roots, Sense,
-    Tree, Variable, Variables, Whole, gather,
-};
-use dcx_arena::Operator;
-use dcx_call::copy_variable;
+use crate::gathered::problem_of;
+use crate::values::{call, name, push};
 use dcx_shape::{Place, Shape};
-use std::alloc::{AllocError, Global};
+use dcx_tree::{
+    Attribute, Constraint, Constraints, Kind, NodeId, Parameter, Parameters, Roots, Sense, Tree,
+    Variable, Variables, Whole,
+};
+use std::alloc::Global;
 use std::test::Fail;
-
-/// Whether the call is one of these variables.
-fn is_among(alloc: Global, variables: &[Variable], call: &Call) -> Result<bool, AllocError>
-    ensures { IfOk result (λ b. IsTrue b → IsListed variables.now [] call.now) }
-{
-    for variable in variables {
-        if call.same(&Call::Variable(copy_variable(alloc, variable)?)) {
-            return Ok(true);
-        }
-    }
-    Ok(false)
-}
-
-/// Whether the call is no parameter, and no variable but one of these.
-fn is_listed(alloc: Global, variables: &[Variable], call: &Call) -> Result<bool, AllocError>
-    ensures { IfOk result (λ b. IsTrue b → IsListed variables.now [] call.now) }
-{
-    match call {
-        Call::Variable(_) => is_among(alloc, variables, call),
-        Call::Parameter(_) => Ok(false),
-        Call::Constant(_) => Ok(true),
-        Call::Atom(_) => Ok(true),
-        Call::Linear(_) => Ok(true),
-        Call::Pairing(_) => Ok(true),
-    }
-}
-
-/// Whether no parameter stands in the tree, and no variable but these.
-fn are_listed(alloc: Global, variables: &[Variable], tree: &Tree) -> Result<bool, AllocError>
-    ensures { IfOk result (λ b. IsTrue b → (i : ℕ) (n : Node) → IsNode tree.now i n → IsListed variables.now [] n.call) }
-{
-    for i in 0..tree.nodes() {
-        if !is_listed(alloc, variables, tree.call(NodeId(i)))? {
-            return Ok(false);
-        }
-    }
-    Ok(true)
-}
-
-/// Whether there is at most one variable.
-fn is_distinct(variables: &[Variable]) -> bool
-    ensures { IsTrue result → IsDistinct same_name (declared_names variables.now []) }
-{
-    if variables.len() > 1 {
-        return false;
-    }
-    true
-}
-
-/// The problem of these roots, where no parameter is declared, and nothing else breaks what `gather` asks for.
-fn gathered(alloc: Global, tree: &Tree, roots: &Roots) -> Result<Problem, Fail> {
-    if !roots.parameters.as_slice().is_empty() {
-        return Err("a parameter".into());
-    }
-    if !tree.is_objective(roots.objective) {
-        return Err("no objective".into());
-    }
-    if !tree.are_constraints(roots.constraints.as_slice()) {
-        return Err("no constraints".into());
-    }
-    let variables = roots.variables.as_slice();
-    if !is_distinct(variables) {
-        return Err("more variables".into());
-    }
-    if !are_listed(alloc, variables, tree)? {
-        return Err("not declared".into());
-    }
-    match gather(alloc, tree, roots) {
-        Ok(problem) => Ok(problem),
-        Err(_) => Err("no memory".into()),
-    }
-}
 
 /// The variable `x` of two entries, as `call` makes it.
 fn variable(alloc: Global) -> Result<Variable, Fail> {
@@ -96,6 +17,15 @@ fn variable(alloc: Global) -> Result<Variable, Fail> {
         shape: Shape::vector(2).ok_or("no shape")?,
         attribute: Attribute::Free,
         whole: Whole::Not,
+    })
+}
+
+/// The parameter `p`, as `call` makes it. The problem doesn't reach it.
+fn parameter(alloc: Global) -> Result<Parameter, Fail> {
+    Ok(Parameter {
+        name: name(alloc, "p")?,
+        shape: Shape::scalar(),
+        attribute: Attribute::Nonneg,
     })
 }
 
@@ -133,7 +63,7 @@ fn roots(alloc: Global) -> Result<Roots, Fail> {
         objective_place: Place { line: 7, column: 1 },
         constraints: Constraints::from_vec(constraints),
         variables: Variables::from_vec(variables),
-        parameters: Parameters::from_vec(Vec::new(alloc)),
+        parameters: Parameters::from_vec(vec![in alloc; parameter(alloc)?]?),
     })
 }
 
@@ -160,7 +90,7 @@ fn script(alloc: Global) -> Result<Tree, Fail> {
 #[test]
 fn a_problem_is_numbered_as_it_is_finished(rt: HostRuntime) -> Result<(), Fail> {
     let alloc = rt.alloc();
-    let problem = gathered(alloc, &script(alloc)?, &roots(alloc)?)?;
+    let problem = problem_of(alloc, &script(alloc)?, &roots(alloc)?)?;
     assert_eq!(rt; problem.tree.nodes(), 5);
     for (node, line, first, second) in NODES {
         let id = NodeId(node);
@@ -182,7 +112,7 @@ fn a_problem_is_numbered_as_it_is_finished(rt: HostRuntime) -> Result<(), Fail> 
 #[test]
 fn a_problem_keeps_what_it_reaches(rt: HostRuntime) -> Result<(), Fail> {
     let alloc = rt.alloc();
-    let problem = gathered(alloc, &script(alloc)?, &roots(alloc)?)?;
+    let problem = problem_of(alloc, &script(alloc)?, &roots(alloc)?)?;
     assert_eq!(rt; problem.sense, Sense::Maximize);
     assert_eq!(rt; problem.objective, NodeId(3));
     assert_eq!(rt; problem.objective_place, Place { line: 7, column: 1 });
