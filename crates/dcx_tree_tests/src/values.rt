@@ -1,24 +1,27 @@
 //! Pushes and values, with the numbers worked out by hand.
-use crate::{Attribute, Call, NodeId, Parameter, Point, Setting, Tree, TreeFault, Variable, Whole};
 use dcx_affine::{Minus, Pairing, Plus};
 use dcx_atom::{Array, ValueStop};
 use dcx_call::{AtomCall, LinearCall};
 use dcx_fold::SumLargest;
 use dcx_frac::{Frac, Fracs, Op};
 use dcx_shape::{Name, Place, Shape};
+use dcx_tree::{
+    Attribute, Call, Count, NodeId, Parameter, Point, Setting, Tree, TreeFault, Variable, Whole,
+};
 use std::alloc::{AllocError, Global};
 use std::test::Fail;
 
-pub(crate) fn name(alloc: Global, text: &str) -> Result<Name, AllocError> {
+pub fn name(alloc: Global, text: &str) -> Result<Name, AllocError> {
     Ok(Name::from_vec(Vec::from_slice(alloc, text.as_bytes())?))
 }
 
-/// A sum, a negation, a product, a quotient or the greatest entry; else the scalar parameter `p`, or the vector of two entries that has the name.
-pub(crate) fn call(alloc: Global, text: &str) -> Result<Call, Fail> {
+/// A sum, a negation, a product, a matrix product, a quotient or the greatest entry; else the scalar parameter `p`, or the vector of two entries that has the name.
+pub fn call(alloc: Global, text: &str) -> Result<Call, Fail> {
     Ok(match text {
         "+" => Call::Linear(LinearCall::Plus(Plus)),
         "-" => Call::Linear(LinearCall::Minus(Minus)),
         "*" => Call::Pairing(Pairing::Times),
+        "@" => Call::Pairing(Pairing::MatTimes),
         "/" => Call::Pairing(Pairing::Over),
         "largest" => Call::Atom(AtomCall::SumLargest(SumLargest { k: 1 })),
         "p" => Call::Parameter(Parameter {
@@ -35,12 +38,7 @@ pub(crate) fn call(alloc: Global, text: &str) -> Result<Call, Fail> {
     })
 }
 
-pub(crate) fn push(
-    tree: &mut Tree,
-    call: Call,
-    args: &[u32],
-    line: u32,
-) -> Result<NodeId, TreeFault> {
+pub fn push(tree: &mut Tree, call: Call, args: &[u32], line: u32) -> Result<NodeId, TreeFault> {
     let place = Place { line, column: 1 };
     match args {
         [] => tree.push(call, &[], place),
@@ -131,6 +129,75 @@ fn array(alloc: Global, shape: Shape, numbers: &[(i128, i128)]) -> Result<Array,
     })
 }
 
+/// The constant of one entry.
+fn constant(alloc: Global, number: u32) -> Result<Call, Fail> {
+    let numbers = [(i128::from(number), 1)];
+    Ok(Call::Constant(array(alloc, Shape::scalar(), &numbers)?))
+}
+
+/// A variable of so many entries.
+fn vector(alloc: Global, size: u32) -> Result<Call, Fail> {
+    Ok(Call::Variable(Variable {
+        name: name(alloc, "v")?,
+        shape: Shape::vector(size).ok_or("no shape")?,
+        attribute: Attribute::Free,
+        whole: Whole::Not,
+    }))
+}
+
+#[test]
+fn at_most_20000_nodes(rt: HostRuntime) -> Result<(), Fail> {
+    let alloc = rt.alloc();
+    let mut tree = Tree::new(alloc);
+    for n in 0..20_000 {
+        let got = push(&mut tree, constant(alloc, n)?, &[], 1);
+        assert!(rt; got == Ok(NodeId(n)), "{n}");
+    }
+    // there would be too many entries too, and a node that is there is found
+    for (call, want) in [
+        (constant(alloc, 20_000)?, None),
+        (call(alloc, "x")?, None),
+        (constant(alloc, 19_999)?, Some(19_999)),
+    ] {
+        let got = push(&mut tree, call, &[], 1);
+        let want = want.map(|node| NodeId(node)).ok_or(TreeFault::TooMany {
+            what: Count::Nodes,
+            count: 20_001,
+        });
+        assert!(rt; got == want);
+    }
+    assert_eq!(rt; tree.nodes(), 20_000);
+    Ok(())
+}
+
+/// The entries of variables, and the node of each, or how many entries there would be.
+const ENTRIES: [(u32, Result<u32, u32>); 5] = [
+    (19_999, Ok(0)),
+    (2, Err(20_001)),
+    (1, Ok(1)),
+    (3, Err(20_003)),
+    (19_999, Ok(0)),
+];
+
+#[test]
+fn at_most_20000_entries(rt: HostRuntime) -> Result<(), Fail> {
+    let alloc = rt.alloc();
+    let mut tree = Tree::new(alloc);
+    for (size, want) in ENTRIES {
+        let got = push(&mut tree, vector(alloc, size)?, &[], 1);
+        let want = match want {
+            Ok(node) => Ok(NodeId(node)),
+            Err(count) => Err(TreeFault::TooMany {
+                what: Count::Entries,
+                count,
+            }),
+        };
+        assert!(rt; got == want, "{size}");
+    }
+    assert_eq!(rt; tree.nodes(), 2);
+    Ok(())
+}
+
 /// The point at which `x` has these two entries.
 fn point(alloc: Global, x: &[(i128, i128)]) -> Result<Point, Fail> {
     let mut point = Point::empty(alloc);
@@ -191,7 +258,7 @@ const MOST: i128 = i128::MAX;
 const HALF: i128 = 85_070_591_730_234_615_865_843_651_857_942_052_864;
 
 /// A few calls over `x` and `p` with their arguments, each the next node.
-const FEW: [(u32, &str, &[u32]); 11] = [
+const FEW: [(u32, &str, &[u32]); 12] = [
     (0, "x", &[]),
     (1, "p", &[]),
     (2, "-", &[0]),
@@ -203,6 +270,7 @@ const FEW: [(u32, &str, &[u32]); 11] = [
     (8, "/", &[0, 7]),
     (9, "*", &[1, 1]),
     (10, "*", &[8, 3]),
+    (11, "@", &[0, 3]),
 ];
 
 /// The tree of these calls.
@@ -230,6 +298,7 @@ fn values(rt: HostRuntime) -> Result<(), Fail> {
         (-3, 6, [(18, 1)].as_slice()),
         (-3, 7, [(0, 1), (0, 1)].as_slice()),
         (-3, 9, [(16, 1)].as_slice()),
+        (-3, 11, [(37, 2)].as_slice()),
         // node 3 isn't reached
         (MOST, 7, [(0, 1), (0, 1)].as_slice()),
     ] {
