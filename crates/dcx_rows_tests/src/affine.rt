@@ -1,14 +1,18 @@
 //! An affine number at a setting.
+ghost use Rattle.std.specs.Prelude.{◌≡◌, ◌∷◌, [], IfOk};
+
 use crate::given::fraction;
 use dcx_atom::Array;
 use dcx_frac::{Frac, Fracs};
 use dcx_linear::{Coef, ParamForm};
-use dcx_point::{Setting, laws};
+use dcx_point::Setting;
 use dcx_shape::{Name, Shape};
 use std::alloc::{AllocError, Global};
 use std::test::Fail;
 
-fn scalar(alloc: Global, entry: Frac) -> Result<Array, AllocError> {
+fn scalar(alloc: Global, entry: Frac) -> Result<Array, AllocError>
+    ensures { IfOk result (λ a. a.entries ≡ entry ∷ []) }
+{
     Ok(Array {
         shape: Shape::scalar(),
         entries: Fracs::from_vec(vec![in alloc; entry]?),
@@ -22,7 +26,6 @@ fn shifted(
     constant: Frac,
     number: Frac,
 ) -> Result<Option<Frac>, AllocError> {
-    laws::puts();
     let mut setting = Setting::empty(alloc);
     let parameter = ParamForm::parameter(alloc, 0, &name, 0, &setting)?;
     let form = ParamForm {

@@ -3,7 +3,7 @@ ghost use Rattle.std.specs.Prelude.{◌≤◌, ◌<◌, IfOk};
 ghost use Rattle.dcx_linear.specs.Widths.{form_width};
 
 use dcx_frac::Frac;
-use dcx_linear::{Form, Row, RowKind, RowList, Rows, UnknownKind, UnknownKinds, laws};
+use dcx_linear::{Form, Row, RowKind, RowList, Rows, UnknownKind, UnknownKinds};
 use std::alloc::Global;
 use std::test::Fail;
 
@@ -22,7 +22,6 @@ fn multiple(alloc: Global, unknown: u32, coefficient: Pair) -> Result<Form<Frac>
     requires { unknown < 2 }
     ensures { IfOk result (λ f. form_width f ≤ 2) }
 {
-    laws::widths_of_changed::<Frac>();
     let one = Form::<Frac>::unknown(alloc, unknown)?;
     Ok(one.scale(alloc, &fraction(coefficient)?)?)
 }
@@ -30,7 +29,6 @@ fn multiple(alloc: Global, unknown: u32, coefficient: Pair) -> Result<Form<Frac>
 pub(crate) fn form(alloc: Global, written: Written) -> Result<Form<Frac>, Fail>
     ensures { IfOk result (λ f. form_width f ≤ 2) }
 {
-    laws::widths_of_sums::<Frac>();
     let constant = Form::<Frac>::number(alloc, fraction(written[0])?);
     let first = constant.add(alloc, &multiple(alloc, 0, written[1])?)?;
     Ok(first.add(alloc, &multiple(alloc, 1, written[2])?)?)
