@@ -17,7 +17,10 @@ struct Want<'a>(&'a [i128], i128, u32, Pair, bool);
 
 fn check_row(rt: &impl Abort, row: &IntRow, want: Want<'_>) -> Result<(), Fail> {
     assert_eq!(rt; row.entries.as_slice(), want.0);
-    assert_eq!(rt; (row.right, row.basic, row.negated), (want.1, want.2, want.4));
+    assert_eq!(rt;
+        (row.right, row.basic, row.negated),
+        (want.1, want.2, want.4)
+    );
     assert_eq!(rt; row.factor, fraction(want.3)?);
     Ok(())
 }
