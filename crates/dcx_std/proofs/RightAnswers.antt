@@ -1,19 +1,17 @@
 -- A right answer to the integer program of rows shows one to the rows.
-use Rattle.std.proofs.Common.{◌≡◌, ℕ, zero, suc, ◌+◌, ◌<◌, List, [], ◌∷◌, length, map, get_or, Some, refl, sym, ap, ap₂, ◌∙◌, subst, arith, pos, true}
+use Rattle.std.proofs.Common.{◌≡◌, ℕ, suc, ◌+◌, ◌<◌, List, [], ◌∷◌, length, map, Some, refl, sym, ap, ap₂, ◌∙◌, subst, arith, pos}
 use Rattle.std.specs.Prelude.{slice_get}
 use Rattle.std.proofs.lemmas.List.{length-map}
 use Rattle.std.proofs.lemmas.Option.{slice_get_within}
 use Rattle.dcx_math.specs.Rational.{ℚ, whole, ◌+ℚ◌, ◌-ℚ◌, ◌*ℚ◌, ◌≤ℚ◌}
-use Rattle.dcx_math.specs.Sums.{rat_at, rat_sum_below, along}
+use Rattle.dcx_math.specs.Sums.{rat_sum_below, along}
 use Rattle.dcx_math.proofs.Orders.{≤ℚ_refl}
 use Rattle.dcx_math.proofs.Sums.{rat_sum_below-first, rat_sum_below-same}
-use Rattle.dcx_frac.specs.declared.fraction.Frac.{Frac}
 use Rattle.dcx_frac.specs.Frac.{value}
 use Rattle.dcx_linear.specs.declared.row.RowKind.TheVariants.{AtMost}
 use Rattle.dcx_linear.specs.FormTerms.{Unknowns}
 use Rattle.dcx_linear.specs.Rows as linear_rows
 use Rattle.dcx_linear.specs.Rows.{RowAt, AreOfKinds, HaveSigns, combined_from, combined}
-use Rattle.dcx_tab.specs.declared.rows.ColumnKind.TheVariants.{Unknown, Slack, Artificial}
 use Rattle.dcx_tab.specs.declared.program.Program.{Program}
 use Rattle.dcx_tab.specs.Program.{kind_at}
 use Rattle.dcx_simplex.specs.declared.answer.LpStatus.{LpStatus}
@@ -21,13 +19,12 @@ use Rattle.dcx_simplex.specs.declared.answer.LpStatus.TheVariants as status
 use Rattle.dcx_simplex.specs.declared.answer.LpAnswer.{LpAnswer}
 use Rattle.dcx_simplex.specs.Reading.{numbers}
 use Rattle.dcx_simplex.specs.Right.{cost_at_columns, form_at, multiplier_at, combined_rows, HasSigns, IsAssignment, IsOptimalAnswer, IsInfeasibleAnswer, IsUnboundedAnswer, IsRightAs, IsRight}
-use Rattle.dcx_std.specs.Columns.{columns_of}
 use Rattle.dcx_std.specs.GivenRows.{GivenRows}
 use Rattle.dcx_std.specs.ScaledProgram.{IsScaledProgram}
 use Rattle.dcx_std.specs.Solutions.{form_number, row_at, linear_program, unknowns_at, HasKinds}
 use Rattle.dcx_std.specs.Answers.{IsRightForRowsAs, IsRightForRows}
 use Rattle.dcx_std.proofs.Assignments.{column_value, assignment, assigned_at, value_nonnegative, assigned_unknown, unknowns-along}
-use Rattle.dcx_std.proofs.Solutions.{mapped_at, unmapped_at, at_place, RowFacts, facts_of, narrow, form_same, artificial_none, slack_none, inequality_there, solution_of, cost_is, form_of}
+use Rattle.dcx_std.proofs.Solutions.{unmapped_at, at_place, facts_of, narrow, form_same, artificial_none, slack_none, inequality_there, solution_of, cost_is, form_of}
 
 -- unknowns that agree everywhere are the same
 same_unknowns : (x y : Unknowns) → ((u : ℕ) → x u ≡ y u) → x ≡ y

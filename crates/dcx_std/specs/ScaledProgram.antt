@@ -1,6 +1,6 @@
 -- What the integer program of rows has to do with them, over exact fractions.
 use Rattle.std.specs.Prelude.{◌≡◌, ℕ, ◌<◌, Bool, List, map, length, Some, slice_get}
-use Rattle.dcx_math.specs.Rational.{ℚ, whole, ◌*ℚ◌, neg_ℚ}
+use Rattle.dcx_math.specs.Rational.{whole, ◌*ℚ◌, neg_ℚ}
 use Rattle.dcx_frac.specs.declared.fraction.Frac.{Frac}
 use Rattle.dcx_frac.specs.Frac.{value}
 use Rattle.dcx_linear.specs.declared.form.Form.{Form}
