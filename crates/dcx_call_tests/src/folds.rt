@@ -273,56 +273,56 @@ fn unknowns_and_results_of_sums(rt: HostRuntime) -> Result<(), Fail> {
 
 // Weights stand by result entry, and slopes by entry of the argument.
 
-/// For each axis of a 2 by 2 matrix, coefficients of the results and the slopes, for the greatest, the least and both norms.
-/// The weights are `SINGLE` for the first two, and `DOUBLE` for the norms.
-const SLOPES: [(Axis, [(&[i128], [i128; 4]); 4]); 3] = [
-    (
-        Axis::All,
-        [
-            (&[10], [1, 2, 3, 4]),
-            (&[-10], [-1, -2, -3, -4]),
-            (&[6], [4, -2, 3, 0]),
-            (&[13], [4, -2, 3, 0]),
-        ],
-    ),
+/// For each axis of a 2 by 2 matrix, coefficients of the results and the slopes, for the greatest and for the least.
+const EXTREMES: [(Axis, [&[i128]; 4]); 3] = [
+    (Axis::All, [&[10], &[1, 2, 3, 4], &[-10], &[-1, -2, -3, -4]]),
     (
         Axis::Zero,
-        [
-            (&[3, 7], [1, 3, 2, 4]),
-            (&[-3, -7], [-1, -3, -2, -4]),
-            (&[6, 4], [4, 3, -2, 0]),
-            (&[8, 6], [4, 3, -2, 0]),
-        ],
+        [&[3, 7], &[1, 3, 2, 4], &[-3, -7], &[-1, -3, -2, -4]],
     ),
     (
         Axis::One,
-        [
-            (&[3, 7], [1, 2, 3, 4]),
-            (&[-3, -7], [-1, -2, -3, -4]),
-            (&[6, 4], [4, -2, 3, 0]),
-            (&[8, 6], [4, -2, 3, 0]),
-        ],
+        [&[3, 7], &[1, 2, 3, 4], &[-3, -7], &[-1, -2, -3, -4]],
     ),
 ];
 
-/// The weights of four members with one row each, and of four with two rows each.
-const SINGLE: [i128; 4] = [1, 2, 3, 4];
+/// The same for both norms: their coefficients, and the slopes, which they share.
+const NORMS: [(Axis, [&[i128]; 3]); 3] = [
+    (Axis::All, [&[6], &[13], &[4, -2, 3, 0]]),
+    (Axis::Zero, [&[6, 4], &[8, 6], &[4, 3, -2, 0]]),
+    (Axis::One, [&[6, 4], &[8, 6], &[4, -2, 3, 0]]),
+];
 
-const DOUBLE: [i128; 8] = [5, 1, 0, 2, 3, 0, 1, 1];
+/// The weights of four members with one row each, and of four with two rows each.
+const SINGLE: &[i128] = &[1, 2, 3, 4];
+
+const DOUBLE: &[i128] = &[5, 1, 0, 2, 3, 0, 1, 1];
 
 #[test]
-fn slopes_along_a_side(rt: HostRuntime) -> Result<(), Fail> {
+fn slopes_of_extremes(rt: HostRuntime) -> Result<(), Fail> {
     let alloc = rt.alloc();
     let square = [Shape::matrix(2, 2).ok_or("no shape")?];
-    for (axis, [greatest, least, sum, farthest]) in SLOPES {
-        let (c, g) = greatest;
-        has_slopes(&rt, alloc, &MaxOf { axis }, &square, (c, &SINGLE), &g)?;
-        let (c, g) = least;
-        has_slopes(&rt, alloc, &MinOf { axis }, &square, (c, &SINGLE), &g)?;
-        let (c, g) = sum;
-        has_slopes(&rt, alloc, &Norm1 { axis }, &square, (c, &DOUBLE), &g)?;
-        let (c, g) = farthest;
-        has_slopes(&rt, alloc, &NormInf { axis }, &square, (c, &DOUBLE), &g)?;
+    for (axis, [above, up, below, down]) in EXTREMES {
+        has_slopes(&rt, alloc, &MaxOf { axis }, &square, (above, SINGLE), up)?;
+        has_slopes(&rt, alloc, &MinOf { axis }, &square, (below, SINGLE), down)?;
+    }
+    Ok(())
+}
+
+#[test]
+fn slopes_of_norms(rt: HostRuntime) -> Result<(), Fail> {
+    let alloc = rt.alloc();
+    let square = [Shape::matrix(2, 2).ok_or("no shape")?];
+    for (axis, [each, all, slopes]) in NORMS {
+        has_slopes(&rt, alloc, &Norm1 { axis }, &square, (each, DOUBLE), slopes)?;
+        has_slopes(
+            &rt,
+            alloc,
+            &NormInf { axis },
+            &square,
+            (all, DOUBLE),
+            slopes,
+        )?;
     }
     Ok(())
 }
