@@ -5,4 +5,3 @@ pub mod ShapesAsked
 pub mod Forms
 pub mod Rows
 pub mod Acts
-pub mod Soundness

@@ -9,4 +9,4 @@ pub mod Nodes
 pub mod Kinds
 pub mod Operands
 pub mod View
-pub mod Sound
+pub mod Ranges

@@ -1,7 +1,7 @@
 -- How nodes come to the tree: operands, constants, promotions and calls, and the order in which they come.
-use Rattle.std.specs.Prelude.{ℕ, ◌+◌, nat_le, nat_eq, Bool, ◌&&◌, if◌then◌else◌, List, [], ◌∷◌, ◌++◌, map, length, Option, Some, None, option_and_then}
+use Rattle.std.specs.Prelude.{ℕ, ◌+◌, nat_le, nat_lt, nat_eq, Bool, ◌&&◌, if◌then◌else◌, List, [], ◌∷◌, ◌++◌, map, length, Option, Some, None, option_and_then}
 use Rattle.std.specs.Cmp.Lexicographic.{pointwise}
-use Rattle.std.specs.List.{position_from}
+use Rattle.std.specs.List.{list_all, position_from}
 use Rattle.dcx_shape.specs.declared.shape.Sides.{Sides}
 use Rattle.dcx_shape.specs.declared.shape.Shape.{Shape}
 use Rattle.dcx_shape.specs.declared.place.Place.{Place}
@@ -15,7 +15,7 @@ use Rattle.dcx_call.specs.declared.call.Call.{Call}
 use Rattle.dcx_call.specs.declared.call.Call.TheVariants as calls
 use Rattle.dcx_call.specs.declared.linears.LinearCall.TheVariants as linears
 use Rattle.dcx_call.specs.Calls.{shape_of}
-use Rattle.dcx_kinds.specs.declared.fault.ElabFault.TheVariants.{ShapeClash}
+use Rattle.dcx_kinds.specs.declared.fault.ElabFault.TheVariants.{BadArgument, ShapeClash}
 use Rattle.dcx_tree.specs.declared.constraint.Kind.{Kind}
 use Rattle.dcx_tree.specs.declared.constraint.Constraint.{Constraint}
 use Rattle.dcx_kinds.specs.Values.{Act, ◌>>=◌, ◌>>◌, done, or_fault, unless, read, write, too_many}
@@ -47,10 +47,15 @@ sides_of_node i = read (λ s. sides_at s.nodes i)
 abbrev pub given_sides : Place → Call → List Sides → Act Sides
 given_sides place call args = or_fault (ShapeClash place) (shape_of call args)
 
+-- each of these is a node
+abbrev pub are_there : List (Node Call) → List ℕ → Bool
+are_there nodes args = list_all (λ a. nat_lt a (length nodes)) args
+
 -- the node of this call and these arguments: the one that is there, which keeps its place, or one more
 abbrev pub push : Place → Call → List ℕ → Act ℕ
 push place call args = do
   before ← read (λ s. s.nodes)
+  unless (BadArgument place) (are_there before args)
   sides ← given_sides place call (map (sides_at before) args)
   found_or_added place (record { call = call; args = args; sides = sides; place = place }) (position_from (is_of call args) 0 before)
 

@@ -18,7 +18,7 @@ use Rattle.dcx_call.specs.declared.attribute.Attribute.TheVariants.{Free, Nonneg
 use Rattle.dcx_call.specs.declared.attribute.Whole.{Whole}
 use Rattle.dcx_call.specs.declared.attribute.Whole.TheVariants.{Not, Integer, Boolean}
 use Rattle.dcx_call.specs.declared.atoms.AtomCall.{AtomCall}
-use Rattle.dcx_call.specs.declared.atoms.AtomCall.TheVariants.{Abs, Maximum, Minimum, Pos, Neg, MaxOf, MinOf, Norm1, NormInf}
+use Rattle.dcx_call.specs.declared.atoms.AtomCall.TheVariants.{Abs, Maximum, Minimum, Pos, Neg, MaxOf, MinOf, Norm1, NormInf, SumLargest, SumSmallest, CumMax}
 use Rattle.dcx_call.specs.declared.linears.LinearCall.{LinearCall}
 use Rattle.dcx_call.specs.declared.linears.LinearCall.TheVariants.{Plus, Minus, Sum, Mean, CumSum, Diff, Trace, Diag, Index, Reshape, Transpose, HStack, VStack, Promote}
 use Rattle.dcx_call.specs.declared.call.Call.{Call}
@@ -73,6 +73,9 @@ same_atom (MaxOf a) (MaxOf b) = same_axis a.axis b.axis
 same_atom (MinOf a) (MinOf b) = same_axis a.axis b.axis
 same_atom (Norm1 a) (Norm1 b) = same_axis a.axis b.axis
 same_atom (NormInf a) (NormInf b) = same_axis a.axis b.axis
+same_atom (SumLargest a) (SumLargest b) = nat_eq a.k b.k
+same_atom (SumSmallest a) (SumSmallest b) = nat_eq a.k b.k
+same_atom (CumMax a) (CumMax b) = true
 same_atom a b = false
 
 abbrev pub same_linear : LinearCall → LinearCall → Bool

@@ -20,13 +20,14 @@
 //! | the number and the whole number that a value is | `is_number`, `are_numbers`, `number_of`, `whole_number` |
 //! | sides of any size and the shape that they are, an axis | `Extent`, `told_side`, `sides_from`, `axis_of` |
 //! | the array of equally long rows of numbers | `are_rows`, `rows_array` |
-//! | the nodes that a value names are there, and stay so when nodes come behind; what is read of a sound value, and what is made of sound ones, is sound | `IsSound` and `Grows` of `specs/Sound.antt`, `proofs/Soundness.antt` |
+//! | each number of a range is a whole number of 128 bits | `Progression`, `specs/Ranges.antt` |
 #![tactic(auto)]
 
 mod extent;
 mod fault;
 mod items;
 mod operands;
+mod progression;
 mod reading;
 #[cfg(test)]
 mod tests;
@@ -36,8 +37,9 @@ pub use extent::{Extent, axis_of, sides_from, told_side};
 pub use fault::{ElabFault, array_fault, too_many, tree_fault};
 pub use items::{Items, MOST_DEPTH, MOST_ITEMS, joined};
 pub use operands::{numbers_read, operand_read, operands_read};
+pub use progression::Progression;
 pub use reading::{
     Operand, Reading, are_numbers, are_rows, is_constant, is_fit, is_number, number_of,
     plain_shape_of, read_value, rows_array, whole_number,
 };
-pub use value::{Objective, Progression, Value};
+pub use value::{Objective, Value};

@@ -5,6 +5,7 @@ ghost use Rattle.dcx_kinds.specs.Values.{plain_count, counted, depth};
 ghost use Rattle.dcx_kinds.specs.Meant.{meant};
 
 use crate::items::Items;
+use crate::progression::Progression;
 use dcx_arena::NodeId;
 use dcx_atom::Array;
 use dcx_read::Module;
@@ -12,14 +13,6 @@ use dcx_shape::{Bytes, Place, Sides};
 use dcx_tree::{Constraint, Sense};
 use std::alloc::AllocError;
 use std::rc::Rc;
-
-/// What `range` gives: `first`, `first + step`, .., so many.
-#[derive(Clone, Copy)]
-pub struct Progression {
-    pub first: i128,
-    pub step: i128,
-    pub count: u32,
-}
 
 /// What `cp.Minimize` and `cp.Maximize` give.
 #[derive(Clone, Copy)]

@@ -18,11 +18,11 @@ use dcx_tokens::Token;
 use std::alloc::{AllocError, Global};
 
 /// The signs at the front of the tokens, and the tokens behind them.
-fn signs<'a>(alloc: Global, tokens: &'a [Token]) -> Result<(Vec<Signed>, &'a [Token]), AllocError>
+fn signs<'a>(alloc: Global, tokens: &'a [Token]) -> Result<(Signs, &'a [Token]), AllocError>
     ensures signs { IfOk result (λ x. IsSigns tokens.now x.0.items x.1.now) }
     ensures shorter { IfOk result (λ x. length x.1.now ≤ length tokens.now) }
 {
-    let mut all = Vec::new(alloc);
+    let mut all = Signs::new(alloc);
     let mut rest = tokens;
     'more: while let Some((sign, place, behind)) = eat_sign(rest) {
         all.push(Signed { sign, place })?;

@@ -33,5 +33,5 @@ pub use dcx_tokens::ReadFault;
 pub use parser::{parse, parse_tokens};
 pub use tree::{
     Added, Arg, Compared, Comparison, Expr, Factor, Import, Index, Line, Module, Named, Postfix,
-    Power, Primary, Raised, Scaled, Scaling, Script, Sign, Signed, Step, Sum, Term, Trailer,
+    Power, Primary, Raised, Scaled, Scaling, Script, Sign, Signed, Signs, Step, Sum, Term, Trailer,
 };

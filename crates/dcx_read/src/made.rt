@@ -59,7 +59,7 @@ pub fn scaled_of(scaling: Scaling, place: Place, operand: Factor) -> Scaled
     }
 }
 
-pub fn factor_of(signs: Vec<Signed>, operand: Power) -> Factor
+pub fn factor_of(signs: Signs, operand: Power) -> Factor
     ensures { factor_view result ≡ factor signs.items (power_view operand) }
 {
     Factor {
@@ -74,7 +74,7 @@ pub fn raised_power(first: Postfix, rest: Vec<Raised>) -> Power
     Power { first, rest }
 }
 
-pub fn raised_of(place: Place, signs: Vec<Signed>, operand: Postfix) -> Raised
+pub fn raised_of(place: Place, signs: Signs, operand: Postfix) -> Raised
     ensures { raised_view result ≡ (λ x. raised place (exponent signs.items (postfix_view operand)) x) }
 {
     Raised {

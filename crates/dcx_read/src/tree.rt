@@ -4,6 +4,7 @@
 
 use dcx_frac::Frac;
 use dcx_shape::{Bytes, Name, Place};
+use smallvec::SmallVec;
 
 /// A comparison: `"<=" | ">=" | "==" | "<" | ">" | "!="`.
 #[derive(Clone, Copy, Debug, PartialEq, Eq)]
@@ -51,6 +52,19 @@ pub struct Signed {
     pub sign: Sign,
     pub place: Place,
 }
+
+/// What an unused place of a short list holds.
+impl Default for Signed {
+    fn default() -> Self {
+        Signed {
+            sign: Sign::Plus,
+            place: Place { line: 1, column: 1 },
+        }
+    }
+}
+
+/// The signs before an operand: seldom more than two, which are kept in the tree itself.
+pub type Signs = SmallVec<Signed, 2>;
 
 /// `expr = sum { ("<=" | ">=" | "==" | "<" | ">" | "!=") sum }`
 #[cycle(tree)]
@@ -107,7 +121,7 @@ pub struct Scaled {
 #[cycle(tree)]
 #[derive(Drop)]
 pub struct Factor {
-    pub signs: Vec<Signed>,
+    pub signs: Signs,
     pub power: Power,
 }
 
@@ -124,7 +138,7 @@ pub struct Power {
 #[derive(Drop)]
 pub struct Raised {
     pub place: Place,
-    pub signs: Vec<Signed>,
+    pub signs: Signs,
     pub postfix: Postfix,
 }
 

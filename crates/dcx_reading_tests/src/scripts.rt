@@ -1,6 +1,6 @@
 //! Scripts over bytes: which are read, and which fault each other has. Worked out by hand from the grammar.
 
-use dcx_read::{Comparison, Line, Primary, Trailer, parse};
+use dcx_read::{Arg, Comparison, Line, Primary, Script, Sign, Signed, Trailer, parse};
 use dcx_shape::Place;
 use dcx_tokens::ReadFault;
 use std::alloc::{AllocError, Global};
@@ -46,6 +46,7 @@ fn scripts_of_the_grammar_are_read(rt: HostRuntime) {
         "",
         "\n# nothing\n   \n",
         "import cvxpy as cp\nimport numpy\n",
+        "import cvxpy as cp\nimport numpy as np\ny = 999999999999999999999999999999",
         "x = 1\r\ny = 2\r\n",
         "ω = 1\nسعر = 2\n価格 = 3\n",
         "x += 1\nx.value = [1, 2]\nx.value.other\nx.value\nvalue.value = value\n",
@@ -127,8 +128,12 @@ fn refusals_come_in_one_order(rt: HostRuntime) -> Result<(), Fail> {
         (b"x = = 1\n(", ReadFault::Unclosed(at(2, 1))),
         (b"x = = 1\ny = 1e", ReadFault::BadNumber(at(2, 5))),
         (
-            b"y = 9999999999999999999999999999999",
-            ReadFault::BadNumber(at(1, 5)),
+            b"import cvxpy as cp\nimport numpy as np\nx = [1, 2",
+            ReadFault::Unclosed(at(3, 5)),
+        ),
+        (
+            b"import cvxpy as cp\nimport numpy as np\ny = 9999999999999999999999999999999",
+            ReadFault::BadNumber(at(3, 5)),
         ),
         (b"x = 1\ry", ReadFault::BadChar(at(1, 6))),
         (b"\xf0\x9f\x98\x80 = 1", ReadFault::BadChar(at(1, 1))),
@@ -139,6 +144,7 @@ fn refusals_come_in_one_order(rt: HostRuntime) -> Result<(), Fail> {
             b"import cvxpy as cp\n(\n\xffx = $",
             ReadFault::NotText(at(3, 1)),
         ),
+        (b"\xff", ReadFault::NotText(at(1, 1))),
         (b"\xc3\xa9 = \xc3", ReadFault::NotText(at(1, 6))),
     ] {
         assert_eq!(rt; fault(rt.alloc(), bytes), Some(first));
@@ -152,6 +158,11 @@ fn refusals_come_in_one_order(rt: HostRuntime) -> Result<(), Fail> {
     );
     let mut long = blanks(rt.alloc(), 1_048_576)?;
     assert_eq!(rt; fault(rt.alloc(), &long), None);
+    long.push(b' ')?;
+    assert_eq!(rt;
+        fault(rt.alloc(), &long),
+        Some(ReadFault::TooLong(at(1, 1)))
+    );
     long.push(b'\xff')?;
     assert_eq!(rt;
         fault(rt.alloc(), &long),
@@ -160,30 +171,74 @@ fn refusals_come_in_one_order(rt: HostRuntime) -> Result<(), Fail> {
     Ok(())
 }
 
-#[test]
-fn prefixes_are_read_or_refused(rt: HostRuntime) {
-    let script = b"x = f(1, [a, b])\nfor i in r:\n  y += i\n";
-    let mut read: usize = 0;
-    for end in 0..script.len() + 1 {
-        let (prefix, _) = script.split_at(end);
-        match fault(rt.alloc(), prefix) {
-            None => read = read.wrapping_add(1),
-            Some(ReadFault::Unclosed(place)) => assert!(rt; place.line == 1),
-            Some(ReadFault::Unexpected(place)) => assert!(rt; place.line >= 1),
-            Some(_) => assert!(rt; false),
-        }
+/// What each front of `x = f(1, [a, b])`, `for i in r:` and `  y += i` is, by its length.
+fn front_is(length: usize) -> Option<ReadFault> {
+    match length {
+        // a name alone, a whole line, a name that goes on to be `for`, a whole block
+        0..=2 | 5 | 16..=19 | 32 | 33 | 37 | 38 => None,
+        6..=9 | 15 => Some(ReadFault::Unclosed(at(1, 6))),
+        10..=14 => Some(ReadFault::Unclosed(at(1, 10))),
+        3 | 4 => Some(ReadFault::Unexpected(at(1, length as u32 + 1))),
+        // `for i i`
+        24 => Some(ReadFault::Unexpected(at(2, 7))),
+        20..=27 => Some(ReadFault::Unexpected(at(2, length as u32 - 16))),
+        // the block has no line: the end, behind the last line
+        28 | 29 => Some(ReadFault::Unexpected(at(3, 1))),
+        30 | 31 => Some(ReadFault::Unexpected(at(4, 1))),
+        34..=36 => Some(ReadFault::Unexpected(at(3, length as u32 - 28))),
+        _ => Some(ReadFault::Memory),
     }
-    // nothing, `x`, `x `, `x = f`, the first line with and without its end, `f`, `fo`, `y`, `y `, `y += i` and its end
-    assert_eq!(rt; read, 12);
+}
+
+#[test]
+fn each_front_of_a_script_is_told(rt: HostRuntime) {
+    let script = b"x = f(1, [a, b])\nfor i in r:\n  y += i\n";
+    for length in 0..script.len() + 1 {
+        let (front, _) = script.split_at(length);
+        assert_eq!(rt; fault(rt.alloc(), front), front_is(length), "{length}");
+    }
+}
+
+/// A front of a script ends in the middle: it is read, or it is refused where something is missing.
+fn is_read_or_cut(alloc: Global, bytes: &[u8]) -> bool {
+    match fault(alloc, bytes) {
+        None | Some(ReadFault::Unclosed(_) | ReadFault::Unexpected(_)) => true,
+        Some(_) => false,
+    }
+}
+
+#[test]
+fn fronts_of_a_problem_are_read_or_refused(rt: HostRuntime) {
+    let script = b"import cvxpy as cp\n\
+        import numpy as np\n\
+        p = cp.Parameter()\n\
+        q = cp.Parameter(nonneg=True)\n\
+        x = cp.Variable()\n\
+        prob = cp.Problem(cp.Minimize(cp.abs(x - p) + q*cp.abs(x)))\n";
+    for length in 0..script.len() + 1 {
+        let (front, _) = script.split_at(length);
+        assert!(rt; is_read_or_cut(rt.alloc(), front), "{length}");
+    }
+    assert_eq!(rt; fault(rt.alloc(), script), None);
+}
+
+/// An argument by its place, and one by a name.
+fn is_place_and_name(args: &[Arg]) -> bool {
+    matches!(args, [Arg::ByPlace(_), Arg::ByName(_, _)])
 }
 
 #[test]
 fn what_was_written_is_kept(rt: HostRuntime) {
-    let Ok(script) = parse(rt.alloc(), b"a <= b == (c,)\nf(x, n=1, )\n") else {
+    let Ok(script) = parse(rt.alloc(), b"a <= b == (c,)\nf(x, n=1, )\n(a)\n") else {
         assert!(rt; false);
         return;
     };
-    let [Line::Evaluate(chain), Line::Evaluate(call)] = script.lines.as_slice() else {
+    let [
+        Line::Evaluate(chain),
+        Line::Evaluate(call),
+        Line::Evaluate(bracket),
+    ] = script.lines.as_slice()
+    else {
         assert!(rt; false);
         return;
     };
@@ -206,7 +261,95 @@ fn what_was_written_is_kept(rt: HostRuntime) {
     assert!(rt; is_tuple);
     let is_call = matches!(
         call.first.first.first.power.first.trailers.as_slice(),
-        [Trailer::Call { comma: true, args, .. }] if args.len() == 2
+        [Trailer::Call { comma: true, args, .. }] if is_place_and_name(args.as_slice())
     );
     assert!(rt; is_call);
+    let is_round = matches!(
+        &bracket.first.first.first.power.first.primary,
+        Primary::Round(place, _) if *place == at(3, 1)
+    );
+    assert!(rt; is_round);
+}
+
+/// The signs before the first operand of the only line.
+fn signs_of(script: &Script) -> &[Signed] {
+    match script.lines.as_slice() {
+        [Line::Evaluate(only)] => only.first.first.first.signs.as_slice(),
+        _ => &[],
+    }
+}
+
+/// The signs before the only exponent of the only line.
+fn signs_of_exponent(script: &Script) -> &[Signed] {
+    match script.lines.as_slice() {
+        [Line::Evaluate(only)] => match only.first.first.first.power.rest.as_slice() {
+            [raised] => raised.signs.as_slice(),
+            _ => &[],
+        },
+        _ => &[],
+    }
+}
+
+#[test]
+fn signs_are_kept_in_their_order(rt: HostRuntime) -> Result<(), Fail> {
+    let signed = |sign: Sign, column: u32| Signed {
+        sign,
+        place: at(1, column),
+    };
+    for (bytes, before, of_exponent) in [
+        (b"a ** b".as_slice(), [].as_slice(), [].as_slice()),
+        (
+            b"-a ** +b".as_slice(),
+            [signed(Sign::Minus, 1)].as_slice(),
+            [signed(Sign::Plus, 7)].as_slice(),
+        ),
+        (
+            b"- +a ** +-b".as_slice(),
+            [signed(Sign::Minus, 1), signed(Sign::Plus, 3)].as_slice(),
+            [signed(Sign::Plus, 9), signed(Sign::Minus, 10)].as_slice(),
+        ),
+        (
+            b"+-+a ** --+-b".as_slice(),
+            [
+                signed(Sign::Plus, 1),
+                signed(Sign::Minus, 2),
+                signed(Sign::Plus, 3),
+            ]
+            .as_slice(),
+            [
+                signed(Sign::Minus, 9),
+                signed(Sign::Minus, 10),
+                signed(Sign::Plus, 11),
+                signed(Sign::Minus, 12),
+            ]
+            .as_slice(),
+        ),
+    ] {
+        let script = parse(rt.alloc(), bytes).ok().ok_or("not read")?;
+        assert!(rt; signs_of(&script) == before, "{bytes:?}");
+        assert!(rt; signs_of_exponent(&script) == of_exponent, "{bytes:?}");
+    }
+    Ok(())
+}
+
+/// So many times the same.
+fn repeated(alloc: Global, part: &str, count: usize) -> Result<String, AllocError> {
+    let mut text = String::new(alloc);
+    for _ in 0..count {
+        text.push_str(part)?;
+    }
+    Ok(text)
+}
+
+#[test]
+fn a_megabyte_is_read(rt: HostRuntime) -> Result<(), Fail> {
+    for (part, count) in [
+        ("x = f(1, [a, -b])[0:2].T + 2.5 * (y @ z) <= 1e-3\n", 20_000),
+        ("-1+", 300_000),
+    ] {
+        let mut text = repeated(rt.alloc(), part, count)?;
+        text.push_str("1")?;
+        assert_eq!(rt; fault(rt.alloc(), text.as_str().as_bytes()), None, "{part}");
+    }
+    Ok(())
 }

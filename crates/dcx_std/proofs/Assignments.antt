@@ -1,15 +1,16 @@
 -- Unknowns of their kinds as numbers of the columns, and columns along a ray.
 use Rattle.std.proofs.Common.{◌≡◌, ◌≢◌, ℕ, zero, suc, ◌+◌, ◌<◌, Bool, true, false, List, [], ◌∷◌, length, map, Some, refl, sym, ap, ap₂, ◌∙◌, subst, arith, pos, ◌⊎◌, inl, inr}
-use Rattle.std.specs.Prelude.{slice_get, if◌then◌else◌}
+use Rattle.std.specs.Prelude.{slice_get, nat_eq, if◌then◌else◌}
 use Rattle.std.proofs.lemmas.Bool.{ne_eqb}
 use Rattle.std.proofs.Common.{eq-eqb}
 use Rattle.std.proofs.lemmas.List.{get_or-map}
-use Rattle.dcx_math.specs.Rational.{ℚ, whole, ◌+ℚ◌, neg_ℚ, rat_max, ◌≤ℚ◌}
-use Rattle.dcx_math.specs.Sums.{rat_at, rat_sum_by, rat_sum_below}
+use Rattle.dcx_math.specs.Rational.{ℚ, whole, ◌+ℚ◌, ◌*ℚ◌, neg_ℚ, rat_max, ◌≤ℚ◌}
+use Rattle.dcx_math.specs.Sums.{rat_at, rat_sum_by, rat_sum_below, rat_scaled, along}
 use Rattle.dcx_math.proofs.Orders.{+ℚ_idl, +ℚ_idr, ≤ℚ_refl, ≤ℚ_antisym, neg_ℚ-≤ℚ, neg_ℚ-zero, neg_ℚ-neg_ℚ}
 use Rattle.dcx_math.proofs.Bounds.{rat_max-cases, ≤ℚ-rat_max_left}
 use Rattle.dcx_math.proofs.Ring.{ring, reads}
-use Rattle.dcx_math.proofs.Sums.{rat_sum_below-first, rat_sum_below-same, rat_sum_by-++, rat_at-get_or}
+use Rattle.dcx_math.proofs.Sums.{rat_sum_below-first, rat_sum_below-same, rat_sum_below-+ℚ, rat_sum_below-*ℚ, rat_sum_by-++, rat_at-get_or}
+use Rattle.dcx_math.proofs.Vectors.{rat_at-rat_added, rat_at-rat_scaled}
 use Rattle.dcx_linear.specs.declared.row.UnknownKind.{UnknownKind}
 use Rattle.dcx_linear.specs.declared.row.UnknownKind.TheVariants.{Free, Nonneg, Nonpos}
 use Rattle.dcx_linear.specs.FormTerms.{Unknowns}
@@ -19,7 +20,7 @@ use Rattle.dcx_tab.specs.declared.rows.ColumnKind.TheVariants.{Unknown, Slack, A
 use Rattle.dcx_tab.specs.Program.{kind_at}
 use Rattle.dcx_std.specs.declared.start.Start.{Start}
 use Rattle.dcx_std.specs.Columns.{unknown_columns, all_unknown_columns, marked_from, has_slack, needs_artificial, slack_columns, artificial_columns, plain_columns_of, columns_of}
-use Rattle.dcx_std.specs.ScaledProgram.{turned_value}
+use Rattle.dcx_simplex.specs.Right.{turned_if}
 use Rattle.dcx_std.specs.Solutions.{column_part, unknowns_at}
 
 -- the number of a column where the unknowns and the slacks have these numbers, and the artificials are 0
@@ -88,7 +89,7 @@ module _ (slacks : ℕ → ℚ) (y : Unknowns) (u : ℕ) where
   other v true d = ap (λ b. if b then neg_ℚ (column_value slacks y (Unknown v true)) else whole (pos 0)) (ne_eqb v u d)
   other v false d = ap (λ b. if b then column_value slacks y (Unknown v false) else whole (pos 0)) (ne_eqb v u d)
 
-  own : (minus : Bool) → added (Unknown u minus) ≡ turned_value minus (column_value slacks y (Unknown u minus))
+  own : (minus : Bool) → added (Unknown u minus) ≡ turned_if minus (column_value slacks y (Unknown u minus))
   unfolding added
   own true = ap (λ b. if b then neg_ℚ (column_value slacks y (Unknown u true)) else whole (pos 0)) (eq-eqb u u refl)
   own false = ap (λ b. if b then column_value slacks y (Unknown u false) else whole (pos 0)) (eq-eqb u u refl)
@@ -143,3 +144,29 @@ module _ (slacks : ℕ → ℚ) (y : Unknowns) (u : ℕ) where
       rat_sum_below-same (length columns) _ (λ j. added (kind_at columns j)) (λ j l. ap (column_part u (kind_at columns j)) (assigned_at columns slacks y j l))
       ∙ sum_over added columns ∙ rat_sum_by-++ added (plain_columns_of kinds starts) (artificial_columns starts)
       ∙ ap₂ ◌+ℚ◌ (rat_sum_by-++ added (all_unknown_columns 0 kinds) (slack_columns starts) ∙ ap₂ ◌+ℚ◌ (all_sum 0 kinds u kind e s h) (slacks_sum starts) ∙ +ℚ_idr (y u)) (artificials_sum starts) ∙ +ℚ_idr (y u)
+
+-- ---- along a ray
+none_along : (k : ℚ) → whole (pos 0) ≡ whole (pos 0) +ℚ k *ℚ whole (pos 0)
+none_along k = ring (k ∷ []) (search reads depth 30) tt
+
+turned_along : (a k b : ℚ) → neg_ℚ (a +ℚ k *ℚ b) ≡ neg_ℚ a +ℚ k *ℚ neg_ℚ b
+turned_along a k b = ring (a ∷ k ∷ b ∷ []) (search reads depth 30) tt
+
+-- what a column adds along a ray
+part_along : (u : ℕ) (c : ColumnKind) (a k b : ℚ) → column_part u c (a +ℚ k *ℚ b) ≡ column_part u c a +ℚ k *ℚ column_part u c b
+part_along u (Unknown v minus) a k b = by (nat_eq v u) minus
+  where
+    by : (t m : Bool) → (if t then turned_if m (a +ℚ k *ℚ b) else whole (pos 0)) ≡ (if t then turned_if m a else whole (pos 0)) +ℚ k *ℚ (if t then turned_if m b else whole (pos 0))
+    by true true = turned_along a k b
+    by true false = refl
+    by false m = none_along k
+part_along u (Slack r) a k b = none_along k
+part_along u (Artificial r) a k b = none_along k
+
+-- the unknowns along a ray of columns
+pub unknowns-along : (columns : List ColumnKind) (xs : List ℚ) (k : ℚ) (ds : List ℚ) (u : ℕ) → unknowns_at columns (along xs k ds) u ≡ unknowns_at columns xs u +ℚ k *ℚ unknowns_at columns ds u
+unknowns-along columns xs k ds u =
+    rat_sum_below-same (length columns) _ (λ j. column_part u (kind_at columns j) (rat_at xs j) +ℚ k *ℚ column_part u (kind_at columns j) (rat_at ds j))
+    (λ j l. ap (column_part u (kind_at columns j)) (rat_at-rat_added xs (rat_scaled k ds) j ∙ ap (λ q. rat_at xs j +ℚ q) (rat_at-rat_scaled k ds j)) ∙ part_along u (kind_at columns j) (rat_at xs j) k (rat_at ds j))
+    ∙ rat_sum_below-+ℚ (length columns) (λ j. column_part u (kind_at columns j) (rat_at xs j)) (λ j. k *ℚ column_part u (kind_at columns j) (rat_at ds j))
+    ∙ ap (λ q. unknowns_at columns xs u +ℚ q) (rat_sum_below-*ℚ (length columns) k (λ j. column_part u (kind_at columns j) (rat_at ds j)))

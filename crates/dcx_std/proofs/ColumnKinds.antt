@@ -1,7 +1,8 @@
 -- Which unknowns and rows the columns of an integer program belong to.
-use Rattle.std.proofs.Common.{◌≡◌, ◌≢◌, ℕ, zero, suc, ◌+◌, ◌<◌, ◌≤◌, Bool, true, false, List, [], ◌∷◌, ◌++◌, map, length, get_or, Some, sym, ap, ◌∙◌, subst, arith}
-use Rattle.std.specs.Prelude.{⊤, slice_get}
+use Rattle.std.proofs.Common.{◌≡◌, ◌≢◌, ℕ, zero, suc, ◌+◌, ◌<◌, ◌≤◌, Bool, true, false, List, [], ◌∷◌, ◌++◌, map, length, get_or, Some, refl, sym, ap, ◌∙◌, subst, arith}
+use Rattle.std.specs.Prelude.{⊤, ◌||◌, slice_get}
 use Rattle.std.specs.List.{All, Contains}
+use Rattle.std.proofs.Common.{eq-eqb}
 use Rattle.std.proofs.lemmas.List.{get_or_default}
 use Rattle.std.proofs.lemmas.List.Elements.{All-cons, All-nil}
 use Rattle.dcx_linear.specs.declared.row.UnknownKind.{UnknownKind}
@@ -9,6 +10,8 @@ use Rattle.dcx_linear.specs.declared.row.UnknownKind.TheVariants.{Free, Nonneg, 
 use Rattle.dcx_tab.specs.declared.rows.ColumnKind.{ColumnKind}
 use Rattle.dcx_tab.specs.declared.rows.ColumnKind.TheVariants.{Unknown, Slack, Artificial}
 use Rattle.dcx_tab.specs.Program.{kind_at}
+use Rattle.dcx_simplex.specs.Right.{is_slack_of}
+use Rattle.dcx_simplex.specs.Right.{is_inequality as has_slack_column}
 use Rattle.dcx_std.specs.declared.start.Start.{Start}
 use Rattle.dcx_std.specs.Columns.{all_unknown_columns, has_slack, needs_artificial, slack_columns, artificial_columns, plain_columns_of, columns_of}
 use Rattle.dcx_std.proofs.ColumnLaws.{All-both, marked_All, marked_in, marked_true, marked_get, contains_first, contains_second, slack_place}
@@ -67,6 +70,16 @@ allowed a (Nonpos ∷ kinds) zero (suc i) minus kind l e s = let d : a ≡ a + s
 allowed a (Nonpos ∷ kinds) (suc j) zero minus kind l e s = let b = later a (suc a + length kinds) kinds j (a + 0) minus (omega arith) (omega (arith, l)) e in absurd (omega (arith, b))
 allowed a (Nonpos ∷ kinds) (suc j) (suc i) minus kind l e s = let d : a + suc i ≡ suc a + i = omega arith in allowed (suc a) kinds j i minus kind (omega (arith, l)) (e ∙ ap (λ u. Unknown u minus) d) s
 
+-- a row that has a slack column is an inequality
+inequality_of : (ks : List ColumnKind) (i j : ℕ) → j < length ks → kind_at ks j ≡ Slack i → has_slack_column ks i ≡ true
+inequality_of [] i j l e = absurd (omega (arith, l))
+inequality_of (k ∷ ks) i zero l e = ap (λ c. is_slack_of i c || has_slack_column ks i) e ∙ ap (λ b. b || has_slack_column ks i) (eq-eqb i i refl)
+inequality_of (k ∷ ks) i (suc j) l e = ap (λ b. is_slack_of i k || b) (inequality_of ks i j (omega (arith, l)) e) ∙ or_true (is_slack_of i k)
+  where
+    or_true : (b : Bool) → (b || true) ≡ true
+    or_true true = refl
+    or_true false = refl
+
 module _ (kinds : List UnknownKind) (starts : List Start) where
   all_between : All (IsBetween 0 (length kinds)) (columns_of kinds starts)
   all_between =
@@ -104,3 +117,7 @@ module _ (kinds : List UnknownKind) (starts : List Start) where
       let marked : Contains (slack_columns starts) (Slack i) = subst (λ k. Contains (slack_columns starts) (Slack k)) d (marked_in Slack 0 (map has_slack starts) i (marked_get kinds starts has_slack starts i s e ∙ h)) in
       let there : Contains (columns_of kinds starts) (Slack i) = contains_first (plain_columns_of kinds starts) (artificial_columns starts) (Slack i) (contains_second (all_unknown_columns 0 kinds) (slack_columns starts) (Slack i) marked) in
       (there.0, there.1, get_or_default (columns_of kinds starts) there.0 (Unknown 0 false) (Slack i) there.1 ∙ there.2)
+
+  -- so the columns show which rows are inequalities
+  pub is_inequality_there : (i : ℕ) (s : Start) → slice_get starts i ≡ Some s → has_slack s ≡ true → has_slack_column (columns_of kinds starts) i ≡ true
+  is_inequality_there i s e h = let p = slack_found i s e h in inequality_of (columns_of kinds starts) i p.0 p.1 p.2

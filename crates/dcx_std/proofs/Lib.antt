@@ -18,3 +18,4 @@ pub mod RowSums
 pub mod Solutions
 pub mod Assignments
 pub mod RowSolutions
+pub mod RightAnswers

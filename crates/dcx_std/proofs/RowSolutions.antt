@@ -20,25 +20,22 @@ use Rattle.dcx_linear.specs.Rows as linear_rows
 use Rattle.dcx_linear.specs.Rows.{RowAt, StandsTo}
 use Rattle.dcx_tab.specs.declared.rows.ColumnKind.{ColumnKind}
 use Rattle.dcx_tab.specs.declared.rows.ColumnKind.TheVariants.{Unknown, Slack, Artificial}
-use Rattle.dcx_tab.specs.declared.rows.IntRow.{IntRow}
 use Rattle.dcx_tab.specs.declared.program.Program.{Program}
 use Rattle.dcx_tab.specs.Program.{kind_at, right_side_at, right_of}
+use Rattle.dcx_simplex.specs.Reading.{row_factor}
+use Rattle.dcx_simplex.specs.Right.{turned_if, row_at_columns, cost_at_columns, IsSolution}
 use Rattle.dcx_std.specs.GivenRows.{GivenRows}
-use Rattle.dcx_std.specs.ScaledProgram.{turned_value, IsScaledProgram}
-use Rattle.dcx_std.specs.Solutions.{form_number, row_at, linear_program, unknowns_at, row_at_columns, SolvesProgram, HasKinds}
+use Rattle.dcx_std.specs.ScaledProgram.{IsScaledProgram}
+use Rattle.dcx_std.specs.Solutions.{form_number, row_at, linear_program, unknowns_at, HasKinds}
 use Rattle.dcx_std.proofs.Assignments.{column_value, assignment, assigned_at, value_nonnegative, assigned_unknown}
 use Rattle.dcx_std.proofs.RowSums.{slack_part, slack_at, artificial_at, sign, turned_is}
-use Rattle.dcx_std.proofs.Solutions.{mapped_at, at_place, RowFacts, facts_of, narrow, form_is, form_same, linear_sum, row_value, artificial_none, slack_none, no_slack, slack_there, plain_below_artificial}
-
--- the factor of a row
-row_factor : IntRow → ℚ
-row_factor r = value r.factor
+use Rattle.dcx_std.proofs.Solutions.{mapped_at, at_place, RowFacts, facts_of, narrow, form_is, form_same, linear_sum, row_value, artificial_none, slack_none, no_slack, slack_there, plain_below_artificial, cost_is}
 
 filled_left : (g f l c : ℚ) → g *ℚ (f *ℚ l +ℚ neg_ℚ (f *ℚ (c +ℚ l))) +ℚ whole (pos 0) ≡ g *ℚ (f *ℚ neg_ℚ c)
 filled_left g f l c = ring (g ∷ f ∷ l ∷ c ∷ []) (search reads depth 30) tt
 
 -- a row holds with the slack that its form leaves
-filled : (t : Bool) (f l c s a r d : ℚ) → d ≡ sign t *ℚ (f *ℚ l +ℚ s) +ℚ a → a ≡ whole (pos 0) → s ≡ neg_ℚ (f *ℚ (c +ℚ l)) → r ≡ turned_value t (f *ℚ neg_ℚ c) → d ≡ r
+filled : (t : Bool) (f l c s a r d : ℚ) → d ≡ sign t *ℚ (f *ℚ l +ℚ s) +ℚ a → a ≡ whole (pos 0) → s ≡ neg_ℚ (f *ℚ (c +ℚ l)) → r ≡ turned_if t (f *ℚ neg_ℚ c) → d ≡ r
 filled t f l c s a r d sum none slack right =
     sum ∙ ap₂ (λ p q. sign t *ℚ (f *ℚ l +ℚ p) +ℚ q) slack none ∙ filled_left (sign t) f l c ∙ sym (right ∙ turned_is t (f *ℚ neg_ℚ c))
 
@@ -58,7 +55,7 @@ module _ (rows : GivenRows) (q : Program) (known : HasKinds rows) (s : IsScaledP
   columns = assignment q.columns slacks x
 
   slack_is : (i : ℕ) (f : RowFacts rows q known s i) → slacks i ≡ neg_ℚ (value f.ints.factor *ℚ form_number f.row.form x)
-  unfolding slacks row_factor
+  unfolding slacks
   slack_is i f =
       ap₂ (λ a b. neg_ℚ (a *ℚ b)) (sym (rat_at-get_or (map row_factor q.rows) i) ∙ mapped_at row_factor q.rows i f.ints (whole (pos 0)) f.ints_is)
       (sym (rat_at-get_or (map (λ r. form_number r.form x) rows.rows) i) ∙ mapped_at (λ r. form_number r.form x) rows.rows i f.row (whole (pos 0)) f.row_is)
@@ -124,11 +121,11 @@ module _ (rows : GivenRows) (q : Program) (known : HasKinds rows) (s : IsScaledP
       let k = value f.ints.factor in
       let same : form_number f.row.form x ≡ value f.row.form.constant +ℚ linear_sum rows q known s f.row.form y =
       sym (form_same rows q known s f.row.form y x f.scaled.sparse (narrow rows q known s i f) unknowns_are) ∙ form_is rows q known s f.row.form y f.scaled.sparse (narrow rows q known s i f) in
-      let right : whole (right_side_at q.rows i) ≡ turned_value f.ints.negated (k *ℚ neg_ℚ (value f.row.form.constant)) = ap whole (mapped_at right_of q.rows i f.ints (pos 0) f.ints_is) ∙ f.scaled.right in
+      let right : whole (right_side_at q.rows i) ≡ turned_if f.ints.negated (k *ℚ neg_ℚ (value f.row.form.constant)) = ap whole (mapped_at right_of q.rows i f.ints (pos 0) f.ints_is) ∙ f.scaled.right in
       filled f.ints.negated k (linear_sum rows q known s f.row.form y) (value f.row.form.constant) (slack_at q.columns columns i) (artificial_at q.columns columns i) (whole (right_side_at q.rows i)) (row_at_columns q i columns)
       (row_value rows q known s i f columns) (artificial_none rows q known s columns i (λ j r m e. number_is j m ∙ ap (column_value slacks x) e)) (slack_of_row i f ∙ ap (λ z. neg_ℚ (k *ℚ z)) same) right
 
-  columns_solve : SolvesProgram q columns
+  columns_solve : IsSolution q columns
   unfolding columns
   columns_solve = record {
     count = length-map q.columns (column_value slacks x);
@@ -137,6 +134,10 @@ module _ (rows : GivenRows) (q : Program) (known : HasKinds rows) (s : IsScaledP
     rows = row_solved;
   }
 
+  -- at the same cost
+  cost_same : cost_at_columns q.objective columns ≡ form_number rows.objective x
+  cost_same = cost_is rows q known s columns ∙ form_same rows q known s rows.objective (unknowns_at q.columns columns) x s.cost.sparse known.objective_known unknowns_are
+
   -- unknowns that solve the rows are those of columns that solve the program
-  pub solution_from : (zs : List ℚ) × SolvesProgram q zs × ((u : ℕ) → u < length rows.kinds → unknowns_at q.columns zs u ≡ x u)
-  solution_from = (columns, columns_solve, unknowns_are)
+  pub solution_from : (zs : List ℚ) × IsSolution q zs × ((u : ℕ) → u < length rows.kinds → unknowns_at q.columns zs u ≡ x u) × (cost_at_columns q.objective zs ≡ form_number rows.objective x)
+  solution_from = (columns, columns_solve, unknowns_are, cost_same)

@@ -1,6 +1,6 @@
 -- A row of an integer program at numbers of its columns: its factor times the form at the unknowns, with its slack and
 -- its artificial.
-use Rattle.std.proofs.Common.{◌≡◌, ℕ, zero, suc, ◌<◌, ◌≤◌, Bool, true, false, List, [], ◌∷◌, length, map, None, refl, sym, ap, ap₂, ◌∙◌, subst, arith, ℤ, pos, negsuc}
+use Rattle.std.proofs.Common.{◌≡◌, ℕ, ◌<◌, Bool, true, false, List, [], ◌∷◌, length, None, refl, sym, ap, ap₂, ◌∙◌, subst, arith, ℤ, pos, negsuc}
 use Rattle.std.specs.Prelude.{nat_eq, if◌then◌else◌}
 use Rattle.std.specs.List.{All}
 use Rattle.std.proofs.lemmas.Bool.{ne_eqb}
@@ -12,8 +12,7 @@ use Rattle.dcx_math.specs.Sums.{rat_at, rat_dot, rat_sum_by, rat_sum_below}
 use Rattle.dcx_math.proofs.Orders.{+ℚ_idl, +ℚ_idr, *ℚ-zero, zero-*ℚ, whole-neg_ℤ}
 use Rattle.dcx_math.proofs.Ring.{ring, reads}
 use Rattle.dcx_math.proofs.Sums.{rat_sum_below-zero, rat_sum_below-same, rat_sum_below-+ℚ, rat_sum_below-*ℚ, rat_sum_below-one, rat_sum_below-exchange}
-use Rattle.dcx_math.proofs.Vectors.{rat_dot-rat_sum_below}
-use Rattle.std.proofs.lemmas.List.{length-map}
+use Rattle.dcx_math.proofs.Points.{wholes}
 use Rattle.dcx_frac.specs.declared.fraction.Frac.{Frac}
 use Rattle.dcx_frac.specs.Frac.{value}
 use Rattle.dcx_atom.specs.Formed.{zero_frac}
@@ -25,23 +24,14 @@ use Rattle.dcx_linear.specs.FormTerms.{Unknowns, unknown_of}
 use Rattle.dcx_tab.specs.declared.rows.ColumnKind.{ColumnKind}
 use Rattle.dcx_tab.specs.declared.rows.ColumnKind.TheVariants.{Unknown, Slack, Artificial}
 use Rattle.dcx_tab.specs.Rows.{entry}
-use Rattle.dcx_tab.specs.Program.{kind_at, told_entry}
+use Rattle.dcx_tab.specs.Program.{kind_at, told_entry, unknown_entry}
+use Rattle.dcx_simplex.specs.Right.{turned_if}
+use Rattle.dcx_simplex.proofs.Last.{dot_sum}
 use Rattle.dcx_std.specs.WholeRows.{coefficient_or_zero, coefficient_at}
-use Rattle.dcx_std.specs.ScaledProgram.{turned_value}
 use Rattle.dcx_std.specs.Solutions.{column_part, unknowns_at}
 
 abbrev zeroq : ℚ
 zeroq = whole (pos 0)
-
--- a row at columns, column by column
-at_wholes : (row : List ℤ) (j : ℕ) → rat_at (map whole row) j ≡ whole (entry row j)
-at_wholes [] j = refl
-at_wholes (z ∷ row) zero = refl
-at_wholes (z ∷ row) (suc j) = at_wholes row j
-
-dot_sum : (row : List ℤ) (xs : List ℚ) (n : ℕ) → length row ≤ n → rat_dot (map whole row) xs ≡ rat_sum_below n (λ j. whole (entry row j) *ℚ rat_at xs j)
-dot_sum row xs n h =
-    rat_dot-rat_sum_below (map whole row) xs n (omega (arith, h, length-map row whole)) ∙ rat_sum_below-same n _ (λ j. whole (entry row j) *ℚ rat_at xs j) (λ j l. ap (λ u. u *ℚ rat_at xs j) (at_wholes row j))
 
 -- ---- a form as a sum over all unknowns
 module _ (x : Unknowns) where
@@ -108,7 +98,7 @@ abbrev pub sign : Bool → ℚ
 sign true = neg_ℚ (whole (pos 1))
 sign false = whole (pos 1)
 
-pub turned_is : (t : Bool) (q : ℚ) → turned_value t q ≡ sign t *ℚ q
+pub turned_is : (t : Bool) (q : ℚ) → turned_if t q ≡ sign t *ℚ q
 turned_is true q = ring (q ∷ []) (search reads depth 30) tt
 turned_is false q = ring (q ∷ []) (search reads depth 30) tt
 
@@ -143,17 +133,27 @@ minus_artificial f z = ring (f ∷ z ∷ []) (search reads depth 30) tt
 plus_artificial : (f z : ℚ) → whole (pos 1) *ℚ z ≡ whole (pos 1) *ℚ (f *ℚ whole (pos 0) +ℚ whole (pos 0)) +ℚ z
 plus_artificial f z = ring (f ∷ z ∷ []) (search reads depth 30) tt
 
+-- ---- a column of a cost, in numbers
+cost_minus : (f d z : ℚ) → neg_ℚ (f *ℚ neg_ℚ d) *ℚ z ≡ neg_ℚ f *ℚ (d *ℚ neg_ℚ z)
+cost_minus f d z = ring (f ∷ d ∷ z ∷ []) (search reads depth 30) tt
+
+cost_plus : (f d z : ℚ) → neg_ℚ (f *ℚ d) *ℚ z ≡ neg_ℚ f *ℚ (d *ℚ z)
+cost_plus f d z = ring (f ∷ d ∷ z ∷ []) (search reads depth 30) tt
+
+cost_none : (f z : ℚ) → whole (pos 0) *ℚ z ≡ neg_ℚ f *ℚ whole (pos 0)
+cost_none f z = ring (f ∷ z ∷ []) (search reads depth 30) tt
+
 -- ---- one column
 module _ (n : ℕ) (c : ℕ → ℚ) where
   -- what a column adds to the sum over the unknowns
   unknown_sum : ColumnKind → ℚ → ℚ
   unknown_sum k z = rat_sum_below n (λ u. c u *ℚ column_part u k z)
 
-  at_unknown : (v : ℕ) (minus : Bool) (z : ℚ) → v < n → unknown_sum (Unknown v minus) z ≡ c v *ℚ turned_value minus z
+  at_unknown : (v : ℕ) (minus : Bool) (z : ℚ) → v < n → unknown_sum (Unknown v minus) z ≡ c v *ℚ turned_if minus z
   unfolding unknown_sum
   at_unknown v minus z l =
-      rat_sum_below-one n v (λ u. c u *ℚ column_part u (Unknown v minus) z) l (λ i k d. ap (λ b. c i *ℚ (if b then turned_value minus z else zeroq)) (ne_eqb v i (λ e. d (sym e))) ∙ *ℚ-zero (c i))
-      ∙ ap (λ b. c v *ℚ (if b then turned_value minus z else zeroq)) (eq-eqb v v refl)
+      rat_sum_below-one n v (λ u. c u *ℚ column_part u (Unknown v minus) z) l (λ i k d. ap (λ b. c i *ℚ (if b then turned_if minus z else zeroq)) (ne_eqb v i (λ e. d (sym e))) ∙ *ℚ-zero (c i))
+      ∙ ap (λ b. c v *ℚ (if b then turned_if minus z else zeroq)) (eq-eqb v v refl)
 
   at_none : (k : ColumnKind) (z : ℚ) → ((u : ℕ) → column_part u k z ≡ zeroq) → unknown_sum k z ≡ zeroq
   unfolding unknown_sum
@@ -163,7 +163,7 @@ module _ (n : ℕ) (c : ℕ → ℚ) where
   abbrev shown : ℕ → Bool → ℚ → ColumnKind → ℚ → ℚ
   shown i t f k z = sign t *ℚ (f *ℚ unknown_sum k z +ℚ slack_part i k z) +ℚ artificial_part i k z
 
-  by_unknown : (t minus : Bool) (f d z : ℚ) → turned_value t (f *ℚ turned_value minus d) *ℚ z ≡ sign t *ℚ (f *ℚ (d *ℚ turned_value minus z) +ℚ zeroq) +ℚ zeroq
+  by_unknown : (t minus : Bool) (f d z : ℚ) → turned_if t (f *ℚ turned_if minus d) *ℚ z ≡ sign t *ℚ (f *ℚ (d *ℚ turned_if minus z) +ℚ zeroq) +ℚ zeroq
   by_unknown true true f d z = minus_minus f d z
   by_unknown true false f d z = minus_plus f d z
   by_unknown false true f d z = plus_minus f d z
@@ -182,7 +182,7 @@ module _ (n : ℕ) (c : ℕ → ℚ) where
   by_artificial false false f z = plus_other f z
 
   -- of a row
-  one_column : (i : ℕ) (t : Bool) (f : ℚ) (k : ColumnKind) (e : ℤ) (z : ℚ) → e ≡ told_entry i t k e → ((u : ℕ) (minus : Bool) → k ≡ Unknown u minus → (u < n) × (whole e ≡ turned_value t (f *ℚ turned_value minus (c u)))) → whole e *ℚ z ≡ shown i t f k z
+  one_column : (i : ℕ) (t : Bool) (f : ℚ) (k : ColumnKind) (e : ℤ) (z : ℚ) → e ≡ told_entry i t k e → ((u : ℕ) (minus : Bool) → k ≡ Unknown u minus → (u < n) × (whole e ≡ turned_if t (f *ℚ turned_if minus (c u)))) → whole e *ℚ z ≡ shown i t f k z
   one_column i t f (Unknown u minus) e z told unknown =
       let h = unknown u minus refl in
       ap (λ q. q *ℚ z) h.1 ∙ by_unknown t minus f (c u) z ∙ ap (λ q. sign t *ℚ (f *ℚ q +ℚ zeroq) +ℚ zeroq) (sym (at_unknown u minus z h.0))
@@ -190,6 +190,16 @@ module _ (n : ℕ) (c : ℕ → ℚ) where
       ap (λ y. whole y *ℚ z) told ∙ by_slack t (nat_eq r i) f z ∙ ap (λ q. sign t *ℚ (f *ℚ q +ℚ slack_part i (Slack r) z) +ℚ zeroq) (sym (at_none (Slack r) z (λ u. refl)))
   one_column i t f (Artificial r) e z told unknown =
       ap (λ y. whole y *ℚ z) told ∙ by_artificial t (nat_eq r i) f z ∙ ap (λ q. sign t *ℚ (f *ℚ q +ℚ zeroq) +ℚ artificial_part i (Artificial r) z) (sym (at_none (Artificial r) z (λ u. refl)))
+
+  by_cost : (minus : Bool) (f d z : ℚ) → neg_ℚ (f *ℚ turned_if minus d) *ℚ z ≡ neg_ℚ f *ℚ (d *ℚ turned_if minus z)
+  by_cost true f d z = cost_minus f d z
+  by_cost false f d z = cost_plus f d z
+
+  -- of a cost
+  one_cost : (f : ℚ) (k : ColumnKind) (e : ℤ) (z : ℚ) → e ≡ unknown_entry k e → ((u : ℕ) (minus : Bool) → k ≡ Unknown u minus → (u < n) × (whole e ≡ neg_ℚ (f *ℚ turned_if minus (c u)))) → whole e *ℚ z ≡ neg_ℚ f *ℚ unknown_sum k z
+  one_cost f (Unknown u minus) e z told unknown = let h = unknown u minus refl in ap (λ q. q *ℚ z) h.1 ∙ by_cost minus f (c u) z ∙ ap (λ q. neg_ℚ f *ℚ q) (sym (at_unknown u minus z h.0))
+  one_cost f (Slack r) e z told unknown = ap (λ y. whole y *ℚ z) told ∙ cost_none f z ∙ ap (λ q. neg_ℚ f *ℚ q) (sym (at_none (Slack r) z (λ u. refl)))
+  one_cost f (Artificial r) e z told unknown = ap (λ y. whole y *ℚ z) told ∙ cost_none f z ∙ ap (λ q. neg_ℚ f *ℚ q) (sym (at_none (Artificial r) z (λ u. refl)))
 
   -- ---- all columns
   module _ (columns : List ColumnKind) (zs : List ℚ) where
@@ -204,8 +214,8 @@ module _ (n : ℕ) (c : ℕ → ℚ) where
 
     -- a row at the columns
     pub row_sum : (i : ℕ) (t : Bool) (f : ℚ) (entries : List ℤ) → length entries ≡ length columns → ((j : ℕ) → j < length columns → entry entries j ≡ told_entry i t (kind_at columns j) (entry entries j))
-        → ((j u : ℕ) (minus : Bool) → j < length columns → kind_at columns j ≡ Unknown u minus → (u < n) × (whole (entry entries j) ≡ turned_value t (f *ℚ turned_value minus (c u))))
-        → rat_dot (map whole entries) zs ≡ sign t *ℚ (f *ℚ rat_sum_below n (λ u. c u *ℚ unknowns_at columns zs u) +ℚ slack_at columns zs i) +ℚ artificial_at columns zs i
+        → ((j u : ℕ) (minus : Bool) → j < length columns → kind_at columns j ≡ Unknown u minus → (u < n) × (whole (entry entries j) ≡ turned_if t (f *ℚ turned_if minus (c u))))
+        → rat_dot (wholes entries) zs ≡ sign t *ℚ (f *ℚ rat_sum_below n (λ u. c u *ℚ unknowns_at columns zs u) +ℚ slack_at columns zs i) +ℚ artificial_at columns zs i
     row_sum i t f entries width told unknown =
         let m = length columns in
         let U = λ (j : ℕ). unknown_sum (kind_at columns j) (rat_at zs j) in
@@ -217,3 +227,14 @@ module _ (n : ℕ) (c : ℕ → ℚ) where
         ∙ ap (λ q. q +ℚ rat_sum_below m A)
         (rat_sum_below-*ℚ m (sign t) (λ j. f *ℚ U j +ℚ S j)
         ∙ ap (λ q. sign t *ℚ q) (rat_sum_below-+ℚ m (λ j. f *ℚ U j) S ∙ ap (λ q. q +ℚ rat_sum_below m S) (rat_sum_below-*ℚ m f U ∙ ap (λ q. f *ℚ q) all_unknowns)))
+
+    -- a cost at the columns
+    pub cost_sum : (f : ℚ) (entries : List ℤ) → length entries ≡ length columns → ((j : ℕ) → j < length columns → entry entries j ≡ unknown_entry (kind_at columns j) (entry entries j))
+        → ((j u : ℕ) (minus : Bool) → j < length columns → kind_at columns j ≡ Unknown u minus → (u < n) × (whole (entry entries j) ≡ neg_ℚ (f *ℚ turned_if minus (c u))))
+        → rat_dot (wholes entries) zs ≡ neg_ℚ f *ℚ rat_sum_below n (λ u. c u *ℚ unknowns_at columns zs u)
+    cost_sum f entries width told unknown =
+        let m = length columns in
+        let U = λ (j : ℕ). unknown_sum (kind_at columns j) (rat_at zs j) in
+        dot_sum entries zs m (omega (arith, width))
+        ∙ rat_sum_below-same m _ (λ j. neg_ℚ f *ℚ U j) (λ j l. one_cost f (kind_at columns j) (entry entries j) (rat_at zs j) (told j l) (λ u minus e. unknown j u minus l e))
+        ∙ rat_sum_below-*ℚ m (neg_ℚ f) U ∙ ap (λ q. neg_ℚ f *ℚ q) all_unknowns

@@ -19,12 +19,13 @@ use Rattle.dcx_tab.specs.declared.rows.IntRow.{IntRow}
 use Rattle.dcx_tab.specs.declared.program.Program.{Program}
 use Rattle.dcx_tab.specs.Rows.{entry}
 use Rattle.dcx_tab.specs.Program.{kind_at}
+use Rattle.dcx_simplex.specs.Right.{turned_if}
 use Rattle.dcx_std.specs.declared.whole.WholeRow.{WholeRow}
 use Rattle.dcx_std.specs.GivenRows.{GivenRows}
 use Rattle.dcx_std.specs.WholeRows.{coefficient_at, coefficients, opposite, one_frac, row_numbers, cost_numbers, row_made, IsSparseForm}
 use Rattle.dcx_std.specs.Columns.{turned, number_in, cost_in}
 use Rattle.dcx_std.specs.IntegerRows.{start_of, IsMadeOf, IsMade}
-use Rattle.dcx_std.specs.ScaledProgram.{turned_value, IsScaledRow, IsScaledCost, IsScaledProgram}
+use Rattle.dcx_std.specs.ScaledProgram.{IsScaledRow, IsScaledCost, IsScaledProgram}
 use Rattle.dcx_std.proofs.Fractions.{value-whole}
 use Rattle.dcx_std.proofs.WholeRows.{IsFormedBy, formed_by, whole_kind, multiple_facts}
 use Rattle.dcx_std.proofs.Scaled.{scaled_numbers, scaled_at, value-opposite, whole_row_numbers, whole_cost_numbers}
@@ -33,15 +34,15 @@ use Rattle.dcx_std.proofs.RowForm.{mapped_entry, made_at, made_count}
 use Rattle.dcx_std.proofs.ProgramForm.{whole_of, wholes_count}
 
 -- a turned integer is the turned number
-whole-turned : (t : Bool) (z : ℤ) → whole (turned t z) ≡ turned_value t (whole z)
+whole-turned : (t : Bool) (z : ℤ) → whole (turned t z) ≡ turned_if t (whole z)
 whole-turned true z = whole-neg_ℤ z
 whole-turned false z = refl
 
-turned-times : (t : Bool) (f c : ℚ) → turned_value t (f *ℚ c) ≡ f *ℚ turned_value t c
+turned-times : (t : Bool) (f c : ℚ) → turned_if t (f *ℚ c) ≡ f *ℚ turned_if t c
 turned-times true f c = sym (*ℚ-neg_ℚ f c)
 turned-times false f c = refl
 
-turned-cost : (t : Bool) (f c : ℚ) → turned_value t (f *ℚ neg_ℚ c) ≡ neg_ℚ (f *ℚ turned_value t c)
+turned-cost : (t : Bool) (f c : ℚ) → turned_if t (f *ℚ neg_ℚ c) ≡ neg_ℚ (f *ℚ turned_if t c)
 turned-cost true f c = ap neg_ℚ (*ℚ-neg_ℚ f c) ∙ neg_ℚ-neg_ℚ (f *ℚ c) ∙ sym (ap neg_ℚ (*ℚ-neg_ℚ f c) ∙ neg_ℚ-neg_ℚ (f *ℚ c))
 turned-cost false f c = *ℚ-neg_ℚ f c
 
@@ -102,21 +103,21 @@ module _ (rows : GivenRows) (q : Program) (m : IsMade rows q) where
     number_at : (j : ℕ) → whole (entry w.numbers j) ≡ value w.factor *ℚ value (get_or (row_numbers n row.form) j zero_frac)
     number_at j = scaled_at (value w.factor) w.numbers (row_numbers n row.form) j numbers_are
 
-    unknown_entry : (j u : ℕ) (minus : Bool) → j < length q.columns → kind_at q.columns j ≡ Unknown u minus → whole (entry r.entries j) ≡ turned_value r.negated (value r.factor *ℚ turned_value minus (value (coefficient_at row.form.terms u)))
+    unknown_entry : (j u : ℕ) (minus : Bool) → j < length q.columns → kind_at q.columns j ≡ Unknown u minus → whole (entry r.entries j) ≡ turned_if r.negated (value r.factor *ℚ turned_if minus (value (coefficient_at row.form.terms u)))
     unknown_entry j u minus l e =
         let negated = (start_of n w).negated in
         ap whole (mapped_entry (number_in i negated w.numbers) q.columns r.entries j is.entries l ∙ ap (number_in i negated w.numbers) e)
-        ∙ whole-turned negated (turned minus (entry w.numbers u)) ∙ ap (turned_value negated) (whole-turned minus (entry w.numbers u))
-        ∙ ap (λ y. turned_value negated (turned_value minus y)) (number_at u ∙ ap (λ c. value w.factor *ℚ value c) (row_coefficient n row.form u (unknown_is j u minus l e)))
-        ∙ ap (turned_value negated) (turned-times minus (value w.factor) (value (coefficient_at row.form.terms u)))
-        ∙ ap₂ (λ b f. turned_value b (value f *ℚ turned_value minus (value (coefficient_at row.form.terms u)))) (sym is.negated) (sym is.factor)
+        ∙ whole-turned negated (turned minus (entry w.numbers u)) ∙ ap (turned_if negated) (whole-turned minus (entry w.numbers u))
+        ∙ ap (λ y. turned_if negated (turned_if minus y)) (number_at u ∙ ap (λ c. value w.factor *ℚ value c) (row_coefficient n row.form u (unknown_is j u minus l e)))
+        ∙ ap (turned_if negated) (turned-times minus (value w.factor) (value (coefficient_at row.form.terms u)))
+        ∙ ap₂ (λ b f. turned_if b (value f *ℚ turned_if minus (value (coefficient_at row.form.terms u)))) (sym is.negated) (sym is.factor)
 
-    right_side : whole r.right ≡ turned_value r.negated (value r.factor *ℚ neg_ℚ (value row.form.constant))
+    right_side : whole r.right ≡ turned_if r.negated (value r.factor *ℚ neg_ℚ (value row.form.constant))
     right_side =
         let negated = (start_of n w).negated in
         ap whole is.right ∙ whole-turned negated (entry w.numbers n)
-        ∙ ap (turned_value negated) (number_at n ∙ ap (λ c. value w.factor *ℚ value c) (row_right n row.form) ∙ ap (λ y. value w.factor *ℚ y) (value-opposite row.form.constant))
-        ∙ ap₂ (λ b f. turned_value b (value f *ℚ neg_ℚ (value row.form.constant))) (sym is.negated) (sym is.factor)
+        ∙ ap (turned_if negated) (number_at n ∙ ap (λ c. value w.factor *ℚ value c) (row_right n row.form) ∙ ap (λ y. value w.factor *ℚ y) (value-opposite row.form.constant))
+        ∙ ap₂ (λ b f. turned_if b (value f *ℚ neg_ℚ (value row.form.constant))) (sym is.negated) (sym is.factor)
 
     scaled_row : IsScaledRow q.columns row r
     scaled_row = record { sparse = sparse; unknown = unknown_entry; right = right_side }
@@ -151,9 +152,9 @@ module _ (rows : GivenRows) (q : Program) (m : IsMade rows q) where
     unknown = λ j u minus l e.
         ap whole (mapped_entry (cost_in m.cost.numbers) q.columns q.objective.entries j m.objective.entries l ∙ ap (cost_in m.cost.numbers) e)
         ∙ whole-turned minus (entry m.cost.numbers u)
-        ∙ ap (turned_value minus) (cost_at u ∙ ap (λ c. value m.cost.factor *ℚ value c) (cost_coefficient n rows.objective u (unknown_is j u minus l e)) ∙ ap (λ y. value m.cost.factor *ℚ y) (value-opposite (coefficient_at rows.objective.terms u)))
+        ∙ ap (turned_if minus) (cost_at u ∙ ap (λ c. value m.cost.factor *ℚ value c) (cost_coefficient n rows.objective u (unknown_is j u minus l e)) ∙ ap (λ y. value m.cost.factor *ℚ y) (value-opposite (coefficient_at rows.objective.terms u)))
         ∙ turned-cost minus (value m.cost.factor) (value (coefficient_at rows.objective.terms u))
-        ∙ ap (λ f. neg_ℚ (f *ℚ turned_value minus (value (coefficient_at rows.objective.terms u)))) (sym lead_is);
+        ∙ ap (λ f. neg_ℚ (f *ℚ turned_if minus (value (coefficient_at rows.objective.terms u)))) (sym lead_is);
     right = ap whole m.objective.right ∙ cost_at n ∙ ap (λ c. value m.cost.factor *ℚ value c) (cost_right n rows.objective) ∙ ap (λ f. f *ℚ value rows.objective.constant) (sym lead_is);
   }
 

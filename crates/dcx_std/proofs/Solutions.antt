@@ -1,15 +1,16 @@
 -- Columns that solve the integer program of rows stand for unknowns that solve the rows, at the same cost.
-use Rattle.std.proofs.Common.{◌≡◌, ℕ, zero, suc, ◌<◌, ◌≤◌, Bool, true, false, List, [], ◌∷◌, length, map, get_or, Some, refl, sym, ap, ◌∙◌, subst, arith, pos}
+use Rattle.std.proofs.Common.{◌≡◌, ℕ, zero, suc, ◌<◌, ◌≤◌, Bool, true, false, List, [], ◌∷◌, length, map, get_or, Some, refl, sym, ap, ap₂, ◌∙◌, subst, arith, pos}
 use Rattle.std.specs.Prelude.{slice_get, nat_eq, nat_lt, if◌then◌else◌}
 use Rattle.std.specs.Option.{option_map}
 use Rattle.std.proofs.lemmas.Bool.Decides.{nat_tests}
 use Rattle.std.proofs.lemmas.Option.{slice_get_within, slice_get-map, get_or_from_slice_get}
-use Rattle.dcx_math.specs.Rational.{ℚ, whole, ◌+ℚ◌, ◌*ℚ◌, neg_ℚ, ◌≤ℚ◌, ◌<ℚ◌}
+use Rattle.dcx_math.specs.Rational.{ℚ, whole, ◌+ℚ◌, ◌-ℚ◌, ◌*ℚ◌, ◌/ℚ◌, neg_ℚ, ◌≤ℚ◌, ◌<ℚ◌}
 use Rattle.dcx_math.specs.Sums.{rat_at, rat_dot, rat_sum_below}
 use Rattle.dcx_math.proofs.Orders.{+ℚ_idr, *ℚ-zero, ≤ℚ_refl, ≤ℚ-from_≡, +ℚ-≤ℚ, <ℚ-≢, linear, linear_eq, neg_ℚ-≤ℚ, neg_ℚ-zero}
-use Rattle.dcx_math.proofs.Products.{*ℚ-≤ℚ_cancel, *ℚ_cancel}
-use Rattle.dcx_math.proofs.Ring.{reads}
-use Rattle.dcx_math.proofs.Sums.{rat_sum_below-zero, rat_sum_below-same, rat_sum_below-nonnegative, rat_sum_below-monotone}
+use Rattle.dcx_math.proofs.Products.{*ℚ-≤ℚ_cancel, *ℚ_cancel, /ℚ-unique, whole-<ℤ}
+use Rattle.dcx_math.proofs.Points.{wholes}
+use Rattle.dcx_math.proofs.Ring.{ring, reads}
+use Rattle.dcx_math.proofs.Sums.{rat_sum_below-zero, rat_sum_below-same, rat_sum_below-nonnegative, rat_sum_below-monotone, rat_at-get_or}
 use Rattle.dcx_frac.specs.declared.fraction.Frac.{Frac}
 use Rattle.dcx_frac.specs.Frac.{value}
 use Rattle.dcx_linear.specs.declared.form.Form.{Form}
@@ -27,16 +28,19 @@ use Rattle.dcx_tab.specs.declared.rows.ColumnKind.{ColumnKind}
 use Rattle.dcx_tab.specs.declared.rows.ColumnKind.TheVariants.{Unknown, Slack, Artificial}
 use Rattle.dcx_tab.specs.declared.rows.IntRow.{IntRow}
 use Rattle.dcx_tab.specs.declared.program.Program.{Program}
-use Rattle.dcx_tab.specs.Program.{IsProgramRow, kind_at, is_plain, plain_count, entries_of, right_side_at, right_of}
+use Rattle.dcx_tab.specs.Program.{IsProgramRow, kind_at, is_plain, plain_count, entries_of, right_side_at, right_of, is_negated}
+use Rattle.dcx_simplex.specs.Reading.{row_factor}
+use Rattle.dcx_simplex.specs.Right.{turned_if, row_at_columns, cost_at_columns, form_at, IsSolution}
+use Rattle.dcx_simplex.specs.Right.{is_inequality as has_slack_column}
 use Rattle.dcx_std.specs.declared.start.Start.{Start}
 use Rattle.dcx_std.specs.WholeRows.{coefficient_at, IsSparseForm}
 use Rattle.dcx_std.specs.Columns.{is_inequality}
 use Rattle.dcx_std.specs.GivenRows.{GivenRows}
-use Rattle.dcx_std.specs.ScaledProgram.{turned_value, IsScaledRow, IsScaledProgram}
-use Rattle.dcx_std.specs.Solutions.{form_number, row_at, linear_program, column_part, unknowns_at, row_at_columns, SolvesProgram, HasKinds}
-use Rattle.dcx_std.proofs.ColumnKinds.{Allows, unknown_below, unknown_allowed, slack_wanted, slack_found}
+use Rattle.dcx_std.specs.ScaledProgram.{IsScaledRow, IsScaledProgram}
+use Rattle.dcx_std.specs.Solutions.{form_number, row_at, linear_program, column_part, unknowns_at, HasKinds}
+use Rattle.dcx_std.proofs.ColumnKinds.{Allows, unknown_below, unknown_allowed, slack_wanted, slack_found, is_inequality_there}
 use Rattle.dcx_std.proofs.Making.{row_narrow}
-use Rattle.dcx_std.proofs.RowSums.{sparse_sum, slack_part, artificial_part, slack_at, artificial_at, sign, turned_is, row_sum}
+use Rattle.dcx_std.proofs.RowSums.{sparse_sum, slack_part, artificial_part, slack_at, artificial_at, sign, turned_is, row_sum, cost_sum}
 
 -- ---- lists
 -- the item of a mapped list
@@ -70,11 +74,34 @@ excess_none f e s p h g =
     *ℚ_cancel f (λ z. <ℚ-≢ p (sym z)) (sym (+ℚ_idr (f *ℚ e)) ∙ ap (λ q. f *ℚ e +ℚ q) (sym h) ∙ g ∙ sym (*ℚ-zero f))
 
 -- a row that solves: its factor times its form, and its slack, are 0
-solved : (t : Bool) (f l c s a r d : ℚ) → d ≡ sign t *ℚ (f *ℚ l +ℚ s) +ℚ a → a ≡ whole (pos 0) → r ≡ turned_value t (f *ℚ neg_ℚ c) → d ≡ r → f *ℚ (c +ℚ l) +ℚ s ≡ whole (pos 0)
+solved : (t : Bool) (f l c s a r d : ℚ) → d ≡ sign t *ℚ (f *ℚ l +ℚ s) +ℚ a → a ≡ whole (pos 0) → r ≡ turned_if t (f *ℚ neg_ℚ c) → d ≡ r → f *ℚ (c +ℚ l) +ℚ s ≡ whole (pos 0)
 solved t f l c s a r d sum none right same =
     let e : sign t *ℚ (f *ℚ l +ℚ s) ≡ sign t *ℚ (f *ℚ neg_ℚ c) = sym (+ℚ_idr _) ∙ ap (λ q. sign t *ℚ (f *ℚ l +ℚ s) +ℚ q) (sym none) ∙ sym sum ∙ same ∙ right ∙ turned_is t (f *ℚ neg_ℚ c) in
     let g : f *ℚ l +ℚ s ≡ f *ℚ neg_ℚ c = sign_square t _ _ e in
     linear_eq (f ∷ l ∷ c ∷ s ∷ []) g (search reads depth 30) tt
+
+turned_product : (f l c : ℚ) → (c +ℚ l) *ℚ f ≡ neg_ℚ ((neg_ℚ (whole (pos 1)) *ℚ (f *ℚ l +ℚ whole (pos 0)) +ℚ whole (pos 0)) -ℚ neg_ℚ (whole (pos 1)) *ℚ (f *ℚ neg_ℚ c))
+turned_product f l c = ring (f ∷ l ∷ c ∷ []) (search reads depth 30) tt
+
+plain_product : (f l c : ℚ) → (c +ℚ l) *ℚ f ≡ (whole (pos 1) *ℚ (f *ℚ l +ℚ whole (pos 0)) +ℚ whole (pos 0)) -ℚ whole (pos 1) *ℚ (f *ℚ neg_ℚ c)
+plain_product f l c = ring (f ∷ l ∷ c ∷ []) (search reads depth 30) tt
+
+-- a row without its slack and its artificial, over its factor, is its form
+unscaled : (t : Bool) (f l c s a r d : ℚ) → whole (pos 0) <ℚ f → d ≡ sign t *ℚ (f *ℚ l +ℚ s) +ℚ a → a ≡ whole (pos 0) → s ≡ whole (pos 0) → r ≡ turned_if t (f *ℚ neg_ℚ c) → turned_if t (d -ℚ r) /ℚ f ≡ c +ℚ l
+unscaled t f l c s a r d positive sum none slack right =
+    /ℚ-unique (turned_if t (d -ℚ r)) f (c +ℚ l) (λ z. <ℚ-≢ positive (sym z))
+    (product t ∙ ap (turned_if t) (sym (ap₂ ◌-ℚ◌ (sum ∙ ap₂ (λ p q. sign t *ℚ (f *ℚ l +ℚ p) +ℚ q) slack none) (right ∙ turned_is t (f *ℚ neg_ℚ c)))))
+  where
+    product : (b : Bool) → (c +ℚ l) *ℚ f ≡ turned_if b ((sign b *ℚ (f *ℚ l +ℚ whole (pos 0)) +ℚ whole (pos 0)) -ℚ sign b *ℚ (f *ℚ neg_ℚ c))
+    product true = turned_product f l c
+    product false = plain_product f l c
+
+-- the cost that a row of costs gives
+cost_over : (f l c r d : ℚ) → whole (pos 0) <ℚ f → d ≡ neg_ℚ f *ℚ l → r ≡ f *ℚ c → (r -ℚ d) /ℚ f ≡ c +ℚ l
+cost_over f l c r d positive sum right = /ℚ-unique (r -ℚ d) f (c +ℚ l) (λ z. <ℚ-≢ positive (sym z)) (cost_product f l c ∙ sym (ap₂ ◌-ℚ◌ right sum))
+  where
+    cost_product : (f l c : ℚ) → (c +ℚ l) *ℚ f ≡ f *ℚ c -ℚ neg_ℚ f *ℚ l
+    cost_product f l c = ring (f ∷ l ∷ c ∷ []) (search reads depth 30) tt
 
 -- ---- of rows and their program
 module _ (rows : GivenRows) (q : Program) (known : HasKinds rows) (s : IsScaledProgram rows q) where
@@ -121,7 +148,7 @@ module _ (rows : GivenRows) (q : Program) (known : HasKinds rows) (s : IsScaledP
   pub row_value : (i : ℕ) (h : RowFacts i) (zs : List ℚ)
       → row_at_columns q i zs ≡ sign h.ints.negated *ℚ (value h.ints.factor *ℚ linear_sum h.row.form (unknowns_at q.columns zs) +ℚ slack_at q.columns zs i) +ℚ artificial_at q.columns zs i
   row_value i h zs =
-      ap (λ es. rat_dot (map whole es) zs) (mapped_at entries_of q.rows i h.ints [] h.ints_is)
+      ap (λ es. rat_dot (wholes es) zs) (mapped_at entries_of q.rows i h.ints [] h.ints_is)
       ∙ row_sum n (λ u. value (coefficient_at h.row.form.terms u)) q.columns zs i h.ints.negated (value h.ints.factor) h.ints.entries h.form.width h.form.told
       (λ j u minus l e. (below_of j u minus l e, h.scaled.unknown j u minus l e))
 
@@ -180,6 +207,10 @@ module _ (rows : GivenRows) (q : Program) (known : HasKinds rows) (s : IsScaledP
       let p = slack_found rows.kinds s.starts i h.start h.start_is (ap is_inequality (h.kind ∙ e)) in
       (p.0, subst (λ ks. p.0 < length ks) (sym s.columns) p.1, ap (λ ks. kind_at ks p.0) s.columns ∙ p.2)
 
+  -- its columns show that
+  pub inequality_there : (i : ℕ) (h : RowFacts i) → h.row.kind ≡ AtMost → has_slack_column q.columns i ≡ true
+  inequality_there i h e = ap (λ ks. has_slack_column ks i) s.columns ∙ is_inequality_there rows.kinds s.starts i h.start h.start_is (ap is_inequality (h.kind ∙ e))
+
   -- behind the plain columns stand artificials
   pub plain_below_artificial : (j : ℕ) → plain_count q.columns ≤ j → j < length q.columns → (i : ℕ) × (kind_at q.columns j ≡ Artificial i)
   plain_below_artificial j h l = by (kind_at q.columns j) refl
@@ -197,12 +228,12 @@ module _ (rows : GivenRows) (q : Program) (known : HasKinds rows) (s : IsScaledP
 
   -- ---- solutions
   -- a row that the columns solve holds at the unknowns
-  row_holds : (i : ℕ) (h : RowFacts i) (zs : List ℚ) → SolvesProgram q zs → StandsTo h.row.kind (form_number h.row.form (unknowns_at q.columns zs))
+  row_holds : (i : ℕ) (h : RowFacts i) (zs : List ℚ) → IsSolution q zs → StandsTo h.row.kind (form_number h.row.form (unknowns_at q.columns zs))
   row_holds i h zs solution =
       let x = unknowns_at q.columns zs in
       let f = value h.ints.factor in
       let l = slice_get_within q.rows i h.ints h.ints_is in
-      let right : whole (right_side_at q.rows i) ≡ turned_value h.ints.negated (f *ℚ neg_ℚ (value h.row.form.constant)) = ap whole (mapped_at right_of q.rows i h.ints (pos 0) h.ints_is) ∙ h.scaled.right in
+      let right : whole (right_side_at q.rows i) ≡ turned_if h.ints.negated (f *ℚ neg_ℚ (value h.row.form.constant)) = ap whole (mapped_at right_of q.rows i h.ints (pos 0) h.ints_is) ∙ h.scaled.right in
       let none = artificial_none zs i (λ j k m e. solution.artificial j (behind j k m e) m) in
       let none_left : f *ℚ (value h.row.form.constant +ℚ linear_sum h.row.form x) +ℚ slack_at q.columns zs i ≡ whole (pos 0) =
       solved h.ints.negated f (linear_sum h.row.form x) (value h.row.form.constant) (slack_at q.columns zs i) (artificial_at q.columns zs i) (whole (right_side_at q.rows i)) (row_at_columns q i zs) (row_value i h zs) none right (solution.rows i l) in
@@ -226,11 +257,11 @@ module _ (rows : GivenRows) (q : Program) (known : HasKinds rows) (s : IsScaledP
     unfolding part
     part_above d j l = by (kind_at q.columns j) refl
       where
-        kept : (minus : Bool) → Allows Nonneg minus → whole (pos 0) ≤ℚ turned_value minus (rat_at zs j)
+        kept : (minus : Bool) → Allows Nonneg minus → whole (pos 0) ≤ℚ turned_if minus (rat_at zs j)
         kept true a = absurd a
         kept false a = low j l
 
-        test : (v : ℕ) (minus b : Bool) → kind_at q.columns j ≡ Unknown v minus → nat_eq v u ≡ b → whole (pos 0) ≤ℚ (if b then turned_value minus (rat_at zs j) else whole (pos 0))
+        test : (v : ℕ) (minus b : Bool) → kind_at q.columns j ≡ Unknown v minus → nat_eq v u ≡ b → whole (pos 0) ≤ℚ (if b then turned_if minus (rat_at zs j) else whole (pos 0))
         test v minus true e t = let f : v ≡ u = grind (arith, nat_tests) in kept minus (allows j v u minus Nonneg l e f d)
         test v minus false e t = ≤ℚ_refl (whole (pos 0))
 
@@ -243,11 +274,11 @@ module _ (rows : GivenRows) (q : Program) (known : HasKinds rows) (s : IsScaledP
     unfolding part
     part_below d j l = by (kind_at q.columns j) refl
       where
-        kept : (minus : Bool) → Allows Nonpos minus → turned_value minus (rat_at zs j) ≤ℚ whole (pos 0)
+        kept : (minus : Bool) → Allows Nonpos minus → turned_if minus (rat_at zs j) ≤ℚ whole (pos 0)
         kept true a = subst (λ y. neg_ℚ (rat_at zs j) ≤ℚ y) neg_ℚ-zero (neg_ℚ-≤ℚ (low j l))
         kept false a = absurd a
 
-        test : (v : ℕ) (minus b : Bool) → kind_at q.columns j ≡ Unknown v minus → nat_eq v u ≡ b → (if b then turned_value minus (rat_at zs j) else whole (pos 0)) ≤ℚ whole (pos 0)
+        test : (v : ℕ) (minus b : Bool) → kind_at q.columns j ≡ Unknown v minus → nat_eq v u ≡ b → (if b then turned_if minus (rat_at zs j) else whole (pos 0)) ≤ℚ whole (pos 0)
         test v minus true e t = let f : v ≡ u = grind (arith, nat_tests) in kept minus (allows j v u minus Nonpos l e f d)
         test v minus false e t = ≤ℚ_refl (whole (pos 0))
 
@@ -266,7 +297,7 @@ module _ (rows : GivenRows) (q : Program) (known : HasKinds rows) (s : IsScaledP
   kinds_hold zs low u kind e = is_of_kind zs u low kind e
 
   -- ---- solutions of the program
-  pub solution_of : (zs : List ℚ) → SolvesProgram q zs → linear_rows.IsSolution (linear_program rows) (unknowns_at q.columns zs)
+  pub solution_of : (zs : List ℚ) → IsSolution q zs → linear_rows.IsSolution (linear_program rows) (unknowns_at q.columns zs)
   solution_of zs solution = record {
     kinds = kinds_hold zs solution.nonnegative;
     rows = λ i r e.
@@ -277,3 +308,24 @@ module _ (rows : GivenRows) (q : Program) (known : HasKinds rows) (s : IsScaledP
     where
       row_facts_at : (i : ℕ) (row : Row Frac) (e : slice_get rows.rows i ≡ Some row) (r : RowAt) → row_at row ≡ r → row_at (facts_of i row e).row ≡ r
       row_facts_at i row e r d = d
+
+  -- the cost at the columns is the objective at the unknowns
+  pub cost_is : (zs : List ℚ) → cost_at_columns q.objective zs ≡ form_number rows.objective (unknowns_at q.columns zs)
+  cost_is zs =
+      let c = q.form.cost in
+      let sum = cost_sum n (λ u. value (coefficient_at rows.objective.terms u)) q.columns zs (whole q.objective.lead) q.objective.entries c.width c.told (λ j u minus l e. (below_of j u minus l e, s.cost.unknown j u minus l e)) in
+      cost_over (whole q.objective.lead) (linear_sum rows.objective (unknowns_at q.columns zs)) (value rows.objective.constant) (whole q.objective.right) _ (whole-<ℤ (pos 0) q.objective.lead c.lead) sum s.cost.right
+      ∙ sym (form_is rows.objective (unknowns_at q.columns zs) s.cost.sparse known.objective_known)
+
+  -- row i of the program, without slack and artificial, is the form
+  pub form_of : (i : ℕ) (h : RowFacts i) (zs : List ℚ) → artificial_at q.columns zs i ≡ whole (pos 0) → slack_at q.columns zs i ≡ whole (pos 0) → form_at q i zs ≡ form_number h.row.form (unknowns_at q.columns zs)
+  form_of i h zs none slack =
+      let f = value h.ints.factor in
+      let x = unknowns_at q.columns zs in
+      let right : whole (right_side_at q.rows i) ≡ turned_if h.ints.negated (f *ℚ neg_ℚ (value h.row.form.constant)) = ap whole (mapped_at right_of q.rows i h.ints (pos 0) h.ints_is) ∙ h.scaled.right in
+      ap₂ (λ b y. turned_if b (row_at_columns q i zs -ℚ whole (right_side_at q.rows i)) /ℚ y) (mapped_at is_negated q.rows i h.ints false h.ints_is) (factor_at i h)
+      ∙ unscaled h.ints.negated f (linear_sum h.row.form x) (value h.row.form.constant) (slack_at q.columns zs i) (artificial_at q.columns zs i) (whole (right_side_at q.rows i)) (row_at_columns q i zs) h.form.factor (row_value i h zs) none slack right
+      ∙ sym (form_is h.row.form x h.scaled.sparse (narrow i h))
+    where
+      factor_at : (i : ℕ) (h : RowFacts i) → rat_at (map row_factor q.rows) i ≡ value h.ints.factor
+      factor_at i h = sym (rat_at-get_or (map row_factor q.rows) i) ∙ mapped_at row_factor q.rows i h.ints (whole (pos 0)) h.ints_is

@@ -7,3 +7,4 @@ pub mod GivenRows
 pub mod IntegerRows
 pub mod ScaledProgram
 pub mod Solutions
+pub mod Answers

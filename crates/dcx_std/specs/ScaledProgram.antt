@@ -1,6 +1,6 @@
 -- What the integer program of rows has to do with them, over exact fractions.
-use Rattle.std.specs.Prelude.{◌≡◌, ℕ, ◌<◌, Bool, true, false, List, map, length, Some, slice_get}
-use Rattle.dcx_math.specs.Rational.{ℚ, whole, ◌*ℚ◌, neg_ℚ}
+use Rattle.std.specs.Prelude.{◌≡◌, ℕ, ◌<◌, Bool, List, map, length, Some, slice_get}
+use Rattle.dcx_math.specs.Rational.{whole, ◌*ℚ◌, neg_ℚ}
 use Rattle.dcx_frac.specs.declared.fraction.Frac.{Frac}
 use Rattle.dcx_frac.specs.Frac.{value}
 use Rattle.dcx_linear.specs.declared.form.Form.{Form}
@@ -12,28 +12,23 @@ use Rattle.dcx_tab.specs.declared.rows.CostRow.{CostRow}
 use Rattle.dcx_tab.specs.declared.program.Program.{Program}
 use Rattle.dcx_tab.specs.Rows.{entry}
 use Rattle.dcx_tab.specs.Program.{kind_at}
+use Rattle.dcx_simplex.specs.Right.{turned_if}
 use Rattle.dcx_std.specs.declared.start.Start.{Start}
 use Rattle.dcx_std.specs.GivenRows.{GivenRows}
 use Rattle.dcx_std.specs.WholeRows.{coefficient_at, IsSparseForm}
 use Rattle.dcx_std.specs.Columns.{columns_of}
 
--- the number, or the number with its sign turned
-abbrev pub turned_value : Bool → ℚ → ℚ
-turned_value true x = neg_ℚ x
-turned_value false x = x
-
--- ---- the program
 -- the row of fractions, its constant taken to the right, times the factor, and turned where it was negated, which is
 -- where its right side was below 0
 pub record IsScaledRow (columns : List ColumnKind) (row : Row Frac) (r : IntRow) : Type 0 where
   pub sparse : IsSparseForm row.form
-  pub unknown : (j u : ℕ) (minus : Bool) → j < length columns → kind_at columns j ≡ Unknown u minus → whole (entry r.entries j) ≡ turned_value r.negated (value r.factor *ℚ turned_value minus (value (coefficient_at row.form.terms u)))
-  pub right : whole r.right ≡ turned_value r.negated (value r.factor *ℚ neg_ℚ (value row.form.constant))
+  pub unknown : (j u : ℕ) (minus : Bool) → j < length columns → kind_at columns j ≡ Unknown u minus → whole (entry r.entries j) ≡ turned_if r.negated (value r.factor *ℚ turned_if minus (value (coefficient_at row.form.terms u)))
+  pub right : whole r.right ≡ turned_if r.negated (value r.factor *ℚ neg_ℚ (value row.form.constant))
 
 -- the row z - cost = constant, times the positive entry of z
 pub record IsScaledCost (columns : List ColumnKind) (cost : Form Frac) (c : CostRow) : Type 0 where
   pub sparse : IsSparseForm cost
-  pub unknown : (j u : ℕ) (minus : Bool) → j < length columns → kind_at columns j ≡ Unknown u minus → whole (entry c.entries j) ≡ neg_ℚ (whole c.lead *ℚ turned_value minus (value (coefficient_at cost.terms u)))
+  pub unknown : (j u : ℕ) (minus : Bool) → j < length columns → kind_at columns j ≡ Unknown u minus → whole (entry c.entries j) ≡ neg_ℚ (whole c.lead *ℚ turned_if minus (value (coefficient_at cost.terms u)))
   pub right : whole c.right ≡ whole c.lead *ℚ value cost.constant
 
 -- the program q has the columns and the rows of these rows, each times its factor

@@ -1,7 +1,7 @@
--- What solves rows, and what solves their integer program.
-use Rattle.std.specs.Prelude.{◌≡◌, ℕ, ◌<◌, ◌≤◌, nat_eq, if◌then◌else◌, List, map, length, pos}
-use Rattle.dcx_math.specs.Rational.{ℚ, whole, ◌+ℚ◌, ◌*ℚ◌, ◌≤ℚ◌}
-use Rattle.dcx_math.specs.Sums.{rat_at, rat_dot, rat_sum_by, rat_sum_below}
+-- Rows as a linear program, and the unknowns that the columns of their integer program stand for.
+use Rattle.std.specs.Prelude.{ℕ, ◌≤◌, nat_eq, if◌then◌else◌, List, map, length, pos}
+use Rattle.dcx_math.specs.Rational.{ℚ, whole, ◌+ℚ◌, ◌*ℚ◌}
+use Rattle.dcx_math.specs.Sums.{rat_at, rat_sum_by, rat_sum_below}
 use Rattle.dcx_frac.specs.declared.fraction.Frac.{Frac}
 use Rattle.dcx_frac.specs.Frac.{value}
 use Rattle.dcx_linear.specs.declared.form.Form.{Form}
@@ -11,10 +11,9 @@ use Rattle.dcx_linear.specs.Rows.{RowAt, LinearProgram}
 use Rattle.dcx_linear.specs.Widths.{form_width, rows_width}
 use Rattle.dcx_tab.specs.declared.rows.ColumnKind.{ColumnKind}
 use Rattle.dcx_tab.specs.declared.rows.ColumnKind.TheVariants.{Unknown, Slack, Artificial}
-use Rattle.dcx_tab.specs.declared.program.Program.{Program}
-use Rattle.dcx_tab.specs.Program.{kind_at, plain_count, entries_at, right_side_at}
+use Rattle.dcx_tab.specs.Program.{kind_at}
+use Rattle.dcx_simplex.specs.Right.{turned_if}
 use Rattle.dcx_std.specs.GivenRows.{GivenRows}
-use Rattle.dcx_std.specs.ScaledProgram.{turned_value}
 
 -- ---- rows as a linear program
 -- the number of a form at unknowns
@@ -31,7 +30,7 @@ linear_program rows = record { kinds = rows.kinds; rows = map row_at rows.rows; 
 -- ---- the unknowns that columns stand for
 -- what a column with this number adds to an unknown: the number, turned in the minus column
 abbrev pub column_part : ℕ → ColumnKind → ℚ → ℚ
-column_part u (Unknown v minus) z = if nat_eq v u then turned_value minus z else whole (pos 0)
+column_part u (Unknown v minus) z = if nat_eq v u then turned_if minus z else whole (pos 0)
 column_part u (Slack r) z = whole (pos 0)
 column_part u (Artificial r) z = whole (pos 0)
 
@@ -43,15 +42,3 @@ unknowns_at columns zs u = rat_sum_below (length columns) (λ j. column_part u (
 pub record HasKinds (rows : GivenRows) : Type 0 where
   pub rows_known : rows_width rows.rows ≤ length rows.kinds
   pub objective_known : form_width rows.objective ≤ length rows.kinds
-
--- ---- the solutions of a program
--- row i at columns
-abbrev pub row_at_columns : Program → ℕ → List ℚ → ℚ
-row_at_columns q i zs = rat_dot (map whole (entries_at q.rows i)) zs
-
--- the columns are at least 0 and solve the rows, and the artificials are 0
-pub record SolvesProgram (q : Program) (zs : List ℚ) : Type 0 where
-  pub count : length zs ≡ length q.columns
-  pub nonnegative : (j : ℕ) → j < length q.columns → whole (pos 0) ≤ℚ rat_at zs j
-  pub artificial : (j : ℕ) → plain_count q.columns ≤ j → j < length q.columns → rat_at zs j ≡ whole (pos 0)
-  pub rows : (i : ℕ) → i < length q.rows → row_at_columns q i zs ≡ whole (right_side_at q.rows i)

@@ -12,10 +12,13 @@
 //! | an operation is said to pass only where it does, and it is the first, with its row and operands | `integer_rows`: `stops` |
 //! | each row of the program is a row of fractions times its factor | `laws::rows_are_scaled` |
 //! | columns that solve the program stand for unknowns that solve the rows | `laws::solutions_carry_over` |
-//! | unknowns that solve the rows are those of columns that solve the program | `laws::solutions_come_from_columns` |
+//! | the cost at columns is the objective at these unknowns | `laws::objective_carries_over` |
+//! | unknowns that solve the rows are those of columns that solve the program, at a cost that is the objective | `laws::solutions_come_from_columns` |
+//! | an answer that is right for the program is right for the rows, with multipliers times the factors of the rows | `laws::right_answers_carry_over` |
 //!
 //! `specs/Columns.antt` says which columns a program has, `specs/WholeRows.antt` and `specs/IntegerRows.antt` how its
-//! rows are formed, `specs/ScaledProgram.antt` and `specs/Solutions.antt` what they have to do with the given rows.
+//! rows are formed, `specs/ScaledProgram.antt` and `specs/Solutions.antt` what they have to do with the given rows, and
+//! `specs/Answers.antt` what an answer to the program shows of these.
 #![tactic(auto)]
 
 mod columns;

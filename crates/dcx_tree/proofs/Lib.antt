@@ -11,4 +11,3 @@ pub mod Marks
 pub mod NodeValues
 pub mod Expressions
 pub mod Forming
-pub mod Premises

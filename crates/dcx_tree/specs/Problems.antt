@@ -25,6 +25,11 @@ pub record HasSides (nodes : List Node) (id : NodeId) (sides : Sides) : Type 0 w
   pub there : id.0 < length nodes
   pub same : sides_at nodes id.0 ≡ sides
 
+-- both sides of a constraint are nodes, and have its shape
+pub record IsConstraint (nodes : List Node) (c : Constraint) : Type 0 where
+  pub left : HasSides nodes c.left (sides_of c.shape)
+  pub right : HasSides nodes c.right (sides_of c.shape)
+
 -- both sides of each constraint are nodes, and have its shape
 pub record AreConstraints (nodes : List Node) (constraints : List Constraint) : Type 0 where
   pub left : (k : ℕ) (c : Constraint) → slice_get constraints k ≡ Some c → HasSides nodes c.left (sides_of c.shape)
