@@ -1,0 +1,3 @@
+-- The lemmas.
+pub mod Ranges
+pub mod ItemsSeen
