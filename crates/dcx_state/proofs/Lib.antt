@@ -1,0 +1,15 @@
+-- The lemmas by which the functions of this crate are proved.
+mod Behind
+mod SameCalls
+mod Found
+mod Bindings
+mod Settings
+mod Pushes
+mod Grown
+mod Reached
+mod Each
+mod Tested
+mod Naming
+mod Declares
+mod Asks
+mod Solves

@@ -1,0 +1,95 @@
+-- Values by name, and those of some names.
+use Rattle.std.proofs.Common.{◌≡◌, ◌≢◌, ℕ, zero, suc, ◌+◌, ◌<◌, Bool, true, false, List, [], ◌∷◌, ◌++◌, length, take, map, get_or, Option, Some, None, option_map, refl, sym, ap, ap₂, ◌∙◌, arith, cond, true≢false, subst}
+use Rattle.std.specs.Prelude.{filter}
+use Rattle.std.specs.List.{slice_get, AllByRecursion, IsDistinct}
+use Rattle.std.specs.Map.{lookup}
+use Rattle.std.proofs.lemmas.Option.{none-some, same_Some, slice_get_within, get_or_from_slice_get}
+use Rattle.dcx_atom.specs.declared.array.Array.{Array}
+use Rattle.dcx_point.specs.Pairs.{Pairs, same_name, names_of, array_of, with_array, AreDistinct}
+use Rattle.dcx_tree.proofs.Sublists.{filter_kept, filter_dropped}
+use Rattle.dcx_point.proofs.Puts.{same_name-refl, same_name-true, same_name-false, absent}
+
+-- the pair that has a name
+pair_at : (ps : Pairs) (i : ℕ) (name : List ℕ) → slice_get (names_of ps) i ≡ Some name → (a : Array) × (slice_get ps i ≡ Some (name, a))
+pair_at [] i name e = absurd (none-some name e)
+pair_at (p ∷ ps) zero name e = (p.1, ap (λ n. Some (n, p.1)) (same_Some p.0 name e))
+pair_at (p ∷ ps) (suc i) name e = pair_at ps i name e
+
+name_there : (ps : Pairs) (i : ℕ) → i < length ps → ¬ (slice_get (names_of ps) i ≡ None)
+name_there [] i lt e = omega arith
+name_there (p ∷ ps) zero lt e = cc
+name_there (p ∷ ps) (suc i) lt e = name_there ps i (omega arith) e
+
+all_at : (P : List ℕ → Type 0) (ps : Pairs) (i : ℕ) (x : List ℕ × Array) → AllByRecursion P (names_of ps) → slice_get ps i ≡ Some x → P x.0
+all_at P [] i x all e = absurd (none-some x e)
+all_at P (p ∷ ps) zero x all e = subst (λ (z : List ℕ × Array). P z.0) (same_Some p x e) all.0
+all_at P (p ∷ ps) (suc i) x all e = all_at P ps i x all.1 e
+
+unlike : (a b : List ℕ) → same_name a b ≡ false → a ≢ b
+unlike a b e f = true≢false (sym (same_name-refl a) ∙ ap (same_name a) f ∙ e)
+
+-- its array is that of its name
+array_at : (ps : Pairs) (i : ℕ) (x : List ℕ × Array) → AreDistinct ps → slice_get ps i ≡ Some x → array_of ps x.0 ≡ Some x.1
+unfolding IsDistinct
+array_at [] i x d e = absurd (none-some x e)
+array_at (p ∷ ps) zero x d e =
+    let s : same_name x.0 p.0 ≡ true = ap (λ (z : List ℕ × Array). same_name x.0 z.0) (same_Some p x e) ∙ same_name-refl x.0 in
+    rw s (ap (λ (z : List ℕ × Array). Some z.1) (same_Some p x e))
+array_at (p ∷ ps) (suc i) x d e =
+    let s : same_name x.0 p.0 ≡ false = same_name-false x.0 p.0 (λ f. unlike p.0 x.0 (all_at (λ n. same_name p.0 n ≡ false) ps i x d.0 e) (sym f)) in
+    rw s (array_at ps i x d.1 e)
+
+-- a name has no array among those that are left of the pairs before it
+none_before : (test : List ℕ × Array → Bool) (ps : Pairs) (i : ℕ) (x : List ℕ × Array) → AreDistinct ps → slice_get ps i ≡ Some x → array_of (filter test (take i ps)) x.0 ≡ None
+unfolding IsDistinct
+none_before test [] i x d e = absurd (none-some x e)
+none_before test (p ∷ ps) zero x d e = refl
+none_before test (p ∷ ps) (suc i) x d e = by (none_before test ps i x d.1 e) (test p)
+  where
+    s : same_name x.0 p.0 ≡ false
+    s = same_name-false x.0 p.0 (λ f. unlike p.0 x.0 (all_at (λ n. same_name p.0 n ≡ false) ps i x d.0 e) (sym f))
+
+    by : array_of (filter test (take i ps)) x.0 ≡ None → (b : Bool) → array_of (cond b (p ∷ filter test (take i ps)) (filter test (take i ps))) x.0 ≡ None
+    by rest true = rw s rest
+    by rest false = rest
+
+-- it is put behind them
+put_behind : (test : List ℕ × Array → Bool) (ps : Pairs) (i : ℕ) (x : List ℕ × Array) → AreDistinct ps → slice_get ps i ≡ Some x →
+    with_array (filter test (take i ps)) x.0 x.1 ≡ filter test (take i ps) ++ x ∷ []
+put_behind test ps i x d e = absent (filter test (take i ps)) x.0 x.1 (none_before test ps i x d e)
+
+-- ---- a step over the pairs
+-- what is not there
+not_some : {X Y : Type 0} (f : X → Y) (o : Option X) → ((x : X) → o ≡ Some x → ⊥) → option_map f o ≡ None
+not_some f None h = refl
+not_some f (Some x) h = absurd (h x refl)
+
+module _ (test : List ℕ → Bool) (ps before after : Pairs) (i : ℕ) (distinct : AreDistinct ps) (was : before ≡ filter (λ e. test e.0) (take i ps)) where
+  abbrev Next : Type 0
+  Next = after ≡ filter (λ e. test e.0) (take (i + 1) ps)
+
+  pub value_kept : (name key : List ℕ) (a b : Array) → Some name ≡ slice_get (names_of ps) i → Some a ≡ array_of ps name → test name ≡ true → key ≡ name → b ≡ a → after ≡ with_array before key b → Next
+  value_kept name key a b named valued t k e puts =
+      let (x, at) = pair_at ps i name (sym named) in
+      let same : a ≡ x = same_Some a x (valued ∙ array_at ps i (name, x) distinct at) in
+      filter_kept (λ (z : List ℕ × Array). test z.0) ps i (name, x) before after (slice_get_within ps i (name, x) at) (sym (get_or_from_slice_get ps i (name, x) (name, x) at)) was (name, x) t refl
+      (puts
+      ∙ ap₂ (with_array before) k (e ∙ same)
+      ∙ ap (λ z. with_array z name x) was
+      ∙ put_behind (λ (z : List ℕ × Array). test z.0) ps i (name, x) distinct at
+      ∙ ap (λ z. z ++ (name, x) ∷ []) (sym was))
+
+  pub value_dropped : (name : List ℕ) → Some name ≡ slice_get (names_of ps) i → test name ≡ false → after ≡ before → Next
+  value_dropped name named t same =
+      let (x, at) = pair_at ps i name (sym named) in
+      filter_dropped (λ (z : List ℕ × Array). test z.0) ps i (name, x) before after (slice_get_within ps i (name, x) at) (sym (get_or_from_slice_get ps i (name, x) (name, x) at)) was t same
+
+  -- each name that is there has its array
+  pub no_array : {X : Type 0} (f : X → Array) (o : Option X) (name : List ℕ) → Some name ≡ slice_get (names_of ps) i → option_map f o ≡ array_of ps name → ((x : X) → o ≡ Some x → ⊥) → Next
+  no_array f o name named valued none =
+      let (x, at) = pair_at ps i name (sym named) in
+      absurd (none-some x (sym (not_some f o none) ∙ valued ∙ array_at ps i (name, x) distinct at))
+
+  -- and each place has its name
+  pub no_name : {X : Type 0} (f : X → List ℕ) (o : Option X) → i < length ps → option_map f o ≡ slice_get (names_of ps) i → ((x : X) → o ≡ Some x → ⊥) → Next
+  no_name f o lt named none = absurd (name_there ps i lt (sym named ∙ not_some f o none))

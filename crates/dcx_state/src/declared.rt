@@ -1,0 +1,108 @@
+//! The variables and parameters that are declared, of which no two have the same name.
+ghost use Rattle.std.specs.Prelude.{◌≡◌, false, [], ◌∷◌, ◌++◌, OnOk, OnErr};
+ghost use Rattle.std.specs.List.{IsDistinct};
+ghost use Rattle.dcx_point.specs.Pairs.{same_name};
+ghost use Rattle.dcx_tree.specs.Problems.{declared_names};
+ghost use Rattle.dcx_state.specs.Lists.{is_among};
+
+use dcx_call::{Parameter, Variable, copy_name};
+use dcx_shape::Name;
+use std::alloc::{AllocError, Global};
+use std::collections::HashSet;
+use std::marker::Model;
+
+/// Variables and parameters in order of declaration, with their names beside them, so that a name is found without a
+/// walk.
+#[derive(Drop)]
+pub(crate) struct Declared {
+    variables: Vec<Variable>,
+    parameters: Vec<Parameter>,
+    names: HashSet<Name>,
+}
+
+impl Model for Declared {
+    ghost use Rattle.dcx_state.specs.Lists.{Lists};
+
+    ghost Value = { Lists };
+
+    ghost use Rattle.std.specs.HashSet.{contains};
+    ghost use Rattle.dcx_point.specs.Pairs.{same_name};
+    ghost use Rattle.dcx_state.specs.Lists.{AreNamed};
+
+    ghost view = { λ d. record { variables = d.variables.items; parameters = d.parameters.items } };
+
+    ghost invariant = { λ d. AreNamed d.variables.items d.parameters.items (contains same_name d.names) };
+}
+
+impl Declared {
+    /// Nothing is declared. Takes no memory.
+    pub(crate) fn new(alloc: Global) -> Declared
+        ensures { result ≡ record { variables = []; parameters = [] } }
+    {
+        Declared {
+            variables: Vec::new(alloc),
+            parameters: Vec::new(alloc),
+            names: HashSet::new(alloc),
+        }
+    }
+
+    /// Whether a variable or a parameter has this name.
+    pub(crate) fn has(&self, name: &Name) -> bool
+        ensures { result ≡ is_among name.now self.now.variables self.now.parameters }
+    {
+        self.names.contains(name)
+    }
+
+    /// The variables in order of declaration.
+    pub(crate) fn variables(&self) -> &[Variable]
+        ensures items { result.now ≡ self.now.variables }
+        ensures distinct { IsDistinct same_name (declared_names self.now.variables self.now.parameters) }
+    {
+        self.variables.as_slice()
+    }
+
+    /// The parameters in order of declaration.
+    pub(crate) fn parameters(&self) -> &[Parameter]
+        ensures { result.now ≡ self.now.parameters }
+    {
+        self.parameters.as_slice()
+    }
+
+    /// One variable more, whose name is new. Where there is no memory, all is as it was.
+    pub(crate) fn add_variable(
+        &mut self,
+        alloc: Global,
+        variable: Variable,
+    ) -> Result<(), AllocError>
+        requires { is_among variable.name self.old.variables self.old.parameters ≡ false }
+        ensures ok { OnOk result (self.new ≡ record self.old { variables = self.old.variables ++ variable ∷ [] }) }
+        ensures err { OnErr result (self.new ≡ self.old) }
+    {
+        let name = copy_name(alloc, &variable.name)?;
+        self.variables.push(variable)?;
+        if self.names.insert(name).is_err() {
+            self.variables.pop();
+            return Err(AllocError);
+        }
+        Ok(())
+    }
+
+    /// One parameter more, whose name is new. Where there is no memory, all is as it was.
+    pub(crate) fn add_parameter(
+        &mut self,
+        alloc: Global,
+        parameter: Parameter,
+    ) -> Result<(), AllocError>
+        requires { is_among parameter.name self.old.variables self.old.parameters ≡ false }
+        ensures ok { OnOk result (self.new ≡ record self.old { parameters = self.old.parameters ++ parameter ∷ [] }) }
+        ensures err { OnErr result (self.new ≡ self.old) }
+    {
+        let name = copy_name(alloc, &parameter.name)?;
+        self.parameters.push(parameter)?;
+        if self.names.insert(name).is_err() {
+            self.parameters.pop();
+            return Err(AllocError);
+        }
+        Ok(())
+    }
+}
