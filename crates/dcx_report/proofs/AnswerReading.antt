@@ -6,8 +6,8 @@ use Rattle.std.specs.Prelude.{codes}
 use Rattle.dcx_frac.specs.declared.fraction.Frac.{Frac}
 use Rattle.dcx_frac.specs.Frac.{num_of, den_of}
 use Rattle.dcx_frac.proofs.Parts.{frac_from_parts}
-use Rattle.dcx_report.specs.declared.tree.Sense.{Sense}
-use Rattle.dcx_report.specs.declared.tree.Sense.TheVariants.{Minimize, Maximize}
+use Rattle.dcx_tree.specs.declared.constraint.Sense.{Sense}
+use Rattle.dcx_tree.specs.declared.constraint.Sense.TheVariants.{Minimize, Maximize}
 use Rattle.dcx_report.specs.declared.graph.Answer.{Answer}
 use Rattle.dcx_report.specs.declared.graph.Answer.TheVariants.{Optimal, Infeasible, Unbounded}
 use Rattle.dcx_report.specs.Negated.{negated}

@@ -5,8 +5,8 @@ use Rattle.dcx_frac.specs.declared.fraction.Frac.{Frac}
 use Rattle.dcx_frac.specs.Text.{frac_text}
 use Rattle.dcx_atom.specs.declared.array.Array.{Array}
 use Rattle.dcx_report.specs.declared.tree.Named.{Named}
-use Rattle.dcx_report.specs.declared.tree.Sense.{Sense}
-use Rattle.dcx_report.specs.declared.tree.Sense.TheVariants.{Minimize, Maximize}
+use Rattle.dcx_tree.specs.declared.constraint.Sense.{Sense}
+use Rattle.dcx_tree.specs.declared.constraint.Sense.TheVariants.{Minimize, Maximize}
 use Rattle.dcx_report.specs.declared.graph.Answer.{Answer}
 use Rattle.dcx_report.specs.declared.graph.Answer.TheVariants.{Optimal, Infeasible, Unbounded}
 use Rattle.dcx_report.specs.Negated.{negated}

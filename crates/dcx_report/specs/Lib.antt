@@ -1,4 +1,5 @@
 pub mod AnswerText
+pub mod CheckText
 pub mod Faults
 pub mod Files
 pub mod Negated

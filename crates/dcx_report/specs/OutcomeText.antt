@@ -3,7 +3,7 @@ use Rattle.std.specs.Prelude.{ℕ, Bool, true, false, not, List, ◌++◌, codes
 use Rattle.std.specs.List.{flat_map, enumerate_from}
 use Rattle.std.specs.declared.option.Option.{Option}
 use Rattle.dcx_shape.specs.declared.place.Place.{Place}
-use Rattle.dcx_report.specs.declared.tree.Sense.{Sense}
+use Rattle.dcx_tree.specs.declared.constraint.Sense.{Sense}
 use Rattle.dcx_report.specs.declared.outcome.Outcome.{Outcome}
 use Rattle.dcx_report.specs.declared.outcome.OutcomeEnd.{OutcomeEnd}
 use Rattle.dcx_report.specs.declared.outcome.OutcomeEnd.TheVariants.{Answer, Stop}

@@ -7,8 +7,8 @@ use Rattle.dcx_report.specs.declared.refusal.Carried.{Carried}
 use Rattle.dcx_report.specs.declared.refusal.Carried.TheVariants as carried
 use Rattle.dcx_arena.specs.declared.fault.Count.{Count}
 use Rattle.dcx_arena.specs.declared.fault.Count.TheVariants.{Nodes, Entries, Items, Steps, Events}
-use Rattle.dcx_report.specs.declared.rules.Rule.{Rule}
-use Rattle.dcx_report.specs.declared.rules.Rule.TheVariants.{Composition, Minimize, Maximize, Equal, AtMost}
+use Rattle.dcx_rules.specs.declared.fault.Rule.{Rule}
+use Rattle.dcx_rules.specs.declared.fault.Rule.TheVariants.{Composition, Minimize, Maximize, Equal, AtMost}
 use Rattle.dcx_report.specs.Pieces.{place_text, passes_text}
 use Rattle.dcx_report.specs.Refusals.{refusal_name}
 

@@ -1,7 +1,8 @@
 -- The bytes of the report of a run. Each line ends with a line feed.
 use Rattle.std.specs.Prelude.{ℕ, List, ◌++◌, codes}
 use Rattle.dcx_report.specs.declared.run.Run.{Run}
-use Rattle.dcx_report.specs.declared.run.Run.TheVariants.{Usage, Refused, Solved, ReadFault, Memory}
+use Rattle.dcx_report.specs.declared.run.Run.TheVariants.{Usage, Refused, Checked, Solved, ReadFault, Memory}
+use Rattle.dcx_report.specs.CheckText.{checked_text}
 use Rattle.dcx_report.specs.OutcomeText.{outcome_lines, count_line}
 use Rattle.dcx_report.specs.RefusalText.{refusal_text}
 
@@ -14,6 +15,7 @@ usage_text =
 unfoldable pub text_of : Run → List ℕ
 text_of Usage = usage_text
 text_of (Refused refusal) = refusal_text refusal
+text_of (Checked checked) = checked_text checked
 text_of (Solved word sense outcomes) = outcome_lines word sense outcomes ++ count_line outcomes
 text_of ReadFault = codes "fault read\n"
 text_of Memory = codes "want of memory\n"

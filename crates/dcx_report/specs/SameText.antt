@@ -4,7 +4,7 @@ use Rattle.std.specs.declared.option.Option.{Option}
 use Rattle.dcx_shape.specs.declared.shape.Shape.{Shape}
 use Rattle.dcx_atom.specs.declared.array.Array.{Array}
 use Rattle.dcx_report.specs.declared.tree.Named.{Named}
-use Rattle.dcx_report.specs.declared.tree.Sense.{Sense}
+use Rattle.dcx_tree.specs.declared.constraint.Sense.{Sense}
 use Rattle.dcx_report.specs.declared.graph.Answer.{Answer}
 use Rattle.dcx_report.specs.declared.graph.Answer.TheVariants.{Optimal, Infeasible, Unbounded}
 use Rattle.dcx_report.specs.declared.graph.Stop.{Stop}

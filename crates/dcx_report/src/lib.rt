@@ -2,6 +2,8 @@
 #![tactic(auto)]
 
 mod answer_lines;
+mod check_lines;
+mod checked;
 mod graph;
 pub mod laws;
 mod library;
@@ -13,15 +15,17 @@ mod real;
 mod refusal;
 mod refusal_line;
 mod report;
-mod rules;
 mod run;
 mod sink;
 mod stop_line;
 mod tree;
 
+pub use checked::Checked;
 pub use dcx_arena::{Count, NodeId};
-pub use dcx_atom::Array;
+pub use dcx_atom::{Array, Sign};
 pub use dcx_linear::Site;
+pub use dcx_rules::{Curvature, Rule};
+pub use dcx_tree::Sense;
 pub use graph::{Answer, Duals, Stop};
 pub use library::{FetchFault, Library};
 pub use memory::{MemoryLibrary, MemorySink, SteadyLibrary, SteadySink};
@@ -30,7 +34,6 @@ pub use outcomes::Outcomes;
 pub use real::{FileLibrary, OutSink};
 pub use refusal::{Carried, Refusal, RefusalSource};
 pub use report::report_text;
-pub use rules::Rule;
 pub use run::{Run, Word};
 pub use sink::{Sink, SinkFault};
-pub use tree::{Named, Point, Sense};
+pub use tree::{Named, Point};

@@ -4,6 +4,7 @@ ghost use Rattle.dcx_report.specs.OutcomeText.{word_text, end_text, outcome_text
 ghost use Rattle.dcx_report.specs.ReportText.{text_of};
 
 use crate::answer_lines::put_answer;
+use crate::check_lines::put_checked;
 use crate::pieces::{put_bytes, put_number};
 use crate::refusal_line::put_refusal;
 use crate::stop_line::{name_of_stop, put_details};
@@ -126,6 +127,7 @@ fn put_run(out: &mut Vec<u8>, run: &Run) -> Result<(), AllocError>
     match run {
         Run::Usage => put_bytes(out, USAGE),
         Run::Refused(refusal) => put_refusal(out, refusal),
+        Run::Checked(checked) => put_checked(out, checked),
         Run::Solved {
             word,
             sense,

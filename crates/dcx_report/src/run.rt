@@ -1,6 +1,6 @@
 //! How a run ends.
 
-use crate::{Outcomes, Refusal, Sense};
+use crate::{Checked, Outcomes, Refusal, Sense};
 
 /// The word that a run's outcomes stand under.
 #[derive(Clone, Copy, Debug, PartialEq, Eq)]
@@ -18,6 +18,8 @@ pub enum Run {
     Usage,
     /// A file is refused.
     Refused(Refusal),
+    /// The rules accept the problem, of which this is found.
+    Checked(Checked),
     /// The problem was solved, or stopped, at each setting.
     Solved {
         /// What the outcomes stand under.

@@ -1,18 +1,9 @@
-//! The values of a problem's variables, and which way its objective goes.
+//! The values of a problem's variables.
 ghost use Rattle.std.specs.Prelude.{◌≡◌};
 
 use crate::Array;
 use dcx_shape::Name;
 use std::marker::Model;
-
-/// Whether an objective is to be small or large.
-#[derive(Clone, Copy, Debug, PartialEq, Eq)]
-pub enum Sense {
-    /// The objective is to be small.
-    Minimize,
-    /// The objective is to be large.
-    Maximize,
-}
 
 /// A variable's name and an array of its shape.
 #[derive(Drop)]

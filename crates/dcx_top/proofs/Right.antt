@@ -47,6 +47,7 @@ right_outcomes s (o ∷ more ∷ os) h = absurd h
 pub right_answers : (words : List (List ℕ)) (told : Option Files) (risen : Type 0) (r : Run) → Answers words told risen r → AnswersAreRight words told r
 right_answers words told risen run.Usage h = tt
 right_answers words told risen (run.Refused refusal) h = tt
+right_answers words told risen (run.Checked checked) h = absurd h
 right_answers words told risen (run.Solved word sense outcomes) h = record {
   name = h.name;
   operand = h.operand;

@@ -2,9 +2,9 @@
 use Rattle.std.specs.Prelude.{◌≡◌, ℕ, ◌⊎◌, List, [], ◌∷◌, Option, None, Some, ⊤}
 use Rattle.dcx_report.specs.Files.{Files, IsTold, Lacks, HasMore}
 use Rattle.dcx_report.specs.declared.run.Run.{Run}
-use Rattle.dcx_report.specs.declared.run.Run.TheVariants.{Usage, Refused, Solved, ReadFault, Memory}
+use Rattle.dcx_report.specs.declared.run.Run.TheVariants.{Usage, Refused, Checked, Solved, ReadFault, Memory}
 use Rattle.dcx_report.specs.declared.run.Word.TheVariants as word_is
-use Rattle.dcx_report.specs.declared.tree.Sense.TheVariants as sense_is
+use Rattle.dcx_tree.specs.declared.constraint.Sense.TheVariants as sense_is
 use Rattle.dcx_report.specs.declared.outcome.Outcome.{Outcome}
 use Rattle.dcx_report.specs.declared.refusal.Refusal.{Refusal}
 use Rattle.dcx_report.specs.declared.refusal.RefusalSource.TheVariants as source_is
@@ -39,6 +39,7 @@ HasOneEnd s (o ∷ more ∷ os) = ⊥
 -- what the bytes of a script give; want of memory is free
 abbrev pub SolvesBytes : List ℕ → Run → Type 0
 SolvesBytes bytes (Refused r) = IsRefusedAs 29 r × SpellsNone bytes
+SolvesBytes bytes (Checked c) = ⊥
 SolvesBytes bytes (Solved word sense outcomes) = (word ≡ word_is.Solve) × (sense ≡ sense_is.Minimize) × ((s : Script) × Spells bytes s × HasOneEnd s outcomes)
 SolvesBytes bytes Memory = ⊤
 SolvesBytes bytes Usage = ⊥
@@ -68,6 +69,7 @@ pub record IsReadFault (words : List (List ℕ)) (told : Option Files) (risen : 
 abbrev pub Answers : List (List ℕ) → Option Files → Type 0 → Run → Type 0
 Answers words told risen Usage = operand_of words ≡ None
 Answers words told risen (Refused r) = IsRead words told (Refused r) ⊎ (IsRefusedAs 8 r × IsTooLong words told)
+Answers words told risen (Checked c) = ⊥
 Answers words told risen (Solved word sense outcomes) = IsRead words told (Solved word sense outcomes)
 Answers words told risen ReadFault = IsReadFault words told risen
 Answers words told risen Memory = ⊤

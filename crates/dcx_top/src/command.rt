@@ -140,6 +140,7 @@ fn status(run: &Run) -> u8
     match run {
         Run::Usage => 2,
         Run::Refused(_) => 1,
+        Run::Checked(_) => 0,
         Run::Solved { outcomes, .. } => outcomes_status(outcomes.as_slice()),
         Run::ReadFault => 3,
         Run::Memory => 5,
@@ -178,6 +179,3 @@ pub fn run<L: Library, K: Sink, S: Ledger>(
         Err(SinkFault::Memory) => Ended { status: 5, run },
     }
 }
-
-#[cfg(test)]
-mod tests;

@@ -1,83 +1,9 @@
-//! Scripts and words, each with the bytes and the status that they give.
-ghost use Rattle.std.specs.Prelude.{◌≡◌, ◌<◌};
+//! Scripts that are solved, and words of all kinds, each with the bytes and the status that they give.
 
-use super::*;
-use dcx_report::{MemoryLibrary, MemorySink, SteadyLibrary, SteadySink};
-use dcx_shape::Bytes;
-use std::collections::BTreeMap;
-use std::marker::Brand;
-use std::sync::ledger::Blank;
+use crate::running::{files, gives, gives_bytes, status_with, words};
+use dcx_report::{MemoryLibrary, MemorySink};
+use std::alloc::{AllocError, Global};
 use std::test::Fail;
-
-fn run_with<L: Library, K: Sink, S: Ledger>(
-    alloc: Global,
-    words: &[String],
-    library: &mut L,
-    sink: &mut K,
-    blank: Blank,
-) -> u8
-    requires name { blank.name ≡ S.name }
-    requires parts { blank.parts ≡ S.parts }
-    requires some { 0 < blank.parts }
-{
-    let mut steps = Steps::<S>::new(blank);
-    run(alloc, words, library, sink, &mut steps).status
-}
-
-/// The status for a library and a sink of any kind, with a counter of its own.
-fn status_with<L: Library, K: Sink>(
-    alloc: Global,
-    words: &[String],
-    library: &mut L,
-    sink: &mut K,
-) -> u8 {
-    run_with::<L, K, Brand>(alloc, words, library, sink, Blank::new(1))
-}
-
-/// The words that are separated by blanks.
-fn words(alloc: Global, text: &str) -> Result<Vec<String>, AllocError> {
-    let mut words = Vec::new(alloc);
-    for word in text.split_whitespace() {
-        words.push(String::from_str(alloc, word)?)?;
-    }
-    Ok(words)
-}
-
-/// A map in which `model.py` has the lines that each script begins with, and then these.
-fn files(alloc: Global, script: &[u8]) -> Result<BTreeMap<String, Bytes>, AllocError> {
-    let mut bytes = Vec::new(alloc);
-    bytes.extend_from_slice(b"import cvxpy as cp\nimport numpy as np\n")?;
-    bytes.extend_from_slice(script)?;
-    let mut files = BTreeMap::new(alloc);
-    files.insert(String::from_str(alloc, "model.py")?, Bytes::from_vec(bytes))?;
-    Ok(files)
-}
-
-/// Whether the words give the status and the report, over a library and a sink that never fail.
-fn gives(
-    alloc: Global,
-    text: &str,
-    script: &str,
-    status: u8,
-    report: &str,
-) -> Result<bool, AllocError> {
-    gives_bytes(alloc, text, script.as_bytes(), status, report.as_bytes())
-}
-
-/// The same, where the script and the report are bytes.
-fn gives_bytes(
-    alloc: Global,
-    text: &str,
-    script: &[u8],
-    status: u8,
-    report: &[u8],
-) -> Result<bool, AllocError> {
-    let mut library = SteadyLibrary::new(files(alloc, script)?);
-    let mut sink = SteadySink::new(alloc);
-    let words = words(alloc, text)?;
-    let ended = status_with(alloc, &words, &mut library, &mut sink);
-    Ok(ended == status && sink.bytes.as_slice() == report)
-}
 
 /// Whether the first script gives the status and the report, where the calls of these numbers fail.
 fn gives_with_faults(

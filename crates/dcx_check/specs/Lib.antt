@@ -1,0 +1,2 @@
+-- What a check tells of a problem.
+pub mod Checks

@@ -1,0 +1,16 @@
+//! What a check tells of a problem: the counts and the curvature of one that the rules accept, or the refusal of another.
+//!
+//! | what must hold | where |
+//! |---|---|
+//! | accepted exactly where the rules of disciplined convex programming accept | `check_problem`, `ChecksProblem` of `specs/Checks.antt` |
+//! | an accepted problem is convex at every fitting setting | `check_problem`, `IsAcceptedWith` |
+//! | sense, sign, curvature and dpp are those of the definitions, and each count is that of the problem | `check_problem`, `IsFoundOf` |
+//! | a refusal names the first site that breaks its rule, and stands where that site does in the script | `check_problem`, `IsRefusedFor` |
+//! | no name is declared twice, so that there are no more variables, and no more parameters, than nodes | `counts`, `proofs/Few.antt` |
+#![tactic(auto)]
+
+mod checking;
+mod counts;
+mod sites;
+
+pub use checking::check_problem;
