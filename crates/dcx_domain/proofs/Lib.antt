@@ -1,0 +1,5 @@
+-- The lemmas.
+pub mod Tests
+pub mod Places
+pub mod Entries
+pub mod Points

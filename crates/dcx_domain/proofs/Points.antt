@@ -1,0 +1,161 @@
+-- A point is in the domain of a problem where each variable's array is in the variable's domain.
+use Rattle.std.proofs.Common.{◌≡◌, ℕ, zero, suc, ◌<◌, ◌≤◌, ◌↔◌, true, List, [], ◌∷◌, ◌++◌, length, map, get_or, Option, Some, None, option_map, IsTrue, IsNone, refl, sym, ap, ◌∙◌, subst, arith, pos}
+use Rattle.std.proofs.Props.{props}
+use Rattle.std.specs.List.{slice_get, list_any, All, IsDistinct}
+use Rattle.std.specs.Option.{unwrap_or}
+use Rattle.std.specs.Cmp.Lexicographic.{nat_list_eq_equiv}
+use Rattle.std.proofs.Math.Logic.{∥∥₁_elim}
+use Rattle.std.proofs.Math.Bridge.{le_prop}
+use Rattle.std.proofs.lemmas.List.{length-map}
+use Rattle.std.proofs.lemmas.Map.Made.{length-le_from_is_member}
+use Rattle.std.proofs.lemmas.Option.{slice_get-map, slice_get-get_or, slice_get_within, get_or_from_slice_get}
+use Rattle.dcx_math.specs.Rational.{ℚ, whole}
+use Rattle.dcx_math.proofs.Orders.{≤ℚ_prop, ≡ℚ_prop}
+use Rattle.dcx_shape.specs.declared.shape.Sides.{Sides}
+use Rattle.dcx_shape.specs.Shape.{sides_of}
+use Rattle.dcx_point.specs.Pairs.{Pairs, same_name, array_of}
+use Rattle.dcx_point.proofs.Puts.{same_name-refl, same_name-true}
+use Rattle.dcx_arena.specs.Nodes.{IsNode}
+use Rattle.dcx_convex.specs.Nodes as convex
+use Rattle.dcx_convex.specs.Nodes.{Numbers, EachNode, Keeps, VariableKeeps}
+use Rattle.dcx_call.specs.declared.attribute.Attribute.{Attribute}
+use Rattle.dcx_call.specs.declared.attribute.Attribute.TheVariants.{Free, Nonneg, Nonpos, Symmetric, Diag}
+use Rattle.dcx_call.specs.declared.attribute.Whole.{Whole}
+use Rattle.dcx_call.specs.declared.attribute.Whole.TheVariants.{Not, Integer, Boolean}
+use Rattle.dcx_call.specs.declared.attribute.Variable.{Variable}
+use Rattle.dcx_call.specs.declared.attribute.Parameter.{Parameter}
+use Rattle.dcx_call.specs.declared.call.Call.{Call}
+use Rattle.dcx_call.specs.declared.call.Call.TheVariants as calls
+use Rattle.dcx_call.specs.Attributes.{counted, IsWithin}
+use Rattle.dcx_call.specs.Values.{given_by}
+use Rattle.dcx_tree.specs.declared.problem.Problem.{Problem}
+use Rattle.dcx_tree.specs.Nodes.{Names, Node, variable_attribute, head_of, arg_sides, convex_node, convex_nodes, numbers_by, number_in}
+use Rattle.dcx_tree.specs.Problems.{IsListed, AreDeclared}
+use Rattle.dcx_tree.specs.Meaning as meaning
+use Rattle.dcx_tree.specs.Meaning.{names_in, point_of}
+use Rattle.dcx_tree.proofs.Lawful.{mapped}
+use Rattle.dcx_tree.proofs.Names.{found_in}
+use Rattle.dcx_tree.proofs.Sublists.{contains_at, any_at, at_any, distinct_front}
+use Rattle.dcx_tree.proofs.Values.{taken}
+use Rattle.dcx_domain.specs.Points.{IsInside}
+use Rattle.dcx_domain.specs.Laws.{HoldsForPoints}
+use Rattle.dcx_domain.proofs.Entries.{zeros_within}
+
+-- ---- one variable
+-- what is demanded of a variable, in the terms of disciplined convex programming
+same_attribute : (a : Attribute) (s : Sides) (x : Numbers) → Keeps (variable_attribute Not a) s x ↔ IsWithin a s x
+same_attribute Free s x = ((λ h. h), (λ h. h))
+same_attribute Nonneg s x = ((λ h. h), (λ h. h))
+same_attribute Nonpos s x = ((λ h. h), (λ h. h))
+same_attribute Symmetric s x = ((λ h. h), (λ h. h))
+same_attribute Diag s x = ((λ h. h), (λ h. h))
+
+same_demand : (w : Whole) (a : Attribute) (s : Sides) (x : Numbers) → Keeps (variable_attribute w a) s x ↔ IsWithin (counted w a) s x
+same_demand Not a s x = same_attribute a s x
+same_demand Integer a s x = same_attribute a s x
+same_demand Boolean a s x = same_attribute Nonneg s x
+
+-- ---- the variables and the nodes
+module _ (nodes : List Node) (vs : List Variable) (ps : List Parameter) (d : AreDeclared nodes vs ps) (names : Names) (are : names.variables ≡ map (λ v. v.name) vs) (given : Pairs) where
+  -- the number of a variable is that of its name
+  numbers_are : (k : ℕ) (v : Variable) → slice_get vs k ≡ Some v → numbers_by names.variables given (number_in names.variables v.name) ≡ given_by given v.name
+  numbers_are k v at =
+      let named : slice_get names.variables k ≡ Some v.name = ap (λ ns. slice_get ns k) are ∙ slice_get-map (λ (u : Variable). u.name) vs k ∙ ap (option_map (λ (u : Variable). u.name)) at in
+      taken names.variables given k v.name named
+
+  -- a node with a variable keeps its domain exactly where the variable's array does
+  demand : (k : ℕ) (v : Variable) → slice_get vs k ≡ Some v → (args : List Sides) (sides : Sides) → VariableKeeps (numbers_by names.variables given) (head_of names (calls.Variable v) args sides) ↔ IsInside v given
+  demand k v at args sides =
+      subst (λ (f : Numbers). Keeps (variable_attribute v.whole v.attribute) (sides_of v.shape) f ↔ IsInside v given) (sym (numbers_are k v at))
+      (same_demand v.whole v.attribute (sides_of v.shape) (given_by given v.name))
+
+  pub to_variables : EachNode (convex_nodes names nodes) (λ n. VariableKeeps (numbers_by names.variables given) n.head) → All (λ v. IsInside v given) vs
+  to_variables h = λ k e lt.
+      let v = get_or vs k e in
+      let at : slice_get vs k ≡ Some v = slice_get-get_or vs k e lt in
+      let (i, call_is) = d.variables_stand k e lt in
+      let (n, there, is) = found_in (slice_get nodes i) (calls.Variable v) call_is in
+      let kept = h i (convex_node names nodes n) (slice_get-map (convex_node names nodes) nodes i ∙ ap (option_map (convex_node names nodes)) there) in
+      (demand k v at (arg_sides nodes n) n.sides).0 (subst (λ call. VariableKeeps (numbers_by names.variables given) (head_of names call (arg_sides nodes n) n.sides)) is kept)
+
+  call_keeps : All (λ v. IsInside v given) vs → (call : Call) (args : List Sides) (sides : Sides) → IsListed vs ps call → VariableKeeps (numbers_by names.variables given) (head_of names call args sides)
+  call_keeps h (calls.Variable v) args sides l =
+      let (k, at) = contains_at vs v l in
+      let inside : IsInside v given = subst (λ (u : Variable). IsInside u given) (get_or_from_slice_get vs k v v at) (h k v (slice_get_within vs k v at)) in
+      (demand k v at args sides).1 inside
+  call_keeps h (calls.Parameter q) args sides l = tt
+  call_keeps h (calls.Constant x) args sides l = tt
+  call_keeps h (calls.Atom m) args sides l = tt
+  call_keeps h (calls.Linear m) args sides l = tt
+  call_keeps h (calls.Pairing m) args sides l = tt
+
+  pub to_nodes : All (λ v. IsInside v given) vs → EachNode (convex_nodes names nodes) (λ n. VariableKeeps (numbers_by names.variables given) n.head)
+  to_nodes h i m at =
+      let (n, in_nodes, is) = mapped (convex_node names nodes) nodes i m at in
+      subst (λ (z : convex.Node). VariableKeeps (numbers_by names.variables given) z.head) is (call_keeps h n.call (arg_sides nodes n) n.sides (d.listed i n in_nodes))
+
+-- ---- there are no more variables than nodes
+name_in : Call → List ℕ
+name_in (calls.Variable v) = v.name
+name_in (calls.Parameter q) = []
+name_in (calls.Constant x) = []
+name_in (calls.Atom m) = []
+name_in (calls.Linear m) = []
+name_in (calls.Pairing m) = []
+
+pub variables_few : (nodes : List Node) (vs : List Variable) (ps : List Parameter) → AreDeclared nodes vs ps → length vs ≤ length nodes
+unfolding name_in
+variables_few nodes vs ps d =
+    let few = length-le_from_is_member nat_list_eq_equiv (map (λ (v : Variable). v.name) vs) (map (λ (n : Node). name_in n.call) nodes)
+    (distinct_front (map (λ (v : Variable). v.name) vs) (map (λ (q : Parameter). q.name) ps) d.distinct) stands in
+    omega (arith, few, length-map vs (λ (v : Variable). v.name), length-map nodes (λ (n : Node). name_in n.call))
+  where
+    stands : (q : List ℕ) → list_any (same_name q) (map (λ (v : Variable). v.name) vs) ≡ true → list_any (same_name q) (map (λ (n : Node). name_in n.call) nodes) ≡ true
+    stands q t =
+        let (k, name, at, same) = any_at (same_name q) (map (λ (v : Variable). v.name) vs) t in
+        let (v, in_vs, is) = mapped (λ (u : Variable). u.name) vs k name at in
+        let (i, call_is) = d.variables_stand k v (slice_get_within vs k v in_vs) in
+        let (n, there, call) = found_in (slice_get nodes i) (calls.Variable (get_or vs k v)) call_is in
+        let named : name_in n.call ≡ q = ap name_in call ∙ ap (λ (u : Variable). u.name) (get_or_from_slice_get vs k v v in_vs) ∙ is ∙ sym (same_name-true q name same) in
+        at_any (same_name q) (map (λ (m : Node). name_in m.call) nodes) i (name_in n.call)
+        (slice_get-map (λ (m : Node). name_in m.call) nodes i ∙ ap (option_map (λ (m : Node). name_in m.call)) there)
+        (ap (same_name q) named ∙ same_name-refl q)
+
+-- ---- of a problem
+pub few_variables : (p : Problem) → length p.variables ≤ 20000
+few_variables p =
+    ∥∥₁_elim p.declared le_prop (λ d. let few = variables_few p.tree p.variables p.parameters d in let most = p.nodes.room.few_nodes in omega (arith, few, most))
+
+keeps_prop : (a : convex.Attribute) (s : Sides) (x : Numbers) → IsProp (Keeps a s x)
+keeps_prop convex.Free s x = hlevel props
+keeps_prop convex.Nonneg s x = hlevel ≤ℚ_prop
+keeps_prop convex.Nonpos s x = hlevel ≤ℚ_prop
+keeps_prop convex.Symmetric s x = hlevel ≡ℚ_prop
+keeps_prop convex.Diag s x = hlevel ≡ℚ_prop
+
+within_prop : (a : Attribute) (s : Sides) (x : Numbers) → IsProp (IsWithin a s x)
+within_prop Free s x = hlevel props
+within_prop Nonneg s x = hlevel ≤ℚ_prop
+within_prop Nonpos s x = hlevel ≤ℚ_prop
+within_prop Symmetric s x = hlevel ≡ℚ_prop
+within_prop Diag s x = hlevel ≡ℚ_prop
+
+variable_prop : (x : convex.Point) (h : convex.Head) → IsProp (VariableKeeps x h)
+variable_prop x (convex.Variable d) = keeps_prop d.attribute d.sides (x d.number)
+variable_prop x (convex.Parameter d) = hlevel props
+variable_prop x (convex.Constant ys) = hlevel props
+variable_prop x (convex.Apply c) = hlevel props
+
+nodes_prop : (nodes : List convex.Node) (x : convex.Point) → IsProp (EachNode nodes (λ n. VariableKeeps x n.head))
+nodes_prop nodes x f g = λ z i n at. variable_prop x n.head (f i n at) (g i n at) z
+
+inside_prop : (vs : List Variable) (given : Pairs) → IsProp (All (λ v. IsInside v given) vs)
+inside_prop vs given f g = λ z k d lt.
+    let v = get_or vs k d in
+    within_prop (counted v.whole v.attribute) (sides_of v.shape) (given_by given v.name) (f k d lt) (g k d lt) z
+
+pub points_hold : HoldsForPoints
+points_hold p given = (
+  (λ h. ∥∥₁_elim p.declared (inside_prop p.variables given) (λ d. to_variables p.tree p.variables p.parameters d (names_in p) refl given h)),
+  (λ h. ∥∥₁_elim p.declared (nodes_prop (convex_nodes (names_in p) p.tree) (point_of p given)) (λ d. to_nodes p.tree p.variables p.parameters d (names_in p) refl given h)),
+)

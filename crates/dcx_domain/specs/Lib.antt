@@ -1,0 +1,4 @@
+-- What the contracts of this crate cite.
+pub mod Entries
+pub mod Points
+pub mod Laws
