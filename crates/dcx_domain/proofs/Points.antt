@@ -2,18 +2,16 @@
 use Rattle.std.proofs.Common.{◌≡◌, ℕ, zero, suc, ◌<◌, ◌≤◌, ◌↔◌, true, List, [], ◌∷◌, ◌++◌, length, map, get_or, Option, Some, None, option_map, IsTrue, IsNone, refl, sym, ap, ◌∙◌, subst, arith, pos}
 use Rattle.std.proofs.Props.{props}
 use Rattle.std.specs.List.{slice_get, list_any, All, IsDistinct}
-use Rattle.std.specs.Option.{unwrap_or}
 use Rattle.std.specs.Cmp.Lexicographic.{nat_list_eq_equiv}
 use Rattle.std.proofs.Math.Logic.{∥∥₁_elim}
 use Rattle.std.proofs.Math.Bridge.{le_prop}
 use Rattle.std.proofs.lemmas.List.{length-map}
 use Rattle.std.proofs.lemmas.Map.Made.{length-le_from_is_member}
 use Rattle.std.proofs.lemmas.Option.{slice_get-map, slice_get-get_or, slice_get_within, get_or_from_slice_get}
-use Rattle.dcx_math.specs.Rational.{ℚ, whole}
 use Rattle.dcx_math.proofs.Orders.{≤ℚ_prop, ≡ℚ_prop}
 use Rattle.dcx_shape.specs.declared.shape.Sides.{Sides}
 use Rattle.dcx_shape.specs.Shape.{sides_of}
-use Rattle.dcx_point.specs.Pairs.{Pairs, same_name, array_of}
+use Rattle.dcx_point.specs.Pairs.{Pairs, same_name}
 use Rattle.dcx_point.proofs.Puts.{same_name-refl, same_name-true}
 use Rattle.dcx_arena.specs.Nodes.{IsNode}
 use Rattle.dcx_convex.specs.Nodes as convex
@@ -39,7 +37,6 @@ use Rattle.dcx_tree.proofs.Sublists.{contains_at, any_at, at_any, distinct_front
 use Rattle.dcx_tree.proofs.Values.{taken}
 use Rattle.dcx_domain.specs.Points.{IsInside}
 use Rattle.dcx_domain.specs.Laws.{HoldsForPoints}
-use Rattle.dcx_domain.proofs.Entries.{zeros_within}
 
 -- ---- one variable
 -- what is demanded of a variable, in the terms of disciplined convex programming

@@ -7,7 +7,9 @@ ghost use Rattle.dcx_domain.specs.Entries.{LeavesDomainFirstAt};
 ghost use Rattle.dcx_domain.specs.Points.{IsInside, IsFirstOutside};
 
 use crate::array::outside;
+use dcx_atom::Array;
 use dcx_point::Point;
+use dcx_shape::Shape;
 use dcx_tree::{Problem, Variable};
 
 /// Where a point leaves the domain of a problem.
@@ -80,7 +82,14 @@ fn has_array(variable: &Variable, point: &Point) -> bool
     ensures { IsTrue result ↔ HasArray point.now variable.now.name (sides_of variable.now.shape) }
 {
     match point.get(&variable.name) {
-        Some(array) => array.shape.sides() == variable.shape.sides(),
+        Some(array) => is_shaped(array, variable.shape),
         None => false,
     }
+}
+
+/// Whether an array has this shape.
+fn is_shaped(array: &Array, shape: Shape) -> bool
+    ensures { IsTrue result ↔ (sides_of array.now.shape ≡ sides_of shape) }
+{
+    array.shape.sides() == shape.sides()
 }
