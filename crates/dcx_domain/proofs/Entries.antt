@@ -1,14 +1,15 @@
 -- Entries keep what is demanded, or leave it.
-use Rattle.std.proofs.Common.{◌≡◌, ◌≢◌, inl, inr, ◌⊎◌, ℕ, ◌+◌, ◌*◌, ◌/◌, ◌%◌, ◌<◌, ◌↔◌, false, refl, sym, ap, ◌∙◌, arith, pos}
+use Rattle.std.proofs.Common.{◌≡◌, ◌≢◌, inl, inr, ◌⊎◌, ℕ, ◌+◌, ◌*◌, ◌/◌, ◌%◌, ◌<◌, ◌↔◌, false, refl, sym, ap, ap₂, ◌∙◌, subst, arith, pos}
 use native.Mathlib.Decide.{dec_lt}
 use Rattle.std.proofs.lemmas.Bool.{cases_eq}
 use Rattle.dcx_math.specs.Rational.{ℚ, whole, ◌≤ℚ◌, ◌<ℚ◌}
 use Rattle.dcx_math.proofs.Orders.{≤ℚ_refl, ≤ℚ-or-<ℚ, <ℚ-not, ℚ_discrete}
 use Rattle.dcx_shape.specs.declared.shape.Sides.{Sides}
+use Rattle.dcx_shape.specs.declared.shape.Sides.TheVariants.{Matrix}
 use Rattle.dcx_shape.specs.Shape.{sides_of}
 use Rattle.dcx_shape.specs.Sides.{rows_of, cols_of, entries_of}
 use Rattle.dcx_shape.specs.Places.{HasEntry, row_place}
-use Rattle.dcx_shape.proofs.Entries.{place_below}
+use Rattle.dcx_shape.proofs.Entries.{place_below, same_entry}
 use Rattle.dcx_atom.specs.Arrays.{entry_at}
 use Rattle.dcx_call.specs.declared.attribute.Attribute.{Attribute}
 use Rattle.dcx_call.specs.declared.attribute.Attribute.TheVariants.{Free, Nonneg, Nonpos, Symmetric, Diag}
@@ -117,11 +118,30 @@ all_keep Nonpos s x h = h
 all_keep Symmetric s x h = each_mirror s x h
 all_keep Diag s x h = λ i j e n. h (row_place s i j) (place_below false s i j e) i j e refl n
 
+-- of a square the entries below the diagonal are asked
+square : (n i j : ℕ) (x : ℕ → ℚ) → i < n → j < n → IsItsMirror (Matrix n n) x (row_place (Matrix n n) i j) ↔ (j < i → entry_at (Matrix n n) x i j ≡ entry_at (Matrix n n) x j i)
+square n i j x row column = ((λ h lt. h i j here refl (λ m. let up = m.above in absurd (omega (arith, up, lt)))), back)
+  where
+    here : HasEntry (Matrix n n) i j
+    here = record { row = row; column = column }
+
+    by : (j < i → entry_at (Matrix n n) x i j ≡ entry_at (Matrix n n) x j i) → Dec (i < j) → Dec (j < i) → ¬ HasMirrorBelow (Matrix n n) i j → entry_at (Matrix n n) x i j ≡ entry_at (Matrix n n) x j i
+    by g (yes up) d m = absurd (m (record { above = up; mirror = record { row = column; column = row } }))
+    by g (no f) (yes down) m = g down
+    by g (no f) (no e) m = let same : i ≡ j = omega arith in ap x (ap₂ (row_place (Matrix n n)) same (sym same))
+
+    back : (j < i → entry_at (Matrix n n) x i j ≡ entry_at (Matrix n n) x j i) → IsItsMirror (Matrix n n) x (row_place (Matrix n n) i j)
+    back g a b e at =
+        let same : (i ≡ a) × (j ≡ b) = same_entry false (Matrix n n) i j a b here e at in
+        let P : ℕ → ℕ → Type 0 = λ r c. ¬ HasMirrorBelow (Matrix n n) r c → entry_at (Matrix n n) x r c ≡ entry_at (Matrix n n) x c r in
+        subst (λ r. P r b) same.0 (subst (λ c. P i c) same.1 (by g (dec_lt i j) (dec_lt j i)))
+
 pub entries_hold : HoldsForEntries
 entries_hold = record {
   each = λ v x. (each_keeps (counted v.whole v.attribute) (sides_of v.shape) x, all_keep (counted v.whole v.attribute) (sides_of v.shape) x);
   either = either;
   not_both = not_both;
+  square = square;
 }
 
 -- an array with an entry that leaves isn't within

@@ -2,7 +2,7 @@
 ghost use Rattle.dcx_domain.specs.Laws.{HoldsForEntries, HoldsForPoints};
 
 /// An array is in the domain of a variable exactly where each entry keeps what is demanded; each keeps it or leaves it, and
-/// not both.
+/// not both; of a square symmetric array the entries below the diagonal are asked.
 pub fn entries()
     ensures { HoldsForEntries }
 {}

@@ -8,7 +8,7 @@
 //! | what must hold | where |
 //! |---|---|
 //! | which entries keep what an attribute demands, and which leave it; of two that mirror each other the one below the diagonal is asked | `specs/Entries.antt` |
-//! | an array is in the domain exactly where each entry keeps it; each entry keeps it or leaves it, and not both | `laws::entries` |
+//! | an array is in the domain exactly where each entry keeps it; each entry keeps it or leaves it, and not both; of a square the entries below the diagonal are asked | `laws::entries` |
 //! | the first entry of an array that leaves it, and none exactly where the array is in the domain | `outside` |
 //! | a point is in the domain of a problem exactly where each variable's array is | `laws::points` |
 //! | the first variable, and its first entry, at which a point leaves the domain; none exactly where the point is in it | `point_outside`, `specs/Points.antt` |
@@ -19,6 +19,8 @@ mod array;
 mod entry;
 pub mod laws;
 mod point;
+#[cfg(test)]
+mod tests;
 
 pub use array::outside;
 pub use point::{Outside, is_domain_point, point_outside};

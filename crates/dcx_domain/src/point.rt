@@ -38,7 +38,7 @@ pub fn is_domain_point(problem: &Problem, point: &Point) -> bool
 }
 
 /// The first of some variables, and its first entry, at which a point leaves what is demanded.
-fn first_outside(variables: &[Variable], point: &Point) -> Option<Outside>
+pub(crate) fn first_outside(variables: &[Variable], point: &Point) -> Option<Outside>
     requires { length variables.now < 2 ^ 32 }
     ensures inside { IsNone result ↔ All (λ v. IsInside v point.now) variables.now }
     ensures first { IfSome result (IsFirstOutside variables.now point.now) }
@@ -66,7 +66,7 @@ fn given_outside(variable: &Variable, point: &Point) -> Option<u32>
 }
 
 /// Whether a point gives each of some variables an array of its shape.
-fn has_arrays(variables: &[Variable], point: &Point) -> bool
+pub(crate) fn has_arrays(variables: &[Variable], point: &Point) -> bool
     ensures { IsTrue result ↔ All (λ v. HasArray point.now v.name (sides_of v.shape)) variables.now }
 {
     for variable in variables {
