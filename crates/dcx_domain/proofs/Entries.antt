@@ -1,8 +1,8 @@
 -- Entries keep what is demanded, or leave it.
-use Rattle.std.proofs.Common.{◌≡◌, ◌≢◌, inl, inr, ◌⊎◌, ℕ, ◌+◌, ◌*◌, ◌/◌, ◌%◌, ◌<◌, ◌↔◌, false, refl, sym, ap, ap₂, ◌∙◌, subst, arith, pos}
+use Rattle.std.proofs.Common.{◌≡◌, ◌≢◌, inl, inr, ◌⊎◌, ℕ, ◌/◌, ◌%◌, ◌<◌, ◌↔◌, false, refl, sym, ap, ap₂, ◌∙◌, subst, arith, pos}
 use native.Mathlib.Decide.{dec_lt}
 use Rattle.std.proofs.lemmas.Bool.{cases_eq}
-use Rattle.dcx_math.specs.Rational.{ℚ, whole, ◌≤ℚ◌, ◌<ℚ◌}
+use Rattle.dcx_math.specs.Rational.{ℚ, whole}
 use Rattle.dcx_math.proofs.Orders.{≤ℚ_refl, ≤ℚ-or-<ℚ, <ℚ-not, ℚ_discrete}
 use Rattle.dcx_shape.specs.declared.shape.Sides.{Sides}
 use Rattle.dcx_shape.specs.declared.shape.Sides.TheVariants.{Matrix}
@@ -13,9 +13,8 @@ use Rattle.dcx_shape.proofs.Entries.{place_below, same_entry}
 use Rattle.dcx_atom.specs.Arrays.{entry_at}
 use Rattle.dcx_call.specs.declared.attribute.Attribute.{Attribute}
 use Rattle.dcx_call.specs.declared.attribute.Attribute.TheVariants.{Free, Nonneg, Nonpos, Symmetric, Diag}
-use Rattle.dcx_call.specs.declared.attribute.Variable.{Variable}
 use Rattle.dcx_call.specs.Attributes.{counted, IsWithin}
-use Rattle.dcx_domain.specs.Entries.{HasMirrorBelow, IsItsMirror, IsZeroOffDiagonal, KeepsAt, DiffersFromMirror, IsNonzeroOffDiagonal, LeavesAt, LeavesFirstAt}
+use Rattle.dcx_domain.specs.Entries.{HasMirrorBelow, IsItsMirror, IsZeroOffDiagonal, KeepsAt, DiffersFromMirror, IsNonzeroOffDiagonal, LeavesAt}
 use Rattle.dcx_domain.specs.Laws.{HoldsForEntries}
 use Rattle.dcx_domain.proofs.Places.{entry_here, place_here, only_here}
 

@@ -1,5 +1,5 @@
 -- The lemmas.
-pub mod Tests
+pub mod Comparisons
 pub mod Places
 pub mod Entries
 pub mod Points

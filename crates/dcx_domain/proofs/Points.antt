@@ -1,7 +1,7 @@
 -- A point is in the domain of a problem where each variable's array is in the variable's domain.
-use Rattle.std.proofs.Common.{◌≡◌, ℕ, zero, suc, ◌<◌, ◌≤◌, ◌↔◌, true, List, [], ◌∷◌, ◌++◌, length, map, get_or, Option, Some, None, option_map, IsTrue, IsNone, refl, sym, ap, ◌∙◌, subst, arith, pos}
+use Rattle.std.proofs.Common.{◌≡◌, ℕ, ◌≤◌, ◌↔◌, true, List, [], length, map, get_or, Some, option_map, refl, sym, ap, ◌∙◌, subst, arith}
 use Rattle.std.proofs.Props.{props}
-use Rattle.std.specs.List.{slice_get, list_any, All, IsDistinct}
+use Rattle.std.specs.List.{slice_get, list_any, All}
 use Rattle.std.specs.Cmp.Lexicographic.{nat_list_eq_equiv}
 use Rattle.std.proofs.Math.Logic.{∥∥₁_elim}
 use Rattle.std.proofs.Math.Bridge.{le_prop}
@@ -13,7 +13,7 @@ use Rattle.dcx_shape.specs.declared.shape.Sides.{Sides}
 use Rattle.dcx_shape.specs.Shape.{sides_of}
 use Rattle.dcx_point.specs.Pairs.{Pairs, same_name}
 use Rattle.dcx_point.proofs.Puts.{same_name-refl, same_name-true}
-use Rattle.dcx_arena.specs.Nodes.{IsNode}
+use Rattle.dcx_arena.specs.Nodes.{call_at}
 use Rattle.dcx_convex.specs.Nodes as convex
 use Rattle.dcx_convex.specs.Nodes.{Numbers, EachNode, Keeps, VariableKeeps}
 use Rattle.dcx_call.specs.declared.attribute.Attribute.{Attribute}
@@ -29,7 +29,6 @@ use Rattle.dcx_call.specs.Values.{given_by}
 use Rattle.dcx_tree.specs.declared.problem.Problem.{Problem}
 use Rattle.dcx_tree.specs.Nodes.{Names, Node, variable_attribute, head_of, arg_sides, convex_node, convex_nodes, numbers_by, number_in}
 use Rattle.dcx_tree.specs.Problems.{IsListed, AreDeclared}
-use Rattle.dcx_tree.specs.Meaning as meaning
 use Rattle.dcx_tree.specs.Meaning.{names_in, point_of}
 use Rattle.dcx_tree.proofs.Lawful.{mapped}
 use Rattle.dcx_tree.proofs.Names.{found_in}
@@ -66,14 +65,15 @@ module _ (nodes : List Node) (vs : List Variable) (ps : List Parameter) (d : Are
       subst (λ (f : Numbers). Keeps (variable_attribute v.whole v.attribute) (sides_of v.shape) f ↔ IsInside v given) (sym (numbers_are k v at))
       (same_demand v.whole v.attribute (sides_of v.shape) (given_by given v.name))
 
-  pub to_variables : EachNode (convex_nodes names nodes) (λ n. VariableKeeps (numbers_by names.variables given) n.head) → All (λ v. IsInside v given) vs
-  to_variables h = λ k e lt.
-      let v = get_or vs k e in
-      let at : slice_get vs k ≡ Some v = slice_get-get_or vs k e lt in
-      let (i, call_is) = d.variables_stand k e lt in
+  -- a variable that has a node
+  stands_inside : EachNode (convex_nodes names nodes) (λ n. VariableKeeps (numbers_by names.variables given) n.head) → (k : ℕ) (v : Variable) → slice_get vs k ≡ Some v → (i : ℕ) → call_at nodes i ≡ Some (calls.Variable v) → IsInside v given
+  stands_inside h k v at i call_is =
       let (n, there, is) = found_in (slice_get nodes i) (calls.Variable v) call_is in
       let kept = h i (convex_node names nodes n) (slice_get-map (convex_node names nodes) nodes i ∙ ap (option_map (convex_node names nodes)) there) in
       (demand k v at (arg_sides nodes n) n.sides).0 (subst (λ call. VariableKeeps (numbers_by names.variables given) (head_of names call (arg_sides nodes n) n.sides)) is kept)
+
+  pub to_variables : EachNode (convex_nodes names nodes) (λ n. VariableKeeps (numbers_by names.variables given) n.head) → All (λ v. IsInside v given) vs
+  to_variables h = λ k e lt. let (i, call_is) = d.variables_stand k e lt in stands_inside h k (get_or vs k e) (slice_get-get_or vs k e lt) i call_is
 
   call_keeps : All (λ v. IsInside v given) vs → (call : Call) (args : List Sides) (sides : Sides) → IsListed vs ps call → VariableKeeps (numbers_by names.variables given) (head_of names call args sides)
   call_keeps h (calls.Variable v) args sides l =
@@ -100,23 +100,31 @@ name_in (calls.Atom m) = []
 name_in (calls.Linear m) = []
 name_in (calls.Pairing m) = []
 
-pub variables_few : (nodes : List Node) (vs : List Variable) (ps : List Parameter) → AreDeclared nodes vs ps → length vs ≤ length nodes
+-- a variable that has a node has its name among theirs
+named_there : (nodes : List Node) (i : ℕ) (v : Variable) (q : List ℕ) → call_at nodes i ≡ Some (calls.Variable v) → v.name ≡ q → list_any (same_name q) (map (λ n. name_in n.call) nodes) ≡ true
 unfolding name_in
+named_there nodes i v q call_is named =
+    let (n, there, call) = found_in (slice_get nodes i) (calls.Variable v) call_is in
+    at_any (same_name q) (map (λ (m : Node). name_in m.call) nodes) i (name_in n.call)
+    (slice_get-map (λ (m : Node). name_in m.call) nodes i ∙ ap (option_map (λ (m : Node). name_in m.call)) there)
+    (ap (same_name q) (ap name_in call ∙ named) ∙ same_name-refl q)
+
+pub variables_few : (nodes : List Node) (vs : List Variable) (ps : List Parameter) → AreDeclared nodes vs ps → length vs ≤ length nodes
 variables_few nodes vs ps d =
     let few = length-le_from_is_member nat_list_eq_equiv (map (λ (v : Variable). v.name) vs) (map (λ (n : Node). name_in n.call) nodes)
     (distinct_front (map (λ (v : Variable). v.name) vs) (map (λ (q : Parameter). q.name) ps) d.distinct) stands in
     omega (arith, few, length-map vs (λ (v : Variable). v.name), length-map nodes (λ (n : Node). name_in n.call))
   where
+    stands_at : (q : List ℕ) (k : ℕ) (v : Variable) → slice_get vs k ≡ Some v → v.name ≡ q → list_any (same_name q) (map (λ (n : Node). name_in n.call) nodes) ≡ true
+    stands_at q k v in_vs named =
+        let (i, call_is) = d.variables_stand k v (slice_get_within vs k v in_vs) in
+        named_there nodes i (get_or vs k v) q call_is (ap (λ (u : Variable). u.name) (get_or_from_slice_get vs k v v in_vs) ∙ named)
+
     stands : (q : List ℕ) → list_any (same_name q) (map (λ (v : Variable). v.name) vs) ≡ true → list_any (same_name q) (map (λ (n : Node). name_in n.call) nodes) ≡ true
     stands q t =
         let (k, name, at, same) = any_at (same_name q) (map (λ (v : Variable). v.name) vs) t in
         let (v, in_vs, is) = mapped (λ (u : Variable). u.name) vs k name at in
-        let (i, call_is) = d.variables_stand k v (slice_get_within vs k v in_vs) in
-        let (n, there, call) = found_in (slice_get nodes i) (calls.Variable (get_or vs k v)) call_is in
-        let named : name_in n.call ≡ q = ap name_in call ∙ ap (λ (u : Variable). u.name) (get_or_from_slice_get vs k v v in_vs) ∙ is ∙ sym (same_name-true q name same) in
-        at_any (same_name q) (map (λ (m : Node). name_in m.call) nodes) i (name_in n.call)
-        (slice_get-map (λ (m : Node). name_in m.call) nodes i ∙ ap (option_map (λ (m : Node). name_in m.call)) there)
-        (ap (same_name q) named ∙ same_name-refl q)
+        stands_at q k v in_vs (is ∙ sym (same_name-true q name same))
 
 -- ---- of a problem
 pub few_variables : (p : Problem) → length p.variables ≤ 20000

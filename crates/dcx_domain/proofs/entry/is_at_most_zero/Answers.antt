@@ -2,7 +2,7 @@
 use Rattle.std.proofs.Common.{ap₂, ◌∙◌, pos}
 use Rattle.dcx_math.specs.Rational.{whole, rat_le}
 use Rattle.dcx_atom.specs.Arrays.{number_at}
-use Rattle.dcx_domain.proofs.Tests.{at_most}
+use Rattle.dcx_domain.proofs.Comparisons.{at_most}
 use Rattle.dcx_domain.proofs.entry.is_at_most_zero.Goals as goal
 
 pub returns : goal.returns

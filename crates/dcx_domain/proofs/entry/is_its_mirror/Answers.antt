@@ -1,13 +1,12 @@
 -- The entry is compared with its mirror, unless that is below the diagonal.
-use Rattle.std.proofs.Common.{◌≡◌, ℕ, ◌+◌, ◌*◌, ◌/◌, ◌%◌, ◌<◌, ap, ap₂, ◌∙◌, arith}
-use Rattle.dcx_math.specs.Rational.{ℚ, rat_eq}
+use Rattle.std.proofs.Common.{◌≡◌, ◌+◌, ◌*◌, ◌/◌, ◌%◌, ap, ap₂, ◌∙◌, arith}
+use Rattle.dcx_math.specs.Rational.{rat_eq}
 use Rattle.dcx_shape.specs.Shape.{sides_of}
-use Rattle.dcx_shape.specs.Sides.{rows_of, cols_of}
+use Rattle.dcx_shape.specs.Sides.{cols_of}
 use Rattle.dcx_shape.specs.Places.{row_place}
 use Rattle.dcx_atom.specs.Arrays.{number_at}
 use Rattle.dcx_domain.specs.Entries.{HasMirrorBelow}
-use Rattle.dcx_domain.proofs.Tests.{equal}
-use Rattle.dcx_domain.proofs.Places.{wide, mirror_small}
+use Rattle.dcx_domain.proofs.Comparisons.{equal}
 use Rattle.dcx_domain.proofs.Entries.{mirror_same, mirror_differs}
 use Rattle.dcx_domain.proofs.entry.is_its_mirror.Goals as goal
 use Rattle.dcx_domain.proofs.entry.is_its_mirror.Goals.{else-row-column-via-then-row-column+else-column-rows, else-row-column-via-else-row-column}

@@ -1,10 +1,9 @@
 -- Off the diagonal the entry is compared with 0.
-use Rattle.std.proofs.Common.{◌≡◌, ◌≢◌, ℕ, ◌/◌, ◌%◌, sym, ap, ◌∙◌, pos}
-use Rattle.dcx_math.specs.Rational.{whole}
+use Rattle.std.proofs.Common.{◌≡◌, ◌/◌, ◌%◌, sym, ap, ◌∙◌}
 use Rattle.dcx_shape.specs.Shape.{sides_of}
 use Rattle.dcx_shape.specs.Sides.{cols_of}
 use Rattle.dcx_atom.specs.Arrays.{number_at}
-use Rattle.dcx_domain.proofs.Tests.{told}
+use Rattle.dcx_domain.proofs.Comparisons.{told}
 use Rattle.dcx_domain.proofs.Entries.{zero_keeps, nonzero_leaves}
 use Rattle.dcx_domain.proofs.entry.is_zero_off_diagonal.Goals as goal
 

@@ -1,6 +1,5 @@
 -- The variables before the one that is answered are inside, and all of them where none is.
-use Rattle.std.proofs.Common.{◌≡◌, ◌<◌, Some, length, get_or, refl, sym, subst, true≢false}
-use Rattle.std.specs.List.{slice_get}
+use Rattle.std.proofs.Common.{length, refl, sym, subst, true≢false}
 use Rattle.std.proofs.lemmas.Option.{slice_get_read}
 use Rattle.dcx_call.specs.declared.attribute.Variable.{Variable}
 use Rattle.dcx_domain.specs.Points.{IsInside}
