@@ -4,3 +4,4 @@ pub mod Places
 pub mod Entries
 pub mod Points
 pub mod Variables
+pub mod Few

@@ -1,18 +1,13 @@
 -- A point is in the domain of a problem where each variable's array is in the variable's domain.
-use Rattle.std.proofs.Common.{◌≡◌, ℕ, ◌≤◌, ◌↔◌, true, List, [], length, map, get_or, Some, option_map, refl, sym, ap, ◌∙◌, subst, arith}
+use Rattle.std.proofs.Common.{◌≡◌, ℕ, ◌↔◌, List, map, get_or, Some, option_map, sym, ap, ◌∙◌, subst, refl}
 use Rattle.std.proofs.Props.{props}
-use Rattle.std.specs.List.{slice_get, list_any, All}
-use Rattle.std.specs.Cmp.Lexicographic.{nat_list_eq_equiv}
+use Rattle.std.specs.List.{slice_get, All}
 use Rattle.std.proofs.Math.Logic.{∥∥₁_elim}
-use Rattle.std.proofs.Math.Bridge.{le_prop}
-use Rattle.std.proofs.lemmas.List.{length-map}
-use Rattle.std.proofs.lemmas.Map.Made.{length-le_from_is_member}
 use Rattle.std.proofs.lemmas.Option.{slice_get-map, slice_get-get_or, slice_get_within, get_or_from_slice_get}
 use Rattle.dcx_math.proofs.Orders.{≤ℚ_prop, ≡ℚ_prop}
 use Rattle.dcx_shape.specs.declared.shape.Sides.{Sides}
 use Rattle.dcx_shape.specs.Shape.{sides_of}
-use Rattle.dcx_point.specs.Pairs.{Pairs, same_name}
-use Rattle.dcx_point.proofs.Puts.{same_name-refl, same_name-true}
+use Rattle.dcx_point.specs.Pairs.{Pairs}
 use Rattle.dcx_arena.specs.Nodes.{call_at}
 use Rattle.dcx_convex.specs.Nodes as convex
 use Rattle.dcx_convex.specs.Nodes.{Numbers, EachNode, Keeps, VariableKeeps}
@@ -26,13 +21,12 @@ use Rattle.dcx_call.specs.declared.call.Call.{Call}
 use Rattle.dcx_call.specs.declared.call.Call.TheVariants as calls
 use Rattle.dcx_call.specs.Attributes.{counted, IsWithin}
 use Rattle.dcx_call.specs.Values.{given_by}
-use Rattle.dcx_tree.specs.declared.problem.Problem.{Problem}
 use Rattle.dcx_tree.specs.Nodes.{Names, Node, variable_attribute, head_of, arg_sides, convex_node, convex_nodes, numbers_by, number_in}
 use Rattle.dcx_tree.specs.Problems.{IsListed, AreDeclared}
 use Rattle.dcx_tree.specs.Meaning.{names_in, point_of}
 use Rattle.dcx_tree.proofs.Lawful.{mapped}
 use Rattle.dcx_tree.proofs.Names.{found_in}
-use Rattle.dcx_tree.proofs.Sublists.{contains_at, any_at, at_any, distinct_front}
+use Rattle.dcx_tree.proofs.Sublists.{contains_at}
 use Rattle.dcx_tree.proofs.Values.{taken}
 use Rattle.dcx_domain.specs.Points.{IsInside}
 use Rattle.dcx_domain.specs.Laws.{HoldsForPoints}
@@ -91,46 +85,7 @@ module _ (nodes : List Node) (vs : List Variable) (ps : List Parameter) (d : Are
       let (n, in_nodes, is) = mapped (convex_node names nodes) nodes i m at in
       subst (λ (z : convex.Node). VariableKeeps (numbers_by names.variables given) z.head) is (call_keeps h n.call (arg_sides nodes n) n.sides (d.listed i n in_nodes))
 
--- ---- there are no more variables than nodes
-name_in : Call → List ℕ
-name_in (calls.Variable v) = v.name
-name_in (calls.Parameter q) = []
-name_in (calls.Constant x) = []
-name_in (calls.Atom m) = []
-name_in (calls.Linear m) = []
-name_in (calls.Pairing m) = []
-
--- a variable that has a node has its name among theirs
-named_there : (nodes : List Node) (i : ℕ) (v : Variable) (q : List ℕ) → call_at nodes i ≡ Some (calls.Variable v) → v.name ≡ q → list_any (same_name q) (map (λ n. name_in n.call) nodes) ≡ true
-unfolding name_in
-named_there nodes i v q call_is named =
-    let (n, there, call) = found_in (slice_get nodes i) (calls.Variable v) call_is in
-    at_any (same_name q) (map (λ (m : Node). name_in m.call) nodes) i (name_in n.call)
-    (slice_get-map (λ (m : Node). name_in m.call) nodes i ∙ ap (option_map (λ (m : Node). name_in m.call)) there)
-    (ap (same_name q) (ap name_in call ∙ named) ∙ same_name-refl q)
-
-pub variables_few : (nodes : List Node) (vs : List Variable) (ps : List Parameter) → AreDeclared nodes vs ps → length vs ≤ length nodes
-variables_few nodes vs ps d =
-    let few = length-le_from_is_member nat_list_eq_equiv (map (λ (v : Variable). v.name) vs) (map (λ (n : Node). name_in n.call) nodes)
-    (distinct_front (map (λ (v : Variable). v.name) vs) (map (λ (q : Parameter). q.name) ps) d.distinct) stands in
-    omega (arith, few, length-map vs (λ (v : Variable). v.name), length-map nodes (λ (n : Node). name_in n.call))
-  where
-    stands_at : (q : List ℕ) (k : ℕ) (v : Variable) → slice_get vs k ≡ Some v → v.name ≡ q → list_any (same_name q) (map (λ (n : Node). name_in n.call) nodes) ≡ true
-    stands_at q k v in_vs named =
-        let (i, call_is) = d.variables_stand k v (slice_get_within vs k v in_vs) in
-        named_there nodes i (get_or vs k v) q call_is (ap (λ (u : Variable). u.name) (get_or_from_slice_get vs k v v in_vs) ∙ named)
-
-    stands : (q : List ℕ) → list_any (same_name q) (map (λ (v : Variable). v.name) vs) ≡ true → list_any (same_name q) (map (λ (n : Node). name_in n.call) nodes) ≡ true
-    stands q t =
-        let (k, name, at, same) = any_at (same_name q) (map (λ (v : Variable). v.name) vs) t in
-        let (v, in_vs, is) = mapped (λ (u : Variable). u.name) vs k name at in
-        stands_at q k v in_vs (is ∙ sym (same_name-true q name same))
-
 -- ---- of a problem
-pub few_variables : (p : Problem) → length p.variables ≤ 20000
-few_variables p =
-    ∥∥₁_elim p.declared le_prop (λ d. let few = variables_few p.tree p.variables p.parameters d in let most = p.nodes.room.few_nodes in omega (arith, few, most))
-
 keeps_prop : (a : convex.Attribute) (s : Sides) (x : Numbers) → IsProp (Keeps a s x)
 keeps_prop convex.Free s x = hlevel props
 keeps_prop convex.Nonneg s x = hlevel ≤ℚ_prop

@@ -1,19 +1,20 @@
 -- There are no more variables and parameters than nodes: no name is declared twice, and each has a node.
-use Rattle.std.specs.Prelude.{◌≡◌, ℕ, zero, suc, ◌+◌, ◌^◌, ◌<◌, ◌≤◌, Bool, true, false, ◌||◌, cond, List, [], ◌∷◌, ◌++◌, length, map, Option, Some, IsSome}
+use Rattle.std.specs.Prelude.{◌≡◌, ℕ, zero, suc, ◌+◌, ◌≤◌, Bool, true, false, ◌||◌, cond, List, [], ◌∷◌, ◌++◌, length, map, Option, Some, IsSome}
 use Rattle.std.specs.List.{AllByRecursion, list_any}
 use Rattle.std.specs.Map.{lookup}
 use Rattle.std.specs.Cmp.Lexicographic.{nat_list_eq_equiv}
-use Rattle.std.proofs.Common.{refl, sym, ap, subst, inl, inr, arith}
-use Rattle.std.proofs.lemmas.Bool.{cases_lt}
-use Rattle.std.proofs.lemmas.Grind.{not_there}
+use Rattle.std.proofs.Common.{refl, sym, ap, subst, arith}
+use Rattle.std.proofs.Math.Logic.{∥∥₁_elim}
+use Rattle.std.proofs.Math.Bridge.{le_prop}
 use Rattle.std.proofs.lemmas.List.Elements.{recursion_from_All}
 use Rattle.std.proofs.lemmas.Map.Steps.{length-le_from_keys}
 use Rattle.dcx_point.specs.Pairs.{same_name}
-use Rattle.dcx_arena.specs.Nodes.{call_at, entries_in, IsWithin}
+use Rattle.dcx_arena.specs.Nodes.{call_at}
 use Rattle.dcx_call.specs.declared.attribute.Variable.{Variable}
 use Rattle.dcx_call.specs.declared.attribute.Parameter.{Parameter}
 use Rattle.dcx_call.specs.declared.call.Call.{Call}
 use Rattle.dcx_call.specs.declared.call.Call.TheVariants as calls
+use Rattle.dcx_tree.specs.declared.problem.Problem.{Problem}
 use Rattle.dcx_tree.specs.Nodes.{Node}
 use Rattle.dcx_tree.specs.Problems.{HasCall, declared_names, AreDeclared}
 
@@ -75,7 +76,7 @@ length-both f g [] [] = refl
 length-both f g [] (y ∷ ys) = omega (arith, length-both f g [] ys)
 length-both f g (x ∷ xs) ys = omega (arith, length-both f g xs ys)
 
-pub few_declared : (nodes : List Node) (vs : List Variable) (ps : List Parameter) → AreDeclared nodes vs ps → length vs + length ps ≤ length nodes
+few_declared : (nodes : List Node) (vs : List Variable) (ps : List Parameter) → AreDeclared nodes vs ps → length vs + length ps ≤ length nodes
 unfolding IsKey name_in
 few_declared nodes vs ps d =
     subst (λ n. n ≤ length nodes) (length-both (λ (v : Variable). v.name) (λ (p : Parameter). p.name) vs ps)
@@ -88,16 +89,12 @@ few_declared nodes vs ps d =
     append-nil' [] = refl
     append-nil' (x ∷ xs) = ap (λ ys. x ∷ ys) (append-nil' xs)
 
--- a problem has fewer of each than 2^32, since it has at most 20,000 nodes
-module _ (nodes : List Node) (vs : List Variable) (ps : List Parameter) (within : IsWithin (length nodes) (entries_in nodes)) (declared : ∥ AreDeclared nodes vs ps ∥₁) where
-  few_together : length vs + length ps ≤ length nodes
-  few_together = elim (cases_lt (length nodes) (length vs + length ps)) [
-    | inl more ↦ absurd (not_there declared (λ d. omega (arith, few_declared nodes vs ps d, more)))
-    | inr few ↦ few
-  ]
+-- a problem has at most 20,000 of each, as it has nodes
+few_together : (p : Problem) → length p.variables + length p.parameters ≤ 20000
+few_together p = ∥∥₁_elim p.declared le_prop (λ d. let few = few_declared p.tree p.variables p.parameters d in let most = p.nodes.room.few_nodes in omega (arith, few, most))
 
-  pub few_variables : length vs < 2 ^ 32
-  few_variables = let most = within.few_nodes in omega (arith, few_together, most)
+pub few_variables : (p : Problem) → length p.variables ≤ 20000
+few_variables p = omega (arith, few_together p)
 
-  pub few_parameters : length ps < 2 ^ 32
-  few_parameters = let most = within.few_nodes in omega (arith, few_together, most)
+pub few_parameters : (p : Problem) → length p.parameters ≤ 20000
+few_parameters p = omega (arith, few_together p)
