@@ -21,8 +21,6 @@ mod flags;
 mod nodes;
 mod problem;
 mod state;
-#[cfg(test)]
-mod tests;
 
 pub use flags::Flags;
 pub use problem::{Asking, MOST_EVENTS};

@@ -1,5 +1,5 @@
-//! Each method of a state once, with the nodes that come counted by hand.
-use crate::{Asking, Flags, State};
+//! Names, nodes and problems of small states.
+
 use dcx_affine::{Minus, Plus};
 use dcx_arena::NodeId;
 use dcx_array::array_with;
@@ -8,6 +8,7 @@ use dcx_frac::Frac;
 use dcx_kinds::{Extent, Objective, Operand, Reading, Value};
 use dcx_read::Named;
 use dcx_shape::{Name, Place, Sides};
+use dcx_state::{Asking, Flags, State};
 use dcx_tree::{Kind, Sense};
 use std::alloc::{AllocError, Global};
 use std::rc::Rc;
