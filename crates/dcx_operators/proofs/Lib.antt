@@ -1,0 +1,5 @@
+-- The lemmas.
+pub mod NearestSlices
+pub mod NearestPicks
+pub mod Indexed
+pub mod Picked

@@ -1,0 +1,10 @@
+-- The pair is that of the definition.
+use Rattle.std.proofs.Common.{subst}
+use Rattle.dcx_kinds.specs.Meant.{meant}
+use Rattle.dcx_kinds.specs.View.{Gives}
+use Rattle.dcx_operators.specs.Operators.{Pair, scaled_pair}
+use Rattle.dcx_operators.proofs.operators.scale_values.Goals as goal
+
+pub returns : goal.returns
+returns c =
+    subst (λ (p : Pair). Gives meant c.pair_scaled.result c.pair_scaled.new.state (scaled_pair c.args.scaling c.args.place p c.args.state.now)) c.in_ok-pair.ensures c.pair_scaled.ensures
