@@ -1,0 +1,44 @@
+-- The operands are read in their order, and the node is made of them.
+use Rattle.std.proofs.Common.{◌≡◌, [], ◌∷◌, map, ap, ap₂, ◌∙◌}
+use Rattle.std.proofs.lemmas.Result.{err_from_is_err_and}
+use Rattle.dcx_affine.specs.declared.pairing.Pairing.TheVariants.{Times}
+use Rattle.dcx_call.specs.declared.call.Call.TheVariants.{Pairing}
+use Rattle.dcx_kinds.specs.Nodes.{broadcast_called}
+use Rattle.dcx_kinds.specs.Kinds.{Reading}
+use Rattle.dcx_kinds.specs.Meant.{meant}
+use Rattle.dcx_kinds.specs.View.{read_as, meant_operand}
+use Rattle.dcx_signature.specs.Table.{a_word, b_word}
+use Rattle.dcx_functions.specs.Calls.{reading_of, of_two}
+use Rattle.dcx_functions.proofs.Steps.{Gives-fault, read_fault, made_fault, made_is}
+use Rattle.dcx_functions.proofs.expressions.multiply.Goals as goal
+
+pub returns-in_err-operands : goal.returns-in_err-operands
+returns-in_err-operands c =
+    let b = c.args.bound.now in
+    let qs = reading_of a_word b ∷ reading_of b_word b ∷ [] in
+    let same : map read_as c.in_ok-vec.field-0.items ≡ qs = ap (map read_as) c.in_ok-vec.ensures.items ∙ ap₂ (λ (l r : Reading). l ∷ r ∷ []) c.in_ok-left.ensures c.in_ok-right.ensures in
+    let e = c.in_err-operands.field-0.0 in
+    let p = err_from_is_err_and c.from_residual-in_err-operands.result c.from_residual-in_err-operands.ensures.1 in
+    Gives-fault meant c.from_residual-in_err-operands.result c.args.state.now (of_two c.args.place (Pairing Times) b c.args.state.now) p.0 e p.1 p.2
+    (read_fault (broadcast_called c.args.place (Pairing Times)) c.args.place (map read_as c.in_ok-vec.field-0.items) qs same c.args.state.now e (c.in_err-operands.ensures c.args.state.now))
+
+pub returns-in_err-node : goal.returns-in_err-node
+returns-in_err-node c =
+    let b = c.args.bound.now in
+    let qs = reading_of a_word b ∷ reading_of b_word b ∷ [] in
+    let same : map read_as c.in_ok-vec.field-0.items ≡ qs = ap (map read_as) c.in_ok-vec.ensures.items ∙ ap₂ (λ (l r : Reading). l ∷ r ∷ []) c.in_ok-left.ensures c.in_ok-right.ensures in
+    let e = c.in_err-node.field-0.0 in
+    let p = err_from_is_err_and c.from_residual-in_err-node.result c.from_residual-in_err-node.ensures.1 in
+    Gives-fault meant c.from_residual-in_err-node.result c.broadcast_called.new.self (of_two c.args.place (Pairing Times) b c.args.state.now) p.0 e p.1 p.2
+    (made_fault (broadcast_called c.args.place (Pairing Times)) c.args.place (map read_as c.in_ok-vec.field-0.items) qs same c.args.state.now
+    (map meant_operand c.in_ok-operands.operands.items) (map meant_operand c.deref.result.now) (ap (map meant_operand) c.deref.ensures.value) (c.in_ok-operands.ensures c.args.state.now)
+    e c.in_err-node.ensures)
+
+pub returns : goal.returns
+returns c =
+    let b = c.args.bound.now in
+    let qs = reading_of a_word b ∷ reading_of b_word b ∷ [] in
+    let same : map read_as c.in_ok-vec.field-0.items ≡ qs = ap (map read_as) c.in_ok-vec.ensures.items ∙ ap₂ (λ (l r : Reading). l ∷ r ∷ []) c.in_ok-left.ensures c.in_ok-right.ensures in
+    made_is (broadcast_called c.args.place (Pairing Times)) c.args.place (map read_as c.in_ok-vec.field-0.items) qs same c.args.state.now
+    (map meant_operand c.in_ok-operands.operands.items) (map meant_operand c.deref.result.now) (ap (map meant_operand) c.deref.ensures.value) (c.in_ok-operands.ensures c.args.state.now)
+    c.in_ok-node.node.0 c.broadcast_called.new.self c.in_ok-node.ensures

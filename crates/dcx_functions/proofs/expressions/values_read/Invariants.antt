@@ -1,0 +1,8 @@
+use Rattle.std.proofs.Common.{◌≡◌, map, take}
+use Rattle.dcx_kinds.specs.Kinds.{reading}
+use Rattle.dcx_kinds.specs.Meant.{meant}
+use Rattle.dcx_kinds.specs.View.{read_as}
+use Rattle.dcx_functions.proofs.expressions.values_read.Given as goal
+
+abbrev pub invariant-loop-value : goal.invariant-loop-value
+invariant-loop-value l = map read_as l.readings.items ≡ map reading (map meant (take l.value-index l.values))

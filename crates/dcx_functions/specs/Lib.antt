@@ -1,0 +1,2 @@
+-- What the calls of the language do.
+pub mod Calls
