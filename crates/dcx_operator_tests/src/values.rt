@@ -1,10 +1,10 @@
 //! Operators, indices and attributes on values of each kind, with what they give as worked out by hand.
 
 use dcx_arena::NodeId;
-use dcx_array::{array_with, number};
+use dcx_array::number;
 use dcx_atom::Array;
 use dcx_frac::Frac;
-use dcx_kinds::{ElabFault, Extent, Items, Value};
+use dcx_kinds::{ElabFault, Extent, Items, Value, rows_array};
 use dcx_operators::{
     Evaluated, add_values, attribute_value, compare_values, index_value, scale_values, sign_value,
 };
@@ -107,24 +107,25 @@ fn plain(alloc: Global, n: i128) -> Result<Value, Fail> {
     Ok(Value::Plain(Rc::new(alloc, array)?))
 }
 
+/// The items that these numbers are.
+fn items(alloc: Global, numbers: &[i128]) -> Result<Items, Fail> {
+    let mut items = Items::new(alloc);
+    for n in numbers {
+        items.push(HERE, plain(alloc, *n)?)?;
+    }
+    Ok(items)
+}
+
 /// The plain vector of these numbers.
 fn vector(alloc: Global, numbers: &[i128]) -> Result<Value, Fail> {
-    let mut entries = Vec::new(alloc);
-    for n in numbers {
-        entries.push(whole(*n))?;
-    }
-    let count = u32::try_from(numbers.len()).unwrap_or(0);
-    let array = array_with(Sides::Vector(count), entries).ok_or("no array")?;
+    let items = items(alloc, numbers)?;
+    let array = rows_array(alloc, items.values())?.ok_or("no array")?;
     Ok(Value::Plain(Rc::new(alloc, array)?))
 }
 
 /// The list of these numbers.
 fn list(alloc: Global, numbers: &[i128]) -> Result<Value, Fail> {
-    let mut items = Items::new(alloc);
-    for n in numbers {
-        let item = plain(alloc, *n)?;
-        items.push(HERE, item)?;
-    }
+    let items = items(alloc, numbers)?;
     Ok(Value::List(Rc::new(alloc, items)?))
 }
 

@@ -1,5 +1,5 @@
 -- What indices give of nodes, plain arrays and lists, and that numbers in 64 bits give the same.
-use Rattle.std.specs.Prelude.{◌≡◌, ℕ, zero, suc, ◌+◌, ◌-◌, ◌<◌, ◌≤◌, ◌^◌, min, ℤ, pos, negsuc, ◌+ℤ◌, List, [], ◌∷◌, ◌++◌, map, length, slice_get, Option, Some, None, option_map, Result, Ok, Err}
+use Rattle.std.specs.Prelude.{◌≡◌, ℕ, ◌-◌, ◌≤◌, ◌^◌, min, ℤ, pos, negsuc, ◌+ℤ◌, List, [], ◌∷◌, map, length, Option, Some, None, option_map, Result, Ok, Err}
 use Rattle.std.specs.List.{All}
 use Rattle.std.proofs.Common.{refl, sym, ap, ◌∙◌, subst, arith, inl, inr}
 use Rattle.std.proofs.lemmas.Int.{ints}
@@ -21,14 +21,13 @@ use Rattle.dcx_array.specs.declared.fault.ArrayFault.{ArrayFault}
 use Rattle.dcx_array.specs.declared.fault.ArrayFault.TheVariants as array_faults
 use Rattle.dcx_array.specs.Answers.{Gives as Answers}
 use Rattle.dcx_array.specs.Shapes.{shape_with}
-use Rattle.dcx_array.specs.Picks.{indexed, picked_array}
+use Rattle.dcx_array.specs.Picks.{indexed}
 use Rattle.dcx_array.proofs.AllowedShapes.{shape_with-is}
 use Rattle.dcx_kinds.specs.declared.fault.ElabFault.{ElabFault}
 use Rattle.dcx_kinds.specs.declared.fault.ElabFault.TheVariants.{BadArgument, ShapeClash, IndexRange, Memory}
 use Rattle.dcx_kinds.specs.Faults.{array_fault_at}
 use Rattle.dcx_kinds.specs.Values.{Value, State, Act, and_then, ◌>>=◌, or_fault, or_array_fault}
 use Rattle.dcx_kinds.specs.Nodes.{push}
-use Rattle.dcx_kinds.specs.Operands.{as_plain}
 use Rattle.dcx_kinds.specs.View.{Fails, Gives}
 use Rattle.dcx_kinds.proofs.Acts.{Fails-then}
 use Rattle.dcx_operators.specs.Indices.{index_node, index_plain, item_at, index_list}

@@ -1,14 +1,13 @@
 -- Picks whose numbers are brought into 64 bits take the same of an array.
-use Rattle.std.specs.Prelude.{◌≡◌, ◌≢◌, ℕ, zero, suc, ◌+◌, ◌*◌, ◌-◌, ◌<◌, ◌≤◌, nat_le, ℤ, pos, negsuc, ◌+ℤ◌, ◌<ℤ◌, ◌≤ℤ◌, ◌⊎◌, List, [], ◌∷◌, map, length, Result, Ok, slice_index_or}
+use Rattle.std.specs.Prelude.{◌≡◌, ◌≢◌, ℕ, zero, suc, ◌*◌, ◌<◌, ◌≤◌, nat_le, ℤ, pos, negsuc, ◌<ℤ◌, ◌≤ℤ◌, ◌⊎◌, List, [], ◌∷◌, map, length, Result, Ok}
 use Rattle.std.specs.List.{All}
-use Rattle.std.proofs.Common.{refl, sym, ap, ◌∙◌, subst, arith, inl, inr, mul-suc, mul_comm}
+use Rattle.std.proofs.Common.{refl, sym, ap, ◌∙◌, arith, inl, inr, mul-suc, mul_comm}
 use Rattle.std.proofs.lemmas.Int.{ints}
 use Rattle.std.proofs.lemmas.List.{length-map}
 use Rattle.std.proofs.lemmas.List.Elements.{All-head, All-tail, All-cons, All-nil}
 use Rattle.dcx_shape.specs.declared.shape.Sides.{Sides}
 use Rattle.dcx_shape.specs.declared.shape.Sides.TheVariants.{Scalar, Vector, Matrix}
 use Rattle.dcx_shape.specs.declared.shape.Shape.{Shape}
-use Rattle.dcx_shape.specs.declared.slice.Slice.{Slice}
 use Rattle.dcx_shape.specs.declared.index.Pick.{Pick}
 use Rattle.dcx_shape.specs.declared.index.Pick.TheVariants.{At, Range as Along}
 use Rattle.dcx_shape.specs.declared.fault.ShapeFault.{ShapeFault}
@@ -18,7 +17,6 @@ use Rattle.dcx_shape.specs.Slice.{counted}
 use Rattle.dcx_shape.specs.Index.{HasStep, Takes, IsPickFault, row_pick, column_pick, kept_sides}
 use Rattle.dcx_shape.proofs.Indices.{row_pick_steps, column_pick_steps}
 use Rattle.dcx_atom.specs.declared.array.Array.{Array}
-use Rattle.dcx_affine.specs.declared.places.Index.{Index}
 use Rattle.dcx_array.specs.declared.fault.ArrayFault.{ArrayFault}
 use Rattle.dcx_array.specs.declared.fault.ArrayFault.TheVariants.{Clash}
 use Rattle.dcx_array.specs.Answers.{◌>>=◌, ◌>>◌, unless}

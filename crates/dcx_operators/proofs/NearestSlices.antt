@@ -1,10 +1,10 @@
 -- A slice whose numbers are brought into 64 bits takes the same places of a side of an array.
-use Rattle.std.specs.Prelude.{◌≡◌, ◌≢◌, ◌↔◌, ℕ, zero, suc, ◌+◌, ◌*◌, ◌-◌, ◌<◌, ◌≤◌, ◌^◌, min, ℤ, pos, negsuc, neg_ℤ, ◌+ℤ◌, ◌-ℤ◌, ◌*ℤ◌, ◌<ℤ◌, ◌≤ℤ◌, List, length, slice_index, Option, Some, None, option_map}
+use Rattle.std.specs.Prelude.{◌≡◌, ◌↔◌, ℕ, zero, suc, ◌-◌, ◌<◌, ◌≤◌, ◌^◌, min, ℤ, pos, negsuc, neg_ℤ, ◌+ℤ◌, ◌-ℤ◌, ◌*ℤ◌, ◌<ℤ◌, ◌≤ℤ◌, List, length, slice_index, Option, Some, None, option_map}
 use Rattle.std.proofs.Common.{refl, sym, ap, ◌∙◌, subst, arith, inl, inr, suc-mul, zero-mul}
 use Rattle.std.proofs.lemmas.Bool.{cases_lt}
 use Rattle.std.proofs.lemmas.Int.{ints, clamps}
 use Rattle.dcx_shape.specs.declared.slice.Slice.{Slice}
-use Rattle.dcx_shape.specs.Slice.{counted, clipped, end_of, start_for, stop_for, IsBefore, slice_place, IsSlice}
+use Rattle.dcx_shape.specs.Slice.{counted, clipped, end_of, start_for, stop_for, IsBefore, IsSlice}
 use Rattle.dcx_operators.specs.View.{nearest, nearest_slice}
 
 -- ---- ends

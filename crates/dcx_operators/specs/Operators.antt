@@ -1,5 +1,5 @@
 -- Operators on values of any kind: sums, products, signs and comparisons.
-use Rattle.std.specs.Prelude.{ℕ, nat_eq, Bool, true, false, ◌||◌, if◌then◌else◌, List, [], ◌∷◌, Result}
+use Rattle.std.specs.Prelude.{ℕ, nat_eq, Bool, true, false, ◌||◌, if◌then◌else◌, [], ◌∷◌, Result}
 use Rattle.dcx_shape.specs.declared.place.Place.{Place}
 use Rattle.dcx_shape.specs.Sides.{entries_of}
 use Rattle.dcx_atom.specs.declared.array.Array.{Array}

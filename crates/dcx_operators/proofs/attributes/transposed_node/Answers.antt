@@ -1,5 +1,5 @@
 -- The sides of the node are those of its shape.
-use Rattle.std.proofs.Common.{◌≡◌, Ok, subst, sym, ap, ◌∙◌, refl}
+use Rattle.std.proofs.Common.{subst, sym, ◌∙◌}
 use Rattle.dcx_shape.specs.declared.shape.Sides.{Sides}
 use Rattle.dcx_kinds.specs.View.{Gives}
 use Rattle.dcx_operators.specs.Attributes.{node_turned}

@@ -2,7 +2,6 @@
 use Rattle.std.proofs.Common.{List, map, subst, sym}
 use Rattle.std.proofs.lemmas.Result.{err_from_is_err_and}
 use Rattle.dcx_shape.specs.declared.index.Pick.{Pick}
-use Rattle.dcx_kinds.specs.Meant.{meant}
 use Rattle.dcx_kinds.specs.View.{Gives}
 use Rattle.dcx_operators.specs.Indices.{picks_of, index_node}
 use Rattle.dcx_operators.specs.View.{evaluated}

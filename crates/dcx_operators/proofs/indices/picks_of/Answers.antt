@@ -1,9 +1,9 @@
 -- One pick more, and the picks of the indices that are left.
-use Rattle.std.proofs.Common.{subst, sym, ap, ◌∙◌, map, drop, length, get_or, arith, ◌∷◌, refl}
+use Rattle.std.proofs.Common.{subst, sym, ◌∙◌}
 use Rattle.std.proofs.lemmas.List.Elements.{All-push}
 use Rattle.std.specs.List.{All}
 use Rattle.dcx_shape.specs.Index.{HasStep}
-use Rattle.dcx_operators.proofs.Picked.{picked_by, behind, picked_by-next}
+use Rattle.dcx_operators.proofs.Picked.{picked_by-next}
 use Rattle.dcx_operators.proofs.indices.picks_of.Goals as goal
 
 pub loop-index-preserved : goal.loop-index-preserved

@@ -1,5 +1,5 @@
 -- The comparison is offered, and the pair is that of the definition.
-use Rattle.std.proofs.Common.{Bool, if◌then◌else◌, subst, sym, ◌∙◌}
+use Rattle.std.proofs.Common.{Bool, subst, sym, ◌∙◌}
 use Rattle.dcx_kinds.specs.Meant.{meant}
 use Rattle.dcx_kinds.specs.View.{Gives}
 use Rattle.dcx_kinds.specs.Values.{◌>>◌, unless}
