@@ -95,3 +95,27 @@ pub(crate) fn gives_bytes(
     let (ended, bytes) = written(alloc, text, files(alloc, script)?)?;
     Ok(ended == status && bytes.as_slice() == report)
 }
+
+/// The same of a file of these bytes alone.
+pub(crate) fn gives_alone(
+    alloc: Global,
+    text: &str,
+    bytes: &[u8],
+    status: u8,
+    report: &[u8],
+) -> Result<bool, AllocError> {
+    let (ended, told) = written(alloc, text, file(alloc, bytes.to_vec(alloc)?)?)?;
+    Ok(ended == status && told.as_slice() == report)
+}
+
+/// The status of the words over a file of these bytes alone.
+pub(crate) fn status_alone(alloc: Global, text: &str, bytes: &[u8]) -> Result<u8, AllocError> {
+    let (ended, _) = written(alloc, text, file(alloc, bytes.to_vec(alloc)?)?)?;
+    Ok(ended)
+}
+
+/// What the words write of a script.
+pub(crate) fn report_of(alloc: Global, text: &str, script: &[u8]) -> Result<Vec<u8>, AllocError> {
+    let (_, told) = written(alloc, text, files(alloc, script)?)?;
+    Ok(told)
+}

@@ -1,13 +1,16 @@
 -- The headline follows from the cause of each answer.
-use Rattle.std.proofs.Common.{◌≡◌, ℕ, List, [], ◌∷◌, ◌++◌, map, refl, sym, ap₂, subst, Option}
+use Rattle.std.proofs.Common.{◌≡◌, ℕ, List, [], ◌∷◌, ◌++◌, map, refl, sym, ap₂, subst, Option, Some}
 use Rattle.dcx_frac.specs.declared.fraction.Frac.{Frac}
 use Rattle.dcx_frac.specs.Frac.{value}
-use Rattle.dcx_report.specs.Files.{Files}
+use Rattle.dcx_tree.specs.declared.constraint.Sense.{Sense}
+use Rattle.dcx_report.specs.Files.{Files, IsTold}
 use Rattle.dcx_atom.specs.declared.array.Array.{Array}
 use Rattle.dcx_report.specs.declared.graph.Answer.TheVariants as answer
 use Rattle.dcx_report.specs.declared.outcome.Outcome.{Outcome}
 use Rattle.dcx_report.specs.declared.outcome.OutcomeEnd.{OutcomeEnd}
 use Rattle.dcx_report.specs.declared.outcome.OutcomeEnd.TheVariants as end
+use Rattle.dcx_report.specs.declared.checked.Checked.{Checked}
+use Rattle.dcx_report.specs.declared.run.Word.{Word}
 use Rattle.dcx_report.specs.declared.run.Run.{Run}
 use Rattle.dcx_report.specs.declared.run.Run.TheVariants as run
 use Rattle.dcx_plain.specs.declared.script.Script.{Script}
@@ -15,8 +18,12 @@ use Rattle.dcx_plain.specs.Phrases.{Every}
 use Rattle.dcx_plain.specs.Meaning.{program_of}
 use Rattle.dcx_plain.specs.Answers.{IsOptimal, IsUnbounded}
 use Rattle.dcx_top.specs.Outcome.{AreNumbers, IsEndOf}
-use Rattle.dcx_top.specs.Answers.{Answers, HasOneEnd}
-use Rattle.dcx_top.specs.Headline.{numbers_of, IsRightEnd, AnswersAreRight}
+use Rattle.dcx_top.specs.declared.words.Verb.{Verb}
+use Rattle.dcx_top.specs.declared.words.Verb.TheVariants.{Check, Solve}
+use Rattle.dcx_top.specs.Words.{form_of}
+use Rattle.dcx_top.specs.Checking.{spells, unread, stands_for, faulty, ChecksBytes}
+use Rattle.dcx_top.specs.Answers.{Answers, HasOneEnd, GivesRun}
+use Rattle.dcx_top.specs.Headline.{numbers_of, IsRightEnd, IsRightOver, IsAcceptedOver, AnswersAreRight}
 
 -- arrays of single numbers have these numbers
 numbers_are : (xs : List Frac) (as' : List Array) → AreNumbers xs as' → map value xs ≡ numbers_of as'
@@ -44,18 +51,45 @@ right_outcomes s [] h = absurd h
 right_outcomes s (o ∷ []) h = (right_end s o.end h.0, tt)
 right_outcomes s (o ∷ more ∷ os) h = absurd h
 
+-- a check solves nothing
+not_solved : (bytes : List ℕ) (word : Word) (sense : Sense) (outcomes : List Outcome) → ChecksBytes bytes (run.Solved word sense outcomes) → ⊥
+not_solved bytes word sense outcomes (spells script read (stands_for work means checks)) = checks
+not_solved bytes word sense outcomes (spells script read (faulty f fails ends)) = ends
+not_solved bytes word sense outcomes (unread f read ends) = ends
+
+module _ (words : List (List ℕ)) (told : Option Files) (name : List ℕ) (bytes : List ℕ) (are_told : IsTold told name bytes) where
+  right_over : (word : Word) (sense : Sense) (outcomes : List Outcome) (verb : Verb) → form_of words ≡ Some (verb, name) → GivesRun verb bytes (run.Solved word sense outcomes) → IsRightOver words told outcomes
+  right_over word sense outcomes Check form gives = absurd (not_solved bytes word sense outcomes gives)
+  right_over word sense outcomes Solve form gives = record {
+    name = name;
+    form = form;
+    bytes = bytes;
+    are_told = are_told;
+    script = gives.2.0;
+    spelled = gives.2.1;
+    right = right_outcomes gives.2.0 outcomes gives.2.2;
+  }
+
+  accepted_over : (c : Checked) (verb : Verb) → form_of words ≡ Some (verb, name) → GivesRun verb bytes (run.Checked c) → IsAcceptedOver words told c
+  accepted_over c Check form (spells script read (stands_for work means checks)) = record {
+    name = name;
+    form = form;
+    bytes = bytes;
+    are_told = are_told;
+    script = script;
+    spelled = read;
+    work = work;
+    stands_for = means;
+    accepted = checks;
+  }
+  accepted_over c Check form (spells script read (faulty f fails ends)) = absurd ends
+  accepted_over c Check form (unread f read ends) = absurd ends
+  accepted_over c Solve form gives = absurd gives
+
 pub right_answers : (words : List (List ℕ)) (told : Option Files) (risen : Type 0) (r : Run) → Answers words told risen r → AnswersAreRight words told r
 right_answers words told risen run.Usage h = tt
 right_answers words told risen (run.Refused refusal) h = tt
-right_answers words told risen (run.Checked checked) h = absurd h
-right_answers words told risen (run.Solved word sense outcomes) h = record {
-  name = h.name;
-  operand = h.operand;
-  bytes = h.bytes;
-  are_told = h.are_told;
-  script = h.solves.2.0;
-  spelled = h.solves.2.1;
-  right = right_outcomes h.solves.2.0 outcomes h.solves.2.2;
-}
+right_answers words told risen (run.Checked c) h = accepted_over words told h.name h.bytes h.are_told c h.verb h.form h.gives
+right_answers words told risen (run.Solved word sense outcomes) h = right_over words told h.name h.bytes h.are_told word sense outcomes h.verb h.form h.gives
 right_answers words told risen run.ReadFault h = tt
 right_answers words told risen run.Memory h = tt

@@ -7,12 +7,15 @@ use Rattle.dcx_report.specs.declared.run.Word.TheVariants as word_is
 use Rattle.dcx_tree.specs.declared.constraint.Sense.TheVariants as sense_is
 use Rattle.dcx_report.specs.declared.outcome.Outcome.{Outcome}
 use Rattle.dcx_report.specs.declared.refusal.Refusal.{Refusal}
-use Rattle.dcx_report.specs.declared.refusal.RefusalSource.TheVariants as source_is
 use Rattle.dcx_report.specs.declared.refusal.Carried.TheVariants as carried_is
 use Rattle.dcx_plain.specs.declared.script.Script.{Script}
 use Rattle.dcx_plain.specs.Grammar.{script_text}
 use Rattle.dcx_plain.specs.Plain.{IsPlain, Spells}
-use Rattle.dcx_top.specs.Words.{operand_of}
+use Rattle.dcx_check.specs.Checks.{IsRefusedAs}
+use Rattle.dcx_top.specs.declared.words.Verb.{Verb}
+use Rattle.dcx_top.specs.declared.words.Verb.TheVariants.{Check, Solve}
+use Rattle.dcx_top.specs.Words.{form_of}
+use Rattle.dcx_top.specs.Checking.{ChecksBytes}
 use Rattle.dcx_top.specs.Outcome.{IsEndOf, IsOnlyEnd}
 
 -- how many bytes a script has at most
@@ -20,11 +23,8 @@ abbrev pub script_limit : ℕ
 script_limit = 1048576
 
 -- the refusal of this number at the script's first byte
-pub record IsRefusedAs (number : ℕ) (r : Refusal) : Type 0 where
-  pub source : r.source ≡ source_is.Script
-  pub number_is : r.number ≡ number
-  pub place : r.place ≡ record { line = 1; column = 1 }
-  pub carried : r.carried ≡ carried_is.Nothing
+abbrev pub IsRefusedWhole : ℕ → Refusal → Type 0
+IsRefusedWhole number r = IsRefusedAs number (record { line = 1; column = 1 }) carried_is.Nothing r
 
 -- the bytes spell no plain script
 abbrev pub SpellsNone : List ℕ → Type 0
@@ -38,38 +38,46 @@ HasOneEnd s (o ∷ more ∷ os) = ⊥
 
 -- what the bytes of a script give; want of memory is free
 abbrev pub SolvesBytes : List ℕ → Run → Type 0
-SolvesBytes bytes (Refused r) = IsRefusedAs 29 r × SpellsNone bytes
+SolvesBytes bytes (Refused r) = IsRefusedWhole 29 r × SpellsNone bytes
 SolvesBytes bytes (Checked c) = ⊥
 SolvesBytes bytes (Solved word sense outcomes) = (word ≡ word_is.Solve) × (sense ≡ sense_is.Minimize) × ((s : Script) × Spells bytes s × HasOneEnd s outcomes)
 SolvesBytes bytes Memory = ⊤
 SolvesBytes bytes Usage = ⊥
 SolvesBytes bytes ReadFault = ⊥
 
+-- what the bytes give under a command
+abbrev pub GivesRun : Verb → List ℕ → Run → Type 0
+GivesRun Check bytes run = ChecksBytes bytes run
+GivesRun Solve bytes run = SolvesBytes bytes run
+
 -- the script is too long
 pub record IsTooLong (words : List (List ℕ)) (told : Option Files) : Type 0 where
+  pub verb : Verb
   pub name : List ℕ
-  pub operand : operand_of words ≡ Some name
+  pub form : form_of words ≡ Some (verb, name)
   pub more : HasMore told name script_limit
 
 -- the script has bytes that give this run
 pub record IsRead (words : List (List ℕ)) (told : Option Files) (run : Run) : Type 0 where
+  pub verb : Verb
   pub name : List ℕ
-  pub operand : operand_of words ≡ Some name
+  pub form : form_of words ≡ Some (verb, name)
   pub bytes : List ℕ
   pub are_told : IsTold told name bytes
-  pub solves : SolvesBytes bytes run
+  pub gives : GivesRun verb bytes run
 
 -- the script could not be had
 pub record IsReadFault (words : List (List ℕ)) (told : Option Files) (risen : Type 0) : Type 0 where
+  pub verb : Verb
   pub name : List ℕ
-  pub operand : operand_of words ≡ Some name
+  pub form : form_of words ≡ Some (verb, name)
   pub cause : Lacks told name ⊎ risen
 
 -- Each answer with its cause. `risen` says that the library's count of faults rose in this run. Want of memory alone is free.
 abbrev pub Answers : List (List ℕ) → Option Files → Type 0 → Run → Type 0
-Answers words told risen Usage = operand_of words ≡ None
-Answers words told risen (Refused r) = IsRead words told (Refused r) ⊎ (IsRefusedAs 8 r × IsTooLong words told)
-Answers words told risen (Checked c) = ⊥
+Answers words told risen Usage = form_of words ≡ None
+Answers words told risen (Refused r) = IsRead words told (Refused r) ⊎ (IsRefusedWhole 8 r × IsTooLong words told)
+Answers words told risen (Checked c) = IsRead words told (Checked c)
 Answers words told risen (Solved word sense outcomes) = IsRead words told (Solved word sense outcomes)
 Answers words told risen ReadFault = IsReadFault words told risen
 Answers words told risen Memory = ⊤

@@ -1,5 +1,6 @@
--- The headline: each answer that is printed is right for the problem that the script's bytes spell.
-use Rattle.std.specs.Prelude.{◌≡◌, ℕ, List, [], ◌∷◌, ◌++◌, map, Option, Some, ⊤}
+-- The headline: an accepted problem is convex, and each answer that is printed is right for the problem that the script's
+-- bytes spell.
+use Rattle.std.specs.Prelude.{◌≡◌, ℕ, List, [], ◌∷◌, ◌++◌, map, Option, Some, Ok, ⊤}
 use Rattle.dcx_math.specs.Rational.{ℚ}
 use Rattle.dcx_frac.specs.Frac.{value}
 use Rattle.dcx_report.specs.Files.{Files, IsTold}
@@ -17,7 +18,14 @@ use Rattle.dcx_plain.specs.Phrases.{Every}
 use Rattle.dcx_plain.specs.Plain.{Spells}
 use Rattle.dcx_plain.specs.Meaning.{Program, program_of}
 use Rattle.dcx_plain.specs.Answers.{IsOptimal, IsUnbounded}
-use Rattle.dcx_top.specs.Words.{operand_of}
+use Rattle.dcx_read.specs.declared.tree.Script as reading
+use Rattle.dcx_read.specs.Parses.{IsReading}
+use Rattle.dcx_elab.specs.declared.work.Work.{Work}
+use Rattle.dcx_elab.specs.Meaning.{Elaborates}
+use Rattle.dcx_report.specs.declared.checked.Checked.{Checked}
+use Rattle.dcx_check.specs.Checks.{IsAcceptedWith}
+use Rattle.dcx_top.specs.declared.words.Verb.TheVariants.{Check, Solve}
+use Rattle.dcx_top.specs.Words.{form_of}
 
 -- the numbers of arrays, one after the other
 abbrev pub numbers_of : List Array → List ℚ
@@ -48,14 +56,28 @@ IsRightEnd s (end.Stop stop) = ⊤
 -- the script of a solved run: what the bytes of the named file spell
 pub record IsRightOver (words : List (List ℕ)) (told : Option Files) (outcomes : List Outcome) : Type 0 where
   pub name : List ℕ
-  pub operand : operand_of words ≡ Some name
+  pub form : form_of words ≡ Some (Solve, name)
   pub bytes : List ℕ
   pub are_told : IsTold told name bytes
   pub script : Script
   pub spelled : Spells bytes script
   pub right : Every (λ o. IsRightEnd script o.end) outcomes
 
--- each answer of the run is right
+-- the problem of a checked run: what the script stands for that the bytes of the named file spell. The rules accept it, it
+-- is convex at every fitting setting, and what is told of it is true
+pub record IsAcceptedOver (words : List (List ℕ)) (told : Option Files) (checked : Checked) : Type 0 where
+  pub name : List ℕ
+  pub form : form_of words ≡ Some (Check, name)
+  pub bytes : List ℕ
+  pub are_told : IsTold told name bytes
+  pub script : reading.Script
+  pub spelled : IsReading bytes (Ok script)
+  pub work : Work
+  pub stands_for : Elaborates (Ok work) script
+  pub accepted : IsAcceptedWith work.problem checked
+
+-- each answer of the run is right, and so is what is told of an accepted problem
 abbrev pub AnswersAreRight : List (List ℕ) → Option Files → Run → Type 0
 AnswersAreRight words told (run.Solved word sense outcomes) = IsRightOver words told outcomes
+AnswersAreRight words told (run.Checked checked) = IsAcceptedOver words told checked
 AnswersAreRight words told _ = ⊤

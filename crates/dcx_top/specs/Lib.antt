@@ -1,5 +1,6 @@
 pub mod Words
 pub mod Outcome
 pub mod Answers
+pub mod Checking
 pub mod Ended
 pub mod Headline

@@ -2,8 +2,9 @@
 //!
 //! | what must hold | the clause of `run` |
 //! |---|---|
+//! | an accepted problem is what the script's bytes stand for, the rules accept it, and it is convex at every fitting setting | `headline` |
 //! | each answer is right for the problem that the script's bytes spell, as it shows itself | `headline` |
-//! | each answer and each stop has its cause, the script's bytes among it | `answers` |
+//! | each refusal, each answer and each stop has its cause, the script's bytes among it | `answers` |
 //! | the usage line comes exactly where the words are no plain form | `usage` |
 //! | the report's text or a front of it is written, with its status | `reports` |
 //! | no file changes, and no step is counted | `same`, `counted` |
@@ -11,14 +12,15 @@ ghost use Rattle.std.specs.Prelude.{◌≡◌, ◌↔◌, map, string_bytes, Non
 ghost use Rattle.std.specs.List.{list_any};
 ghost use Rattle.dcx_report.specs.Faults.{Rose};
 ghost use Rattle.dcx_plain.specs.Plain.{IsPlain};
-ghost use Rattle.dcx_top.specs.Words.{operand_of};
-ghost use Rattle.dcx_top.specs.Answers.{Answers, IsRefusedAs, HasOneEnd, SolvesBytes};
+ghost use Rattle.dcx_top.specs.Words.{form_of};
+ghost use Rattle.dcx_top.specs.Answers.{Answers, IsRefusedWhole, HasOneEnd, SolvesBytes, GivesRun};
 ghost use Rattle.dcx_top.specs.Headline.{AnswersAreRight};
 ghost use Rattle.dcx_top.specs.Ended.{Reports, outcomes_status as outcomes_status_of, status_of, is_stop, wants_memory};
 
+use crate::checking::check_bytes;
 use crate::ended::Ended;
 use crate::outcome::end_of;
-use crate::words::operand;
+use crate::words::{Verb, plain_form};
 use crate::write::write_all;
 use dcx_plain::{Script, read};
 use dcx_report::{
@@ -35,7 +37,7 @@ const SCRIPT_LIMIT: usize = 1_048_576;
 
 /// The refusal of the whole script for its length.
 fn too_long() -> Refusal
-    ensures { IsRefusedAs 8 result }
+    ensures { IsRefusedWhole 8 result }
 {
     Refusal {
         source: RefusalSource::Script,
@@ -47,7 +49,7 @@ fn too_long() -> Refusal
 
 /// The refusal of the whole script for its form.
 fn not_yet() -> Refusal
-    ensures { IsRefusedAs 29 result }
+    ensures { IsRefusedWhole 29 result }
 {
     Refusal {
         source: RefusalSource::Script,
@@ -86,17 +88,27 @@ fn solved(alloc: Global, bytes: &[u8]) -> Run
     }
 }
 
+/// What the bytes of a script give under a command.
+fn given(alloc: Global, verb: Verb, bytes: &[u8]) -> Run
+    ensures { GivesRun verb bytes.now result }
+{
+    match verb {
+        Verb::Check => check_bytes(alloc, bytes),
+        Verb::Solve => solved(alloc, bytes),
+    }
+}
+
 /// What the words give.
 fn answer<L: Library>(alloc: Global, words: &[String], library: &mut L) -> Run
     ensures answers { Answers (map string_bytes words.now) (L.told library.old) (Rose (L.faults library.old) (L.faults library.new)) result }
-    ensures usage { (result ≡ Run.Usage) ↔ (operand_of (map string_bytes words.now) ≡ None) }
+    ensures usage { (result ≡ Run.Usage) ↔ (form_of (map string_bytes words.now) ≡ None) }
     ensures same { L.told library.new ≡ L.told library.old }
 {
-    let Some(name) = operand(words) else {
+    let Some(form) = plain_form(words) else {
         return Run::Usage;
     };
-    match library.fetch(alloc, name, SCRIPT_LIMIT) {
-        Ok(bytes) => solved(alloc, bytes.as_slice()),
+    match library.fetch(alloc, form.script, SCRIPT_LIMIT) {
+        Ok(bytes) => given(alloc, form.verb, bytes.as_slice()),
         Err(FetchFault::TooLong) => Run::Refused(too_long()),
         Err(FetchFault::Absent) => Run::ReadFault,
         Err(FetchFault::Failed) => Run::ReadFault,
@@ -161,7 +173,7 @@ pub fn run<L: Library, K: Sink, S: Ledger>(
 ) -> Ended
     ensures headline { AnswersAreRight (map string_bytes words.now) (L.told library.old) result.run }
     ensures answers { Answers (map string_bytes words.now) (L.told library.old) (Rose (L.faults library.old) (L.faults library.new)) result.run }
-    ensures usage { (result.run ≡ Run.Usage) ↔ (operand_of (map string_bytes words.now) ≡ None) }
+    ensures usage { (result.run ≡ Run.Usage) ↔ (form_of (map string_bytes words.now) ≡ None) }
     ensures reports { Reports (K.written sink.old) (K.written sink.new) (Rose (K.faults sink.old) (K.faults sink.new)) result }
     ensures same { L.told library.new ≡ L.told library.old }
     ensures counted { steps.new ≡ steps.old }

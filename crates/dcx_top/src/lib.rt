@@ -1,6 +1,7 @@
-//! What the program does: it reads its words, fetches a script, solves it, and writes a report and a status.
+//! What the program does: it reads its words, fetches a script, checks or solves it, and writes a report and a status.
 #![tactic(auto)]
 
+mod checking;
 mod command;
 mod ended;
 mod outcome;
