@@ -1,0 +1,7 @@
+-- The meaning of scripts.
+pub mod Turns
+pub mod Expressions
+pub mod Statements
+pub mod Meaning
+pub mod Laws
+pub mod View
