@@ -1,7 +1,7 @@
 -- Proofs of the laws above the meaning.
 use Rattle.std.specs.Prelude.{◌≡◌, ℕ, Bool, true, false, cond, List, [], ◌∷◌, ◌++◌, Option, Some, None, Result, Ok, Err, is_ok, nat_lt}
-use Rattle.std.proofs.Common.{true≢false, refl, sym, ap, ◌∙◌}
-use Rattle.std.specs.List.{IsDistinct}
+use Rattle.std.proofs.Common.{true≢false, refl, sym, ap, subst, ◌∙◌}
+use Rattle.std.specs.List.{AllByRecursion, IsDistinct}
 use Rattle.std.specs.Map.{keys_of, lookup, remove_entry}
 use Rattle.std.specs.Cmp.Lexicographic.{nat_list_eq_equiv}
 use Rattle.std.proofs.lemmas.Map.{lookup-remove_entry}
@@ -16,7 +16,7 @@ use Rattle.dcx_elab.specs.Turns.{turn, turns, each_turn}
 use Rattle.dcx_elab.specs.Statements.{line_means, lines_mean}
 use Rattle.dcx_state.specs.Declarations.{start}
 use Rattle.dcx_elab.specs.Meaning.{meaning, ended}
-use Rattle.dcx_elab.specs.Laws.{followed_by, HoldsForLines, LeavesNamesDistinct, HoldsForTurns}
+use Rattle.dcx_elab.specs.Laws.{followed_by, HoldsForLines, HasDistinctNames, KeepsNamesDistinct, HoldsForTurns}
 
 -- the same behind the same
 behind : {A B : Type 0} (r : Result (A × State) ElabFault) (f g : A → Act B) → ((a : A) (s : State) → f a s ≡ g a s) → and_then r f ≡ and_then r g
@@ -83,6 +83,31 @@ gone names name distinct = lookup-remove_entry nat_list_eq_equiv (same_name name
     one : (x y : List ℕ) → same_name name x ≡ true → same_name name y ≡ same_name x y
     one x y e = ap (λ n. same_name n y) (same_name-true name x e)
 
+-- a name that is bound stands once
+other_way : (a b : List ℕ) → same_name a b ≡ false → same_name b a ≡ false
+other_way a b e = by (same_name b a) refl
+  where
+    by : (t : Bool) → same_name b a ≡ t → same_name b a ≡ false
+    by true p = absurd (true≢false (sym (same_name-refl a) ∙ ap (same_name a) (sym (same_name-true b a p)) ∙ e))
+    by false p = p
+
+all-insert : (P : List ℕ → Type 0) (names : List (List ℕ × Value)) (name : List ℕ) (v : Value) → AllByRecursion P (keys_of names) → P name → AllByRecursion P (keys_of (insert_entry same_name names name v))
+all-insert P [] name v all h = (h, tt)
+all-insert P (e ∷ es) name v all h = by (same_name name e.0) (all-insert P es name v all.1 h)
+  where
+    by : (t : Bool) → AllByRecursion P (keys_of (insert_entry same_name es name v)) → AllByRecursion P (keys_of (cond t ((e.0, v) ∷ es) (e ∷ insert_entry same_name es name v)))
+    by true later = all
+    by false later = (all.0, later)
+
+insert-distinct : (names : List (List ℕ × Value)) (name : List ℕ) (v : Value) → IsDistinct same_name (keys_of names) → IsDistinct same_name (keys_of (insert_entry same_name names name v))
+unfolding IsDistinct
+insert-distinct [] name v d = (tt, tt)
+insert-distinct (e ∷ es) name v d = by (same_name name e.0) refl (insert-distinct es name v d.1)
+  where
+    by : (t : Bool) → same_name name e.0 ≡ t → IsDistinct same_name (keys_of (insert_entry same_name es name v)) → IsDistinct same_name (keys_of (cond t ((e.0, v) ∷ es) (e ∷ insert_entry same_name es name v)))
+    by true p later = d
+    by false p later = (all-insert (λ y. same_name e.0 y ≡ false) es name v d.0 (other_way name e.0 p), later)
+
 -- the names that are left
 names_after : {A : Type 0} → Result (A × State) ElabFault → List (List ℕ × Value)
 names_after (Ok z) = z.1.names
@@ -107,9 +132,9 @@ step_keeps first s z e = by (nat_lt s.steps most_steps) refl
     by true p = sym (ap names_after (rw p at e))
     by false p = absurd (no_fault (rw p at e))
 
-name_as_before : (first : Place) (name : List ℕ) (element : Act Value) (v x : Value) (s t : State) → LeavesNamesDistinct element →
+name_as_before : (first : Place) (name : List ℕ) (element : Act Value) (v x : Value) (s t : State) → HasDistinctNames s → KeepsNamesDistinct element →
     turn first name element v s ≡ Ok (x, t) → lookup (same_name name) t.names ≡ lookup (same_name name) s.names
-name_as_before first name element v x s t leaves e = after_step (step first s) refl e
+name_as_before first name element v x s t distinct keeps e = after_step (step first s) refl e
   where
     bound : State → State
     bound u = record u { names = insert_entry same_name u.names name v }
@@ -117,13 +142,13 @@ name_as_before first name element v x s t leaves e = after_step (step first s) r
     rest : Act Value
     rest = bound_to name >>= λ before. bind name v >> (element >>= λ y. restore name before >> done y)
 
-    after_element : (u : State) (q : Result (Value × State) ElabFault) → element (bound u) ≡ q →
+    after_element : (u : State) → HasDistinctNames u → (q : Result (Value × State) ElabFault) → element (bound u) ≡ q →
         and_then q (λ y. restore name (lookup (same_name name) u.names) >> done y) ≡ Ok (x, t) → lookup (same_name name) t.names ≡ lookup (same_name name) u.names
-    after_element u (Ok y) p f = restored name (lookup (same_name name) u.names) y.0 x y.1 t (leaves (bound u) y.1 y.0 p) f
-    after_element u (Err g) p f = absurd (no_fault f)
+    after_element u d (Ok y) p f = restored name (lookup (same_name name) u.names) y.0 x y.1 t (keeps (bound u) y.1 y.0 (insert-distinct u.names name v d) p) f
+    after_element u d (Err g) p f = absurd (no_fault f)
 
     after_step : (r : Result (Unit {0} × State) ElabFault) → step first s ≡ r → and_then r (λ _. rest) ≡ Ok (x, t) → lookup (same_name name) t.names ≡ lookup (same_name name) s.names
-    after_step (Ok z) p f = after_element z.1 (element (bound z.1)) refl f ∙ ap (lookup (same_name name)) (step_keeps first s z p)
+    after_step (Ok z) p f = after_element z.1 (subst (λ (ns : List (List ℕ × Value)). IsDistinct same_name (keys_of ns)) (sym (step_keeps first s z p)) distinct) (element (bound z.1)) refl f ∙ ap (lookup (same_name name)) (step_keeps first s z p)
     after_step (Err g) p f = absurd (no_fault f)
 
 pub turns_hold : HoldsForTurns

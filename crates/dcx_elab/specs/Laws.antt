@@ -22,9 +22,13 @@ pub record HoldsForLines : Type 0 where
   pub in_order : (ls more : Lines) (s : State) → lines_mean (followed_by ls more) s ≡ (lines_mean ls >> lines_mean more) s
   pub first_fault : (ls more : Lines) (e : ElabFault) → lines_mean ls start ≡ Err e → meaning (followed_by ls more) ≡ Err e
 
--- no name is bound twice in what carrying something out leaves
-abbrev pub LeavesNamesDistinct : {A : Type 0} → Act A → Type 0
-LeavesNamesDistinct {A} m = (s t : State) (x : A) → m s ≡ Ok (x, t) → IsDistinct same_name (keys_of t.names)
+-- no name is bound twice
+abbrev pub HasDistinctNames : State → Type 0
+HasDistinctNames s = IsDistinct same_name (keys_of s.names)
+
+-- carrying something out binds no name twice
+abbrev pub KeepsNamesDistinct : {A : Type 0} → Act A → Type 0
+KeepsNamesDistinct {A} m = (s t : State) (x : A) → HasDistinctNames s → m s ≡ Ok (x, t) → HasDistinctNames t
 
 -- the turns over a list are those over its first part and then those over the others, for a `for` and for a comprehension;
 -- and after a turn of a comprehension its name is as it was
@@ -33,5 +37,5 @@ pub record HoldsForTurns : Type 0 where
       each_turn name body (vs ++ ws) s ≡ (each_turn name body vs >> each_turn name body ws) s
   pub elements_in_order : (place first : Place) (name : List ℕ) (element : Act Value) (xs vs ws : List Value) (s : State) →
       turns place first name element xs (vs ++ ws) s ≡ (turns place first name element xs vs >>= λ ys. turns place first name element ys ws) s
-  pub name_as_before : (first : Place) (name : List ℕ) (element : Act Value) (v x : Value) (s t : State) → LeavesNamesDistinct element →
+  pub name_as_before : (first : Place) (name : List ℕ) (element : Act Value) (v x : Value) (s t : State) → HasDistinctNames s → KeepsNamesDistinct element →
       turn first name element v s ≡ Ok (x, t) → lookup (same_name name) t.names ≡ lookup (same_name name) s.names
