@@ -8,7 +8,7 @@ use Rattle.dcx_kinds.specs.Values.{State, Act, and_then, done}
 use Rattle.dcx_kinds.specs.Nodes.{Operand}
 use Rattle.dcx_kinds.specs.Kinds.{Reading}
 use Rattle.dcx_kinds.specs.Operands.{operand_read, each_read}
-use Rattle.dcx_kinds.specs.View.{Fails}
+use Rattle.dcx_kinds.specs.View.{Fails, Gives}
 
 -- a fault ends what would follow
 pub Fails-then : {A B : Type 0} (e : ElabFault) (m : Result (A × State) ElabFault) (f : A → Act B) → Fails e m → Fails e (and_then m f)
@@ -18,6 +18,10 @@ Fails-then e m f h = ap (λ r. and_then r f) h
 -- the same fault of what is the same
 pub Fails-same : {A : Type 0} (e : ElabFault) (m n : Result (A × State) ElabFault) → n ≡ m → Fails e m → Fails e n
 Fails-same e m n is h = subst (Fails e) (sym is) h
+
+-- a fault that is passed on is the fault that is meant
+pub Gives-err : {X Y : Type 0} (view : X → Y) (r : Result X ElabFault) (after : State) (given : Result (Y × State) ElabFault) (y e : ElabFault) → r ≡ Err y → y ≡ e → Fails e given → Gives view r after given
+Gives-err view r after given y e is same h = subst (λ q. Gives view q after given) (sym is) (subst (λ z. Fails z given) (sym same) h)
 
 -- a value is gone on with
 pub then_is : {A B : Type 0} (m : Result (A × State) ElabFault) (f : A → Act B) (x : A) (s : State) → m ≡ Ok (x, s) → and_then m f ≡ f x s

@@ -17,6 +17,7 @@
 //! | the fault of a script that the fault of an array or of a tree is | `array_fault`, `tree_fault`, `too_many`, `specs/Faults.antt` |
 //! | what a value is where an expression is wanted, whether it may be given there, whether it is numbers without a node, and its shape | `read_value`, `is_fit`, `is_constant`, `plain_shape_of`, `specs/Kinds.antt` |
 //! | the operands of a call, or the first fault of what is given, a nested list before an empty one | `operand_read`, `operands_read`, `numbers_read`, `specs/Operands.antt` |
+//! | a plain array as a value, or its fault at the place of what makes it | `as_plain` |
 //! | the number and the whole number that a value is | `is_number`, `are_numbers`, `number_of`, `whole_number` |
 //! | sides of any size and the shape that they are, an axis | `Extent`, `told_side`, `sides_from`, `axis_of` |
 //! | the array of equally long rows of numbers | `are_rows`, `rows_array` |
@@ -36,7 +37,7 @@ mod value;
 pub use extent::{Extent, axis_of, sides_from, told_side};
 pub use fault::{ElabFault, array_fault, too_many, tree_fault};
 pub use items::{Items, MOST_DEPTH, MOST_ITEMS, joined};
-pub use operands::{numbers_read, operand_read, operands_read};
+pub use operands::{as_plain, numbers_read, operand_read, operands_read};
 pub use progression::Progression;
 pub use reading::{
     Operand, Reading, are_numbers, are_rows, is_constant, is_fit, is_number, number_of,

@@ -1,13 +1,17 @@
-//! The operands of a call or an operator, and the faults of what is given where an expression is wanted.
-ghost use Rattle.std.specs.Prelude.{◌≡◌, map};
-ghost use Rattle.dcx_kinds.specs.Values.{State};
+//! The operands of a call or an operator, the faults of what is given where an expression is wanted, and a plain array as a value.
+ghost use Rattle.std.specs.Prelude.{◌≡◌, Result, map};
 ghost use Rattle.std.specs.List.{list_any};
+ghost use Rattle.dcx_array.specs.Answers.{Gives as Answers};
+ghost use Rattle.dcx_kinds.specs.Values.{State, or_array_fault};
 ghost use Rattle.dcx_kinds.specs.Kinds.{is_nested, is_empty};
-ghost use Rattle.dcx_kinds.specs.Operands.{operand_read, each_read, operands_read, numbers_read};
+ghost use Rattle.dcx_kinds.specs.Operands.{operand_read, each_read, operands_read, numbers_read, as_plain};
+ghost use Rattle.dcx_kinds.specs.Meant.{meant};
 ghost use Rattle.dcx_kinds.specs.View.{read_as, meant_operand, Gives};
 
-use crate::fault::ElabFault;
+use crate::fault::{ElabFault, array_fault};
 use crate::reading::{Operand, Reading};
+use crate::value::Value;
+use dcx_array::ArrayFault;
 use dcx_atom::Array;
 use dcx_shape::Place;
 use std::alloc::Global;
@@ -99,5 +103,19 @@ pub fn numbers_read(place: Place, reading: Reading) -> Result<Rc<Array>, ElabFau
         Reading::Operand(Operand::Constant(array)) => Ok(array),
         Reading::Empty => Err(ElabFault::EmptyResult(place)),
         _ => Err(ElabFault::BadArgument(place)),
+    }
+}
+
+/// A plain array as a value, or why there is none, at the place of what makes it.
+pub fn as_plain(
+    alloc: Global,
+    place: Place,
+    array: Result<Array, ArrayFault>,
+) -> Result<Value, ElabFault>
+    ensures { (asked : Result Array ArrayFault) (s : State) → Answers array asked → Gives meant result s (as_plain (or_array_fault place asked) s) }
+{
+    match array {
+        Ok(array) => Ok(Value::Plain(Rc::new(alloc, array)?)),
+        Err(fault) => Err(array_fault(place, fault)),
     }
 }

@@ -93,10 +93,6 @@ index_list-nearest place vs (Along t ∷ []) s few = refl
 index_list-nearest place vs (p ∷ q ∷ ps) s few = refl
 
 -- ---- picks
--- a fault that is passed on
-pub Gives-err : {X Y : Type 0} (view : X → Y) (r : Result X ElabFault) (after : State) (given : Result (Y × State) ElabFault) (y e : ElabFault) → r ≡ Err y → y ≡ e → Fails e given → Gives view r after given
-Gives-err view r after given y e is same h = subst (λ q. Gives view q after given) (sym is) (subst (λ z. Fails z given) (sym same) h)
-
 -- the indices don't pick
 pub unpicked : {A : Type 0} (e : ElabFault) (place : Place) (o : Option (List Pick)) (f : List Pick → Act A) (s : State) → Fails e (or_fault (BadArgument place) (option_map (map nearest_pick) o) s)
     → Fails e (and_then (or_fault (BadArgument place) o s) f)

@@ -6,13 +6,12 @@ ghost use Rattle.dcx_kinds.specs.Meant.{meant};
 ghost use Rattle.dcx_kinds.specs.View.{Gives};
 ghost use Rattle.dcx_operators.specs.Attributes as meaning;
 
-use crate::plain::as_plain;
 use dcx_affine::Transpose;
 use dcx_arena::NodeId;
 use dcx_array::transpose;
 use dcx_atom::Array;
 use dcx_call::{Call, LinearCall};
-use dcx_kinds::{ElabFault, Value};
+use dcx_kinds::{ElabFault, Value, as_plain};
 use dcx_read::Named;
 use dcx_shape::{Name, Place, Sides};
 use dcx_state::State;

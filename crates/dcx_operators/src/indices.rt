@@ -12,12 +12,11 @@ ghost use Rattle.dcx_kinds.specs.View.{Gives};
 ghost use Rattle.dcx_operators.specs.Indices as meaning;
 ghost use Rattle.dcx_operators.specs.View.{evaluated, nearest, nearest_pick};
 
-use crate::plain::as_plain;
 use dcx_arena::NodeId;
 use dcx_array::{index, pick};
 use dcx_atom::Array;
 use dcx_call::{Call, LinearCall};
-use dcx_kinds::{ElabFault, Value, array_fault, whole_number};
+use dcx_kinds::{ElabFault, Value, array_fault, as_plain, whole_number};
 use dcx_shape::{Pick, Place, Slice};
 use dcx_state::State;
 use std::alloc::Global;

@@ -13,7 +13,6 @@
 //! | a part of an index that is no whole number, and the step 0, come before too many indices, and these before the first index that takes nothing | `index_value`, `specs/Indices.antt` |
 //! | a whole number of any size counts as itself, though an index has 64 bits | `nearest` of `specs/View.antt`, `proofs/Indexed.antt` |
 //! | `.T` of a scalar or a vector is the same node; every other attribute is refused | `attribute_value`, `specs/Attributes.antt` |
-//! | a plain array as a value, or its fault at the place of what makes it | `as_plain` |
 #![tactic(auto)]
 
 mod attributes;
@@ -24,4 +23,3 @@ mod plain;
 pub use attributes::attribute_value;
 pub use indices::{Evaluated, index_value};
 pub use operators::{add_values, compare_values, scale_values, sign_value};
-pub use plain::as_plain;

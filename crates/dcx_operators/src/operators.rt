@@ -9,13 +9,15 @@ ghost use Rattle.dcx_operators.specs.Operators as meaning;
 ghost use Rattle.dcx_operators.specs.Operators.{with_expression};
 ghost use Rattle.dcx_operators.specs.View.{pair_meant, operands_meant};
 
-use crate::plain::{as_plain, plain_added, plain_scaled};
+use crate::plain::{plain_added, plain_scaled};
 use dcx_affine::{Minus, Pairing, Plus};
 use dcx_arena::NodeId;
 use dcx_array::negate;
 use dcx_atom::Array;
 use dcx_call::{Call, LinearCall, copy_array};
-use dcx_kinds::{ElabFault, Items, Operand, Reading, Value, joined, operand_read, read_value};
+use dcx_kinds::{
+    ElabFault, Items, Operand, Reading, Value, as_plain, joined, operand_read, read_value,
+};
 use dcx_read::{Comparison, Scaling, Sign};
 use dcx_shape::Place;
 use dcx_state::State;

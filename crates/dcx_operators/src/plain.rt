@@ -1,33 +1,11 @@
-//! Plain arrays as values, and what operators make of them.
-ghost use Rattle.std.specs.Prelude.{◌≡◌, Result};
+//! What operators make of plain arrays.
 ghost use Rattle.dcx_array.specs.Answers.{Gives as Answers};
-ghost use Rattle.dcx_kinds.specs.Values.{State, or_array_fault};
-ghost use Rattle.dcx_kinds.specs.Operands as operands;
-ghost use Rattle.dcx_kinds.specs.Meant.{meant};
-ghost use Rattle.dcx_kinds.specs.View.{Gives};
 ghost use Rattle.dcx_operators.specs.Operators.{plain_added, plain_scaled};
 
 use dcx_array::{ArrayFault, add, divide, matmul, multiply, subtract};
 use dcx_atom::Array;
-use dcx_kinds::{ElabFault, Value, array_fault};
 use dcx_read::{Scaling, Sign};
-use dcx_shape::Place;
 use std::alloc::Global;
-use std::rc::Rc;
-
-/// A plain array as a value, or why there is none, at the place of what makes it.
-pub fn as_plain(
-    alloc: Global,
-    place: Place,
-    array: Result<Array, ArrayFault>,
-) -> Result<Value, ElabFault>
-    ensures { (asked : Result Array ArrayFault) (s : State) → Answers array asked → Gives meant result s (operands.as_plain (or_array_fault place asked) s) }
-{
-    match array {
-        Ok(array) => Ok(Value::Plain(Rc::new(alloc, array)?)),
-        Err(fault) => Err(array_fault(place, fault)),
-    }
-}
 
 /// The sum or the difference of two plain arrays.
 pub(crate) fn plain_added(

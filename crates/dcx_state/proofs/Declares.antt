@@ -15,10 +15,6 @@ use Rattle.dcx_kinds.specs.View.{Fails, Gives}
 use Rattle.dcx_kinds.proofs.Acts.{Fails-then, Fails-same, then_is}
 use Rattle.dcx_state.specs.Declarations.{is_declared, declared_shape, parameter_with, declare_parameter, first_value, set_first}
 
--- ---- a fault that is passed on
-pub Gives-err : {X Y : Type 0} (view : X → Y) (r : Result X ElabFault) (after : State) (given : Result (Y × State) ElabFault) (y e : ElabFault) → r ≡ Err y → y ≡ e → Fails e given → Gives view r after given
-Gives-err view r after given y e is same h = subst (λ q. Gives view q after given) (sym is) (subst (λ z. Fails z given) (sym same) h)
-
 -- the attributes go together and the name is new
 pub may_declare : (clash again : Bool) → clash ≡ false → again ≡ false → (not clash && not again) ≡ true
 may_declare clash again e f = ap₂ (λ a b. not a && not b) e f

@@ -7,7 +7,8 @@ use Rattle.dcx_kinds.specs.Meant.{meant}
 use Rattle.dcx_kinds.specs.View.{Gives}
 use Rattle.dcx_operators.specs.Indices.{picks_of, index_list}
 use Rattle.dcx_operators.specs.View.{evaluated}
-use Rattle.dcx_operators.proofs.Indexed.{Gives-err, unpicked, list_picked}
+use Rattle.dcx_kinds.proofs.Acts.{Gives-err}
+use Rattle.dcx_operators.proofs.Indexed.{unpicked, list_picked}
 use Rattle.dcx_operators.proofs.indices.list_indexed.Goals as goal
 
 pub returns-in_err-picks : goal.returns-in_err-picks

@@ -5,7 +5,8 @@ use Rattle.dcx_shape.specs.declared.index.Pick.{Pick}
 use Rattle.dcx_kinds.specs.View.{Gives}
 use Rattle.dcx_operators.specs.Indices.{picks_of, index_node}
 use Rattle.dcx_operators.specs.View.{evaluated}
-use Rattle.dcx_operators.proofs.Indexed.{Gives-err, unpicked, node_picked}
+use Rattle.dcx_kinds.proofs.Acts.{Gives-err}
+use Rattle.dcx_operators.proofs.Indexed.{unpicked, node_picked}
 use Rattle.dcx_operators.proofs.indices.node_indexed.Goals as goal
 
 pub returns-in_err-picks : goal.returns-in_err-picks

@@ -10,7 +10,8 @@ use Rattle.dcx_state.specs.Lists.{Lists, is_among}
 use Rattle.dcx_state.specs.Kept.{state_of}
 use Rattle.dcx_state.specs.Declarations.{parameter_with, is_declared}
 use Rattle.dcx_state.proofs.Grown.{contains_last}
-use Rattle.dcx_state.proofs.Declares.{Gives-err, may_declare, parameter_first_fault, parameter_shape_fault, parameter_push_fault, parameter_is}
+use Rattle.dcx_kinds.proofs.Acts.{Gives-err}
+use Rattle.dcx_state.proofs.Declares.{may_declare, parameter_first_fault, parameter_shape_fault, parameter_push_fault, parameter_is}
 use Rattle.dcx_state.proofs.state.State.declare_parameter.Goals as goal
 use Rattle.dcx_state.proofs.state.State.declare_parameter.Goals.{then-flags, else-flags}
 
