@@ -17,7 +17,7 @@
 //! | what a script stands for, or its first fault with its place; want of memory is free | `elaborate` |
 //! | an expression gives its value and leaves its state, or is the first fault | `expressions::expr` |
 //! | so does a line | `statements::lines` |
-//! | a script is its lines in order, a `for` its turns, and a comprehension leaves its name as it was | `laws::lines`, `laws::turns` |
+//! | a script is its lines in order, a `for` its turns; a turn of a comprehension leaves its name as it was, where its element keeps names distinct | `laws::lines`, `laws::turns` |
 #![tactic(auto)]
 
 mod called;
