@@ -1,0 +1,10 @@
+-- What a script does under other names: the lemmas, by what the definitions stand in.
+pub mod Entries
+pub mod Nodes
+pub mod Acts
+pub mod Pushes
+pub mod Declarations
+pub mod Operators
+pub mod Calls
+pub mod Expressions
+pub mod Lines
