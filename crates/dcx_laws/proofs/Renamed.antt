@@ -8,3 +8,5 @@ pub mod Operators
 pub mod Calls
 pub mod Expressions
 pub mod Lines
+pub mod Exchange
+pub mod Works

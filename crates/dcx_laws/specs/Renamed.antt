@@ -1,5 +1,5 @@
 -- The tree of a script, and what is carried along, with other names for what is bound.
-use Rattle.std.specs.Prelude.{ℕ, List, map, option_map, Result, Ok, Err}
+use Rattle.std.specs.Prelude.{◌≡◌, ℕ, List, map, option_map, Result, Ok, Err}
 use Rattle.dcx_arena.specs.Nodes.{Node}
 use Rattle.dcx_call.specs.declared.attribute.Variable.{Variable}
 use Rattle.dcx_call.specs.declared.attribute.Parameter.{Parameter}
@@ -11,6 +11,8 @@ use Rattle.dcx_read.specs.Expressions.{Expr, expr, Compared, no_comparison, comp
 use Rattle.dcx_read.specs.Statements.{Line, importing, assign, add_to, set_value, evaluate, prints, repeats, Lines, no_lines, lines}
 use Rattle.dcx_kinds.specs.declared.fault.ElabFault.{ElabFault}
 use Rattle.dcx_kinds.specs.Values.{Asked, State}
+use Rattle.dcx_tree.specs.declared.problem.Problem.{Problem}
+use Rattle.dcx_elab.specs.declared.work.Work.{Work}
 
 module _ (rename : List ℕ → List ℕ) where
   -- ---- trees: places stay, and so do attributes, which stand behind a dot, and the words of arguments
@@ -175,3 +177,20 @@ module _ (rename : List ℕ → List ℕ) where
   abbrev pub meaning_renamed : Result (State × Asked) ElabFault → Result (State × Asked) ElabFault
   meaning_renamed (Ok p) = Ok (state_renamed p.0, p.1)
   meaning_renamed (Err e) = Err e
+
+-- ---- what a script stands for
+-- the second problem is the first one with these names
+pub record IsRenamedProblem (rename : List ℕ → List ℕ) (p q : Problem) : Type 0 where
+  pub tree : q.tree ≡ map (node_renamed rename) p.tree
+  pub variables : q.variables ≡ map (variable_renamed rename) p.variables
+  pub parameters : q.parameters ≡ map (parameter_renamed rename) p.parameters
+  pub sense : q.sense ≡ p.sense
+  pub objective : q.objective ≡ p.objective
+  pub objective_place : q.objective_place ≡ p.objective_place
+  pub constraints : q.constraints ≡ p.constraints
+
+-- so is its problem, and so are the settings of its solves and of its end
+pub record IsRenamedWork (rename : List ℕ → List ℕ) (v w : Work) : Type 0 where
+  pub problem : IsRenamedProblem rename v.problem w.problem
+  pub events : w.events ≡ map (entries_renamed rename) v.events
+  pub last : w.last ≡ entries_renamed rename v.last

@@ -27,7 +27,7 @@ use Rattle.dcx_state.specs.Attributes.{may_stand}
 use Rattle.dcx_state.specs.Declarations.{is_declared, declared_shape, variable_with, list_variable, declare_variable, set_value, first_value, set_first, parameter_with, list_parameter, declare_parameter, parameter_name, parameter_of, give, asked_with, has_sides, are_sides, may_be_asked, make_problem, roots_of, is_parameter, is_reached, reached_values, standing_setting, most_events, solve}
 use Rattle.dcx_laws.specs.Renamed.{entries_renamed, variable_renamed, parameter_renamed, call_renamed, node_renamed, state_renamed}
 use Rattle.dcx_laws.specs.Names.{IsRenaming, Follows}
-use Rattle.dcx_laws.proofs.Renamed.Entries.{same_renamed, insert_renamed, any_renamed, filter_renamed}
+use Rattle.dcx_laws.proofs.Renamed.Entries.{same_renamed, insert_renamed, any_renamed, filter_changed}
 use Rattle.dcx_laws.proofs.Renamed.Nodes.{same_function, sides_kept, call_renamed_at, order_kept}
 use Rattle.dcx_laws.proofs.Renamed.Acts.{chain, next, reads, done_follows, fault_follows, unless_follows, or_fault_follows}
 use Rattle.dcx_laws.proofs.Renamed.Pushes.{push_follows, numbers_follow}
@@ -165,7 +165,7 @@ module _ {rename : List ℕ → List ℕ} (is : IsRenaming rename) where
   reached_renamed : (nodes : List (Node Call)) (asked : Option Asked) (setting : Pairs) →
       reached_values (map (node_renamed rename) nodes) asked (entries_renamed rename setting) ≡ entries_renamed rename (reached_values nodes asked setting)
   reached_renamed nodes None setting = refl
-  reached_renamed nodes (Some q) setting = filter_renamed rename (is_reached nodes q) (is_reached (map (node_renamed rename) nodes) q) (reached_kept nodes q) setting
+  reached_renamed nodes (Some q) setting = filter_changed (λ (e : List ℕ × Array). (rename e.0, e.1)) (λ e. is_reached nodes q e.0) (λ e. is_reached (map (node_renamed rename) nodes) q e.0) (λ e. reached_kept nodes q e.0) setting
 
   pub standing_renamed : (s : State) → standing_setting (state_renamed rename s) ≡ entries_renamed rename (standing_setting s)
   standing_renamed s = reached_renamed s.nodes s.asked s.setting

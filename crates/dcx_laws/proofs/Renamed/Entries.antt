@@ -9,6 +9,19 @@ use Rattle.dcx_point.specs.Pairs.{same_name}
 use Rattle.dcx_laws.specs.Renamed.{entries_renamed}
 use Rattle.dcx_laws.specs.Names.{IsRenaming}
 
+-- ---- what is changed item by item, beside a test that tells the same of what it becomes
+pub any_changed : {X : Type 0} (change : X → X) (test told : X → Bool) → ((x : X) → told (change x) ≡ test x) → (xs : List X) → list_any told (map change xs) ≡ list_any test xs
+any_changed change test told h [] = refl
+any_changed change test told h (x ∷ xs) = ap₂ (λ a b. a || b) (h x) (any_changed change test told h xs)
+
+pub filter_changed : {X : Type 0} (change : X → X) (test told : X → Bool) → ((x : X) → told (change x) ≡ test x) → (xs : List X) → filter told (map change xs) ≡ map change (filter test xs)
+filter_changed change test told h [] = refl
+filter_changed change test told h (x ∷ xs) = rw (h x) (by (test x) (filter_changed change test told h xs))
+  where
+    by : (b : Bool) → filter told (map change xs) ≡ map change (filter test xs) → cond b (change x ∷ filter told (map change xs)) (filter told (map change xs)) ≡ map change (cond b (x ∷ filter test xs) (filter test xs))
+    by true r = ap (λ l. change x ∷ l) r
+    by false r = r
+
 module _ {rename : List ℕ → List ℕ} (is : IsRenaming rename) where
   -- other names are the same where the names are
   pub same_renamed : (a b : List ℕ) → same_name (rename a) (rename b) ≡ same_name a b
@@ -47,16 +60,5 @@ module _ {rename : List ℕ → List ℕ} (is : IsRenaming rename) where
   -- ---- names that are listed
   pub any_renamed : {X : Type 0} (name_of : X → List ℕ) (change : X → X) → ((x : X) → name_of (change x) ≡ rename (name_of x)) → (name : List ℕ) (xs : List X) →
       list_any (λ x. same_name (rename name) (name_of x)) (map change xs) ≡ list_any (λ x. same_name name (name_of x)) xs
-  any_renamed name_of change h name [] = refl
-  any_renamed name_of change h name (x ∷ xs) = ap₂ (λ a b. a || b) (ap (same_name (rename name)) (h x) ∙ same_renamed name (name_of x)) (any_renamed name_of change h name xs)
-
--- the values of some names
-pub filter_renamed : {X : Type 0} (rename : List ℕ → List ℕ) (test told : List ℕ → Bool) → ((name : List ℕ) → told (rename name) ≡ test name) → (es : List (List ℕ × X)) →
-    filter (λ e. told e.0) (entries_renamed rename es) ≡ entries_renamed rename (filter (λ e. test e.0) es)
-filter_renamed rename test told h [] = refl
-filter_renamed {X = X} rename test told h (e ∷ es) = rw (h e.0) (by (test e.0) (filter_renamed rename test told h es))
-  where
-    by : (b : Bool) → filter (λ (x : List ℕ × X). told x.0) (entries_renamed rename es) ≡ entries_renamed rename (filter (λ x. test x.0) es) →
-        cond b ((rename e.0, e.1) ∷ filter (λ x. told x.0) (entries_renamed rename es)) (filter (λ x. told x.0) (entries_renamed rename es)) ≡ entries_renamed rename (cond b (e ∷ filter (λ x. test x.0) es) (filter (λ x. test x.0) es))
-    by true r = ap (λ l. (rename e.0, e.1) ∷ l) r
-    by false r = r
+  any_renamed name_of change h name xs =
+      any_changed change (λ x. same_name name (name_of x)) (λ x. same_name (rename name) (name_of x)) (λ x. ap (same_name (rename name)) (h x) ∙ same_renamed name (name_of x)) xs

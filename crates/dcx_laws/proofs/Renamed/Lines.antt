@@ -16,7 +16,7 @@ use Rattle.dcx_signature.specs.Firsts.{expr_place}
 use Rattle.dcx_elab.specs.Statements.{bound_name, only_postfix, is_just_name, right_side, assigned, import_means, assign_means, add_to_means, set_value_means, evaluate_means, line_means, lines_mean}
 use Rattle.dcx_elab.specs.Meaning.{ended_with, ended, meaning}
 use Rattle.dcx_laws.specs.Renamed.{named_renamed, expr_renamed, postfix_renamed, import_renamed, line_renamed, lines_renamed, state_renamed, answer_renamed, meaning_renamed}
-use Rattle.dcx_laws.specs.Names.{IsRenaming, Follows, HoldsForNames}
+use Rattle.dcx_laws.specs.Names.{IsRenaming, Follows}
 use Rattle.dcx_laws.proofs.Renamed.Acts.{chain, next, instead, done_follows, unless_follows, step_follows, look_follows, bind_follows}
 use Rattle.dcx_laws.proofs.Renamed.Declarations.{give_follows}
 use Rattle.dcx_laws.proofs.Renamed.Operators.{add_values_follow}
@@ -100,8 +100,5 @@ ended_renamed : (rename : List ℕ → List ℕ) (r : Result (Unit {0} × State)
 ended_renamed rename (Ok p) = ended_with_renamed rename p.1 p.1.asked
 ended_renamed rename (Err e) = refl
 
-meaning_follows : (rename : List ℕ → List ℕ) → IsRenaming rename → (ls : Lines) → meaning (lines_renamed rename ls) ≡ meaning_renamed rename (meaning ls)
+pub meaning_follows : (rename : List ℕ → List ℕ) → IsRenaming rename → (ls : Lines) → meaning (lines_renamed rename ls) ≡ meaning_renamed rename (meaning ls)
 meaning_follows rename is ls = ap ended ((lines_follow is ls).along start) ∙ ended_renamed rename (lines_mean ls start)
-
-pub names_hold : HoldsForNames
-names_hold = record { expression = λ rename is x. expr_follows is x; lines = λ rename is ls. lines_follow is ls; script = meaning_follows }
