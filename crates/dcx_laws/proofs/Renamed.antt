@@ -1,4 +1,4 @@
--- What a script does under other names: the lemmas, by what the definitions stand in.
+-- What a script does under other names: the lemmas, in the order of what they speak of.
 pub mod Entries
 pub mod Nodes
 pub mod Acts
@@ -10,3 +10,4 @@ pub mod Expressions
 pub mod Lines
 pub mod Exchange
 pub mod Works
+pub mod Problems

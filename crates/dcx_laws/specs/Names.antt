@@ -2,6 +2,8 @@
 use Rattle.std.specs.Prelude.{◌≡◌, ℕ, Bool, false, if◌then◌else◌, codes, List, [], ◌∷◌, Ok}
 use Rattle.std.specs.List.{list_any}
 use Rattle.dcx_point.specs.Pairs.{same_name}
+use Rattle.dcx_tree.specs.declared.problem.Problem.{Problem}
+use Rattle.dcx_tree.specs.Meaning.{convex_problem}
 use Rattle.dcx_read.specs.declared.tree.Module.{Module}
 use Rattle.dcx_read.specs.declared.tree.Module.TheVariants.{Cvxpy, Numpy}
 use Rattle.dcx_read.specs.declared.tree.Script.{Script}
@@ -14,7 +16,7 @@ use Rattle.dcx_elab.specs.declared.work.Work.{Work}
 use Rattle.dcx_elab.specs.Expressions.{expr_means}
 use Rattle.dcx_elab.specs.Statements.{lines_mean}
 use Rattle.dcx_elab.specs.Meaning.{meaning, Elaborates}
-use Rattle.dcx_laws.specs.Renamed.{expr_renamed, lines_renamed, state_renamed, answer_renamed, meaning_renamed, IsRenamedWork}
+use Rattle.dcx_laws.specs.Renamed.{expr_renamed, lines_renamed, state_renamed, answer_renamed, meaning_renamed, IsRenamedProblem, IsRenamedWork}
 
 -- other names, one for each, which leave the words of the language as they are: `range`, and the names that modules have
 pub record IsRenaming (rename : List ℕ → List ℕ) : Type 0 where
@@ -26,7 +28,7 @@ pub record IsRenaming (rename : List ℕ → List ℕ) : Type 0 where
 abbrev pub is_word : List ℕ → Bool
 is_word name = list_any (λ w. same_name w name) (codes "range" ∷ module_name Cvxpy ∷ module_name Numpy ∷ [])
 
--- the names, of which two are exchanged
+-- each name but two, which are exchanged
 abbrev pub exchanged : List ℕ → List ℕ → List ℕ → List ℕ
 exchanged a b name = if same_name name a then b else (if same_name name b then a else name)
 
@@ -44,5 +46,8 @@ pub record HoldsForNames : Type 0 where
   -- what is handed out of it is the same with these names
   pub work : (rename : List ℕ → List ℕ) → IsRenaming rename → (script other : Script) → script_view other ≡ lines_renamed rename (script_view script) →
       (v w : Work) → Elaborates (Ok v) script → Elaborates (Ok w) other → IsRenamedWork rename v w
-  -- two names that are no words of the language may be exchanged, so any name for another that a script doesn't have
+  -- and in the terms of convex programming, where variables and parameters go by numbers, the problem is the very same: so
+  -- it is accepted alike, and has the same values and the same answers
+  pub problem : (rename : List ℕ → List ℕ) → IsRenaming rename → (p q : Problem) → IsRenamedProblem rename p q → convex_problem q ≡ convex_problem p
+  -- two names that are no words of the language may be exchanged: so any name may be replaced by one that a script doesn't have
   pub exchange : (a b : List ℕ) → is_word a ≡ false → is_word b ≡ false → IsRenaming (exchanged a b)
