@@ -41,9 +41,9 @@ pub record HoldsForNames : Type 0 where
   -- each expression, and each list of lines, does the same under other names, whatever came before
   pub expression : (rename : List ℕ → List ℕ) → IsRenaming rename → (x : Expr) → Follows rename (expr_means x) (expr_means (expr_renamed rename x))
   pub lines : (rename : List ℕ → List ℕ) → IsRenaming rename → (ls : Lines) → Follows rename (lines_mean ls) (lines_mean (lines_renamed rename ls))
-  -- a script comes to the same state and the same problem with these names, or to the same fault at the same place
+  -- a script comes to the same state with these names and asks the same at its end, or it comes to the same fault at the same place
   pub script : (rename : List ℕ → List ℕ) → IsRenaming rename → (ls : Lines) → meaning (lines_renamed rename ls) ≡ meaning_renamed rename (meaning ls)
-  -- what is handed out of it is the same with these names
+  -- what is handed out of it, its problem and its settings, is the same with these names
   pub work : (rename : List ℕ → List ℕ) → IsRenaming rename → (script other : Script) → script_view other ≡ lines_renamed rename (script_view script) →
       (v w : Work) → Elaborates (Ok v) script → Elaborates (Ok w) other → IsRenamedWork rename v w
   -- and in the terms of convex programming, where variables and parameters go by numbers, the problem is the very same: so
