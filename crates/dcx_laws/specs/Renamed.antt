@@ -189,7 +189,8 @@ pub record IsRenamedProblem (rename : List ℕ → List ℕ) (p q : Problem) : T
   pub objective_place : q.objective_place ≡ p.objective_place
   pub constraints : q.constraints ≡ p.constraints
 
--- so is its problem, and so are the settings of its solves and of its end
+-- what is handed out of the second script is what is handed out of the first one, with these names: its problem, and the settings of
+-- its solves and of its end
 pub record IsRenamedWork (rename : List ℕ → List ℕ) (v w : Work) : Type 0 where
   pub problem : IsRenamedProblem rename v.problem w.problem
   pub events : w.events ≡ map (entries_renamed rename) v.events
