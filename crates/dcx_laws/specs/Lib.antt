@@ -1,0 +1,3 @@
+-- Laws of whole scripts.
+pub mod Renamed
+pub mod Names
