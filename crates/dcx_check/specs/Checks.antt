@@ -1,5 +1,5 @@
 -- What a check tells of a problem.
-use Rattle.std.specs.Prelude.{◌≡◌, ◌↔◌, ℕ, ⊤, IsTrue, List, length, Option, Some, option_map, slice_get}
+use Rattle.std.specs.Prelude.{◌≡◌, ◌↔◌, ℕ, ⊤, IsTrue, length, Option, Some, option_map, slice_get}
 use Rattle.std.specs.List.{sum_by}
 use Rattle.dcx_shape.specs.declared.place.Place.{Place}
 use Rattle.dcx_shape.specs.declared.shape.Shape.{Shape}

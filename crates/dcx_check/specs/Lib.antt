@@ -1,2 +1,3 @@
 -- What a check tells of a problem.
 pub mod Checks
+pub mod OneRun

@@ -4,3 +4,4 @@ pub mod Answers
 pub mod Checking
 pub mod Ended
 pub mod Headline
+pub mod OneRun

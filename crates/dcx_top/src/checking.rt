@@ -2,6 +2,7 @@
 ghost use Rattle.std.specs.Prelude.{IsTrue};
 ghost use Rattle.dcx_report.specs.Refusals.{is_refusal};
 ghost use Rattle.dcx_top.specs.Checking.{refused, plainly, read_ending, elab_ending, EndsAs, ChecksScript, ChecksBytes};
+ghost use Rattle.dcx_top.specs.OneRun.{IsOnlyRun};
 
 use dcx_check::check_problem;
 use dcx_elab::{ElabFault, elaborate};
@@ -80,9 +81,10 @@ fn checked(alloc: Global, script: &Script) -> Run
     }
 }
 
-/// What the bytes of a script give where it is checked.
+/// What the bytes of a script give where it is checked, and they give nothing else.
 pub(crate) fn check_bytes(alloc: Global, bytes: &[u8]) -> Run
-    ensures { ChecksBytes bytes.now result }
+    ensures gives { ChecksBytes bytes.now result }
+    ensures only { IsOnlyRun bytes.now result }
 {
     match parse(alloc, bytes) {
         Ok(script) => checked(alloc, &script),

@@ -5,6 +5,8 @@
 //! | an accepted problem is what the script's bytes stand for, the rules accept it, and it is convex at every fitting setting | `headline` |
 //! | each answer is right for the problem that the script's bytes spell, as it shows itself | `headline` |
 //! | each refusal, each answer and each stop has its cause, the script's bytes among it | `answers` |
+//! | a script that is checked has one run: the refusal for the first fault of its bytes, or what is found of its problem | `only` |
+//! | a script that is checked is refused exactly where its bytes are at fault, and accepted exactly where they are not | `verdict` |
 //! | the usage line comes exactly where the words are no plain form | `usage` |
 //! | the report's text or a front of it is written, with its status | `reports` |
 //! | no file changes, and no step is counted | `same`, `counted` |
@@ -15,6 +17,7 @@ ghost use Rattle.dcx_plain.specs.Plain.{IsPlain};
 ghost use Rattle.dcx_top.specs.Words.{form_of};
 ghost use Rattle.dcx_top.specs.Answers.{Answers, IsRefusedWhole, HasOneEnd, SolvesBytes, GivesRun};
 ghost use Rattle.dcx_top.specs.Headline.{AnswersAreRight};
+ghost use Rattle.dcx_top.specs.OneRun.{IsOnlyCheck, IsRightVerdict};
 ghost use Rattle.dcx_top.specs.Ended.{Reports, outcomes_status as outcomes_status_of, status_of, is_stop, wants_memory};
 
 use crate::checking::check_bytes;
@@ -173,6 +176,8 @@ pub fn run<L: Library, K: Sink, S: Ledger>(
 ) -> Ended
     ensures headline { AnswersAreRight (map string_bytes words.now) (L.told library.old) result.run }
     ensures answers { Answers (map string_bytes words.now) (L.told library.old) (Rose (L.faults library.old) (L.faults library.new)) result.run }
+    ensures only { IsOnlyCheck (map string_bytes words.now) (L.told library.old) result.run }
+    ensures verdict { IsRightVerdict (map string_bytes words.now) (L.told library.old) result.run }
     ensures usage { (result.run ≡ Run.Usage) ↔ (form_of (map string_bytes words.now) ≡ None) }
     ensures reports { Reports (K.written sink.old) (K.written sink.new) (Rose (K.faults sink.old) (K.faults sink.new)) result }
     ensures same { L.told library.new ≡ L.told library.old }

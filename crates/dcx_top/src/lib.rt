@@ -4,6 +4,7 @@
 mod checking;
 mod command;
 mod ended;
+pub mod laws;
 mod outcome;
 mod words;
 mod write;

@@ -1,6 +1,7 @@
 use Rattle.std.proofs.Common.{Err, refl, inl, inr, ap, ◌∙◌}
 use Rattle.dcx_top.proofs.Writing.{ends_early}
 use Rattle.dcx_top.proofs.Right.{right_answers}
+use Rattle.dcx_top.proofs.OneVerdict.{only_check, right_verdict}
 use Rattle.dcx_top.proofs.command.run.Goals as goal
 
 pub returns-in-Err-Failed-clause-reports : goal.returns-in-Err-Failed-clause-reports
@@ -22,3 +23,27 @@ returns-in_default-clause-headline g c = right_answers _ _ _ _ c.answer-run.ensu
 
 pub returns-in-Ok-write_all-clause-headline : goal.returns-in-Ok-write_all-clause-headline
 returns-in-Ok-write_all-clause-headline g c = right_answers _ _ _ _ c.answer-run.ensures.answers
+
+pub returns-in-Err-Failed-clause-only : goal.returns-in-Err-Failed-clause-only
+returns-in-Err-Failed-clause-only g c = only_check _ _ _ _ c.answer-run.ensures.answers
+
+pub returns-clause-only : goal.returns-clause-only
+returns-clause-only g c = only_check _ _ _ _ c.answer-run.ensures.answers
+
+pub returns-in_default-clause-only : goal.returns-in_default-clause-only
+returns-in_default-clause-only g c = only_check _ _ _ _ c.answer-run.ensures.answers
+
+pub returns-in-Ok-write_all-clause-only : goal.returns-in-Ok-write_all-clause-only
+returns-in-Ok-write_all-clause-only g c = only_check _ _ _ _ c.answer-run.ensures.answers
+
+pub returns-in-Err-Failed-clause-verdict : goal.returns-in-Err-Failed-clause-verdict
+returns-in-Err-Failed-clause-verdict g c = right_verdict _ _ _ _ c.answer-run.ensures.answers
+
+pub returns-clause-verdict : goal.returns-clause-verdict
+returns-clause-verdict g c = right_verdict _ _ _ _ c.answer-run.ensures.answers
+
+pub returns-in_default-clause-verdict : goal.returns-in_default-clause-verdict
+returns-in_default-clause-verdict g c = right_verdict _ _ _ _ c.answer-run.ensures.answers
+
+pub returns-in-Ok-write_all-clause-verdict : goal.returns-in-Ok-write_all-clause-verdict
+returns-in-Ok-write_all-clause-verdict g c = right_verdict _ _ _ _ c.answer-run.ensures.answers
