@@ -1,0 +1,6 @@
+-- Laws about the meaning of scripts.
+pub mod Bindings
+pub mod Trees
+pub mod Printing
+pub mod Differences
+pub mod Numbers
