@@ -12,11 +12,9 @@ use Rattle.dcx_atom.specs.declared.array.Array.{Array}
 use Rattle.dcx_atom.specs.Arrays.{number_at}
 use Rattle.dcx_atom.specs.Formed.{zero_frac}
 use Rattle.dcx_atom.proofs.FormedSums.{value-zero_frac}
-use Rattle.dcx_arena.specs.Unfold.{Expressions, Unfold}
-use Rattle.dcx_call.specs.declared.call.Call.{Call}
 use Rattle.dcx_call.specs.declared.call.Call.TheVariants as calls
 use Rattle.dcx_call.specs.Values.{Given}
-use Rattle.dcx_tree.specs.Expressions.{Value as Numbered, value_of, values_of}
+use Rattle.dcx_tree.specs.Expressions.{Value as Numbered, value_of}
 use Rattle.dcx_array.specs.Arrays.{entry}
 use Rattle.dcx_array.specs.declared.fault.ArrayFault.{ArrayFault}
 use Rattle.dcx_array.specs.Operators.{subtracted as difference, negated}
@@ -117,18 +115,21 @@ module _ (setting point : Given) where
   no-node place (Err f) s t x e = cc
 
   -- ---- both have the same numbers
-  same-sums : (s t s' u : State) (x y : ℕ) (v w w' : Numbered) → w' ≡ w → Sums setting point s t x v w → Sums setting point s' u y v w' → (e f : Expressions Call) → Unfold t.nodes (x ∷ []) e → Unfold u.nodes (y ∷ []) f
-      → values_of setting point e ≡ values_of setting point f
-  same-sums s t s' u x y v w w' same h k e f he hf =
-      let shape : h.shape ≡ k.shape = same_Some h.shape k.shape (sym h.shares ∙ ap (λ (z : Numbered). shared v.sides z.sides) (sym same) ∙ k.shares) in
-      stand-same setting point t.nodes (x ∷ []) (summed setting point h.shape v w ∷ []) e h.gives.stands he
-      ∙ ap₂ (λ to z. summed setting point to v z ∷ []) shape (sym same)
-      ∙ sym (stand-same setting point u.nodes (y ∷ []) (summed setting point k.shape v w' ∷ []) f k.gives.stands hf)
+  -- the two nodes stand for one value
+  pub record Both (t u : State) (x y : ℕ) : Type 0 where
+    pub numbers : Numbered
+    pub left : Stand setting point t.nodes (x ∷ []) (numbers ∷ [])
+    pub right : Stand setting point u.nodes (y ∷ []) (numbers ∷ [])
 
-  module _ (place : Place) (s t u : State) (x y : ℕ) (are : HasTree s) (e f : Expressions Call) (he : Unfold t.nodes (x ∷ []) e) (hf : Unfold u.nodes (y ∷ []) f) where
+  same-sums : (s t s' u : State) (x y : ℕ) (v w w' : Numbered) → w' ≡ w → Sums setting point s t x v w → Sums setting point s' u y v w' → Both t u x y
+  same-sums s t s' u x y v w w' same h k =
+      let shape : h.shape ≡ k.shape = same_Some h.shape k.shape (sym h.shares ∙ ap (λ (z : Numbered). shared v.sides z.sides) (sym same) ∙ k.shares) in
+      let value : summed setting point k.shape v w' ≡ summed setting point h.shape v w = ap₂ (λ to z. summed setting point to v z) (sym shape) same in
+      record { numbers = summed setting point h.shape v w; left = h.gives.stands; right = subst (λ z. Stand setting point u.nodes (y ∷ []) (z ∷ [])) value k.gives.stands }
+
+  module _ (place : Place) (s t u : State) (x y : ℕ) (are : HasTree s) where
     -- a node is subtracted
-    of-node : (v : Value) (j : ℕ) → IsThere s v → j < length s.nodes → add_values Minus place v (expression j) s ≡ Ok (expression x, t) → plus_negative place v (expression j) s ≡ Ok (expression y, u)
-        → values_of setting point e ≡ values_of setting point f
+    of-node : (v : Value) (j : ℕ) → IsThere s v → j < length s.nodes → add_values Minus place v (expression j) s ≡ Ok (expression x, t) → plus_negative place v (expression j) s ≡ Ok (expression y, u) → Both t u x y
     of-node v j left right d p =
         let read = difference-read place (reading v) (standing j) s t x (ap (λ z. added_pair Minus place z s) (sym (beside-right v j)) ∙ d) in
         let n = operand-stands s v read.0 are read.1 left in
@@ -137,33 +138,46 @@ module _ (setting point : Given) where
       where
         by : (p : Operand) → reading v ≡ operand p → (n : Numbered) → OperandStands setting point s p n → (m : Numbered) → Stand setting point s.nodes (j ∷ []) (m ∷ [])
             → Sums setting point s t x n (value_of minus_call setting point (m ∷ [])) → (r : Result (ℕ × State) ElabFault) → push place minus_call (j ∷ []) s ≡ r
-            → and_then (wrapped r) (λ z. add_values Plus place v z) ≡ Ok (expression y, u) → values_of setting point e ≡ values_of setting point f
+            → and_then (wrapped r) (λ z. add_values Plus place v z) ≡ Ok (expression y, u) → Both t u x y
         by p reads n hn m hm sums (Ok (k, a)) pushes g =
             let neg = value_of minus_call setting point (m ∷ []) in
             let given = push-gives setting point s a place minus_call (j ∷ []) k (m ∷ []) are hm pushes in
             let added : added_pair Plus place (with_expression (operand p) (operand (standing k))) a ≡ Ok (expression y, u) =
             ap (λ z. added_pair Plus place (with_expression z (operand (standing k))) a) (sym reads) ∙ ap (λ z. added_pair Plus place z a) (sym (beside-right v k)) ∙ g in
             same-sums s t a u x y n neg neg refl sums
-            (broadcast-sums setting point place a u p (standing k) y n neg given.tree (operand-more setting point s a p n given.grows hn) given.stands (unwrapped _ y u added)) e f he hf
+            (broadcast-sums setting point place a u p (standing k) y n neg given.tree (operand-more setting point s a p n given.grows hn) given.stands (unwrapped _ y u added))
         by p reads n hn m hm sums (Err fault) pushes g = absurd cc
 
     -- a plain array is subtracted from a node
-    of-plain : (i : ℕ) (b : Array) → i < length s.nodes → add_values Minus place (expression i) (plain b) s ≡ Ok (expression x, t) → plus_negative place (expression i) (plain b) s ≡ Ok (expression y, u)
-        → values_of setting point e ≡ values_of setting point f
+    of-plain : (i : ℕ) (b : Array) → i < length s.nodes → add_values Minus place (expression i) (plain b) s ≡ Ok (expression x, t) → plus_negative place (expression i) (plain b) s ≡ Ok (expression y, u) → Both t u x y
     of-plain i b left d p =
         let n = stand-one setting point s.nodes are i left in
         let neg = value_of minus_call setting point (constant_value b ∷ []) in
         same-sums s t s u x y n.0 neg (constant_value (negated b)) (constant-negated b)
         (subtracted-sums setting point place s t (standing i) (constant b) x n.0 (constant_value b) are n.1 refl (unwrapped (subtracted place (standing i) (constant b) s) x t d))
-        (broadcast-sums setting point place s u (standing i) (constant (negated b)) y n.0 (constant_value (negated b)) are n.1 refl (unwrapped _ y u p)) e f he hf
+        (broadcast-sums setting point place s u (standing i) (constant (negated b)) y n.0 (constant_value (negated b)) are n.1 refl (unwrapped _ y u p))
 
-    of-values : (v w : Value) → IsThere s v → IsThere s w → add_values Minus place v w s ≡ Ok (expression x, t) → plus_negative place v w s ≡ Ok (expression y, u)
-        → values_of setting point e ≡ values_of setting point f
+    of-values : (v w : Value) → IsThere s v → IsThere s w → add_values Minus place v w s ≡ Ok (expression x, t) → plus_negative place v w s ≡ Ok (expression y, u) → Both t u x y
     of-values v (expression j) left right d p = of-node v j left right d p
     of-values (expression i) (plain b) left right d p = of-plain i b left d p
     of-values (plain a) (plain b) left right d p = absurd (no-node place (difference a b) s t x d)
     of-values v (plain b) left right d p = absurd cc
     of-values v w left right d p = absurd cc
 
+-- the expressions are the same at every setting and every point
+none_given : Given
+none_given name j = whole (pos 0)
+
 pub numbers_hold : DifferencesHaveSameNumbers
-numbers_hold place v w s t u x y are left right d p setting point e f he hf = of-values setting point place s t u x y are e f he hf v w left right d p
+numbers_hold place v w s t u x y are left right d p =
+    let trees = of-values none_given none_given place s t u x y are v w left right d p in
+    record {
+      left = trees.left.tree;
+      right = trees.right.tree;
+      left_is = trees.left.unfolds;
+      right_is = trees.right.unfolds;
+      numbers = λ setting point.
+          let both = of-values setting point place s t u x y are v w left right d p in
+          stand-same setting point t.nodes (x ∷ []) (both.numbers ∷ []) trees.left.tree both.left trees.left.unfolds
+          ∙ sym (stand-same setting point u.nodes (y ∷ []) (both.numbers ∷ []) trees.right.tree both.right trees.right.unfolds);
+    }

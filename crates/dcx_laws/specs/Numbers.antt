@@ -17,10 +17,14 @@ abbrev pub IsThere : State → Value → Type 0
 IsThere s (expression i) = i < length s.nodes
 IsThere s v = Unit {0}
 
--- the expressions for which two nodes stand, each in its own list, have the same sides and the same numbers at every setting
--- and every point
-abbrev pub HaveSameNumbers : List (Node Call) → ℕ → List (Node Call) → ℕ → Type 0
-HaveSameNumbers nodes i others j = (setting point : Given) (t u : Expressions Call) → Unfold nodes (i ∷ []) t → Unfold others (j ∷ []) u → values_of setting point t ≡ values_of setting point u
+-- two nodes, each in its own list, stand for expressions with the same sides and the same numbers, at every setting and every
+-- point
+pub record HaveSameNumbers (nodes : List (Node Call)) (i : ℕ) (others : List (Node Call)) (j : ℕ) : Type 0 where
+  pub left : Expressions Call
+  pub right : Expressions Call
+  pub left_is : Unfold nodes (i ∷ []) left
+  pub right_is : Unfold others (j ∷ []) right
+  pub numbers : (setting point : Given) → values_of setting point left ≡ values_of setting point right
 
 -- where a difference and the sum with the negative are both nodes, they have the same numbers: of two nodes, of a node and a
 -- plain array or a list of numbers
