@@ -1,2 +1,18 @@
--- Lemmas.
+-- The proofs of the laws.
 mod Renamed
+mod Prints
+pub mod Carried
+pub mod CarriedNodes
+pub mod CarriedCalls
+pub mod CarriedForms
+pub mod CarriedLines
+pub mod Unbound
+mod Bound
+mod SameCalls
+pub mod Pushed
+mod Treed
+mod Negatives
+mod Standing
+mod Summed
+mod Differences
+mod Numbered

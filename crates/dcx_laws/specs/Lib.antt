@@ -1,3 +1,8 @@
--- Laws of whole scripts.
+-- Laws about the meaning of scripts.
 pub mod Renamed
 pub mod Names
+pub mod Bindings
+pub mod Trees
+pub mod Printing
+pub mod Differences
+pub mod Numbers

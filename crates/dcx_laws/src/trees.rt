@@ -1,0 +1,7 @@
+//! The laws of nodes.
+ghost use Rattle.dcx_laws.specs.Trees.{HoldsForTrees};
+
+/// What is carried along has a tree of nodes, to which expressions and lines only add.
+pub fn trees()
+    ensures { HoldsForTrees }
+{}
