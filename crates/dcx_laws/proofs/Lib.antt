@@ -8,7 +8,6 @@ pub mod CarriedForms
 pub mod CarriedLines
 pub mod Unbound
 mod Bound
-mod SameCalls
 pub mod Pushed
 mod Treed
 mod Negatives

@@ -19,7 +19,7 @@ use Rattle.dcx_kinds.specs.declared.fault.ElabFault.TheVariants.{BadArgument, Sh
 use Rattle.dcx_kinds.specs.Values.{State, and_then, unless, or_fault, too_many}
 use Rattle.dcx_kinds.specs.Nodes.{is_of, are_there, found_or_added, push}
 use Rattle.dcx_kinds.specs.Same.{same_call}
-use Rattle.dcx_laws.proofs.SameCalls.{both, two, calls_decide}
+use Rattle.dcx_state.proofs.SameCalls.{both, two, calls_decide}
 
 -- ---- where a test first passes
 module _ {X : Type 0} (p : X → Bool) where

@@ -1,6 +1,6 @@
 -- The lemmas by which the functions of this crate are proved.
 mod Behind
-mod SameCalls
+pub mod SameCalls
 mod Found
 mod Bindings
 mod Settings
