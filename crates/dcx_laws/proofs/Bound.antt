@@ -97,7 +97,7 @@ abbrev pub Any : List ℕ → Type 0
 Any name = Unit {0}
 
 mutual
-  binds-any : (x : Line) → BindsOnly Any x
+  pub binds-any : (x : Line) → BindsOnly Any x
   binds-any (importing i) = tt
   binds-any (assign n x) = tt
   binds-any (add_to n place x) = tt

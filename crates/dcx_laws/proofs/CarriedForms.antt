@@ -16,41 +16,41 @@ use Rattle.dcx_laws.proofs.CarriedCalls.{add_values-moves, scale_values-moves, s
 
 module _ (R : State → State → Type 0) (carried : IsCarried R) where
   -- ---- calls
-  is_range_unless-moves : (n : Named) (v : Option Value) → Moves R (is_range_unless n v)
+  pub is_range_unless-moves : (n : Named) (v : Option Value) → Moves R (is_range_unless n v)
   is_range_unless-moves n (Some v) s t h = search parts
   is_range_unless-moves n None s t h = search parts
 
-  is_range-moves : (n : Named) → Moves R (is_range n)
+  pub is_range-moves : (n : Named) → Moves R (is_range n)
   is_range-moves n s t h = search is_range_unless-moves
 
-  name_called-moves : (n : Named) (ranged : Bool) (gs : List Given) → Moves R (name_called n ranged gs)
+  pub name_called-moves : (n : Named) (ranged : Bool) (gs : List Given) → Moves R (name_called n ranged gs)
   name_called-moves n true gs s t h = search function_called-moves
   name_called-moves n false gs s t h = search parts
 
-  solve_called-moves : (place : Place) (gs : List Given) → Moves R (solve_called place gs)
+  pub solve_called-moves : (place : Place) (gs : List Given) → Moves R (solve_called place gs)
   solve_called-moves place gs s t h = search (arguments-moves, solve-moves, parts)
 
-  no_method-moves : (place : Place) (n : Named) → Moves R (no_method place n)
+  pub no_method-moves : (place : Place) (n : Named) → Moves R (no_method place n)
   no_method-moves place n s t h = search parts
 
-  module_called-moves : (target : Option (List ℕ)) (place : Place) (m : Module) (n : Named) (gs : List Given) → Moves R (module_called target place m n gs)
+  pub module_called-moves : (target : Option (List ℕ)) (place : Place) (m : Module) (n : Named) (gs : List Given) → Moves R (module_called target place m n gs)
   module_called-moves target place m n gs s t h = search (function_called-moves, parts)
 
   ruleset solving = (solve_called-moves, no_method-moves)
 
-  method_called-moves : (target : Option (List ℕ)) (place : Place) (v : Value) (n : Named) (gs : List Given) → Moves R (method_called target place v n gs)
+  pub method_called-moves : (target : Option (List ℕ)) (place : Place) (v : Value) (n : Named) (gs : List Given) → Moves R (method_called target place v n gs)
   method_called-moves target place (library m) n gs s t h = search module_called-moves
   method_called-moves target place v n gs s t h = search (solving, parts)
 
   -- ---- signs, arguments, items and turns
-  signed-moves : (ss : List Signed) (v : Value) → Moves R (signed ss v)
+  pub signed-moves : (ss : List Signed) (v : Value) → Moves R (signed ss v)
   signed-moves [] v s t h = search parts
   signed-moves (x ∷ ss) v s t h = search (signed-moves ss v, sign_value-moves, parts)
 
-  given-moves : (word : Option (List ℕ)) (place : Place) (m : Act Value) → Moves R m → Moves R (given word place m)
+  pub given-moves : (word : Option (List ℕ)) (place : Place) (m : Act Value) → Moves R m → Moves R (given word place m)
   given-moves word place m moves s t h = search (moves, parts)
 
-  with_item-moves : (place : Place) (vs : List Value) (m : Act Value) → Moves R m → Moves R (with_item place vs m)
+  pub with_item-moves : (place : Place) (vs : List Value) (m : Act Value) → Moves R m → Moves R (with_item place vs m)
   with_item-moves place vs m moves s t h = search (moves, room-moves, parts)
 
   pub turn-moves : (first : Place) (name : List ℕ) (element : Act Value) (v : Value) → Moves R element → Moves R (turn first name element v)
@@ -66,80 +66,80 @@ module _ (R : State → State → Type 0) (carried : IsCarried R) where
     pub expr-moves : (x : Expr) → Moves R (expr_means x)
     expr-moves (expr first rest) s t h = search (sum-moves first, compared-moves rest, parts)
 
-    compared-moves : (x : Compared) (v : Value) → Moves R (compared_means x v)
+    pub compared-moves : (x : Compared) (v : Value) → Moves R (compared_means x v)
     compared-moves no_comparison v s t h = search parts
     compared-moves (compared c place x rest) v s t h = search (sum-moves x, compare_values-moves, chained-moves rest, parts)
 
-    chained-moves : (x : Compared) (v : Value) → Moves R (chained_means x v)
+    pub chained-moves : (x : Compared) (v : Value) → Moves R (chained_means x v)
     chained-moves no_comparison v s t h = search parts
     chained-moves (compared c place x rest) v s t h = search (sum-moves x, parts)
 
-    sum-moves : (x : Sum) → Moves R (sum_means x)
+    pub sum-moves : (x : Sum) → Moves R (sum_means x)
     sum-moves (sum first rest) s t h = search (term-moves first, added-moves rest, parts)
 
-    added-moves : (x : Added) (v : Value) → Moves R (added_means x v)
+    pub added-moves : (x : Added) (v : Value) → Moves R (added_means x v)
     added-moves no_addition v s t h = search parts
     added-moves (added sign place x rest) v s t h = search (term-moves x, add_values-moves, added-moves rest, parts)
 
-    term-moves : (x : Term) → Moves R (term_means x)
+    pub term-moves : (x : Term) → Moves R (term_means x)
     term-moves (term first rest) s t h = search (factor-moves first, scaled-moves rest, parts)
 
-    scaled-moves : (x : Scaled) (v : Value) → Moves R (scaled_means x v)
+    pub scaled-moves : (x : Scaled) (v : Value) → Moves R (scaled_means x v)
     scaled-moves no_scaling v s t h = search parts
     scaled-moves (scaled scaling place x rest) v s t h = search (factor-moves x, scale_values-moves, scaled-moves rest, parts)
 
-    factor-moves : (x : Factor) → Moves R (factor_means x)
+    pub factor-moves : (x : Factor) → Moves R (factor_means x)
     factor-moves (factor signs x) s t h = search (power-moves x, signed-moves, parts)
 
-    power-moves : (x : Power) → Moves R (power_means x)
+    pub power-moves : (x : Power) → Moves R (power_means x)
     power-moves (power_of first rest) s t h = search (postfix-moves first None, raised-moves rest, parts)
 
-    raised-moves : (x : Raised) (v : Value) → Moves R (raised_means x v)
+    pub raised-moves : (x : Raised) (v : Value) → Moves R (raised_means x v)
     raised-moves no_power v s t h = search parts
     raised-moves (raised place x rest) v s t h = search (exponent-moves x, parts)
 
-    exponent-moves : (x : Exponent) → Moves R (exponent_means x)
+    pub exponent-moves : (x : Exponent) → Moves R (exponent_means x)
     exponent-moves (exponent signs x) s t h = search (postfix-moves x None, signed-moves, parts)
 
     pub postfix-moves : (x : Postfix) (target : Option (List ℕ)) → Moves R (postfix_means target x)
     postfix-moves (postfix (name_at n) (call p xs rest)) target s t h = search (is_range-moves, args-moves xs, name_called-moves, trailers-moves rest, parts)
     postfix-moves (postfix x trailers) target s t h = search (primary-moves x, trailers-moves trailers, parts)
 
-    trailers-moves : (x : Trailers) (target : Option (List ℕ)) (place : Place) (v : Value) → Moves R (trailers_mean target place x v)
+    pub trailers-moves : (x : Trailers) (target : Option (List ℕ)) (place : Place) (v : Value) → Moves R (trailers_mean target place x v)
     trailers-moves no_trailer target place v s t h = search parts
     trailers-moves (attribute n (call p xs rest)) target place v s t h = search (args-moves xs, method_called-moves, trailers-moves rest, parts)
     trailers-moves (attribute n rest) target place v s t h = search (attribute_value-moves, trailers-moves rest, parts)
     trailers-moves (call p xs rest) target place v s t h = search (args-moves xs, parts)
     trailers-moves (indexed p x xs rest) target place v s t h = search (index-moves x, indices-moves xs, index_value-moves, trailers-moves rest, parts)
 
-    args-moves : (x : Args) (solving : Bool) → Moves R (args_mean solving x)
+    pub args-moves : (x : Args) (solving : Bool) → Moves R (args_mean solving x)
     args-moves no_args solving s t h = search parts
     args-moves (args x rest) solving s t h = search (arg-moves x, more_args-moves rest, parts)
 
-    more_args-moves : (x : MoreArgs) (solving : Bool) → Moves R (more_args_mean solving x)
+    pub more_args-moves : (x : MoreArgs) (solving : Bool) → Moves R (more_args_mean solving x)
     more_args-moves args_end solving s t h = search parts
     more_args-moves args_comma solving s t h = search parts
     more_args-moves (more_args x rest) solving s t h = search (arg-moves x, more_args-moves rest, parts)
 
-    arg-moves : (x : Arg) (solving : Bool) → Moves R (arg_means solving x)
+    pub arg-moves : (x : Arg) (solving : Bool) → Moves R (arg_means solving x)
     arg-moves (by_place x) solving s t h = search (expr-moves x, parts)
     arg-moves (by_name n x) solving s t h = search (expr-moves x, parts)
 
-    indices-moves : (x : Indices) → Moves R (indices_mean x)
+    pub indices-moves : (x : Indices) → Moves R (indices_mean x)
     indices-moves no_index s t h = search parts
     indices-moves (more_indices x rest) s t h = search (index-moves x, indices-moves rest, parts)
 
-    index-moves : (x : Index) → Moves R (index_means x)
+    pub index-moves : (x : Index) → Moves R (index_means x)
     index-moves (at x) s t h = search (expr-moves x, parts)
-    index-moves (slice start stop by) s t h = search (optional-moves start, optional-moves stop, step-moves by, parts)
+    index-moves (slice start stop by) s t h = search (optional-moves start, optional-moves stop, step_part-moves by, parts)
 
-    optional-moves : (x : Optional) → Moves R (optional_means x)
+    pub optional-moves : (x : Optional) → Moves R (optional_means x)
     optional-moves absent s t h = search parts
     optional-moves (present x) s t h = search (expr-moves x, parts)
 
-    step-moves : (x : Step) → Moves R (step_means x)
-    step-moves no_step s t h = search parts
-    step-moves (step x) s t h = search (optional-moves x)
+    pub step_part-moves : (x : Step) → Moves R (step_means x)
+    step_part-moves no_step s t h = search parts
+    step_part-moves (step x) s t h = search (optional-moves x)
 
     pub primary-moves : (x : Primary) → Moves R (primary_means x)
     primary-moves (number_at n place) s t h = search parts
@@ -154,11 +154,11 @@ module _ (R : State → State → Type 0) (carried : IsCarried R) where
     primary-moves (list place x rest) s t h = search (with_item-moves place [] (expr_means x) (expr-moves x), more_items-moves rest place, parts)
     primary-moves (comprehension place x for_place n from) s t h = search (expr-moves from, items_through-moves, turns-moves place (expr_place x) n.name (expr_means x) (expr-moves x) [], parts)
 
-    items-moves : (x : Items) (place : Place) (vs : List Value) → Moves R (items_mean place x vs)
+    pub items-moves : (x : Items) (place : Place) (vs : List Value) → Moves R (items_mean place x vs)
     items-moves no_items place vs s t h = search parts
     items-moves (items x rest) place vs s t h = search (with_item-moves place vs (expr_means x) (expr-moves x), more_items-moves rest place, parts)
 
-    more_items-moves : (x : MoreItems) (place : Place) (vs : List Value) → Moves R (more_items_mean place x vs)
+    pub more_items-moves : (x : MoreItems) (place : Place) (vs : List Value) → Moves R (more_items_mean place x vs)
     more_items-moves items_end place vs s t h = search parts
     more_items-moves items_comma place vs s t h = search parts
     more_items-moves (more_items x rest) place vs s t h = search (with_item-moves place vs (expr_means x) (expr-moves x), more_items-moves rest place, parts)

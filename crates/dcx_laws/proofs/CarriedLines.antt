@@ -68,10 +68,10 @@ module _ (R : State → State → Type 0) (P : List ℕ → Type 0) (carried : I
   right_side-moves name e (Some x) = carried.calls x (Some name)
   right_side-moves name e None = carried.expressions e
 
-  assigned-moves : (name : List ℕ) (e : Expr) → Moves R (assigned name e)
+  pub assigned-moves : (name : List ℕ) (e : Expr) → Moves R (assigned name e)
   assigned-moves name e s t h = search (right_side-moves name e (only_postfix e), parts)
 
-  each_turn-moves : (name : List ℕ) → P name → (body : Act (Unit {0})) → Moves R body → (vs : List Value) → Moves R (each_turn name body vs)
+  pub each_turn-moves : (name : List ℕ) → P name → (body : Act (Unit {0})) → Moves R body → (vs : List Value) → Moves R (each_turn name body vs)
   each_turn-moves name may body moves [] s t h = search parts
   each_turn-moves name may body moves (v ∷ vs) s t h = search (carried.bindings name v may, moves, each_turn-moves name may body moves vs, parts)
 

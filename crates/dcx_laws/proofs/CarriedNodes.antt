@@ -77,7 +77,7 @@ module _ (R : State → State → Type 0) (carried : IsCarried R) where
   operand_read-moves place empty s t h = search parts
   operand_read-moves place unfit s t h = search parts
 
-  each_read-moves : (place : Place) (rs : List Reading) → Moves R (each_read place rs)
+  pub each_read-moves : (place : Place) (rs : List Reading) → Moves R (each_read place rs)
   each_read-moves place [] s t h = search parts
   each_read-moves place (r ∷ rs) s t h = search (operand_read-moves, each_read-moves place rs, parts)
 
@@ -92,20 +92,20 @@ module _ (R : State → State → Type 0) (carried : IsCarried R) where
   numbers_read-moves place unfit s t h = search parts
 
   -- ---- declarations, the problem and its solves
-  declared_shape-moves : (place : Place) (sides : Sides) → Moves R (declared_shape place sides)
+  pub declared_shape-moves : (place : Place) (sides : Sides) → Moves R (declared_shape place sides)
   declared_shape-moves place sides s t h = search parts
 
   pub declare_variable-moves : (place : Place) (name : List ℕ) (sides : Sides) (flags : Flags) → Moves R (declare_variable place name sides flags)
   declare_variable-moves place name sides flags s t h = search (push-moves, declared_shape-moves, others-carried, parts) depth 8
 
-  set_value-moves : (name : List ℕ) (a : Array) → Moves R (set_value name a)
+  pub set_value-moves : (name : List ℕ) (a : Array) → Moves R (set_value name a)
   set_value-moves name a s t h = search (parts, others-carried)
 
-  first_value-moves : (place : Place) (value : Option Reading) → Moves R (first_value place value)
+  pub first_value-moves : (place : Place) (value : Option Reading) → Moves R (first_value place value)
   first_value-moves place None s t h = search parts
   first_value-moves place (Some r) s t h = search (numbers_read-moves, parts)
 
-  set_first-moves : (name : List ℕ) (value : Option Array) → Moves R (set_first name value)
+  pub set_first-moves : (name : List ℕ) (value : Option Array) → Moves R (set_first name value)
   set_first-moves name None s t h = search parts
   set_first-moves name (Some a) s t h = search set_value-moves
 
@@ -122,7 +122,7 @@ module _ (R : State → State → Type 0) (carried : IsCarried R) where
   solve-moves place s t h = search (others-carried, parts)
 
   -- ---- arguments, and what there is to go through
-  all_right-moves : (x : Option Sides) (ms : List Matched) → Moves R (all_right x ms)
+  pub all_right-moves : (x : Option Sides) (ms : List Matched) → Moves R (all_right x ms)
   all_right-moves x [] s t h = search parts
   all_right-moves x (m ∷ ms) s t h = search (all_right-moves x ms, parts)
 
@@ -132,7 +132,7 @@ module _ (R : State → State → Type 0) (carried : IsCarried R) where
   pub range_from-moves : (place : Place) (first stop by : ℤ) → Moves R (range_from place first stop by)
   range_from-moves place first stop by s t h = search parts
 
-  vector_items-moves : (place : Place) (a : Array) (sides : Sides) → Moves R (vector_items place a sides)
+  pub vector_items-moves : (place : Place) (a : Array) (sides : Sides) → Moves R (vector_items place a sides)
   vector_items-moves place a Scalar s t h = search parts
   vector_items-moves place a (Vector n) s t h = search parts
   vector_items-moves place a (Matrix m n) s t h = search parts

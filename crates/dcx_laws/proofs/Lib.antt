@@ -9,6 +9,8 @@ pub mod CarriedLines
 pub mod Unbound
 mod Bound
 pub mod Pushed
+mod ByNodes
+mod There
 mod Treed
 mod Negatives
 mod Standing

@@ -26,9 +26,9 @@ use Rattle.dcx_kinds.specs.Operands.{as_plain}
 use Rattle.dcx_kinds.specs.View.{is_node}
 use Rattle.dcx_kinds.specs.Kinds.{Reading, operand, nested, empty, unfit, reading, list_reading, or_unfit, is_number, is_list, vector_of}
 use Rattle.dcx_operators.specs.Operators.{add_values, added_pair, with_expression, beside}
-use Rattle.dcx_laws.specs.Trees.{HasTree}
+use Rattle.dcx_laws.specs.Trees.{HasTree, IsThere}
 use Rattle.dcx_laws.specs.Differences.{plus_negative}
-use Rattle.dcx_laws.specs.Numbers.{IsThere, DifferencesHaveSameNumbers}
+use Rattle.dcx_laws.specs.Numbers.{DifferencesHaveSameNumbers}
 use Rattle.dcx_laws.proofs.Negatives.{entry-negated, value-negated}
 use Rattle.dcx_laws.proofs.Standing.{Stand, stand-one, stand-same}
 use Rattle.dcx_laws.proofs.Summed.{minus_call, shared, OperandStands, operand-more, push-gives, summed, Sums, subtracted-sums, broadcast-sums}

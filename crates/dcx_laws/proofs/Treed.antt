@@ -1,41 +1,23 @@
 -- Expressions and lines keep the tree of nodes, and only add to it.
-use Rattle.std.proofs.Common.{◌≡◌, ℕ, List, [], Option, Some, None, Ok, refl, sym, subst, ◌∙◌, append-nil, lit≤}
+use Rattle.std.proofs.Common.{◌≡◌, ℕ, List, [], Ok, sym, subst, ◌∙◌, append-nil, lit≤}
 use Rattle.std.proofs.lemmas.Option.{none-some}
 use Rattle.dcx_shape.specs.declared.place.Place.{Place}
 use Rattle.dcx_arena.specs.Nodes.{AreNodes}
 use Rattle.dcx_call.specs.declared.call.Call.{Call}
 use Rattle.dcx_call.specs.Calls.{shape_of}
 use Rattle.dcx_read.specs.Statements.{Lines}
-use Rattle.dcx_kinds.specs.Values.{Value, State, Act, restore, step}
+use Rattle.dcx_kinds.specs.Values.{State}
 use Rattle.dcx_kinds.specs.Nodes.{push}
 use Rattle.dcx_state.specs.Declarations.{start}
-use Rattle.dcx_elab.specs.Turns.{turn}
 use Rattle.dcx_elab.specs.Statements.{lines_mean}
 use Rattle.dcx_laws.specs.Trees.{HasTree, HoldsForTrees}
-use Rattle.dcx_laws.proofs.Carried.{Moves, IsCarried, ok-moved, parts}
+use Rattle.dcx_laws.proofs.Carried.{Moves, IsCarried}
 use Rattle.dcx_laws.proofs.CarriedForms.{expr-moves}
-use Rattle.dcx_laws.proofs.CarriedLines.{IsCarriedByLines, by_expressions, lines-move}
+use Rattle.dcx_laws.proofs.CarriedLines.{IsCarriedByLines, lines-move}
 use Rattle.dcx_laws.proofs.Bound.{Any, bind-any}
+use Rattle.dcx_laws.proofs.ByNodes.{by_pushes, by_lines}
+use Rattle.dcx_laws.proofs.There.Lines.{expressions_there, lines_there, operands_there}
 use Rattle.dcx_laws.proofs.Pushed.{Grows, push-tree, push-grows, grows-on}
-
--- ---- relations that ask of nodes alone
-module _ (R : State → State → Type 0) (same : (s : State) → R s s) (by_nodes : (s t u : State) → R s t → u.nodes ≡ t.nodes → R s u)
-    (pushes : (place : Place) (call : Call) (args : List ℕ) → Moves R (push place call args)) where
-  steps : (place : Place) → Moves R (step place)
-  steps place s t h = search parts
-
-  restores : (name : List ℕ) (before : Option Value) → Moves R (restore name before)
-  restores name (Some v) s t h = search parts
-  restores name None s t h = search parts
-
-  turn-moves : (first : Place) (name : List ℕ) (element : Act Value) (v : Value) → Moves R element → Moves R (turn first name element v)
-  turn-moves first name element v moves s t h = search (steps, moves, restores, parts) depth 8
-
-  pub by_pushes : IsCarried R
-  by_pushes = record { same = same; others = λ s t u h names nodes. by_nodes s t u h nodes; pushes = pushes; turns = turn-moves }
-
-  pub by_lines : IsCarriedByLines R Any
-  by_lines = by_expressions R by_pushes Any (λ name v may s t h. ok-moved R s _ tt (by_nodes s t _ h refl))
 
 -- ---- the tree
 abbrev Treed : State → State → Type 0
@@ -88,4 +70,7 @@ trees_hold = record {
   expressions_add = λ x s t v. (expr-moves Grows grows_is_carried x s s (grows-from s)).at v t;
   lines_add = λ ls s t x. (lines-move Grows Any grows_by_lines ls (bind-any ls) s s (grows-from s)).at x t;
   reached = λ ls s e. trees ls start s tt none-treed e;
+  values = expressions_there;
+  bound = lines_there;
+  operands = operands_there;
 }

@@ -1,5 +1,5 @@
 -- `x - y` and `x + (-y)` stand for the same numbers, whatever is subtracted from what.
-use Rattle.std.specs.Prelude.{◌≡◌, ◌<◌, ℕ, List, [], ◌∷◌, length, Ok}
+use Rattle.std.specs.Prelude.{◌≡◌, ℕ, List, [], ◌∷◌, Ok}
 use Rattle.dcx_shape.specs.declared.place.Place.{Place}
 use Rattle.dcx_arena.specs.Nodes.{Node}
 use Rattle.dcx_arena.specs.Unfold.{Expressions, Unfold}
@@ -9,13 +9,8 @@ use Rattle.dcx_tree.specs.Expressions.{values_of}
 use Rattle.dcx_read.specs.declared.tree.Sign.TheVariants.{Minus}
 use Rattle.dcx_kinds.specs.Values.{Value, expression, State}
 use Rattle.dcx_operators.specs.Operators.{add_values}
-use Rattle.dcx_laws.specs.Trees.{HasTree}
+use Rattle.dcx_laws.specs.Trees.{HasTree, IsThere}
 use Rattle.dcx_laws.specs.Differences.{plus_negative}
-
--- a value that is a node is one that is there
-abbrev pub IsThere : State → Value → Type 0
-IsThere s (expression i) = i < length s.nodes
-IsThere s v = Unit {0}
 
 -- two nodes, each in its own list, stand for expressions with the same sides and the same numbers, at every setting and every
 -- point
