@@ -23,8 +23,6 @@ pub mod laws;
 mod node;
 mod operator;
 mod store;
-#[cfg(test)]
-mod tests;
 mod tree;
 mod walk;
 

@@ -23,8 +23,6 @@ mod operators;
 mod picks;
 mod products;
 mod shapes;
-#[cfg(test)]
-mod tests;
 mod turned;
 
 pub use arrays::{array_with, as_whole, constant, identity, number};

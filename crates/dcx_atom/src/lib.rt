@@ -47,6 +47,3 @@ pub use graph::{
 pub use linear::LinearOp;
 pub use stops::{SlopeStop, ValueStop};
 pub use terms::{EntryTerms, Terms, Triple};
-
-#[cfg(test)]
-mod tests;

@@ -27,8 +27,6 @@ pub mod laws;
 mod linears;
 mod operator;
 mod same;
-#[cfg(test)]
-mod tests;
 mod value;
 
 pub use atoms::AtomCall;

@@ -19,8 +19,6 @@ mod array;
 mod entry;
 pub mod laws;
 mod point;
-#[cfg(test)]
-mod tests;
 
 pub use array::outside;
 pub use point::{Outside, is_domain_point, point_outside};

@@ -16,6 +16,3 @@ pub use fraction::{Frac, LARGEST, Op, Passes};
 pub use list::Fracs;
 pub use order::compare;
 pub use text::write_frac;
-
-#[cfg(test)]
-mod tests;

@@ -30,8 +30,6 @@ mod items;
 mod operands;
 mod progression;
 mod reading;
-#[cfg(test)]
-mod tests;
 mod value;
 
 pub use extent::{Extent, axis_of, sides_from, told_side};

@@ -34,8 +34,6 @@ mod rows;
 mod site;
 mod stop;
 mod term;
-#[cfg(test)]
-mod tests;
 
 pub use change::Change;
 pub use coef::Coef;

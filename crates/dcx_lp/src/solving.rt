@@ -167,6 +167,3 @@ pub fn solve(alloc: Global, linear: &Linear, limit: u64) -> Result<Solution, All
         LpEnd::PivotLimit { count } => Ok(Solution::PivotLimit { count }),
     }
 }
-
-#[cfg(test)]
-mod tests;

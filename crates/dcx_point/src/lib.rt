@@ -15,8 +15,6 @@ mod arrays;
 pub mod laws;
 mod point;
 mod setting;
-#[cfg(test)]
-mod tests;
 
 pub use point::Point;
 pub use setting::Setting;

@@ -1,6 +1,7 @@
 -- Answers of the descent: trees read part by part, where the last part or a stop is at hand.
 use Rattle.std.proofs.lemmas.List.{map_push}
-use Rattle.std.proofs.Common.{◌≡◌, ℕ, Bool, true, false, List, [], ◌∷◌, ◌++◌, map, refl, sym, ap, subst, ◌∙◌}
+use Rattle.std.proofs.Common.{◌≡◌, ◌<◌, ◌≤◌, ℕ, Bool, true, false, List, [], ◌∷◌, ◌++◌, Option, Some, None, Result, Ok, Err, arith, map, length, refl, sym, ap, ap₂, subst, ◌∙◌}
+use Rattle.std.specs.Prelude.{IfOk, IfSome}
 use Rattle.dcx_shape.specs.declared.place.Place.{Place}
 use Rattle.dcx_frac.specs.declared.fraction.Frac.{Frac}
 use Rattle.dcx_tokens.specs.declared.token.Token.{Token}
@@ -10,13 +11,13 @@ use Rattle.dcx_read.specs.declared.role.Bracket.TheVariants.{Round, Square, Curl
 use Rattle.dcx_read.specs.declared.front.Stop.{Stop}
 use Rattle.dcx_read.specs.Role.{role_of}
 use Rattle.dcx_read.specs.Terminal.{Terminal, opens, terminal, terminals}
-use Rattle.dcx_read.specs.Expressions.{Primary, postfix, Trailers, args, args_end, no_args, Arg, Expr, items, items_end, no_items, Index, Indices, more_indices}
+use Rattle.dcx_read.specs.Expressions.{Primary, postfix, Trailers, args, args_end, no_args, Arg, Expr, items, items_end, no_items, Index, Indices, more_indices, indexed, no_trailer}
 use Rattle.dcx_read.specs.View.{chained, then_index, args_of, items_of, more_items_of}
-use Rattle.dcx_read.specs.Moves.{Symbol, Tree, move, leaf, expr_s, arg_s, args_s, more_args_s, items_s, more_items_s, indices_s, postfix_s, trailers_s, primary_s, args_behind, args_join, items_behind, items_join}
-use Rattle.dcx_read.specs.Steps.{Gives, Progress, Loop, StopsAt, Stops, Front, Lacks, starts_expr}
+use Rattle.dcx_read.specs.Moves.{Symbol, Tree, move, leaf, expr_s, arg_s, args_s, more_args_s, items_s, more_items_s, index_s, indices_s, closes_s, postfix_s, trailers_s, primary_s, args_behind, args_join, items_behind, items_join}
+use Rattle.dcx_read.specs.Steps.{Gives, Progress, Loop, StopsAt, Stops, Front, Lacks, starts_expr, Reads, ReadsOne, Closes, IsBeside, MakesOne}
 use Rattle.dcx_read.specs.Leaves.{is_leaf}
 use Rattle.dcx_read.proofs.Progress.{front, begun, goes, joins, done, turns, stops}
-use Rattle.dcx_read.proofs.Rules.{item, begins_primary, primary-stops, primary-none, args-starts, args-comma, args-none, more_args-ends, items-starts, items-comma, items-none, more_items-ends}
+use Rattle.dcx_read.proofs.Rules.{indexed-item, closes_square-gives, closes_square-stops, item, begins_primary, primary-stops, primary-none, args-starts, args-comma, args-none, more_args-ends, items-starts, items-comma, items-none, more_items-ends}
 use Rattle.dcx_read.proofs.Loops.{pushed, loop-stops, args_after, args-more, args-last, args-none-behind, items_after, items-more, items-last, items-none-behind}
 
 -- the last part is read
@@ -137,3 +138,31 @@ module _ {C : Type 0} (source : List ℕ) (us : List Terminal) (ts : List Token)
 -- a trailer more is read
 pub trailers-step : {C : Type 0} (us rest mid : List Terminal) (x : Primary) (view : C → Trailers → Trailers) (old new : List C) (y : C) → Loop postfix_s trailers_s us rest (λ a. postfix x (chained (map view old) a)) → Loop trailers_s trailers_s rest mid (view y) → new ≡ old ++ y ∷ [] → Loop postfix_s trailers_s us mid (λ a. postfix x (chained (map view new) a))
 trailers-step us rest mid x view old new y l h e = loop-turn postfix_s trailers_s us rest mid (λ a. postfix x (chained (map view old) a)) (λ a. postfix x (chained (map view new) a)) (view y) l h (λ a. ap (postfix x) (sym (pushed view new old y (view y) e refl a)))
+
+-- an index, of which the first part is read
+module _ {F U X Y Z : Type 0} (view : X → (F × U) × List Token) (seen : Y → U × List Token) (kept : Z → (Trailers → Trailers) × List Token) (place : Place) (first : F → Index) (rest : U → Indices) (f : F) where
+  abbrev pub index_kept : X → (Trailers → Trailers) × List Token
+  index_kept x = ((λ y. indexed place (first (view x).0.0) (rest (view x).0.1) y), (view x).1)
+
+  pub index-ends : (source : List ℕ) (ts within after : List Token) → Front (roles.Opens Square) place ts within → Gives index_s (terminals source within) (first f) (terminals source after) → (others closing : Result Y Stop) (parts : Result X Stop) (whole : Result (Option Z) Stop) → Reads indices_s source (λ y. (rest (seen y).0, (seen y).1)) others (terminals source after) → Closes (roles.Closes Square) seen closing others → IsBeside view seen f parts closing → MakesOne kept index_kept whole parts → ReadsOne trailers_s source no_trailer kept whole (terminals source ts)
+  index-ends source ts within after h g (Err a) (Err b) (Err d) (Err e) r c i m = rw (m, i, c) (stops trailers_s indices_s (terminals source ts) (terminals source after) (closes_s Square ∷ trailers_s ∷ []) _ source a (goes trailers_s index_s (terminals source ts) (terminals source within) (terminals source after) (indices_s ∷ closes_s Square ∷ trailers_s ∷ []) _ (first f) (indexed-item source ts within place h) g) r)
+  index-ends source ts within after h g (Ok a) (Err b) (Err d) (Err e) r c i m = rw (m, i) (stops trailers_s (closes_s Square) (terminals source ts) (terminals source (seen a).1) (trailers_s ∷ []) _ source b (goes trailers_s indices_s (terminals source ts) (terminals source after) (terminals source (seen a).1) (closes_s Square ∷ trailers_s ∷ []) _ (rest (seen a).0) (goes trailers_s index_s (terminals source ts) (terminals source within) (terminals source after) (indices_s ∷ closes_s Square ∷ trailers_s ∷ []) _ (first f) (indexed-item source ts within place h) g) r) (closes_square-stops source (seen a).1 b c))
+  index-ends source ts within after h g (Err a) (Ok b) d e r c i m = absurd c
+  index-ends source ts within after h g a (Err b) (Ok d) e r c i m = absurd i
+  index-ends source ts within after h g a (Ok b) (Err d) e r c i m = absurd i
+  index-ends source ts within after h g a b (Ok d) (Err e) r c i m = absurd m
+  index-ends source ts within after h g a b (Ok d) (Ok None) r c i m = absurd m
+  index-ends source ts within after h g a b (Err d) (Ok e) r c i m = absurd m
+  index-ends source ts within after h g (Ok a) (Ok b) (Ok d) (Ok (Some e)) r c i m =
+      subst (λ z. Loop trailers_s trailers_s (terminals source ts) (terminals source z) (kept e).0) (sym (m.1 ∙ i.1.1))
+      (trailer-is (terminals source ts) (terminals source (seen b).1) (λ y. indexed place (first f) (rest (seen a).0) y) (kept e).0
+      (goes trailers_s (closes_s Square) (terminals source ts) (terminals source (seen a).1) (terminals source (seen b).1) (trailers_s ∷ []) _ tt (goes trailers_s indices_s (terminals source ts) (terminals source after) (terminals source (seen a).1) (closes_s Square ∷ trailers_s ∷ []) _ (rest (seen a).0) (goes trailers_s index_s (terminals source ts) (terminals source within) (terminals source after) (indices_s ∷ closes_s Square ∷ trailers_s ∷ []) _ (first f) (indexed-item source ts within place h) g) r) (closes_square-gives source (seen a).1 (seen b).1 c.1))
+      (m.0 ∙ ap₂ (λ a b y. indexed place (first a) (rest b) y) i.0 (i.1.0 ∙ c.0)))
+
+  pub index-shorter : (n most : ℕ) → n < most → (others closing : Result Y Stop) (parts : Result X Stop) (whole : Result (Option Z) Stop) → IfOk others (λ y. length (seen y).1 ≤ n) → Closes (roles.Closes Square) seen closing others → IsBeside view seen f parts closing → MakesOne kept index_kept whole parts → IfOk whole (λ o. IfSome o (λ x. length (kept x).1 < most))
+  index-shorter n most k a b d (Err e) h c i m = tt
+  index-shorter n most k a b d (Ok None) h c i m = tt
+  index-shorter n most k (Err a) (Ok b) (Ok d) (Ok (Some e)) h c i m = absurd c
+  index-shorter n most k a (Err b) (Ok d) (Ok (Some e)) h c i m = absurd i
+  index-shorter n most k a b (Err d) (Ok (Some e)) h c i m = absurd m
+  index-shorter n most k (Ok a) (Ok b) (Ok d) (Ok (Some e)) h c i m = let o = ap length m.1 in let p = ap length i.1.1 in let q = ap length c.1.1.parts in omega (arith, o, p, q, h, k)

@@ -1,22 +1,25 @@
 -- Answers of the descent over lines.
-use Rattle.std.proofs.Common.{◌≡◌, ◌⊎◌, inl, inr, ℕ, true, false, List, [], ◌∷◌, ◌++◌, map, refl, sym, ap, ◌∙◌}
+use Rattle.std.proofs.Common.{◌≡◌, ◌<◌, ◌≤◌, ◌⊎◌, inl, inr, ℕ, true, false, List, [], ◌∷◌, ◌++◌, map, length, Result, Ok, Err, arith, refl, sym, subst, ap, ap₂, ◌∙◌}
+use Rattle.std.specs.Prelude.{IfOk}
 use Rattle.std.proofs.lemmas.List.{map_push}
 use Rattle.dcx_shape.specs.declared.place.Place.{Place}
 use Rattle.dcx_tokens.specs.declared.token.Token.{Token}
 use Rattle.dcx_read.specs.declared.role.Role.TheVariants as roles
 use Rattle.dcx_read.specs.declared.role.Bracket.{Bracket}
 use Rattle.dcx_read.specs.declared.front.Stop.{Stop}
+use Rattle.dcx_read.specs.declared.tree.Named.{Named}
 use Rattle.dcx_read.specs.Terminal.{Terminal, terminals}
 use Rattle.dcx_read.specs.Expressions.{Expr}
-use Rattle.dcx_read.specs.Statements.{Balanced, nothing, within, Line, Lines, no_lines, lines, trimmed, trimmed_all}
+use Rattle.dcx_read.specs.Statements.{Balanced, nothing, within, Line, Lines, no_lines, lines, repeats, trimmed, trimmed_all}
 use Rattle.dcx_read.specs.View.{chained}
-use Rattle.dcx_read.specs.Moves.{Symbol, expr_s, newline_s, balanced_s, closes_s, line_s, lines_s, lines_join, Tree}
+use Rattle.dcx_read.specs.Moves.{Symbol, expr_s, newline_s, balanced_s, closes_s, line_s, lines_s, dedent_s, lines_join, Tree}
 use Rattle.dcx_read.specs.Steps.{Gives, Progress, Loop, Stops, Front, FrontOf, Refuses}
-use Rattle.dcx_read.specs.Lines.{FrontPlain, LacksPlain, BalancedTo, then_line, lines_of, starts_line}
-use Rattle.dcx_read.specs.Steps.{Lacks}
-use Rattle.dcx_read.proofs.Progress.{front, begun, goes, stops}
+use Rattle.dcx_read.specs.Lines.{FrontPlain, LacksPlain, BalancedTo, then_line, lines_of, starts_line, ReadsLine, ReadsLines, ReadsBody, EndsBlock}
+use Rattle.dcx_read.specs.Steps.{Lacks, Closes, IsBeside}
+use Rattle.dcx_read.proofs.Progress.{Join, front, begun, goes, stops}
 use Rattle.dcx_read.proofs.Loops.{pushed, loop-stops}
 use Rattle.dcx_read.proofs.Descent.{finish, loop-turn}
+use Rattle.dcx_read.proofs.Rules.{dedent-gives, dedent-stops}
 use Rattle.dcx_read.proofs.LineRules.{balanced-plain, balanced-opens, balanced-ends, closes-gives, closes-stops, lines-starts, lines-none}
 
 -- an expression and the line's end are the last parts
@@ -82,3 +85,54 @@ module _ {C : Type 0} (source : List ℕ) (us : List Terminal) (ts : List Token)
 
   pub lines-done : starts_line ts ≡ false → (t : Lines) × (Gives lines_s us t (terminals source ts) × (lines_of (map view old) ≡ trimmed_all t))
   lines-done b = (l.put no_lines, (finish lines_s lines_s us (terminals source ts) (terminals source ts) l.put no_lines (l.put no_lines) l.reads (lines-none source ts b) refl, sym (l.same no_lines)))
+
+-- how a block completes a line
+abbrev block_join : (Line → Lines → Line) → Join line_s (line_s ∷ lines_s ∷ dedent_s ∷ [])
+block_join make ss f = front line_s ss (make f.0 f.1.0) f.1.1.1
+
+-- the lines of a block behind the first one, and what ends them
+module _ {F U X Y : Type 0} (view : X → (F × U) × List Token) (seen : Y → U × List Token) (source : List ℕ) (us : List Terminal) (behind : List Token) (f : F) (first : F → Line) (rest : U → Lines) where
+  pub body-stops : (t : Line) → Gives line_s us t (terminals source behind) → (from : List Terminal) (make : Line → Lines → Line) → Progress line_s from us (line_s ∷ lines_s ∷ dedent_s ∷ []) (block_join make) → (e : Stop) → Stops lines_s source (terminals source behind) e → Stops line_s source from e
+  body-stops t g from make h e r = stops line_s lines_s from (terminals source behind) (dedent_s ∷ []) _ source e (goes line_s line_s from us (terminals source behind) (lines_s ∷ dedent_s ∷ []) (block_join make) t h g) r
+
+  pub body-unended : (t : Line) → Gives line_s us t (terminals source behind) → (ts : Lines) (end : List Token) → Gives lines_s (terminals source behind) ts (terminals source end) → (from : List Terminal) (make : Line → Lines → Line) → Progress line_s from us (line_s ∷ lines_s ∷ dedent_s ∷ []) (block_join make) → (e : Stop) → Refuses roles.Dedent end e → Stops line_s source from e
+  body-unended t g ts end k from make h e r = stops line_s dedent_s from (terminals source end) [] _ source e (goes line_s lines_s from (terminals source behind) (terminals source end) (dedent_s ∷ []) _ ts (goes line_s line_s from us (terminals source behind) (lines_s ∷ dedent_s ∷ []) (block_join make) t h g) k) (dedent-stops source end e r)
+
+  pub body-ends : (t : Line) → Gives line_s us t (terminals source behind) → first f ≡ trimmed t → (inner closing : Result Y Stop) (body : Result X Stop) → ReadsLines source (λ y. (rest (seen y).0, (seen y).1)) inner (terminals source behind) → Closes roles.Dedent seen closing inner → IsBeside view seen f body closing → ReadsBody source (λ x. ((first (view x).0.0, rest (view x).0.1), (view x).1)) body us
+  body-ends t g e (Err a) (Err b) (Err d) r c i = rw (i, c) (λ from make h. body-stops t g from make h a r)
+  body-ends t g e (Ok a) (Err b) (Err d) r c i = rw i (λ from make h. body-unended t g r.0 (seen a).1 r.1.0 from make h b c)
+  body-ends t g e (Err a) (Ok b) d r c i = absurd c
+  body-ends t g e a (Err b) (Ok d) r c i = absurd i
+  body-ends t g e a (Ok b) (Err d) r c i = absurd i
+  body-ends t g e (Ok a) (Ok b) (Ok d) r c i =
+      (t, (r.0, (terminals source behind, (terminals source (seen a).1, (ap first i.0 ∙ e, (ap rest (i.1.0 ∙ c.0) ∙ r.1.1, (g, (r.1.0,
+      subst (λ z. Gives dedent_s (terminals source (seen a).1) tt (terminals source z)) (sym i.1.1) (dedent-gives source (seen a).1 (seen b).1 c.1)))))))))
+
+  pub body-shorter : (n most : ℕ) → n < most → (inner closing : Result Y Stop) (body : Result X Stop) → IfOk inner (λ y. length (seen y).1 ≤ n) → Closes roles.Dedent seen closing inner → IsBeside view seen f body closing → IfOk body (λ x. length (view x).1 < most)
+  body-shorter n most k inner closing (Err d) h c i = tt
+  body-shorter n most k (Err a) (Ok b) (Ok d) h c i = absurd c
+  body-shorter n most k a (Err b) (Ok d) h c i = absurd i
+  body-shorter n most k (Ok a) (Ok b) (Ok d) h c i = let p = ap length i.1.1 in let q = ap length c.1.1.parts in omega (arith, p, q, h, k)
+
+-- a block, and the whole line
+module _ {F U X Y Z : Type 0} (view : X → (F × U) × List Token) (seen : Y → U × List Token) (kept : Z → Line × List Token) (place : Place) (name : F → Named) (from : F → Expr) (first : U → Line) (rest : U → Lines) (f : F) where
+  abbrev pub made : X → Line × List Token
+  made x = (repeats place (name (view x).0.0) (from (view x).0.0) (first (view x).0.1) (rest (view x).0.1), (view x).1)
+
+  pub block-ends : (source : List ℕ) (us inside : List Terminal) → Progress line_s us inside (line_s ∷ lines_s ∷ dedent_s ∷ []) (block_join (repeats place (name f) (from f))) → (body : Result Y Stop) (parts : Result X Stop) (whole : Result Z Stop) → ReadsBody source (λ y. ((first (seen y).0, rest (seen y).0), (seen y).1)) body inside → IsBeside view seen f parts body → EndsBlock kept made whole parts → ReadsLine source kept whole us
+  block-ends source us inside h (Err a) (Err b) (Err d) r i e = rw (e, i) (r us (repeats place (name f) (from f)) h)
+  block-ends source us inside h (Err a) (Ok b) d r i e = absurd i
+  block-ends source us inside h (Ok a) (Err b) d r i e = absurd i
+  block-ends source us inside h a (Err b) (Ok d) r i e = absurd e
+  block-ends source us inside h (Ok a) (Ok b) (Err d) r i e = rw e tt
+  block-ends source us inside h (Ok a) (Ok b) (Ok d) (t, (ts, (mid, (end, (e1, (e2, (g1, (g2, g3)))))))) i e =
+      (repeats place (name f) (from f) t ts,
+      (subst (λ z. Gives line_s us (repeats place (name f) (from f) t ts) (terminals source z)) (sym (e.1 ∙ i.1.1))
+      (finish line_s dedent_s us end (terminals source (seen a).1) (λ z. repeats place (name f) (from f) t ts) tt _ (goes line_s lines_s us mid end (dedent_s ∷ []) _ ts (goes line_s line_s us inside mid (lines_s ∷ dedent_s ∷ []) (block_join (repeats place (name f) (from f))) t h g1) g2) g3 refl),
+      e.0 ∙ ap₂ (λ a b. repeats place (name a) (from a) (first b) (rest b)) i.0 i.1.0 ∙ ap₂ (repeats place (name f) (from f)) e1 e2))
+
+  pub block-shorter : (n most : ℕ) → n < most → (body : Result Y Stop) (parts : Result X Stop) (whole : Result Z Stop) → IfOk body (λ y. length (seen y).1 < n) → IsBeside view seen f parts body → EndsBlock kept made whole parts → IfOk whole (λ x. length (kept x).1 < most)
+  block-shorter n most k body parts (Err d) h i e = tt
+  block-shorter n most k (Err a) (Ok b) (Ok d) h i e = absurd i
+  block-shorter n most k a (Err b) (Ok d) h i e = absurd e
+  block-shorter n most k (Ok a) (Ok b) (Ok d) h i e = let p = ap length e.1 in let q = ap length i.1.1 in omega (arith, p, q, h, k)

@@ -99,3 +99,25 @@ pub record FrontPair (r : Role) (ts : List Token) (t : Token) (place : Place) (r
 -- the first two tokens aren't a name and a token of this role
 abbrev pub LacksPair : Role → List Token → Type 0
 LacksPair r ts = (t : Token) (place : Place) (rest : List Token) → FrontPair r ts t place rest → ⊥
+
+-- what was read, if a token of this role stands behind it, and what stands behind that
+abbrev pub Closes : {X Y : Type 0} → Role → (X → Y × List Token) → (result given : Result X Stop) → Type 0
+Closes r view (Ok x) (Ok y) = ((view x).0 ≡ (view y).0) × FrontOf r (view y).1 (view x).1
+Closes r view (Err e) (Ok y) = Refuses r (view y).1 e
+Closes r view (Ok x) (Err d) = ⊥
+Closes r view (Err e) (Err d) = e ≡ d
+
+-- this beside what was read
+abbrev pub IsBeside : {F U X Y : Type 0} → (X → (F × U) × List Token) → (Y → U × List Token) → F → (result : Result X Stop) (given : Result Y Stop) → Type 0
+IsBeside view seen f (Ok x) (Ok y) = ((view x).0.0 ≡ f) × (((view x).0.1 ≡ (seen y).0) × ((view x).1 ≡ (seen y).1))
+IsBeside view seen f (Ok x) (Err d) = ⊥
+IsBeside view seen f (Err e) (Ok y) = ⊥
+IsBeside view seen f (Err e) (Err d) = e ≡ d
+
+-- one item is made of what was read
+abbrev pub MakesOne : {A X Y : Type 0} → (X → A × List Token) → (Y → A × List Token) → (result : Result (Option X) Stop) (given : Result Y Stop) → Type 0
+MakesOne view seen (Ok (Some x)) (Ok y) = ((view x).0 ≡ (seen y).0) × ((view x).1 ≡ (seen y).1)
+MakesOne view seen (Ok None) (Ok y) = ⊥
+MakesOne view seen (Ok o) (Err d) = ⊥
+MakesOne view seen (Err e) (Ok y) = ⊥
+MakesOne view seen (Err e) (Err d) = e ≡ d

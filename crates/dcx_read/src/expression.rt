@@ -1,13 +1,14 @@
 //! The descent over expressions: one function for each rule, that decides by the token at the front.
 ghost use Rattle.std.specs.Prelude.{◌≡◌, ◌<◌, ◌≤◌, ◌∷◌, length, map, IfOk, IfSome};
 ghost use Rattle.dcx_read.specs.declared.role.Bracket.TheVariants as brackets;
+ghost use Rattle.dcx_read.specs.declared.role.Role.TheVariants as roles;
 ghost use Rattle.dcx_read.specs.Terminal.{terminals, opens, plain};
 ghost use Rattle.dcx_read.specs.Terminal as marks_of;
-ghost use Rattle.dcx_read.specs.Expressions.{no_trailer};
+ghost use Rattle.dcx_read.specs.Expressions.{no_trailer, indexed};
 ghost use Rattle.dcx_read.specs.View.{args_of, items_of, indices_of, arg_view, index_view, primary_view, step_view, trailer_view, expr_view, factor_view, postfix_view, power_view, sum_view, term_view, optional_view};
 ghost use Rattle.dcx_read.specs.Moves.{expr_s, sum_s, term_s, factor_s, power_s, postfix_s, trailers_s, args_s, arg_s, indices_s, index_s, optional_s, step_s, primary_s, after_square_s, items_s, square_for};
 ghost use Rattle.dcx_read.specs.Leaves.{ReadsLeaf, EndsByComma};
-ghost use Rattle.dcx_read.specs.Steps.{Reads, ReadsOne, IsSigns};
+ghost use Rattle.dcx_read.specs.Steps.{Reads, ReadsOne, MakesOne, Front, IsSigns};
 
 use crate::front::*;
 use crate::made::*;
@@ -186,17 +187,61 @@ fn trailer<'a>(
         return Ok(Some((attribute_of(word), rest)));
     }
     if let Some((place, inside)) = eat(tokens, Mark::Opens(Bracket::Round)) {
-        let (all, comma, closing) = args(alloc, text, inside)?;
-        let outside = expect(closing, Mark::Closes(Bracket::Round))?;
-        return Ok(Some((call_of(place, all, comma), outside)));
+        return call(alloc, text, place, tokens, inside);
     }
-    let Some((place, within)) = eat(tokens, Mark::Opens(Bracket::Square)) else {
-        return Ok(None);
-    };
+    match eat(tokens, Mark::Opens(Bracket::Square)) {
+        Some((place, within)) => indexed(alloc, text, place, tokens, within),
+        None => Ok(None),
+    }
+}
+
+/// A call whose bracket is the first of the tokens, at this place.
+#[cycle(expression)]
+fn call<'a>(
+    alloc: Global,
+    text: &[u8],
+    place: Place,
+    tokens: &'a [Token],
+    inside: &'a [Token],
+) -> Result<Option<(Trailer, &'a [Token])>, Stop<'a>>
+    requires front { Front (roles.Opens brackets.Round) place tokens.now inside.now }
+    ensures read { ReadsOne trailers_s text.now no_trailer (λ x. (trailer_view x.0, x.1.now)) result (terminals text.now tokens.now) }
+    ensures shorter { IfOk result (λ o. IfSome o (λ x. length x.1.now < length tokens.now)) }
+{
+    let (all, comma, closing) = args(alloc, text, inside)?;
+    let outside = expect(closing, Mark::Closes(Bracket::Round))?;
+    Ok(Some((call_of(place, all, comma), outside)))
+}
+
+/// The index at this place, where its parts were read.
+fn index_made<'a>(
+    place: Place,
+    parts: Result<((Index, Vec<Index>), &'a [Token]), Stop<'a>>,
+) -> Result<Option<(Trailer, &'a [Token])>, Stop<'a>>
+    ensures { MakesOne (λ x. (trailer_view x.0, x.1.now)) (λ x. ((λ y. indexed place (index_view x.0.0) (indices_of (map index_view x.0.1.items)) y), x.1.now)) result parts.entry }
+{
+    match parts {
+        Ok(((first, others), rest)) => Ok(Some((index_of(place, first, others), rest))),
+        Err(stop) => Err(stop),
+    }
+}
+
+/// An index whose bracket is the first of the tokens, at this place.
+#[cycle(expression)]
+fn indexed<'a>(
+    alloc: Global,
+    text: &[u8],
+    place: Place,
+    tokens: &'a [Token],
+    within: &'a [Token],
+) -> Result<Option<(Trailer, &'a [Token])>, Stop<'a>>
+    requires front { Front (roles.Opens brackets.Square) place tokens.now within.now }
+    ensures read { ReadsOne trailers_s text.now no_trailer (λ x. (trailer_view x.0, x.1.now)) result (terminals text.now tokens.now) }
+    ensures shorter { IfOk result (λ o. IfSome o (λ x. length x.1.now < length tokens.now)) }
+{
     let (first, after) = index(alloc, text, within)?;
-    let (others, last) = indices(alloc, text, after)?;
-    let beyond = expect(last, Mark::Closes(Bracket::Square))?;
-    Ok(Some((index_of(place, first, others), beyond)))
+    let others = indices(alloc, text, after);
+    index_made(place, beside(first, closed(others, Mark::Closes(Bracket::Square))))
 }
 
 /// The indices behind the first one.

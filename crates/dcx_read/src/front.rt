@@ -13,7 +13,7 @@ ghost use Rattle.dcx_read.specs.declared.role.Bracket.{Bracket};
 ghost use Rattle.dcx_read.specs.Leaves.{FrontText};
 ghost use Rattle.dcx_read.specs.Words.{module_named, is_value_word};
 ghost use Rattle.dcx_read.specs.Lines.{FrontValue, LacksValue, FrontPlain, LacksPlain, starts_line};
-ghost use Rattle.dcx_read.specs.Steps.{Front, FrontOf, Lacks, Refuses, Reads, starts_expr, FrontName, FrontPair, LacksPair};
+ghost use Rattle.dcx_read.specs.Steps.{Closes, IsBeside, Front, FrontOf, Lacks, Refuses, Reads, starts_expr, FrontName, FrontPair, LacksPair};
 
 use crate::role::{Bracket, Mark, Role, mark_in, role_in};
 use crate::tree::{Comparison, Module, Named, Scaling, Sign};
@@ -324,5 +324,30 @@ pub fn starts_line(tokens: &[Token]) -> bool
             Role::For => true,
             _ => starts_expr(tokens),
         },
+    }
+}
+
+/// What was read, if this mark stands behind it, and the tokens behind the mark.
+pub fn closed<'a, T: Drop>(
+    read: Result<(T, &'a [Token]), Stop<'a>>,
+    wanted: Mark,
+) -> Result<(T, &'a [Token]), Stop<'a>>
+    ensures { Closes (role_with wanted) (λ x. (x.0, x.1.now)) result read.entry }
+{
+    let (found, closing) = read?;
+    let rest = expect(closing, wanted)?;
+    Ok((found, rest))
+}
+
+/// This beside what was read.
+pub fn beside<'a, T: Drop, U>(
+    front: T,
+    read: Result<(U, &'a [Token]), Stop<'a>>,
+) -> Result<((T, U), &'a [Token]), Stop<'a>>
+    ensures { IsBeside (λ x. ((x.0.0, x.0.1), x.1.now)) (λ x. (x.0, x.1.now)) front result read.entry }
+{
+    match read {
+        Ok((found, rest)) => Ok(((front, found), rest)),
+        Err(stop) => Err(stop),
     }
 }

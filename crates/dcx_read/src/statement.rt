@@ -2,12 +2,12 @@
 ghost use Rattle.std.specs.Prelude.{◌≡◌, ◌<◌, ◌≤◌, ◌∷◌, length, map, IfOk};
 ghost use Rattle.dcx_read.specs.Terminal.{terminals, plain};
 ghost use Rattle.dcx_read.specs.Terminal as marks_of;
-ghost use Rattle.dcx_read.specs.Statements.{importing};
+ghost use Rattle.dcx_read.specs.Statements.{importing, repeats};
 ghost use Rattle.dcx_read.specs.View.{expr_view};
 ghost use Rattle.dcx_read.specs.Moves.{module_s, alias_s, line_s};
 ghost use Rattle.dcx_read.specs.declared.role.Role.TheVariants as roles;
 ghost use Rattle.dcx_read.specs.Steps.{Reads, Lacks};
-ghost use Rattle.dcx_read.specs.Lines.{module_at, line_view, lines_of, LacksPlain, BalancedTo, ReadsBalanced, ReadsEnded, ReadsLine, ReadsHead, ReadsLines};
+ghost use Rattle.dcx_read.specs.Lines.{module_at, line_view, lines_of, LacksPlain, BalancedTo, ReadsBalanced, ReadsEnded, ReadsLine, ReadsHead, ReadsBody, ReadsLines, EndsBlock};
 
 use crate::expression::expr;
 use crate::front::*;
@@ -201,6 +201,44 @@ fn head<'a>(
     Ok((each, from, inside))
 }
 
+/// What a `for` line goes over, under which name.
+#[derive(Drop)]
+pub struct Begun {
+    each: Named,
+    from: Expr,
+}
+
+/// The lines inside a `for` line, and what ends them.
+#[cycle(statement)]
+fn body<'a>(
+    alloc: Global,
+    text: &[u8],
+    tokens: &'a [Token],
+) -> Result<((Line, Vec<Line>), &'a [Token]), Stop<'a>>
+    ensures read { ReadsBody text.now (λ x. ((line_view x.0.0, lines_of (map line_view x.0.1.items)), x.1.now)) result (terminals text.now tokens.now) }
+    ensures shorter { IfOk result (λ x. length x.1.now < length tokens.now) }
+{
+    let (first, behind) = line(alloc, text, tokens)?;
+    beside(first, closed(lines(alloc, text, behind), Mark::Dedent))
+}
+
+/// The whole `for` line, where its parts were read.
+fn whole<'a>(
+    alloc: Global,
+    place: Place,
+    parts: Result<((Begun, (Line, Vec<Line>)), &'a [Token]), Stop<'a>>,
+) -> Result<(Line, &'a [Token]), Stop<'a>>
+    ensures { EndsBlock (λ x. (line_view x.0, x.1.now)) (λ x. (repeats place x.0.0.each (expr_view x.0.0.from) (line_view x.0.1.0) (lines_of (map line_view x.0.1.1.items)), x.1.now)) result parts.entry }
+{
+    match parts {
+        Ok(((begun, (first, others)), rest)) => match for_of(alloc, place, begun.each, begun.from, first, others) {
+            Ok(line) => Ok((line, rest)),
+            Err(_) => Err(Stop::Memory),
+        },
+        Err(stop) => Err(stop),
+    }
+}
+
 /// A `for` line and the lines inside it, behind the word `for` at this place.
 #[cycle(statement)]
 fn block<'a>(
@@ -213,11 +251,7 @@ fn block<'a>(
     ensures shorter { IfOk result (λ x. length x.1.now < length tokens.now) }
 {
     let (each, from, inside) = head(alloc, text, place, tokens)?;
-    let (first, behind) = line(alloc, text, inside)?;
-    let (others, closing) = lines(alloc, text, behind)?;
-    let rest = expect(closing, Mark::Dedent)?;
-    let whole = for_of(alloc, place, each, from, first, others)?;
-    Ok((whole, rest))
+    whole(alloc, place, beside(Begun { each, from }, body(alloc, text, inside)))
 }
 
 /// A line, with the lines inside it, and the tokens behind.

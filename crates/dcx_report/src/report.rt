@@ -149,6 +149,3 @@ pub fn report_text(alloc: Global, run: &Run) -> Result<Bytes, AllocError>
     put_run(&mut out, run)?;
     Ok(Bytes::from_vec(out))
 }
-
-#[cfg(test)]
-mod tests;

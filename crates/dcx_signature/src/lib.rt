@@ -21,8 +21,6 @@ mod firsts;
 mod fitting;
 mod matching;
 mod table;
-#[cfg(test)]
-mod tests;
 mod turns;
 
 pub use firsts::{expr_place, primary_place};

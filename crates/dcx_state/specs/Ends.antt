@@ -3,6 +3,8 @@ use Rattle.std.specs.Prelude.{◌≡◌, List, Some, None, Result, Ok, Err}
 use Rattle.dcx_shape.specs.declared.place.Place.{Place}
 use Rattle.dcx_tree.specs.declared.constraint.Constraint.{Constraint}
 use Rattle.dcx_tree.specs.declared.roots.Roots.{Roots}
+use Rattle.dcx_tree.specs.declared.problem.Problem.{Problem}
+use Rattle.dcx_point.specs.Pairs.{Pairs}
 use Rattle.dcx_tree.specs.Gather.{IsProblemOf}
 use Rattle.dcx_kinds.specs.declared.fault.ElabFault.{ElabFault}
 use Rattle.dcx_kinds.specs.declared.fault.ElabFault.TheVariants.{NoProblem, Memory}
@@ -35,6 +37,12 @@ pub record IsAsking (s : State) (q : Asked) (a : Asking) : Type 0 where
 -- where the fault of a script without a problem stands
 abbrev pub script_start : Place
 script_start = record { line = 1; column = 1 }
+
+-- the problem that is asked for and the values that stand for it, or that there is none, unless memory ran out
+abbrev pub Stands : Result (Problem × Pairs) ElabFault → State → Type 0
+Stands (Ok p) s = (q : Asked) × (s.asked ≡ Some q) × (IsProblemOf s.nodes (roots_in s q) p.0) × (p.1 ≡ standing_setting s)
+Stands (Err Memory) s = Unit {0}
+Stands (Err e) s = (e ≡ NoProblem script_start) × (s.asked ≡ None)
 
 -- what is asked at the end, or that there is no problem, unless memory ran out
 abbrev pub Ends : Result Asking ElabFault → State → Type 0

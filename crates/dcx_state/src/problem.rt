@@ -8,8 +8,8 @@ ghost use Rattle.dcx_tree.specs.Problems.{IsObjective, AreConstraints};
 ghost use Rattle.dcx_kinds.specs.Values.{objective as objective_value};
 ghost use Rattle.dcx_kinds.specs.Meant.{meant};
 ghost use Rattle.dcx_kinds.specs.View.{Gives};
-ghost use Rattle.dcx_state.specs.Declarations.{constraint_list, make_problem, solve, standing_setting};
-ghost use Rattle.dcx_state.specs.Ends.{asked_for, roots_in, Ends};
+ghost use Rattle.dcx_state.specs.Declarations.{constraint_list, make_problem, solve, standing_setting, events_or_end};
+ghost use Rattle.dcx_state.specs.Ends.{asked_for, roots_in, Stands, Ends};
 
 use crate::state::{Asked, State};
 use dcx_arena::Count;
@@ -20,6 +20,7 @@ use dcx_shape::{Name, Place};
 use dcx_tree::{Constraint, Constraints, Parameters, Problem, Roots, Variables, gather};
 use std::alloc::{AllocError, Global};
 use std::collections::HashSet;
+use std::mem;
 
 /// The most solves of a script.
 pub const MOST_EVENTS: u32 = 1000;
@@ -181,24 +182,47 @@ impl State {
         Ok(Value::Result)
     }
 
-    /// What the script asks at its end, where one without a solve is solved once; `NoProblem` where it has none.
-    pub fn finish(self) -> Result<Asking, ElabFault>
-        ensures { Ends result self }
+    /// The problem that is asked for, and the values that stand for it; `NoProblem` where there is none.
+    fn standing(&self) -> Result<(Problem, Setting), ElabFault>
+        ensures { Stands result self.now }
     {
         let Some(asked) = &self.asked else {
             return Err(ElabFault::NoProblem(Place { line: 1, column: 1 }));
         };
-        let problem = self.problem_over(asked.objective, &asked.constraints)?;
         let last = self.standing_setting()?;
-        let end = self.standing_setting()?;
-        let mut events = self.events;
-        if events.is_empty() {
-            events.push(end)?;
+        let problem = self.problem_over(asked.objective, &asked.constraints)?;
+        Ok((problem, last))
+    }
+
+    /// The settings of the solves, or that at the end where there is none. They are taken out of the state.
+    fn take_events(&mut self) -> Result<Vec<Setting>, AllocError>
+        ensures { IfOk result (λ v. v.items ≡ events_or_end (standing_setting self.old) self.old.events) }
+    {
+        if self.events.is_empty() {
+            let end = self.standing_setting()?;
+            self.events.push(end)?;
         }
+        Ok(mem::replace(&mut self.events, Vec::new(self.alloc)))
+    }
+
+    /// What the script asks at its end. The settings of the solves are taken out of the state.
+    fn take_asking(&mut self) -> Result<Asking, ElabFault>
+        ensures { Ends result self.old }
+    {
+        let (problem, last) = self.standing()?;
+        let events = self.take_events()?;
         Ok(Asking {
             problem,
             events,
             last,
         })
+    }
+
+    /// What the script asks at its end, where one without a solve is solved once; `NoProblem` where it has none.
+    pub fn finish(self) -> Result<Asking, ElabFault>
+        ensures { Ends result self }
+    {
+        let mut state = self;
+        state.take_asking()
     }
 }

@@ -46,30 +46,3 @@ impl<L: Ledger> Steps<L> {
         self.book.add(&mut self.share, 1);
     }
 }
-
-#[cfg(test)]
-mod tests {
-    use super::*;
-    use std::marker::Brand;
-
-    // Takes only a counter that stands at 2.
-    fn expect_two<L: Ledger>(steps: &Steps<L>)
-        requires { steps.now ≡ 2 }
-    {}
-
-    fn tick_twice<L: Ledger>(blank: Blank)
-        requires name { blank.name ≡ L.name }
-        requires parts { blank.parts ≡ L.parts }
-        requires some { 0 < blank.parts }
-    {
-        let mut steps = Steps::<L>::new(blank);
-        steps.tick();
-        steps.tick();
-        expect_two(&steps);
-    }
-
-    #[test]
-    fn two_ticks_are_two_steps() {
-        tick_twice::<Brand>(Blank::new(1));
-    }
-}

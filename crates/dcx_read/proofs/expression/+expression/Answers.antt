@@ -12,7 +12,7 @@ use Rattle.dcx_read.specs.Leaves.{ReadsLeaf}
 use Rattle.dcx_read.proofs.Progress.{goes, stops, gives-is, loop-done}
 use Rattle.dcx_read.proofs.Rules.{expr-rule, sum-rule, term-rule, power-rule, postfix-rule, compared-item, compared-ends, added-item, added-ends, scaled-item, scaled-ends, raised-item, raised-ends, attribute-item, call-item, indexed-item, trailers-end, indices-item, indices-ends, closes_round-gives, closes_round-stops, closes_square-gives, closes_square-stops, in-gives, in-stops, arg-named, arg-place, index-colon, index-rule, after_index-ends, after_index-colon, args-none, optional-none, optional-starts, step-ends, step-colon, round-empty, round-rule, after_round-closes, after_round-stops, after_round-comma, square-empty, square-rule, after_square-closes, after_square-stops, after_square-comma, after_square-for, for-front}
 use Rattle.dcx_read.proofs.Loops.{pushed, none-yet, loop-begin, loop-next, loop-stops, factor-gives, factor-stops, exponent-gives, exponent-stops}
-use Rattle.dcx_read.proofs.Descent.{finish, trailer-is, no-primary, front-opens-round, front-opens-square, list-items, trailers-step, indices-begun, indices-pushed, args-begun, args-stop, args-step, args-last-one, args-close, items-begun, items-stop, items-step, items-last-one, items-close}
+use Rattle.dcx_read.proofs.Descent.{index-ends, index-shorter, finish, trailer-is, no-primary, front-opens-round, front-opens-square, list-items, trailers-step, indices-begun, indices-pushed, args-begun, args-stop, args-step, args-last-one, args-close, items-begun, items-stop, items-step, items-last-one, items-close}
 use Rattle.dcx_read.proofs.expression.+expression.Goals as goal
 
 pub expr-returns-in_err-first-clause-read : goal.expr-returns-in_err-first-clause-read
@@ -175,42 +175,36 @@ pub trailer-returns-in-Some-clause-read : goal.trailer-returns-in-Some-clause-re
 trailer-returns-in-Some-clause-read t c =
     trailer-is (terminals c.args.text.now c.args.tokens.now) (terminals c.args.text.now c.in_ok-word.rest.now) (λ x. attribute c.in_ok-word.word x) _ (goes trailers_s name_s (terminals c.args.text.now c.args.tokens.now) (terminals c.args.text.now c.in-Some.behind.now) (terminals c.args.text.now c.in_ok-word.rest.now) (trailers_s ∷ []) _ c.in_ok-word.word (attribute-item c.args.text.now c.args.tokens.now c.in-Some.behind.now _ c.in-Some.ensures.front) c.in_ok-word.ensures.read) c.attribute_of.ensures
 
-pub trailer-returns-in_err-all-clause-read : goal.trailer-returns-in_err-all-clause-read
-trailer-returns-in_err-all-clause-read t c =
-    let p = err_from_is_err_and c.from_residual-in_err-all.result c.from_residual-in_err-all.ensures.1 in
-    rw (p.1, p.2) (stops trailers_s args_s (terminals c.args.text.now c.args.tokens.now) (terminals c.args.text.now c.in-Some-eat.inside.now) ((closes_s Round) ∷ trailers_s ∷ []) _ c.args.text.now c.in_err-all.field-0.0 (call-item c.args.text.now c.args.tokens.now c.in-Some-eat.inside.now c.in-Some-eat.place c.in-Some-eat.ensures.front) c.in_err-all.ensures.read)
+pub call-returns-in_err-all-clause-read : goal.call-returns-in_err-all-clause-read
+call-returns-in_err-all-clause-read t c =
+    let p = err_from_is_err_and c.from_residual.result c.from_residual.ensures.1 in
+    rw (p.1, p.2) (stops trailers_s args_s (terminals c.args.text.now c.args.tokens.now) (terminals c.args.text.now c.args.inside.now) ((closes_s Round) ∷ trailers_s ∷ []) _ c.args.text.now c.in_err-all.field-0.0 (call-item c.args.text.now c.args.tokens.now c.args.inside.now c.args.place c.requires.front) c.in_err-all.ensures.read)
 
-pub trailer-returns-in_err-outside-clause-read : goal.trailer-returns-in_err-outside-clause-read
-trailer-returns-in_err-outside-clause-read t c =
+pub call-returns-in_err-outside-clause-read : goal.call-returns-in_err-outside-clause-read
+call-returns-in_err-outside-clause-read t c =
     let p = err_from_is_err_and c.from_residual-in_err-outside.result c.from_residual-in_err-outside.ensures.1 in
-    rw (p.1, p.2) (stops trailers_s (closes_s Round) (terminals c.args.text.now c.args.tokens.now) (terminals c.args.text.now c.in_ok-all.closing.now) (trailers_s ∷ []) _ c.args.text.now c.in_err-outside.field-0.0 (goes trailers_s args_s (terminals c.args.text.now c.args.tokens.now) (terminals c.args.text.now c.in-Some-eat.inside.now) (terminals c.args.text.now c.in_ok-all.closing.now) ((closes_s Round) ∷ trailers_s ∷ []) _ (args_of (map arg_view c.in_ok-all.all.items) c.in_ok-all.comma) (call-item c.args.text.now c.args.tokens.now c.in-Some-eat.inside.now c.in-Some-eat.place c.in-Some-eat.ensures.front) c.in_ok-all.ensures.read) (closes_round-stops c.args.text.now c.in_ok-all.closing.now c.in_err-outside.field-0.0 c.in_err-outside.ensures.refused))
+    rw (p.1, p.2) (stops trailers_s (closes_s Round) (terminals c.args.text.now c.args.tokens.now) (terminals c.args.text.now c.in_ok-all.closing.now) (trailers_s ∷ []) _ c.args.text.now c.in_err-outside.field-0.0 (goes trailers_s args_s (terminals c.args.text.now c.args.tokens.now) (terminals c.args.text.now c.args.inside.now) (terminals c.args.text.now c.in_ok-all.closing.now) ((closes_s Round) ∷ trailers_s ∷ []) _ (args_of (map arg_view c.in_ok-all.all.items) c.in_ok-all.comma) (call-item c.args.text.now c.args.tokens.now c.args.inside.now c.args.place c.requires.front) c.in_ok-all.ensures.read) (closes_round-stops c.args.text.now c.in_ok-all.closing.now c.in_err-outside.field-0.0 c.in_err-outside.ensures.refused))
 
-pub trailer-returns-in-Some-eat-clause-read : goal.trailer-returns-in-Some-eat-clause-read
-trailer-returns-in-Some-eat-clause-read t c =
-    trailer-is (terminals c.args.text.now c.args.tokens.now) (terminals c.args.text.now c.in_ok-outside.outside.now) (λ x. call c.in-Some-eat.place (args_of (map arg_view c.in_ok-all.all.items) c.in_ok-all.comma) x) _ (goes trailers_s (closes_s Round) (terminals c.args.text.now c.args.tokens.now) (terminals c.args.text.now c.in_ok-all.closing.now) (terminals c.args.text.now c.in_ok-outside.outside.now) (trailers_s ∷ []) _ tt (goes trailers_s args_s (terminals c.args.text.now c.args.tokens.now) (terminals c.args.text.now c.in-Some-eat.inside.now) (terminals c.args.text.now c.in_ok-all.closing.now) ((closes_s Round) ∷ trailers_s ∷ []) _ (args_of (map arg_view c.in_ok-all.all.items) c.in_ok-all.comma) (call-item c.args.text.now c.args.tokens.now c.in-Some-eat.inside.now c.in-Some-eat.place c.in-Some-eat.ensures.front) c.in_ok-all.ensures.read) (closes_round-gives c.args.text.now c.in_ok-all.closing.now c.in_ok-outside.outside.now c.in_ok-outside.ensures.front)) c.call_of.ensures
+pub call-returns-clause-read : goal.call-returns-clause-read
+call-returns-clause-read t c =
+    trailer-is (terminals c.args.text.now c.args.tokens.now) (terminals c.args.text.now c.in_ok-outside.outside.now) (λ x. call c.args.place (args_of (map arg_view c.in_ok-all.all.items) c.in_ok-all.comma) x) _ (goes trailers_s (closes_s Round) (terminals c.args.text.now c.args.tokens.now) (terminals c.args.text.now c.in_ok-all.closing.now) (terminals c.args.text.now c.in_ok-outside.outside.now) (trailers_s ∷ []) _ tt (goes trailers_s args_s (terminals c.args.text.now c.args.tokens.now) (terminals c.args.text.now c.args.inside.now) (terminals c.args.text.now c.in_ok-all.closing.now) ((closes_s Round) ∷ trailers_s ∷ []) _ (args_of (map arg_view c.in_ok-all.all.items) c.in_ok-all.comma) (call-item c.args.text.now c.args.tokens.now c.args.inside.now c.args.place c.requires.front) c.in_ok-all.ensures.read) (closes_round-gives c.args.text.now c.in_ok-all.closing.now c.in_ok-outside.outside.now c.in_ok-outside.ensures.front)) c.call_of.ensures
 
-pub trailer-returns-in_err-first-clause-read : goal.trailer-returns-in_err-first-clause-read
-trailer-returns-in_err-first-clause-read t c =
-    let p = err_from_is_err_and c.from_residual-in_err-first.result c.from_residual-in_err-first.ensures.1 in
-    rw (p.1, p.2) (stops trailers_s index_s (terminals c.args.text.now c.args.tokens.now) (terminals c.args.text.now c.in-Some-eat-2.within.now) (indices_s ∷ (closes_s Square) ∷ trailers_s ∷ []) _ c.args.text.now c.in_err-first.field-0.0 (indexed-item c.args.text.now c.args.tokens.now c.in-Some-eat-2.within.now c.in-Some-eat-2.place c.in-Some-eat-2.ensures.front) c.in_err-first.ensures.read)
+pub indexed-returns-in_err-first-clause-read : goal.indexed-returns-in_err-first-clause-read
+indexed-returns-in_err-first-clause-read t c =
+    let p = err_from_is_err_and c.from_residual.result c.from_residual.ensures.1 in
+    rw (p.1, p.2) (stops trailers_s index_s (terminals c.args.text.now c.args.tokens.now) (terminals c.args.text.now c.args.within.now) (indices_s ∷ (closes_s Square) ∷ trailers_s ∷ []) _ c.args.text.now c.in_err-first.field-0.0 (indexed-item c.args.text.now c.args.tokens.now c.args.within.now c.args.place c.requires.front) c.in_err-first.ensures.read)
 
-pub trailer-returns-in_err-others-clause-read : goal.trailer-returns-in_err-others-clause-read
-trailer-returns-in_err-others-clause-read t c =
-    let p = err_from_is_err_and c.from_residual-in_err-others.result c.from_residual-in_err-others.ensures.1 in
-    rw (p.1, p.2) (stops trailers_s indices_s (terminals c.args.text.now c.args.tokens.now) (terminals c.args.text.now c.in_ok-first.after.now) ((closes_s Square) ∷ trailers_s ∷ []) _ c.args.text.now c.in_err-others.field-0.0 (goes trailers_s index_s (terminals c.args.text.now c.args.tokens.now) (terminals c.args.text.now c.in-Some-eat-2.within.now) (terminals c.args.text.now c.in_ok-first.after.now) (indices_s ∷ (closes_s Square) ∷ trailers_s ∷ []) _ (index_view c.in_ok-first.first) (indexed-item c.args.text.now c.args.tokens.now c.in-Some-eat-2.within.now c.in-Some-eat-2.place c.in-Some-eat-2.ensures.front) c.in_ok-first.ensures.read) c.in_err-others.ensures.read)
+pub indexed-returns-clause-read : goal.indexed-returns-clause-read
+indexed-returns-clause-read t c =
+    index-ends (λ x. ((x.0.0, x.0.1), x.1.now)) (λ x. (x.0, x.1.now)) (λ x. (trailer_view x.0, x.1.now)) c.args.place index_view (λ u. indices_of (map index_view u.items)) c.in_ok-first.first c.args.text.now c.args.tokens.now c.args.within.now c.in_ok-first.after.now c.requires.front c.in_ok-first.ensures.read c.indices-others.result c.closed.result c.beside.result c.index_made.result c.indices-others.ensures.read c.closed.ensures c.beside.ensures c.index_made.ensures
 
-pub trailer-returns-in_err-beyond-clause-read : goal.trailer-returns-in_err-beyond-clause-read
-trailer-returns-in_err-beyond-clause-read t c =
-    let p = err_from_is_err_and c.from_residual-in_err-beyond.result c.from_residual-in_err-beyond.ensures.1 in
-    rw (p.1, p.2) (stops trailers_s (closes_s Square) (terminals c.args.text.now c.args.tokens.now) (terminals c.args.text.now c.in_ok-others.last.now) (trailers_s ∷ []) _ c.args.text.now c.in_err-beyond.field-0.0 (goes trailers_s indices_s (terminals c.args.text.now c.args.tokens.now) (terminals c.args.text.now c.in_ok-first.after.now) (terminals c.args.text.now c.in_ok-others.last.now) ((closes_s Square) ∷ trailers_s ∷ []) _ (indices_of (map index_view c.in_ok-others.others.items)) (goes trailers_s index_s (terminals c.args.text.now c.args.tokens.now) (terminals c.args.text.now c.in-Some-eat-2.within.now) (terminals c.args.text.now c.in_ok-first.after.now) (indices_s ∷ (closes_s Square) ∷ trailers_s ∷ []) _ (index_view c.in_ok-first.first) (indexed-item c.args.text.now c.args.tokens.now c.in-Some-eat-2.within.now c.in-Some-eat-2.place c.in-Some-eat-2.ensures.front) c.in_ok-first.ensures.read) c.in_ok-others.ensures.read) (closes_square-stops c.args.text.now c.in_ok-others.last.now c.in_err-beyond.field-0.0 c.in_err-beyond.ensures.refused))
+pub indexed-returns-clause-shorter : goal.indexed-returns-clause-shorter
+indexed-returns-clause-shorter t c =
+    index-shorter (λ x. ((x.0.0, x.0.1), x.1.now)) (λ x. (x.0, x.1.now)) (λ x. (trailer_view x.0, x.1.now)) c.args.place index_view (λ u. indices_of (map index_view u.items)) c.in_ok-first.first (length c.in_ok-first.after.now) (length c.args.tokens.now) (let a = ap length c.requires.front.parts in let b = c.in_ok-first.ensures.shorter in omega (arith, a, b)) c.indices-others.result c.closed.result c.beside.result c.index_made.result c.indices-others.ensures.shorter c.closed.ensures c.beside.ensures c.index_made.ensures
 
-pub trailer-returns-clause-read : goal.trailer-returns-clause-read
-trailer-returns-clause-read t c =
-    trailer-is (terminals c.args.text.now c.args.tokens.now) (terminals c.args.text.now c.in_ok-beyond.beyond.now) (λ x. indexed c.in-Some-eat-2.place (index_view c.in_ok-first.first) (indices_of (map index_view c.in_ok-others.others.items)) x) _ (goes trailers_s (closes_s Square) (terminals c.args.text.now c.args.tokens.now) (terminals c.args.text.now c.in_ok-others.last.now) (terminals c.args.text.now c.in_ok-beyond.beyond.now) (trailers_s ∷ []) _ tt (goes trailers_s indices_s (terminals c.args.text.now c.args.tokens.now) (terminals c.args.text.now c.in_ok-first.after.now) (terminals c.args.text.now c.in_ok-others.last.now) ((closes_s Square) ∷ trailers_s ∷ []) _ (indices_of (map index_view c.in_ok-others.others.items)) (goes trailers_s index_s (terminals c.args.text.now c.args.tokens.now) (terminals c.args.text.now c.in-Some-eat-2.within.now) (terminals c.args.text.now c.in_ok-first.after.now) (indices_s ∷ (closes_s Square) ∷ trailers_s ∷ []) _ (index_view c.in_ok-first.first) (indexed-item c.args.text.now c.args.tokens.now c.in-Some-eat-2.within.now c.in-Some-eat-2.place c.in-Some-eat-2.ensures.front) c.in_ok-first.ensures.read) c.in_ok-others.ensures.read) (closes_square-gives c.args.text.now c.in_ok-others.last.now c.in_ok-beyond.beyond.now c.in_ok-beyond.ensures.front)) c.index_of.ensures
-
-pub trailer-returns-in_default-eat-2-clause-read : goal.trailer-returns-in_default-eat-2-clause-read
-trailer-returns-in_default-eat-2-clause-read t c =
-    trailers-end c.args.text.now c.args.tokens.now c.in_default.ensures.front c.in_default-eat.ensures.front c.in_default-eat-2.ensures.front
+pub trailer-returns-in-None-clause-read : goal.trailer-returns-in-None-clause-read
+trailer-returns-in-None-clause-read t c =
+    trailers-end c.args.text.now c.args.tokens.now c.in_default.ensures.front c.in_default-eat.ensures.front c.in-None.ensures.front
 
 pub indices-more-init : goal.indices-more-init
 indices-more-init t c =

@@ -9,58 +9,64 @@ use Rattle.dcx_read.proofs.Loops.{args_after, items_after}
 use Rattle.dcx_read.proofs.expression.+expression.Given as goal
 
 abbrev pub decreases-primary : goal.decreases-primary
-decreases-primary l = length l.tokens.now * 9 + 0
+decreases-primary l = length l.tokens.now * 12 + 0
 
 abbrev pub decreases-postfix : goal.decreases-postfix
-decreases-postfix l = length l.tokens.now * 9 + 1
+decreases-postfix l = length l.tokens.now * 12 + 1
 
 abbrev pub decreases-power : goal.decreases-power
-decreases-power l = length l.tokens.now * 9 + 2
+decreases-power l = length l.tokens.now * 12 + 2
 
 abbrev pub decreases-factor : goal.decreases-factor
-decreases-factor l = length l.tokens.now * 9 + 3
+decreases-factor l = length l.tokens.now * 12 + 3
 
 abbrev pub decreases-term : goal.decreases-term
-decreases-term l = length l.tokens.now * 9 + 4
+decreases-term l = length l.tokens.now * 12 + 4
 
 abbrev pub decreases-sum : goal.decreases-sum
-decreases-sum l = length l.tokens.now * 9 + 5
+decreases-sum l = length l.tokens.now * 12 + 5
 
 abbrev pub decreases-expr : goal.decreases-expr
-decreases-expr l = length l.tokens.now * 9 + 6
+decreases-expr l = length l.tokens.now * 12 + 6
 
 abbrev pub decreases-arg : goal.decreases-arg
-decreases-arg l = length l.tokens.now * 9 + 7
+decreases-arg l = length l.tokens.now * 12 + 7
 
 abbrev pub decreases-args : goal.decreases-args
-decreases-args l = length l.tokens.now * 9 + 8
+decreases-args l = length l.tokens.now * 12 + 8
 
 abbrev pub decreases-items : goal.decreases-items
-decreases-items l = length l.tokens.now * 9 + 7
+decreases-items l = length l.tokens.now * 12 + 7
 
 abbrev pub decreases-optional : goal.decreases-optional
-decreases-optional l = length l.tokens.now * 9 + 7
+decreases-optional l = length l.tokens.now * 12 + 7
 
 abbrev pub decreases-index : goal.decreases-index
-decreases-index l = length l.tokens.now * 9 + 7
+decreases-index l = length l.tokens.now * 12 + 7
 
 abbrev pub decreases-step : goal.decreases-step
-decreases-step l = length l.tokens.now * 9 + 0
+decreases-step l = length l.tokens.now * 12 + 0
 
 abbrev pub decreases-indices : goal.decreases-indices
-decreases-indices l = length l.tokens.now * 9 + 0
+decreases-indices l = length l.tokens.now * 12 + 0
 
 abbrev pub decreases-trailer : goal.decreases-trailer
-decreases-trailer l = length l.tokens.now * 9 + 0
+decreases-trailer l = length l.tokens.now * 12 + 0
+
+abbrev pub decreases-call : goal.decreases-call
+decreases-call l = length l.inside.now * 12 + 10
+
+abbrev pub decreases-indexed : goal.decreases-indexed
+decreases-indexed l = length l.within.now * 12 + 10
 
 abbrev pub decreases-round : goal.decreases-round
-decreases-round l = length l.tokens.now * 9 + 7
+decreases-round l = length l.tokens.now * 12 + 7
 
 abbrev pub decreases-square : goal.decreases-square
-decreases-square l = length l.tokens.now * 9 + 7
+decreases-square l = length l.tokens.now * 12 + 7
 
 abbrev pub decreases-source : goal.decreases-source
-decreases-source l = length l.tokens.now * 9 + 0
+decreases-source l = length l.tokens.now * 12 + 0
 
 abbrev pub invariant-expr-more : goal.invariant-expr-more
 invariant-expr-more l = Loop expr_s compared_s (terminals l.fn.text l.fn.tokens) (terminals l.fn.text l.rest) (λ a. expr (sum_view l.first) (chained (map compared_view l.others.items) a)) × (length l.rest < length l.fn.tokens)

@@ -1,16 +1,16 @@
 -- What each answer is read from.
-use Rattle.std.proofs.Common.{arith, ◌∙◌, [], ◌∷◌, refl, sym, ap₂}
+use Rattle.std.proofs.Common.{arith, ◌∙◌, [], ◌∷◌, map, length, refl, sym}
 use Rattle.std.proofs.lemmas.Result.{err_from_is_err_and}
 use Rattle.dcx_read.specs.Terminal.{terminals, plain}
 use Rattle.dcx_read.specs.Terminal as marks_of
 use Rattle.dcx_read.specs.Statements.{repeats}
 use Rattle.dcx_read.specs.View.{expr_view}
-use Rattle.dcx_read.specs.Lines.{line_view}
+use Rattle.dcx_read.specs.Lines.{line_view, lines_of}
 use Rattle.dcx_read.specs.Moves.{dedent_s, line_s, lines_s}
 use Rattle.dcx_read.proofs.Progress.{goes, stops}
 use Rattle.dcx_read.proofs.Rules.{dedent-gives, dedent-stops, for-front}
 use Rattle.dcx_read.proofs.Descent.{finish}
-use Rattle.dcx_read.proofs.LineDescent.{lines-begun, lines-step, lines-stop, lines-done}
+use Rattle.dcx_read.proofs.LineDescent.{body-ends, body-shorter, block-ends, block-shorter, lines-begun, lines-step, lines-stop, lines-done}
 use Rattle.dcx_read.proofs.statement.+statement.Goals as goal
 
 pub block-returns-in_err-each-clause-read : goal.block-returns-in_err-each-clause-read
@@ -18,24 +18,26 @@ block-returns-in_err-each-clause-read t c =
     let p = err_from_is_err_and c.from_residual.result c.from_residual.ensures.1 in
     rw (p.1, p.2) (c.in_err-each.ensures.read)
 
-pub block-returns-in_err-first-clause-read : goal.block-returns-in_err-first-clause-read
-block-returns-in_err-first-clause-read t c =
-    let p = err_from_is_err_and c.from_residual-in_err-first.result c.from_residual-in_err-first.ensures.1 in
-    rw (p.1, p.2) (stops line_s line_s (plain (marks_of.for c.args.place) ∷ (terminals c.args.text.now c.args.tokens.now)) (terminals c.args.text.now c.in_ok-each.inside.now) (lines_s ∷ dedent_s ∷ []) _ c.args.text.now c.in_err-first.field-0.0 c.in_ok-each.ensures.read c.in_err-first.ensures.read)
-
-pub block-returns-in_err-others-clause-read : goal.block-returns-in_err-others-clause-read
-block-returns-in_err-others-clause-read t c =
-    let p = err_from_is_err_and c.from_residual-in_err-others.result c.from_residual-in_err-others.ensures.1 in
-    rw (p.1, p.2) (stops line_s lines_s (plain (marks_of.for c.args.place) ∷ (terminals c.args.text.now c.args.tokens.now)) (terminals c.args.text.now c.in_ok-first.behind.now) (dedent_s ∷ []) _ c.args.text.now c.in_err-others.field-0.0 (goes line_s line_s (plain (marks_of.for c.args.place) ∷ (terminals c.args.text.now c.args.tokens.now)) (terminals c.args.text.now c.in_ok-each.inside.now) (terminals c.args.text.now c.in_ok-first.behind.now) (lines_s ∷ dedent_s ∷ []) _ c.in_ok-first.ensures.read.0 c.in_ok-each.ensures.read c.in_ok-first.ensures.read.1.0) c.in_err-others.ensures.read)
-
-pub block-returns-in_err-rest-clause-read : goal.block-returns-in_err-rest-clause-read
-block-returns-in_err-rest-clause-read t c =
-    let p = err_from_is_err_and c.from_residual-in_err-rest.result c.from_residual-in_err-rest.ensures.1 in
-    rw (p.1, p.2) (stops line_s dedent_s (plain (marks_of.for c.args.place) ∷ (terminals c.args.text.now c.args.tokens.now)) (terminals c.args.text.now c.in_ok-others.closing.now) ([]) _ c.args.text.now c.in_err-rest.field-0.0 (goes line_s lines_s (plain (marks_of.for c.args.place) ∷ (terminals c.args.text.now c.args.tokens.now)) (terminals c.args.text.now c.in_ok-first.behind.now) (terminals c.args.text.now c.in_ok-others.closing.now) (dedent_s ∷ []) _ c.in_ok-others.ensures.read.0 (goes line_s line_s (plain (marks_of.for c.args.place) ∷ (terminals c.args.text.now c.args.tokens.now)) (terminals c.args.text.now c.in_ok-each.inside.now) (terminals c.args.text.now c.in_ok-first.behind.now) (lines_s ∷ dedent_s ∷ []) _ c.in_ok-first.ensures.read.0 c.in_ok-each.ensures.read c.in_ok-first.ensures.read.1.0) c.in_ok-others.ensures.read.1.0) (dedent-stops c.args.text.now c.in_ok-others.closing.now c.in_err-rest.field-0.0 c.in_err-rest.ensures.refused))
-
 pub block-returns-clause-read : goal.block-returns-clause-read
 block-returns-clause-read t c =
-    ((repeats c.args.place c.in_ok-each.each (expr_view c.in_ok-each.from) c.in_ok-first.ensures.read.0 c.in_ok-others.ensures.read.0), (finish line_s dedent_s (plain (marks_of.for c.args.place) ∷ (terminals c.args.text.now c.args.tokens.now)) (terminals c.args.text.now c.in_ok-others.closing.now) (terminals c.args.text.now c.in_ok-rest.rest.now) (λ z. (repeats c.args.place c.in_ok-each.each (expr_view c.in_ok-each.from) c.in_ok-first.ensures.read.0 c.in_ok-others.ensures.read.0)) tt _ (goes line_s lines_s (plain (marks_of.for c.args.place) ∷ (terminals c.args.text.now c.args.tokens.now)) (terminals c.args.text.now c.in_ok-first.behind.now) (terminals c.args.text.now c.in_ok-others.closing.now) (dedent_s ∷ []) _ c.in_ok-others.ensures.read.0 (goes line_s line_s (plain (marks_of.for c.args.place) ∷ (terminals c.args.text.now c.args.tokens.now)) (terminals c.args.text.now c.in_ok-each.inside.now) (terminals c.args.text.now c.in_ok-first.behind.now) (lines_s ∷ dedent_s ∷ []) _ c.in_ok-first.ensures.read.0 c.in_ok-each.ensures.read c.in_ok-first.ensures.read.1.0) c.in_ok-others.ensures.read.1.0) (dedent-gives c.args.text.now c.in_ok-others.closing.now c.in_ok-rest.rest.now c.in_ok-rest.ensures.front) (refl), c.in_ok-whole.ensures ∙ ap₂ (λ x y. repeats c.args.place c.in_ok-each.each (expr_view c.in_ok-each.from) x y) c.in_ok-first.ensures.read.1.1 c.in_ok-others.ensures.read.1.1))
+    block-ends (λ x. ((x.0.0, x.0.1), x.1.now)) (λ x. (x.0, x.1.now)) (λ x. (line_view x.0, x.1.now)) c.args.place (λ b. b.each) (λ b. expr_view b.from) (λ u. line_view u.0) (λ u. lines_of (map line_view u.1.items)) (record { each = c.in_ok-each.each; from = c.in_ok-each.from }) c.args.text.now (plain (marks_of.for c.args.place) ∷ (terminals c.args.text.now c.args.tokens.now)) (terminals c.args.text.now c.in_ok-each.inside.now) c.in_ok-each.ensures.read c.body.result c.beside.result c.whole.result c.body.ensures.read c.beside.ensures c.whole.ensures
+
+pub block-returns-clause-shorter : goal.block-returns-clause-shorter
+block-returns-clause-shorter t c = 
+    block-shorter (λ x. ((x.0.0, x.0.1), x.1.now)) (λ x. (x.0, x.1.now)) (λ x. (line_view x.0, x.1.now)) c.args.place (λ b. b.each) (λ b. expr_view b.from) (λ u. line_view u.0) (λ u. lines_of (map line_view u.1.items)) (record { each = c.in_ok-each.each; from = c.in_ok-each.from }) (length c.in_ok-each.inside.now) (length c.args.tokens.now) c.in_ok-each.ensures.shorter c.body.result c.beside.result c.whole.result c.body.ensures.shorter c.beside.ensures c.whole.ensures
+
+pub body-returns-in_err-first-clause-read : goal.body-returns-in_err-first-clause-read
+body-returns-in_err-first-clause-read t c =
+    let p = err_from_is_err_and c.from_residual.result c.from_residual.ensures.1 in
+    rw (p.1, p.2) (λ from make h. stops line_s line_s from (terminals c.args.text.now c.args.tokens.now) (lines_s ∷ dedent_s ∷ []) _ c.args.text.now c.in_err-first.field-0.0 h c.in_err-first.ensures.read)
+
+pub body-returns-clause-read : goal.body-returns-clause-read
+body-returns-clause-read t c =
+    body-ends (λ x. ((x.0.0, x.0.1), x.1.now)) (λ x. (x.0, x.1.now)) c.args.text.now (terminals c.args.text.now c.args.tokens.now) c.in_ok-first.behind.now c.in_ok-first.first line_view (λ u. lines_of (map line_view u.items)) c.in_ok-first.ensures.read.0 c.in_ok-first.ensures.read.1.0 c.in_ok-first.ensures.read.1.1 c.lines.result c.closed.result c.beside.result c.lines.ensures.read c.closed.ensures c.beside.ensures
+
+pub body-returns-clause-shorter : goal.body-returns-clause-shorter
+body-returns-clause-shorter t c = 
+    body-shorter (λ x. ((x.0.0, x.0.1), x.1.now)) (λ x. (x.0, x.1.now)) c.args.text.now (terminals c.args.text.now c.args.tokens.now) c.in_ok-first.behind.now c.in_ok-first.first line_view (λ u. lines_of (map line_view u.items)) (length c.in_ok-first.behind.now) (length c.args.tokens.now) c.in_ok-first.ensures.shorter c.lines.result c.closed.result c.beside.result c.lines.ensures.shorter c.closed.ensures c.beside.ensures
 
 pub line-returns-in-Some-clause-read : goal.line-returns-in-Some-clause-read
 line-returns-in-Some-clause-read t c =

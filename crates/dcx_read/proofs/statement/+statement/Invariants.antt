@@ -7,13 +7,16 @@ use Rattle.dcx_read.proofs.LineDescent.{LinesTo}
 use Rattle.dcx_read.proofs.statement.+statement.Given as goal
 
 abbrev pub decreases-block : goal.decreases-block
-decreases-block l = length l.tokens.now * 3 + 0
+decreases-block l = length l.tokens.now * 4 + 0
+
+abbrev pub decreases-body : goal.decreases-body
+decreases-body l = length l.tokens.now * 4 + 3
 
 abbrev pub decreases-line : goal.decreases-line
-decreases-line l = length l.tokens.now * 3 + 1
+decreases-line l = length l.tokens.now * 4 + 1
 
 abbrev pub decreases-lines : goal.decreases-lines
-decreases-lines l = length l.tokens.now * 3 + 2
+decreases-lines l = length l.tokens.now * 4 + 2
 
 abbrev pub invariant-lines-more : goal.invariant-lines-more
 invariant-lines-more l = LinesTo (terminals l.fn.text l.fn.tokens) (terminals l.fn.text l.rest) (chained (map then_line (map line_view l.all.items))) × (length l.rest ≤ length l.fn.tokens)
