@@ -8,7 +8,7 @@ ghost use Rattle.dcx_elab.specs.View.{trailers_from};
 
 use dcx_functions::function_called;
 use dcx_kinds::{ElabFault, Value};
-use dcx_read::{Module, Named, Trailer};
+use dcx_syntax::{Module, Named, Trailer};
 use dcx_shape::{Name, Place};
 use dcx_signature::{Function, Given, arguments, function_named, is_word, solve_row};
 use dcx_state::State;

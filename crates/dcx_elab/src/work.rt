@@ -5,7 +5,7 @@ ghost use Rattle.dcx_elab.specs.Meaning.{Elaborates};
 use crate::statements::lines;
 use dcx_kinds::ElabFault;
 use dcx_point::Setting;
-use dcx_read::Script;
+use dcx_syntax::Script;
 use dcx_state::State;
 use dcx_tree::Problem;
 use std::alloc::Global;

@@ -8,7 +8,7 @@ use crate::items::Items;
 use crate::progression::Progression;
 use dcx_arena::NodeId;
 use dcx_atom::Array;
-use dcx_read::Module;
+use dcx_syntax::Module;
 use dcx_shape::{Bytes, Place, Sides};
 use dcx_tree::{Constraint, Sense};
 use std::alloc::AllocError;

@@ -7,7 +7,7 @@ ghost use Rattle.dcx_signature.specs.Table.{function_named, ignored_words, modul
 ghost use Rattle.dcx_signature.specs.Table as table;
 ghost use Rattle.dcx_signature.specs.View.{param_seen, row_seen, entry_seen};
 
-use dcx_read::Module;
+use dcx_syntax::Module;
 use dcx_shape::Name;
 
 /// A call of the language.

@@ -12,7 +12,7 @@ use dcx_arena::Count;
 use dcx_call::copy_name;
 use dcx_kinds::{ElabFault, Objective, Value, too_many};
 use dcx_point::Setting;
-use dcx_read::Named;
+use dcx_syntax::Named;
 use dcx_shape::{Name, Place};
 use dcx_tree::{Constraint, Tree};
 use indexmap::IndexMap;

@@ -6,7 +6,7 @@ use dcx_array::array_with;
 use dcx_call::{Call, LinearCall};
 use dcx_frac::Frac;
 use dcx_kinds::{Extent, Objective, Operand, Reading, Value};
-use dcx_read::Named;
+use dcx_syntax::Named;
 use dcx_shape::{Name, Place, Sides};
 use dcx_state::{Asking, Flags, State};
 use dcx_tree::{Kind, Sense};
