@@ -18,15 +18,15 @@ use dcx_kinds::{ElabFault, Items, Value};
 use dcx_operators::{
     Evaluated, add_values, attribute_value, compare_values, index_value, scale_values,
 };
-use dcx_syntax::{
-    Added, Arg, Compared, Expr, Factor, Index, Named, Postfix, Power, Primary, Raised, Scaled,
-    Step, Sum, Term, Trailer,
-};
 use dcx_shape::{Name, Place};
 use dcx_signature::{
     Given, Through, expr_place, is_ignored_word, items_through, number_value, primary_place,
 };
 use dcx_state::State;
+use dcx_syntax::{
+    Added, Arg, Compared, Expr, Factor, Index, Named, Postfix, Power, Primary, Raised, Scaled,
+    Step, Sum, Term, Trailer,
+};
 use std::rc::Rc;
 
 // ---- comparisons, sums and products

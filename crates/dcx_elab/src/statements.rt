@@ -9,10 +9,10 @@ ghost use Rattle.dcx_elab.specs.Statements as meaning;
 use crate::expressions::{expr, postfix};
 use dcx_kinds::{ElabFault, Items, Value, joined, read_value};
 use dcx_operators::add_values;
-use dcx_syntax::{Expr, Import, Line, Named, Postfix, Primary, Sign};
 use dcx_shape::{Name, Place};
 use dcx_signature::{expr_place, items_through, module_word};
 use dcx_state::State;
+use dcx_syntax::{Expr, Import, Line, Named, Postfix, Primary, Sign};
 use std::rc::Rc;
 
 // ---- imports
