@@ -5,7 +5,7 @@ use Rattle.dcx_frac.specs.Frac.{value}
 use Rattle.dcx_tree.specs.declared.constraint.Sense.{Sense}
 use Rattle.dcx_report.specs.Files.{Files, IsTold}
 use Rattle.dcx_atom.specs.declared.array.Array.{Array}
-use Rattle.dcx_report.specs.declared.graph.Answer.TheVariants as answer
+use Rattle.dcx_answer.specs.declared.answer.Answer.TheVariants as answer
 use Rattle.dcx_report.specs.declared.outcome.Outcome.{Outcome}
 use Rattle.dcx_report.specs.declared.outcome.OutcomeEnd.{OutcomeEnd}
 use Rattle.dcx_report.specs.declared.outcome.OutcomeEnd.TheVariants as end
@@ -17,7 +17,7 @@ use Rattle.dcx_plain.specs.declared.script.Script.{Script}
 use Rattle.dcx_plain.specs.Phrases.{Every}
 use Rattle.dcx_plain.specs.Meaning.{program_of}
 use Rattle.dcx_plain.specs.Answers.{IsOptimal, IsUnbounded}
-use Rattle.dcx_top.specs.Outcome.{AreNumbers, IsEndOf}
+use Rattle.dcx_top.specs.Outcome.{AreNumbers, arrays_of, IsEndOf}
 use Rattle.dcx_top.specs.declared.words.Verb.{Verb}
 use Rattle.dcx_top.specs.declared.words.Verb.TheVariants.{Check, Solve}
 use Rattle.dcx_top.specs.Words.{form_of}
@@ -34,13 +34,13 @@ numbers_are (x ∷ xs) (a ∷ as') h = ap₂ (λ e rest. map value e ++ rest) (s
 
 right_end : (s : Script) (e : OutcomeEnd) → IsEndOf s e → IsRightEnd s e
 right_end s (end.Answer (answer.Optimal v point duals)) h = (
-  subst (λ m. IsOptimal (program_of s) (value v) (numbers_of (map (λ n. n.array) point)) m) (numbers_are h.1 duals h.4)
-      (subst (λ x. IsOptimal (program_of s) (value v) x (map value h.1)) (numbers_are h.0 (map (λ n. n.array) point) h.3.numbers) h.2.0),
+  subst (λ m. IsOptimal (program_of s) (value v) (numbers_of (arrays_of point)) m) (numbers_are h.1 duals h.4)
+      (subst (λ x. IsOptimal (program_of s) (value v) x (map value h.1)) (numbers_are h.0 (arrays_of point) h.3.numbers) h.2.0),
   h.3.names_are,
 )
 right_end s (end.Answer (answer.Unbounded point ray b e)) h = (
-  subst (λ d. IsUnbounded (program_of s) (numbers_of (map (λ n. n.array) point)) d (value b) (value e)) (numbers_are h.1 (map (λ n. n.array) ray) h.4.numbers)
-      (subst (λ x. IsUnbounded (program_of s) x (map value h.1) (value b) (value e)) (numbers_are h.0 (map (λ n. n.array) point) h.3.numbers) h.2.0),
+  subst (λ d. IsUnbounded (program_of s) (numbers_of (arrays_of point)) d (value b) (value e)) (numbers_are h.1 (arrays_of ray) h.4.numbers)
+      (subst (λ x. IsUnbounded (program_of s) x (map value h.1) (value b) (value e)) (numbers_are h.0 (arrays_of point) h.3.numbers) h.2.0),
   (h.3.names_are, h.4.names_are),
 )
 right_end s (end.Answer (answer.Infeasible duals gap)) h = absurd h
