@@ -4,8 +4,8 @@ use Rattle.std.specs.Prelude.{slice_get}
 use Rattle.std.proofs.lemmas.List.{map-append}
 use Rattle.dcx_frac.specs.declared.fraction.Frac.{Frac}
 use Rattle.dcx_frac.specs.Frac.{value}
-use Rattle.dcx_simplex.specs.declared.answer.RowNote.{RowNote}
-use Rattle.dcx_simplex.specs.Reading.{numbers}
+use Rattle.dcx_lp_answer.specs.declared.answer.RowNote.{RowNote}
+use Rattle.dcx_lp_answer.specs.Notes.{numbers}
 use Rattle.dcx_plain.specs.Phrases.{Every}
 use Rattle.dcx_lp.specs.IntegerProgram.{multiplier_of, first_numbers}
 use Rattle.dcx_lp.proofs.Rows.{take_read}

@@ -1,7 +1,7 @@
 //! The solution of a linear program.
 ghost use Rattle.std.specs.Prelude.{◌≡◌, ◌≤◌, map, length, take, IfOk};
 ghost use Rattle.dcx_simplex.specs.Finished.{IsFinished};
-ghost use Rattle.dcx_simplex.specs.Reading.{numbers};
+ghost use Rattle.dcx_lp_answer.specs.Notes.{numbers};
 ghost use Rattle.dcx_tab.specs.Views.{table_of};
 ghost use Rattle.dcx_plain.specs.Meaning.{kept};
 ghost use Rattle.dcx_lp.specs.IntegerProgram.{IsSmall, IsProgramOf, Shows, first_numbers};
@@ -9,8 +9,9 @@ ghost use Rattle.dcx_lp.specs.Solution.{AreMultipliersOf, IsLong, IsShown, IsAns
 
 use crate::program::integer_program;
 use dcx_frac::{Frac, Fracs, Passes};
+use dcx_lp_answer::{LpAnswer, LpStatus, RowNote};
 use dcx_plain::Linear;
-use dcx_simplex::{LpAnswer, LpEnd, LpStatus, RowNote, read_end};
+use dcx_simplex::{LpEnd, read_end};
 use dcx_tab::{Dense, Program};
 use std::alloc::{AllocError, Global};
 

@@ -1,7 +1,7 @@
 use Rattle.std.proofs.Common.{◌≡◌, map, refl, ap, ◌∙◌, arith, false, true}
 use Rattle.std.proofs.lemmas.List.{take_all}
 use Rattle.dcx_frac.specs.Fits.{IsRepresentable}
-use Rattle.dcx_simplex.specs.Reading.{numbers}
+use Rattle.dcx_lp_answer.specs.Notes.{numbers}
 use Rattle.dcx_lp.specs.IntegerProgram.{multiplier_of}
 use Rattle.dcx_lp.proofs.Rows.{read_at}
 use Rattle.dcx_lp.proofs.Notes.{number_more, every_read}

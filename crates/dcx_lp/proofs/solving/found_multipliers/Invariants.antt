@@ -1,6 +1,6 @@
 use Rattle.std.proofs.Common.{◌≡◌, map, take}
 use Rattle.dcx_frac.specs.Fits.{IsRepresentable}
-use Rattle.dcx_simplex.specs.Reading.{numbers}
+use Rattle.dcx_lp_answer.specs.Notes.{numbers}
 use Rattle.dcx_plain.specs.Phrases.{Every}
 use Rattle.dcx_lp.specs.IntegerProgram.{multiplier_of}
 use Rattle.dcx_lp.proofs.solving.found_multipliers.Given as goal

@@ -9,10 +9,10 @@ use Rattle.dcx_tab.specs.declared.rows.ColumnKind.TheVariants.{Unknown, Slack, A
 use Rattle.dcx_tab.specs.declared.rows.CostRow.{CostRow}
 use Rattle.dcx_tab.specs.declared.program.Program.{Program}
 use Rattle.dcx_tab.specs.Program.{kind_at, plain_count, entries_at, right_side_at, is_negated_at}
-use Rattle.dcx_simplex.specs.declared.answer.LpStatus.{LpStatus}
-use Rattle.dcx_simplex.specs.declared.answer.LpStatus.TheVariants as status
-use Rattle.dcx_simplex.specs.declared.answer.LpAnswer.{LpAnswer}
-use Rattle.dcx_simplex.specs.Reading.{numbers, reduced_cost_of, factor_of, row_factor, was_negated}
+use Rattle.dcx_lp_answer.specs.declared.answer.LpStatus.{LpStatus}
+use Rattle.dcx_lp_answer.specs.declared.answer.LpStatus.TheVariants as status
+use Rattle.dcx_lp_answer.specs.declared.answer.LpAnswer.{LpAnswer}
+use Rattle.dcx_lp_answer.specs.Notes.{numbers, reduced_cost_of, factor_of, row_factor, was_negated}
 
 -- ---- a program's columns, rows and costs
 abbrev pub is_slack_of : ℕ → ColumnKind → Bool

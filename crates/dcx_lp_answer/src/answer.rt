@@ -34,7 +34,7 @@ pub struct RowNotes {
 
 impl Model for RowNotes {
     ghost use Rattle.std.specs.Prelude.{List};
-    ghost use Rattle.dcx_simplex.specs.declared.answer.RowNote.{RowNote};
+    ghost use Rattle.dcx_lp_answer.specs.declared.answer.RowNote.{RowNote};
 
     ghost Value = { List RowNote };
 

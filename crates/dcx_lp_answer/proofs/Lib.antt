@@ -1,0 +1,3 @@
+-- Lemmas on rows and on fractions.
+pub mod RowSums
+pub mod Fractions

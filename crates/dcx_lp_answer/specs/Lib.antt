@@ -1,0 +1,3 @@
+-- The words that contracts cite.
+pub mod Notes
+pub mod Right
