@@ -1,3 +1,5 @@
--- Lemmas on rows and on fractions.
+-- Lemmas on rows, on fractions, and on multipliers that are formed.
 pub mod RowSums
 pub mod Fractions
+pub mod Formed
+pub mod Passing
