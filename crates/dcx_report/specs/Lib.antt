@@ -1,7 +1,5 @@
 pub mod AnswerText
 pub mod CheckText
-pub mod Faults
-pub mod Files
 pub mod Negated
 pub mod NodeStops
 pub mod OutcomeText

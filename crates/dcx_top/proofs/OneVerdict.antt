@@ -11,7 +11,7 @@ use Rattle.dcx_tree.specs.declared.problem.Problem.{Problem}
 use Rattle.dcx_tree.specs.Meaning.{IsAccepted}
 use Rattle.dcx_kinds.specs.declared.fault.ElabFault.{ElabFault}
 use Rattle.dcx_kinds.specs.declared.fault.ElabFault.TheVariants as elabs
-use Rattle.dcx_report.specs.Files.{Files, IsTold, HasMore}
+use Rattle.dcx_host.specs.Files.{Files, IsTold, HasMore}
 use Rattle.dcx_report.specs.declared.checked.Checked.{Checked}
 use Rattle.dcx_report.specs.declared.outcome.Outcome.{Outcome}
 use Rattle.dcx_report.specs.declared.refusal.Refusal.{Refusal}

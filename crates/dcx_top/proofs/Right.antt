@@ -3,7 +3,7 @@ use Rattle.std.proofs.Common.{◌≡◌, ℕ, List, [], ◌∷◌, ◌++◌, map
 use Rattle.dcx_frac.specs.declared.fraction.Frac.{Frac}
 use Rattle.dcx_frac.specs.Frac.{value}
 use Rattle.dcx_tree.specs.declared.constraint.Sense.{Sense}
-use Rattle.dcx_report.specs.Files.{Files, IsTold}
+use Rattle.dcx_host.specs.Files.{Files, IsTold}
 use Rattle.dcx_atom.specs.declared.array.Array.{Array}
 use Rattle.dcx_answer.specs.declared.answer.Answer.TheVariants as answer
 use Rattle.dcx_report.specs.declared.outcome.Outcome.{Outcome}

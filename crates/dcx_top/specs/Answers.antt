@@ -1,6 +1,6 @@
 -- What a run answers, with the cause of each answer.
 use Rattle.std.specs.Prelude.{◌≡◌, ℕ, ◌⊎◌, List, [], ◌∷◌, Option, None, Some, ⊤}
-use Rattle.dcx_report.specs.Files.{Files, IsTold, Lacks, HasMore}
+use Rattle.dcx_host.specs.Files.{Files, IsTold, Lacks, HasMore}
 use Rattle.dcx_report.specs.declared.run.Run.{Run}
 use Rattle.dcx_report.specs.declared.run.Run.TheVariants.{Usage, Refused, Checked, Solved, ReadFault, Memory}
 use Rattle.dcx_report.specs.declared.run.Word.TheVariants as word_is

@@ -3,7 +3,7 @@
 use Rattle.std.specs.Prelude.{◌≡◌, ℕ, List, [], ◌∷◌, ◌++◌, map, Option, Some, Ok, ⊤}
 use Rattle.dcx_math.specs.Rational.{ℚ}
 use Rattle.dcx_frac.specs.Frac.{value}
-use Rattle.dcx_report.specs.Files.{Files, IsTold}
+use Rattle.dcx_host.specs.Files.{Files, IsTold}
 use Rattle.dcx_atom.specs.declared.array.Array.{Array}
 use Rattle.dcx_point.specs.Pairs.{Pairs, names_of}
 use Rattle.dcx_answer.specs.declared.answer.Answer.{Answer}

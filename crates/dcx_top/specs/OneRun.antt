@@ -9,7 +9,7 @@ use Rattle.dcx_kinds.specs.declared.fault.ElabFault.{ElabFault}
 use Rattle.dcx_kinds.specs.declared.fault.ElabFault.TheVariants as elabs
 use Rattle.dcx_elab.specs.declared.work.Work.{Work}
 use Rattle.dcx_elab.specs.Meaning.{Elaborates}
-use Rattle.dcx_report.specs.Files.{Files}
+use Rattle.dcx_host.specs.Files.{Files}
 use Rattle.dcx_report.specs.declared.run.Run.{Run}
 use Rattle.dcx_report.specs.declared.run.Run.TheVariants.{Refused, Checked, ReadFault as NotHad, Memory}
 use Rattle.dcx_check.specs.OneRun.{AreOneRun}

@@ -12,7 +12,7 @@
 //! | no file changes, and no step is counted | `same`, `counted` |
 ghost use Rattle.std.specs.Prelude.{◌≡◌, ◌↔◌, map, string_bytes, None, IfOk};
 ghost use Rattle.std.specs.List.{list_any};
-ghost use Rattle.dcx_report.specs.Faults.{Rose};
+ghost use Rattle.dcx_host.specs.Faults.{Rose};
 ghost use Rattle.dcx_plain.specs.Plain.{IsPlain};
 ghost use Rattle.dcx_top.specs.Words.{form_of};
 ghost use Rattle.dcx_top.specs.Answers.{Answers, IsRefusedWhole, HasOneEnd, SolvesBytes, GivesRun};
@@ -25,10 +25,11 @@ use crate::ended::Ended;
 use crate::outcome::end_of;
 use crate::words::{Verb, plain_form};
 use crate::write::write_all;
+use dcx_host::{FetchFault, Library, Sink, SinkFault};
 use dcx_plain::{Script, read};
 use dcx_report::{
-    Carried, FetchFault, Library, Outcome, OutcomeEnd, Outcomes, Refusal, RefusalSource, Run,
-    Sense, Sink, SinkFault, Stop, Word, report_text,
+    Carried, Outcome, OutcomeEnd, Outcomes, Refusal, RefusalSource, Run, Sense, Stop, Word,
+    report_text,
 };
 use dcx_shape::Place;
 use dcx_steps::Steps;

@@ -1,6 +1,6 @@
 //! A library and a sink in memory that fail at the calls that are listed, and ones that never fail.
 ghost use Rattle.std.specs.Prelude.{◌≡◌, ◌<◌, ◌≤◌, ◌++◌, [], length, Some, IfOk, IfErr, OnErr, IsErrOf};
-ghost use Rattle.dcx_report.specs.Files.{IsTold, Lacks, HasMore, files_of};
+ghost use Rattle.dcx_host.specs.Files.{IsTold, Lacks, HasMore, files_of};
 
 use crate::{FetchFault, Library, Sink, SinkFault};
 use dcx_shape::Bytes;

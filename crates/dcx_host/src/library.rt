@@ -1,9 +1,9 @@
 //! A library of files, by name.
 ghost use Rattle.std.specs.Prelude.{◌≡◌, ℕ, ◌≤◌, length, IfOk, IsErrOf};
 ghost use Rattle.std.specs.declared.option.Option.{Option};
-ghost use Rattle.dcx_report.specs.Faults.{Rose};
-ghost use Rattle.dcx_report.specs.Files.{Files, IsTold, Lacks, HasMore};
-ghost use Rattle.dcx_report.specs.declared.library.FetchFault.TheVariants.{Memory};
+ghost use Rattle.dcx_host.specs.Faults.{Rose};
+ghost use Rattle.dcx_host.specs.Files.{Files, IsTold, Lacks, HasMore};
+ghost use Rattle.dcx_host.specs.declared.library.FetchFault.TheVariants.{Memory};
 
 use dcx_shape::Bytes;
 use std::alloc::{AllocError, AllocFailed, Global};
