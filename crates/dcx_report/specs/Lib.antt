@@ -5,7 +5,6 @@ pub mod NodeStops
 pub mod OutcomeText
 pub mod Pieces
 pub mod RefusalText
-pub mod Refusals
 pub mod ReportText
 pub mod SameText
 pub mod StopText

@@ -9,7 +9,9 @@ use Rattle.dcx_answer.specs.declared.answer.Answer.TheVariants as answer
 use Rattle.dcx_report.specs.declared.outcome.Outcome.{Outcome}
 use Rattle.dcx_report.specs.declared.outcome.OutcomeEnd.{OutcomeEnd}
 use Rattle.dcx_report.specs.declared.outcome.OutcomeEnd.TheVariants as end
-use Rattle.dcx_report.specs.declared.checked.Checked.{Checked}
+use Rattle.dcx_front.specs.declared.checked.Checked.{Checked}
+use Rattle.dcx_front.specs.Checks.{IsFoundOf}
+use Rattle.dcx_front.proofs.OneVerdict.{acceptance}
 use Rattle.dcx_report.specs.declared.run.Word.{Word}
 use Rattle.dcx_report.specs.declared.run.Run.{Run}
 use Rattle.dcx_report.specs.declared.run.Run.TheVariants as run
@@ -21,7 +23,7 @@ use Rattle.dcx_top.specs.Outcome.{AreNumbers, arrays_of, IsEndOf}
 use Rattle.dcx_top.specs.declared.words.Verb.{Verb}
 use Rattle.dcx_top.specs.declared.words.Verb.TheVariants.{Check, Solve}
 use Rattle.dcx_top.specs.Words.{form_of}
-use Rattle.dcx_top.specs.Checking.{spells, unread, stands_for, faulty, ChecksBytes}
+use Rattle.dcx_top.specs.Checking.{ChecksBytes, accepted, refused, without_memory}
 use Rattle.dcx_top.specs.Answers.{Answers, HasOneEnd, GivesRun}
 use Rattle.dcx_top.specs.Headline.{numbers_of, IsRightEnd, IsRightOver, IsAcceptedOver, AnswersAreRight}
 
@@ -53,9 +55,9 @@ right_outcomes s (o ∷ more ∷ os) h = absurd h
 
 -- a check solves nothing
 not_solved : (bytes : List ℕ) (word : Word) (sense : Sense) (outcomes : List Outcome) → ChecksBytes bytes (run.Solved word sense outcomes) → ⊥
-not_solved bytes word sense outcomes (spells script read (stands_for work means checks)) = checks
-not_solved bytes word sense outcomes (spells script read (faulty f fails ends)) = ends
-not_solved bytes word sense outcomes (unread f read ends) = ends
+not_solved bytes word sense outcomes (accepted a c g f e) = cc
+not_solved bytes word sense outcomes (refused r g e) = cc
+not_solved bytes word sense outcomes (without_memory e) = cc
 
 module _ (words : List (List ℕ)) (told : Option Files) (name : List ℕ) (bytes : List ℕ) (are_told : IsTold told name bytes) where
   right_over : (word : Word) (sense : Sense) (outcomes : List Outcome) (verb : Verb) → form_of words ≡ Some (verb, name) → GivesRun verb bytes (run.Solved word sense outcomes) → IsRightOver words told outcomes
@@ -71,19 +73,22 @@ module _ (words : List (List ℕ)) (told : Option Files) (name : List ℕ) (byte
   }
 
   accepted_over : (c : Checked) (verb : Verb) → form_of words ≡ Some (verb, name) → GivesRun verb bytes (run.Checked c) → IsAcceptedOver words told c
-  accepted_over c Check form (spells script read (stands_for work means checks)) = record {
-    name = name;
-    form = form;
-    bytes = bytes;
-    are_told = are_told;
-    script = script;
-    spelled = read;
-    work = work;
-    stands_for = means;
-    accepted = checks;
-  }
-  accepted_over c Check form (spells script read (faulty f fails ends)) = absurd ends
-  accepted_over c Check form (unread f read ends) = absurd ends
+  accepted_over c Check form (accepted a d g f e) =
+      let h = acceptance bytes a g in
+      let same : d ≡ c = cc in
+      record {
+        name = name;
+        form = form;
+        bytes = bytes;
+        are_told = are_told;
+        script = h.script;
+        spelled = h.spelled;
+        work = a.work;
+        stands_for = h.stands_for;
+        accepted = record { accepted = h.judged.accepted; convex = h.judged.convex; found = subst (IsFoundOf a.work.problem) same f };
+      }
+  accepted_over c Check form (refused r g e) = cc
+  accepted_over c Check form (without_memory e) = cc
   accepted_over c Solve form gives = absurd gives
 
 pub right_answers : (words : List (List ℕ)) (told : Option Files) (risen : Type 0) (r : Run) → Answers words told risen r → AnswersAreRight words told r

@@ -22,8 +22,8 @@ use Rattle.dcx_syntax.specs.declared.tree.Script as reading
 use Rattle.dcx_read.specs.Parses.{IsReading}
 use Rattle.dcx_elab.specs.declared.work.Work.{Work}
 use Rattle.dcx_elab.specs.Meaning.{Elaborates}
-use Rattle.dcx_report.specs.declared.checked.Checked.{Checked}
-use Rattle.dcx_check.specs.Checks.{IsAcceptedWith}
+use Rattle.dcx_front.specs.declared.checked.Checked.{Checked}
+use Rattle.dcx_front.specs.Checks.{IsAcceptedWith}
 use Rattle.dcx_top.specs.declared.words.Verb.TheVariants.{Check, Solve}
 use Rattle.dcx_top.specs.Words.{form_of}
 use Rattle.dcx_top.specs.Outcome.{arrays_of}
