@@ -31,7 +31,6 @@ mod param_form;
 mod param_term;
 mod row;
 mod rows;
-mod site;
 mod stop;
 mod term;
 
@@ -42,5 +41,4 @@ pub use param_form::ParamForm;
 pub use param_term::{ParamTerm, ParamTerms};
 pub use row::{Row, RowKind, RowList, UnknownKind, UnknownKinds};
 pub use rows::Rows;
-pub use site::Site;
 pub use stop::CoefStop;

@@ -1,7 +1,8 @@
 //! Integer programs worked out by hand.
 use crate::given::{Pair, Written, form, fraction, rows};
+use dcx_answer::Site;
 use dcx_frac::{Op, Passes};
-use dcx_linear::{RowKind, Site, UnknownKind};
+use dcx_linear::{RowKind, UnknownKind};
 use dcx_std::{RowStop, check_size, integer_rows, least_multiple};
 use dcx_tab::{ColumnKind, CostRow, IntRow, Program};
 use std::process::Abort;

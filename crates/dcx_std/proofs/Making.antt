@@ -12,8 +12,8 @@ use Rattle.dcx_frac.specs.declared.fraction.Passes.{Passes}
 use Rattle.dcx_linear.specs.declared.row.Row.{Row}
 use Rattle.dcx_linear.specs.declared.row.UnknownKind.{UnknownKind}
 use Rattle.dcx_linear.specs.declared.row.UnknownKind.TheVariants.{Free, Nonneg, Nonpos}
-use Rattle.dcx_linear.specs.declared.site.Site.{Site}
-use Rattle.dcx_linear.specs.declared.site.Site.TheVariants as sites
+use Rattle.dcx_answer.specs.declared.site.Site.{Site}
+use Rattle.dcx_answer.specs.declared.site.Site.TheVariants as sites
 use Rattle.dcx_linear.specs.declared.stop.CoefStop.{CoefStop}
 use Rattle.dcx_linear.specs.declared.stop.CoefStop.TheVariants as coef
 use Rattle.dcx_linear.specs.Stops.{Gives}
