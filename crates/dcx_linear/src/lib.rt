@@ -21,25 +21,37 @@
 //! | multipliers show that no solution is better, or that there is none | `laws::optimal_is_least`, `laws::infeasible_has_no_solution` |
 #![tactic(auto)]
 
+mod accumulator;
 mod change;
 mod coef;
 mod entry;
 mod form;
+mod form_at;
 pub mod laws;
+mod map_stop;
+mod multiple;
 mod number;
 mod param_form;
 mod param_term;
+mod part;
 mod row;
 mod rows;
+mod rows_at;
+pub mod setting_laws;
 mod site;
+mod slots;
 mod stop;
+pub mod sum_laws;
 mod term;
 
+pub use accumulator::Accumulator;
 pub use change::Change;
 pub use coef::Coef;
 pub use form::{Form, FormTerm, FormTerms};
+pub use map_stop::MapStop;
 pub use param_form::ParamForm;
 pub use param_term::{ParamTerm, ParamTerms};
+pub use part::Part;
 pub use row::{Row, RowKind, RowList, UnknownKind, UnknownKinds};
 pub use rows::Rows;
 pub use site::Site;
