@@ -1,5 +1,5 @@
 -- Coefficients in slots: what stands at each unknown, what a write changes, and that terms added one by one give the sum.
-use Rattle.std.proofs.Common.{◌≡◌, ◌≢◌, ℕ, zero, suc, ◌+◌, ◌<◌, ◌≤◌, Bool, true, false, if◌then◌else◌, List, [], ◌∷◌, ◌++◌, Option, Some, None, Result, Ok, Err, length, get_or, take, drop, append_assoc, add-one, refl, sym, ap, ap₂, ◌∙◌, subst, pos, arith}
+use Rattle.std.proofs.Common.{◌≡◌, ◌≢◌, ℕ, zero, suc, ◌+◌, ◌<◌, ◌≤◌, Bool, true, false, if◌then◌else◌, List, [], ◌∷◌, ◌++◌, Option, Some, None, Result, Ok, Err, length, get_or, take, drop, append_assoc, add-one, refl, sym, ap, ap₂, ◌∙◌, subst, pos, arith, inl, inr}
 use Rattle.std.specs.List.{All}
 use Rattle.std.specs.Option.{option_to_list}
 use Rattle.std.proofs.Math.ListN.{set}
@@ -13,12 +13,14 @@ use Rattle.dcx_frac.specs.declared.fraction.Passes.{Passes}
 use Rattle.dcx_frac.specs.Frac.{value}
 use Rattle.dcx_atom.specs.Formed.{zero_frac}
 use Rattle.dcx_linear.specs.declared.form.FormTerm.{FormTerm}
+use Rattle.dcx_linear.specs.declared.form.Form.{Form}
 use Rattle.dcx_linear.specs.Changes.{zero_test}
 use Rattle.dcx_linear.specs.Terms.{IsSparse, term_at, SumsAt, FormsKeys, SumsTerms}
 use Rattle.dcx_linear.specs.TermLaws.{term_at-here, term_at-later, term_at-below}
 use Rattle.dcx_linear.specs.FormTerms.{unknown_of, is_told_zero, has_zero_coefficient, HoldsUnknowns, sum_gives_unknown}
+use Rattle.dcx_linear.specs.Forms.{sum_gives_linear}
 use Rattle.dcx_linear.proofs.Formed.{drop_at, IsSparse-drop}
-use Rattle.dcx_linear.specs.Slots.{kept_term, listed_from, sum_with_slot, adds_to_slot, adds_term}
+use Rattle.dcx_linear.specs.Slots.{kept_term, listed_from, accumulated, sum_with_slot, adds_to_slot, adds_term}
 
 zero_value : value zero_frac ≡ whole (pos 0)
 unfolding whole
@@ -244,3 +246,26 @@ module _ {C : Type 0} (number_of : C → Option Frac) where
         → SumsTerms unknown_of (has_zero_coefficient number_of) (sum_gives_unknown Sums) start terms (Ok (listed_from number_of 0 cs))
     terms_done start terms n cs le go =
         go (Ok (Listed 0 cs)) (subst (λ l. SumsTerms unknown_of z G (Listed 0 cs) l (Ok (Listed 0 cs))) (sym (drop_all n terms le)) (terms_end (Listed 0 cs) (listed-sparse 0 cs)))
+
+    -- ---- forms
+    module _ (old f : Form C) (constant : C) (cs : List C) (is_old : accumulated number_of constant cs ≡ old) (sparse : HoldsUnknowns number_of f.terms) where
+      both_sparse : HoldsUnknowns number_of (listed_from number_of 0 cs) × HoldsUnknowns number_of f.terms
+      both_sparse = (listed-sparse 0 cs, sparse)
+
+      -- the sum of the constants passes
+      pub constant_passes : (passes : Passes) → Sums constant f.constant (Err passes) → sum_gives_linear number_of Sums old f (Err passes)
+      constant_passes passes h = subst (λ g. sum_gives_linear number_of Sums g f (Err passes)) is_old (both_sparse, inl h)
+
+      module _ (sum : C) (sums : Sums constant f.constant (Ok sum)) (terms : List (FormTerm C)) (is_terms : terms ≡ f.terms) where
+        -- the terms are added after the constants
+        pub form_added : (ds : List C) → SumsTerms unknown_of (has_zero_coefficient number_of) (sum_gives_unknown Sums) (listed_from number_of 0 cs) terms (Ok (listed_from number_of 0 ds))
+            → sum_gives_linear number_of Sums old f (Ok (accumulated number_of sum ds))
+        form_added ds h =
+            subst (λ g. sum_gives_linear number_of Sums g f (Ok (accumulated number_of sum ds))) is_old
+            (both_sparse, (sums, subst (λ l. SumsTerms unknown_of z G (Listed 0 cs) l (Ok (Listed 0 ds))) is_terms h))
+
+        -- or the sum of a coefficient passes
+        pub term_of_form_passes : (passes : Passes) → SumsTerms unknown_of (has_zero_coefficient number_of) (sum_gives_unknown Sums) (listed_from number_of 0 cs) terms (Err passes) → sum_gives_linear number_of Sums old f (Err passes)
+        term_of_form_passes passes h =
+            subst (λ g. sum_gives_linear number_of Sums g f (Err passes)) is_old
+            (both_sparse, inr ((sum, sums), subst (λ l. SumsTerms unknown_of z G (Listed 0 cs) l (Err passes)) is_terms h))

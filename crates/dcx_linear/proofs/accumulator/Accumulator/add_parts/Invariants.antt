@@ -1,5 +1,5 @@
 use Rattle.dcx_linear.proofs.PartSteps.{PartsGoOn}
-use Rattle.dcx_linear.proofs.part.Accumulator.add_parts.Given as goal
+use Rattle.dcx_linear.proofs.accumulator.Accumulator.add_parts.Given as goal
 
 -- what the parts that are left give of the sum so far, all parts give of the first form
 abbrev pub invariant-parts : goal.invariant-parts

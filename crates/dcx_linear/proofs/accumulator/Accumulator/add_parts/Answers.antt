@@ -3,7 +3,7 @@ use Rattle.std.proofs.lemmas.Result.{err_from_is_err_and}
 use Rattle.dcx_linear.specs.Stops.{OnPass-weaker}
 use Rattle.dcx_linear.specs.Parts.{IsAllowedPart, adds_part, adds_parts, parts_of}
 use Rattle.dcx_linear.proofs.PartSteps.{part_goes, part_stops, parts_end}
-use Rattle.dcx_linear.proofs.part.Accumulator.add_parts.Goals as goal
+use Rattle.dcx_linear.proofs.accumulator.Accumulator.add_parts.Goals as goal
 
 pub add_changed-requires : goal.add_changed-requires
 add_changed-requires g c = subst IsAllowedPart (sym c.part-item.is) (c.requires c.parts.part-index c.part-item.result (omega arith))
