@@ -1,8 +1,10 @@
 -- Facts of all coefficients of a form, which its operations keep.
-use Rattle.std.proofs.Common.{◌≡◌, Bool, true, false, if◌then◌else◌, List, Option, Some, None, Result, Ok, refl, subst}
+use Rattle.std.proofs.Common.{◌≡◌, ℕ, Bool, true, false, if◌then◌else◌, List, Option, Some, None, Result, Ok, [], refl, sym, subst}
 use Rattle.std.specs.List.{All}
+use Rattle.std.proofs.lemmas.List.Elements.{All-nil, All-cons}
 use Rattle.dcx_frac.specs.declared.fraction.Frac.{Frac}
 use Rattle.dcx_frac.specs.declared.fraction.Passes.{Passes}
+use Rattle.dcx_atom.specs.Formed.{zero_frac}
 use Rattle.dcx_linear.specs.declared.change.Change.{Change}
 use Rattle.dcx_linear.specs.declared.change.Change.TheVariants.{Scale}
 use Rattle.dcx_linear.specs.declared.form.FormTerm.{FormTerm}
@@ -10,7 +12,7 @@ use Rattle.dcx_linear.specs.declared.form.Form.{Form}
 use Rattle.dcx_linear.specs.Terms.{term_at, SumsAt, ChangesAt, ChangesTerms, Keeps}
 use Rattle.dcx_linear.specs.TermLaws.{each_formed, term_at-All}
 use Rattle.dcx_linear.specs.FormTerms.{unknown_of, has_zero_coefficient, GivesTerm, sum_gives_unknown, change_gives_unknown}
-use Rattle.dcx_linear.specs.Forms.{sum_gives_linear, change_gives_linear}
+use Rattle.dcx_linear.specs.Forms.{IsUnknownForm, sum_gives_linear, change_gives_linear}
 use Rattle.dcx_linear.specs.Multiples.{times_unknown, multiple_gives}
 
 module _ {C : Type 0} (number_of : C → Option Frac) (Q : C → Type 0) where
@@ -73,3 +75,7 @@ module _ {C : Type 0} (number_of : C → Option Frac) (Q : C → Type 0) where
         each_formed unknown_of z (λ k. ChangesAt z (times_unknown number_of Changes c) (term_at unknown_of f.terms k)) T
         (λ k v q. change_gets (times_unknown number_of Changes c) (λ t w r. keeps (Scale r.1.0) c w.coefficient r.1.2 a) (term_at unknown_of f.terms k) v q) h.terms s.1.1,
       )
+
+  -- an unknown has the facts of numbers
+  pub unknown_has : (of_number : Frac → C) → ((x : Frac) → Q (of_number x)) → {unknown : ℕ} (f : Form C) → IsUnknownForm of_number unknown f → OfAll f
+  unknown_has of_number numbers f h = subst OfAll (sym h.is) (numbers zero_frac, All-cons T _ [] (numbers h.one) (All-nil T))

@@ -21,7 +21,7 @@ empty [] h = refl
 empty (t ∷ ts) h = absurd (All-head (λ t. ⊥) t ts h)
 
 is_number : (x : Frac) (ts : List ParamTerm) → ts ≡ [] → IsSome (told_number x ts)
-is_number x ts e = subst (λ l. IsSome (told_number x l)) (sym e) (search rules)
+is_number x ts e = subst (λ l. IsSome (told_number x l)) (sym e) refl
 
 -- a sum of numbers is a number
 pub sum_number : (a b c : ParamForm) → sum_gives_form a b (Ok c) → IsSome (number_of_form a) → IsSome (number_of_form b) → IsSome (number_of_form c)

@@ -16,6 +16,7 @@ use Rattle.dcx_linear.specs.FormLaws.{one_linear_sum, one_linear_change}
 use Rattle.dcx_linear.specs.Parts.{Follows, adds_part, adds_parts, parts_value, part_width}
 use Rattle.dcx_linear.specs.Widths.{form_width}
 use Rattle.dcx_linear.proofs.Widths.{sum_width, change_width}
+use Rattle.dcx_linear.proofs.Coefficients.{OfAll, sum_keeps, change_keeps}
 
 -- where each of two operations has one answer, the one after the other has one
 one_follows : {A B : Type 0} (First : Result A Passes → Type 0) (Second : A → Result B Passes → Type 0) → ((r s : Result A Passes) → First r → First s → r ≡ s) → ((x : A) (r s : Result B Passes) → Second x r → Second x s → r ≡ s)
@@ -70,3 +71,11 @@ module _ {C : Type 0} (number_of : C → Option Frac) (Sums : C → C → Result
   parts_sum_width n (q ∷ qs) f h s a b =
       parts_sum_width n qs s.0 h s.2 (All-tail (λ r. part_width r ≤ n) q qs a)
       (sum_width number_of n Sums f s.1.0 s.0 s.1.2 b (change_width number_of n Changes q.0 q.1 s.1.0 s.1.1 (All-head (λ r. part_width r ≤ n) q qs a)))
+
+  -- a fact of all coefficients that sums and changes keep
+  pub parts_keep : (Q : C → Type 0) → ((a b c : C) → Sums a b (Ok c) → Q a → Q b → Q c) → ((change : Change) (a c : C) → Changes change a (Ok c) → Q a → Q c)
+      → (ps : List (Change × Form C)) (f h : Form C) → adds_parts number_of Sums Changes ps f (Ok h) → All (λ q. OfAll number_of Q q.1) ps → OfAll number_of Q f → OfAll number_of Q h
+  parts_keep Q sums changes [] f h s a b = let d : h ≡ f = cc in subst (OfAll number_of Q) (sym d) b
+  parts_keep Q sums changes (q ∷ qs) f h s a b =
+      parts_keep Q sums changes qs s.0 h s.2 (All-tail (λ r. OfAll number_of Q r.1) q qs a)
+      (sum_keeps number_of Q Sums sums f s.1.0 s.0 s.1.2 b (change_keeps number_of Q Changes changes q.0 q.1 s.1.0 s.1.1 (All-head (λ r. OfAll number_of Q r.1) q qs a)))

@@ -10,7 +10,7 @@ ghost use Rattle.dcx_linear.specs.declared.form.Form.{Form};
 ghost use Rattle.dcx_linear.specs.ParamForms.{number_of_form, sum_gives_form, change_gives_form};
 ghost use Rattle.dcx_linear.specs.Parameters.{Parameters, Names};
 ghost use Rattle.dcx_linear.specs.FormTerms.{Unknowns};
-ghost use Rattle.dcx_linear.specs.Forms.{linear_value, sum_gives_linear, change_gives_linear};
+ghost use Rattle.dcx_linear.specs.Forms.{linear_value, IsUnknownForm, sum_gives_linear, change_gives_linear};
 ghost use Rattle.dcx_linear.specs.Widths.{form_width};
 ghost use Rattle.dcx_linear.specs.Parts.{adds_parts, parts_value, part_width};
 ghost use Rattle.dcx_linear.specs.Multiples.{HasNumbers, multiple_gives};
@@ -46,6 +46,16 @@ pub fn one_multiple_of_forms<C: Coef>()
 /// A coefficient times a form is no wider than the form.
 pub fn widths_of_multiples<C: Coef>()
     ensures { (n : ℕ) (c : C) (f h : Form C) → multiple_gives C.number_of C.change_gives c f (Ok h) → form_width f ≤ n → form_width h ≤ n }
+{}
+
+/// An unknown lists no parameter.
+pub fn names_of_unknowns<C: Coef>()
+    ensures { (names : Names) (unknown : ℕ) (f : Form C) → IsUnknownForm C.of_number unknown f → IsNamedLinear C.is_named_by names f }
+{}
+
+/// A sum of parts keeps the names.
+pub fn names_of_parts<C: Coef>()
+    ensures { (names : Names) (ps : List (Change × Form C)) (f h : Form C) → adds_parts C.number_of C.sum_gives C.change_gives ps f (Ok h) → All (λ q. IsNamedLinear C.is_named_by names q.1) ps → IsNamedLinear C.is_named_by names f → IsNamedLinear C.is_named_by names h }
 {}
 
 /// A sum of forms keeps the names.
