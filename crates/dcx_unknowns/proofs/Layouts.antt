@@ -1,5 +1,5 @@
 -- Counts within 32 bits, graphs node by node, and layouts.
-use Rattle.std.proofs.Common.{◌≡◌, ℕ, zero, suc, ◌+◌, ◌<◌, ◌≤◌, min, Bool, true, false, if◌then◌else◌, List, [], ◌∷◌, ◌++◌, length, map, get_or, take, Option, Some, None, IfSome, refl, sym, ap, ap₂, subst, ◌∙◌, arith, add-zero, inl, inr}
+use Rattle.std.proofs.Common.{◌≡◌, ℕ, zero, suc, ◌+◌, ◌<◌, ◌≤◌, min, Bool, true, false, if◌then◌else◌, List, [], ◌∷◌, ◌++◌, length, map, get_or, take, Option, Some, None, IfSome, IsSome, refl, sym, ap, ap₂, subst, ◌∙◌, arith, add-zero, inl, inr}
 use Rattle.std.specs.Prelude.{not, flat_map, sum_by, slice_get, slice_index_or, unwrap_or, option_map, All}
 use Rattle.std.specs.List.{range_with_len}
 use Rattle.std.proofs.Math.Path.{fun_ext}
@@ -8,7 +8,7 @@ use Rattle.std.proofs.lemmas.List.{append-nil, map-append, get_or_past, length-m
 use Rattle.std.proofs.lemmas.List.Elements.{All-nil}
 use Rattle.std.proofs.lemmas.List.FromFn.{length-range_with_len}
 use Rattle.std.proofs.lemmas.List.Sums.{sum_by-append, sum_by-cons}
-use Rattle.std.proofs.lemmas.Option.{none-some, slice_get_past, slice_get_cases}
+use Rattle.std.proofs.lemmas.Option.{none-some, same_Some, slice_get_past, slice_get_cases}
 use Rattle.dcx_shape.specs.declared.shape.Shape.{Shape}
 use Rattle.dcx_shape.specs.declared.shape.Sides.{Sides}
 use Rattle.dcx_shape.specs.Shape.{sides_of}
@@ -18,14 +18,20 @@ use Rattle.dcx_atom.specs.declared.graph.AuxKind.{AuxKind}
 use Rattle.dcx_atom.specs.declared.graph.Graph.{Graph}
 use Rattle.dcx_atom.specs.Graph.{IsGraphOf, placed_row}
 use Rattle.dcx_arena.specs.declared.node.NodeId.{NodeId}
-use Rattle.dcx_arena.specs.Nodes.{IsNode, positions, args_at}
+use Rattle.dcx_arena.specs.Nodes.{IsNode, positions, args_at, sides_at, call_at}
+use Rattle.dcx_call.specs.declared.atoms.AtomCall.{AtomCall}
 use Rattle.dcx_call.specs.declared.call.Call.{Call}
 use Rattle.dcx_call.specs.declared.call.Call.TheVariants as calls
+use Rattle.dcx_call.specs.Atoms.{atom_meaning}
+use Rattle.dcx_call.specs.Calls.{shape_of}
+use Rattle.dcx_call.proofs.Entries.{some_fact}
 use Rattle.dcx_convex.specs.Rules.{Rules, Plain, Parametrized, Judgement, no_argument, judgement_by, is_constant, judgement_at}
 use Rattle.dcx_convex.specs.Nodes as convex
 use Rattle.dcx_tree.specs.declared.problem.Problem.{Problem}
-use Rattle.dcx_tree.specs.Nodes.{Node, convex_node}
+use Rattle.dcx_tree.specs.Nodes.{Node, arg_sides, convex_node}
 use Rattle.dcx_tree.specs.Meaning.{names_in, convex_problem}
+use Rattle.dcx_tree.proofs.Names.{found_in}
+use Rattle.dcx_tree.proofs.NodeValues.{args_are}
 use Rattle.dcx_linear.specs.declared.row.UnknownKind.{UnknownKind}
 use Rattle.dcx_linear.specs.Size.{columns_for, capped}
 use Rattle.dcx_unknowns.specs.declared.layout.Layout.{Layout}
@@ -111,6 +117,20 @@ module _ (nodes : List Node) where
         ap (λ xs. sum_by columns_for (map aux_kind xs)) (aux_more e) ∙ ap (sum_by columns_for) (map-append aux_kind (aux_below nodes reduced i) (aux_if nodes true (slice_get nodes i)))
         ∙ sum_by-append columns_for (map aux_kind (aux_below nodes reduced i)) (map aux_kind (aux_if nodes true (slice_get nodes i)))
 
+    pub columns_no_more : reduced i ≡ false → aux_columns_at nodes reduced (i + 1) ≡ aux_columns_at nodes reduced i
+    columns_no_more e = ap (λ xs. sum_by columns_for (map aux_kind xs)) (aux_no_more e)
+
+    -- their kinds are added, or none
+    pub kinds_more : (kinds old new : List UnknownKind) → reduced i ≡ true → kinds ≡ old ++ map aux_kind (aux_below nodes reduced i) → new ≡ kinds ++ map aux_kind (aux_if nodes true (slice_get nodes i)) →
+        new ≡ old ++ map aux_kind (aux_below nodes reduced (i + 1))
+    kinds_more kinds old new e so_far more =
+        let here = map aux_kind (aux_if nodes true (slice_get nodes i)) in
+        more ∙ ap (λ ks. ks ++ here) so_far ∙ append_assoc old (map aux_kind (aux_below nodes reduced i)) here
+        ∙ ap (λ ks. old ++ ks) (sym (ap (map aux_kind) (aux_more e) ∙ map-append aux_kind (aux_below nodes reduced i) (aux_if nodes true (slice_get nodes i))))
+
+    pub kinds_no_more : (kinds old : List UnknownKind) → reduced i ≡ false → kinds ≡ old ++ map aux_kind (aux_below nodes reduced i) → kinds ≡ old ++ map aux_kind (aux_below nodes reduced (i + 1))
+    kinds_no_more kinds old e so_far = so_far ∙ ap (λ xs. old ++ map aux_kind xs) (sym (aux_no_more e))
+
 -- ---- what the rules say and what is marked
 -- nothing is reduced past the last node
 past_reduced : (rules : Rules) → not (is_constant rules no_argument) ≡ false
@@ -144,3 +164,36 @@ pub shapes_next : (sides : ℕ → Sides) (ids : List NodeId) (k : ℕ) (d : Nod
 shapes_next sides ids k d xs ys shape lt so_far e is =
     ap (map sides_of) e ∙ map_push sides_of xs shape ∙ ap₂ (λ zs z. zs ++ z ∷ []) so_far is
     ∙ sym (ap (λ zs. map sides (positions zs)) (take_more ids k d lt) ∙ ap (map sides) (map_push (λ (a : NodeId). a.0) (take k ids) (get_or ids k d)) ∙ map_push sides (positions (take k ids)) (get_or ids k d).0)
+
+-- ---- the graph of an atom
+-- what the sides of the arguments of an atom are, and that it has a value there
+pub record IsAtomNode (p : Problem) (i : ℕ) (m : AtomCall) (sides : List Sides) : Type 0 where
+  pub node : Node
+  pub there : IsNode p.tree i node
+  pub call : node.call ≡ calls.Atom m
+  pub args : sides ≡ arg_sides p.tree node
+  pub shape : (atom_meaning m).shape sides ≡ Some node.sides
+
+module _ (p : Problem) (i : ℕ) (m : AtomCall) (sides : List Sides) where
+  pub atom_node : call_at p.tree i ≡ Some (calls.Atom m) → sides ≡ map (sides_at p.tree) (args_at p.tree i) → IsAtomNode p i m sides
+  atom_node e are =
+      let (n, at, is) = found_in (slice_get p.tree i) (calls.Atom m) e in
+      let same : sides ≡ arg_sides p.tree n = are ∙ ap (map (sides_at p.tree)) (args_are p.tree i n at) in
+      record {
+        node = n;
+        there = at;
+        call = is;
+        args = same;
+        shape = ap (atom_meaning m).shape same ∙ sym (ap (λ call. shape_of call (arg_sides p.tree n)) is) ∙ p.nodes.shaped i n at;
+      }
+
+  pub atom_has_value : IsAtomNode p i m sides → IsSome ((atom_meaning m).shape sides)
+  atom_has_value a = subst IsSome (sym a.shape) refl
+
+  -- the graph of the atom is that of the node
+  pub atom_graph : (g : Graph) → IsAtomNode p i m sides → IfSome ((atom_meaning m).shape sides) (λ s. IsGraphOf (atom_meaning m) sides (entries_of s) g) → IsNodeGraph p.tree i (Some g)
+  atom_graph g a h = λ n at.
+      let here : IsGraphOf (atom_meaning m) sides (entries_of a.node.sides) g = some_fact (λ s. IsGraphOf (atom_meaning m) sides (entries_of s) g) ((atom_meaning m).shape sides) a.node.sides a.shape h in
+      let placed : IsGraphOf (atom_meaning m) (arg_sides p.tree a.node) (entries_of a.node.sides) g = subst (λ ss. IsGraphOf (atom_meaning m) ss (entries_of a.node.sides) g) a.args here in
+      let graph : IsCallGraph p.tree a.node a.node.call (Some g) = subst (λ call. IsCallGraph p.tree a.node call (Some g)) (sym a.call) placed in
+      subst (λ (z : Node). IsCallGraph p.tree z z.call (Some g)) (same_Some a.node n (sym a.there ∙ at)) graph

@@ -1,16 +1,18 @@
 -- Unknowns and the entries whose own they are.
-use Rattle.std.proofs.Common.{◌≡◌, ◌⊎◌, inl, inr, ℕ, zero, suc, ◌+◌, ◌*◌, ◌<◌, ◌≤◌, true, List, [], ◌∷◌, ◌++◌, length, map, take, get_or, Option, Some, option_map, refl, sym, ap, subst, ◌∙◌, arith, zero-add, add-zero, length-append}
+use Rattle.std.proofs.Common.{◌≡◌, ◌⊎◌, inl, inr, ℕ, zero, suc, ◌+◌, ◌*◌, ◌<◌, ◌≤◌, true, List, [], ◌∷◌, ◌++◌, length, map, take, get_or, replicate, Option, Some, option_map, refl, sym, ap, subst, ◌∙◌, arith, zero-add, add-zero, length-append}
 use Rattle.std.specs.Prelude.{flat_map, sum_by, slice_get, All}
 use Rattle.std.proofs.Math.Path.{fun_ext}
 use Rattle.std.proofs.lemmas.List.{length-map, take_all, map_push}
 use Rattle.std.proofs.lemmas.List.Concat.{length-flat_map}
 use Rattle.std.proofs.lemmas.List.Sums.{sum_by-cons, sum_by-le, sum_by_more, sum_by_more_le}
+use Rattle.std.proofs.lemmas.List.Folds.{sum_by-replicate}
 use Rattle.std.proofs.lemmas.Option.{none-some, same_Some, slice_get-map}
 use Rattle.dcx_shape.specs.Sides.{entries_of}
 use Rattle.dcx_shape.specs.Places.{places_below}
 use Rattle.dcx_call.specs.declared.attribute.Variable.{Variable}
 use Rattle.dcx_tree.proofs.Lawful.{mapped}
 use Rattle.dcx_linear.specs.declared.row.UnknownKind.{UnknownKind}
+use Rattle.dcx_linear.specs.Size.{columns_for}
 use Rattle.dcx_unknowns.specs.Own.{is_own, own_entries, own_count, own_before}
 use Rattle.dcx_unknowns.specs.Unknowns.{demanded, sides_in, own_of, Owner, owners_from, owners, variable_unknowns, kind_of, own_kinds, variable_kinds, first_unknown}
 use Rattle.dcx_unknowns.specs.Laws.{IsVariable, HasOwn, AreNumbered}
@@ -37,10 +39,22 @@ pub unknowns_sum : (vs : List Variable) → variable_unknowns vs ≡ sum_by coun
 unknowns_sum vs = count_from 0 vs
 
 kinds_count : (vs : List Variable) → length (variable_kinds vs) ≡ sum_by count_of vs
-kinds_count vs = length-flat_map own_kinds vs ∙ ap (λ f. sum_by f vs) (fun_ext (λ (v : Variable). length-map (own_of v) (λ e. kind_of (demanded v))))
+kinds_count vs = length-flat_map own_kinds vs ∙ ap (λ (f : Variable → ℕ). sum_by f vs) (fun_ext (λ (v : Variable). length-map (own_of v) (λ e. kind_of (demanded v))))
 
 first_next : (v : Variable) (vs : List Variable) (k : ℕ) → first_unknown (v ∷ vs) (suc k) ≡ count_of v + first_unknown vs k
 first_next v vs k = sum_by-cons count_of v (take k vs)
+
+-- the kinds of one variable are all the same
+pub own_kinds_are : (v : Variable) → own_kinds v ≡ replicate (count_of v) (kind_of (demanded v))
+own_kinds_are v = by (own_of v)
+  where
+    by : (es : List ℕ) → map (λ e. kind_of (demanded v)) es ≡ replicate (length es) (kind_of (demanded v))
+    by [] = refl
+    by (e ∷ es) = ap (λ kinds. kind_of (demanded v) ∷ kinds) (by es)
+
+-- and so are their columns
+pub own_columns : (v : Variable) → sum_by columns_for (own_kinds v) ≡ count_of v * columns_for (kind_of (demanded v))
+own_columns v = ap (sum_by columns_for) (own_kinds_are v) ∙ sum_by-replicate columns_for (count_of v) (kind_of (demanded v))
 
 -- ---- the owner of an unknown
 owner_here : (m : ℕ) (v : Variable) (e : ℕ) → HasOwn v e → slice_get (map (owner_of m) (own_of v)) (place_of v e) ≡ Some (owner_of m e)

@@ -82,13 +82,13 @@ source_own Diag s k j sq lt e = by (nat_eq (row_in s k) (column_in s k)) refl e
 
 -- an entry without its own has one that stands before it, if any
 pub source_before : (a : Attribute) (s : Sides) (k j : ℕ) → IsSquareFor a s → k < entries_of s → is_own a s k ≡ false → source_of a s k ≡ Some j → j < k
-source_before Free s k j sq lt no e = absurd (true≢false no)
-source_before Nonneg s k j sq lt no e = absurd (true≢false no)
-source_before Nonpos s k j sq lt no e = absurd (true≢false no)
-source_before Symmetric s k j sq lt no e =
-    let same : mirror_of s k ≡ j = same_Some (mirror_of s k) j (sym (ap (λ b. Some (if b then k else mirror_of s k)) no) ∙ e) in
-    subst (λ i. i < k) same (mirror_before s sq k lt no)
-source_before Diag s k j sq lt no e = absurd (none-some j (sym (ap (λ b. if b then Some k else None) no) ∙ e))
+source_before Free s k j sq lt other e = absurd (true≢false other)
+source_before Nonneg s k j sq lt other e = absurd (true≢false other)
+source_before Nonpos s k j sq lt other e = absurd (true≢false other)
+source_before Symmetric s k j sq lt other e =
+    let same : mirror_of s k ≡ j = same_Some (mirror_of s k) j (sym (ap (λ b. Some (if b then k else mirror_of s k)) other) ∙ e) in
+    subst (λ i. i < k) same (mirror_before s sq k lt other)
+source_before Diag s k j sq lt other e = absurd (none-some j (sym (ap (λ b. if b then Some k else None) other) ∙ e))
 
 -- of a symmetric variable an entry and its mirror have one source
 pub source_mirror : (s : Sides) (i j : ℕ) → rows_of s ≡ cols_of s → HasEntry s i j → source_of Symmetric s (row_place s i j) ≡ source_of Symmetric s (row_place s j i)
@@ -132,12 +132,12 @@ module _ (first : ℕ) (a : Attribute) (s : Sides) (k : ℕ) (xs ys : List (Opti
   -- any other the one that is listed for its source
   pub other_listed_next : (next : ℕ) (o : Option ℕ) → IsSquareFor a s → k < entries_of s → is_own a s k ≡ false → next ≡ first + own_before a s k → o ≡ listed_for xs (source_of a s k) → ys ≡ xs ++ o ∷ [] →
       (ys ≡ map (unknown_in first a s) (places_below (k + 1))) × (next ≡ first + own_before a s (k + 1))
-  other_listed_next next o sq lt no is at e = (listed_next o e (at ∙ by (source_of a s k) refl), omega (arith, is, own_no_more a s k no))
+  other_listed_next next o sq lt other is at e = (listed_next o e (at ∙ by (source_of a s k) refl), omega (arith, is, own_no_more a s k other))
     where
       by : (t : Option ℕ) → source_of a s k ≡ t → listed_for xs t ≡ option_map (λ i. first + own_before a s i) t
       by None f = refl
       by (Some j) f =
-          let before : j < k = source_before a s k j sq lt no f in
+          let before : j < k = source_before a s k j sq lt other f in
           let own = source_own a s k j sq lt f in
           ap (λ zs. get_or zs j None) so_far ∙ get_or-map-range_with_len (unknown_in first a s) 0 k j j None before (omega arith)
           ∙ ap (option_map (λ i. first + own_before a s i)) (own_source a s j own.1)

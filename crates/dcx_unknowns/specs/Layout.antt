@@ -166,8 +166,8 @@ pub record IsLayoutWith (p : Problem) (reduced : ℕ → Bool) (l : Layout) : Ty
 -- why there is none: it would have more than 600 rows or 2,400 columns, or there is no memory
 pub record IsTooLarge (p : Problem) (reduced : ℕ → Bool) (rows columns : ℕ) : Type 0 where
   pub many : ¬ AreFew (rows_with p reduced) (columns_with p reduced)
-  pub rows : rows ≡ capped (rows_with p reduced)
-  pub columns : columns ≡ capped (columns_with p reduced)
+  pub rows_told : rows ≡ capped (rows_with p reduced)
+  pub columns_told : columns ≡ capped (columns_with p reduced)
 
 abbrev pub IsStopWith : Problem → (ℕ → Bool) → LayoutStop → Type 0
 IsStopWith p reduced (stops.TooLarge rows columns) = IsTooLarge p reduced rows columns

@@ -5,4 +5,4 @@ use Rattle.dcx_arena.specs.Nodes.{positions, sides_at}
 use Rattle.dcx_unknowns.proofs.graph.arg_shapes.Given as goal
 
 abbrev pub invariant-ids : goal.invariant-ids
-invariant-ids l = map sides_of l.shapes.items ≡ map (sides_at l.problem.tree) (positions (take l.id-index l.ids.items))
+invariant-ids l = map sides_of l.shapes.items ≡ map (sides_at l.problem.tree) (positions (take l.id-index l.id-items))
