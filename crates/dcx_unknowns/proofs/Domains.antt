@@ -1,7 +1,7 @@
 -- The domain of a problem: each variable that is listed stands in the tree under the number of its name.
-use Rattle.std.proofs.Common.{◌≡◌, ℕ, zero, suc, ◌≤◌, Bool, true, false, if◌then◌else◌, List, [], ◌∷◌, length, map, Option, Some, option_map, refl, sym, ap, subst, ◌∙◌, true≢false}
+use Rattle.std.proofs.Common.{◌≡◌, ℕ, zero, suc, ◌≤◌, false, if◌then◌else◌, List, [], ◌∷◌, map, Some, option_map, sym, ap, subst, ◌∙◌}
 use Rattle.std.proofs.Props.{props}
-use Rattle.std.specs.Prelude.{slice_get, All}
+use Rattle.std.specs.Prelude.{slice_get}
 use Rattle.std.specs.List.{AllByRecursion, IsDistinct}
 use Rattle.std.proofs.Math.Logic.{∥∥₁_elim}
 use Rattle.std.proofs.lemmas.Option.{none-some, same_Some, slice_get-map, slice_get_within, get_or_from_slice_get}
@@ -9,14 +9,13 @@ use Rattle.dcx_math.proofs.Orders.{≤ℚ_prop, ≡ℚ_prop}
 use Rattle.dcx_shape.specs.declared.shape.Sides.{Sides}
 use Rattle.dcx_point.specs.Pairs.{same_name}
 use Rattle.dcx_point.proofs.Puts.{same_name-refl}
-use Rattle.dcx_arena.specs.Nodes.{call_at}
 use Rattle.dcx_call.specs.declared.attribute.Variable.{Variable}
 use Rattle.dcx_call.specs.declared.call.Call.{Call}
 use Rattle.dcx_call.specs.declared.call.Call.TheVariants as calls
 use Rattle.dcx_convex.specs.Nodes as convex
 use Rattle.dcx_convex.specs.Nodes.{Numbers, Point, Keeps, VariableKeeps}
 use Rattle.dcx_tree.specs.declared.problem.Problem.{Problem}
-use Rattle.dcx_tree.specs.Nodes.{Node, variable_attribute, head_of, arg_sides, convex_node, convex_nodes, number_in}
+use Rattle.dcx_tree.specs.Nodes.{variable_attribute, head_of, arg_sides, convex_node, convex_nodes, number_in}
 use Rattle.dcx_tree.specs.Problems.{IsListed, HasCall, AreDeclared}
 use Rattle.dcx_tree.specs.Meaning.{names_in, IsInDomain}
 use Rattle.dcx_tree.proofs.Lawful.{mapped}

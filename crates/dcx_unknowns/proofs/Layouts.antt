@@ -1,20 +1,16 @@
 -- Counts within 32 bits, graphs node by node, and layouts.
-use Rattle.std.proofs.Common.{◌≡◌, ℕ, zero, suc, ◌+◌, ◌<◌, ◌≤◌, min, Bool, true, false, if◌then◌else◌, List, [], ◌∷◌, ◌++◌, length, map, get_or, take, Option, Some, None, IfSome, IsSome, refl, sym, ap, ap₂, subst, ◌∙◌, arith, add-zero, inl, inr}
-use Rattle.std.specs.Prelude.{not, flat_map, sum_by, slice_get, slice_index_or, unwrap_or, option_map, All}
-use Rattle.std.specs.List.{range_with_len}
+use Rattle.std.proofs.Common.{◌≡◌, ◌⊎◌, ℕ, ◌+◌, ◌<◌, ◌≤◌, min, Bool, true, false, List, [], ◌∷◌, ◌++◌, length, map, get_or, take, Option, Some, None, IfSome, IsSome, refl, sym, ap, ap₂, subst, ◌∙◌, arith, add-zero, inl, inr}
+use Rattle.std.specs.Prelude.{not, sum_by, slice_get, unwrap_or, option_map, All}
 use Rattle.std.proofs.Math.Path.{fun_ext}
 use Rattle.std.proofs.lemmas.Bool.{cases_lt}
 use Rattle.std.proofs.lemmas.List.{append-nil, map-append, get_or_past, length-map, append_assoc, map_push, take_more}
 use Rattle.std.proofs.lemmas.List.Elements.{All-nil}
-use Rattle.std.proofs.lemmas.List.FromFn.{length-range_with_len}
-use Rattle.std.proofs.lemmas.List.Sums.{sum_by-append, sum_by-cons}
+use Rattle.std.proofs.lemmas.List.Sums.{sum_by-append}
 use Rattle.std.proofs.lemmas.Option.{none-some, same_Some, slice_get_past, slice_get_cases}
 use Rattle.dcx_shape.specs.declared.shape.Shape.{Shape}
 use Rattle.dcx_shape.specs.declared.shape.Sides.{Sides}
 use Rattle.dcx_shape.specs.Shape.{sides_of}
 use Rattle.dcx_shape.specs.Sides.{entries_of}
-use Rattle.dcx_shape.specs.Places.{places_below}
-use Rattle.dcx_atom.specs.declared.graph.AuxKind.{AuxKind}
 use Rattle.dcx_atom.specs.declared.graph.Graph.{Graph}
 use Rattle.dcx_atom.specs.Graph.{IsGraphOf, placed_row}
 use Rattle.dcx_arena.specs.declared.node.NodeId.{NodeId}
@@ -25,7 +21,7 @@ use Rattle.dcx_call.specs.declared.call.Call.TheVariants as calls
 use Rattle.dcx_call.specs.Atoms.{atom_meaning}
 use Rattle.dcx_call.specs.Calls.{shape_of}
 use Rattle.dcx_call.proofs.Entries.{some_fact}
-use Rattle.dcx_convex.specs.Rules.{Rules, Plain, Parametrized, Judgement, no_argument, judgement_by, is_constant, judgement_at}
+use Rattle.dcx_convex.specs.Rules.{Rules, Plain, Parametrized, no_argument, judgement_by, is_constant, judgement_at}
 use Rattle.dcx_convex.specs.Nodes as convex
 use Rattle.dcx_tree.specs.declared.problem.Problem.{Problem}
 use Rattle.dcx_tree.specs.Nodes.{Node, arg_sides, convex_node}
@@ -35,8 +31,7 @@ use Rattle.dcx_tree.proofs.NodeValues.{args_are}
 use Rattle.dcx_linear.specs.declared.row.UnknownKind.{UnknownKind}
 use Rattle.dcx_linear.specs.Size.{columns_for, capped}
 use Rattle.dcx_unknowns.specs.declared.layout.Layout.{Layout}
-use Rattle.dcx_unknowns.specs.declared.stop.LayoutStop.{LayoutStop}
-use Rattle.dcx_unknowns.specs.Layout.{is_reduced, marked, AreReduced, call_aux, aux_if, call_rows, rows_if, IsCallGraph, IsNodeGraph, aux_kind, aux_of, aux_below, rows_of_node, rows_counted, kinds_with, rows_with, columns_with, IsLayoutWith, IsStopWith}
+use Rattle.dcx_unknowns.specs.Layout.{is_reduced, marked, AreReduced, call_aux, aux_if, call_rows, rows_if, IsCallGraph, IsNodeGraph, aux_kind, aux_of, aux_below, rows_of_node, rows_counted, kinds_with, rows_with, columns_with, IsLayoutWith, IsTooLarge}
 use Rattle.dcx_unknowns.proofs.Places.{joined_next, summed_next}
 
 -- ---- counts within 32 bits
@@ -197,3 +192,29 @@ module _ (p : Problem) (i : ℕ) (m : AtomCall) (sides : List Sides) where
       let placed : IsGraphOf (atom_meaning m) (arg_sides p.tree a.node) (entries_of a.node.sides) g = subst (λ ss. IsGraphOf (atom_meaning m) ss (entries_of a.node.sides) g) a.args here in
       let graph : IsCallGraph p.tree a.node a.node.call (Some g) = subst (λ call. IsCallGraph p.tree a.node call (Some g)) (sym a.call) placed in
       subst (λ (z : Node). IsCallGraph p.tree z z.call (Some g)) (same_Some a.node n (sym a.there ∙ at)) graph
+
+-- ---- what is answered
+-- a count within 32 bits that is over a bound, or within it
+over : (most n told : ℕ) → told ≡ capped n → most < told → n ≤ most → ⊥
+over most n told e h few = omega (arith, e, h, few)
+
+exact : (n told : ℕ) → told ≡ capped n → told ≤ 2400 → told ≡ n
+exact n told e h = omega (arith, e, h)
+
+pub too_large : (p : Problem) (reduced : ℕ → Bool) (rows columns : ℕ) → rows ≡ capped (rows_with p reduced) → columns ≡ capped (columns_with p reduced) → (600 < rows) ⊎ (2400 < columns) → IsTooLarge p reduced rows columns
+too_large p reduced rows columns r c many = record {
+  many = λ few. elim many [ inl a ↦ over 600 (rows_with p reduced) rows r a few.few_rows | inr b ↦ over 2400 (columns_with p reduced) columns c b few.few_columns ];
+  rows_told = r;
+  columns_told = c;
+}
+
+pub laid_out : (p : Problem) (reduced : ℕ → Bool) (l : Layout) → l.kinds ≡ kinds_with p reduced → l.rows ≡ capped (rows_with p reduced) → l.columns ≡ capped (columns_with p reduced) → l.rows ≤ 600 → l.columns ≤ 2400 → IsLayoutWith p reduced l
+laid_out p reduced l k r c few_rows few_columns =
+    let rows = exact (rows_with p reduced) l.rows r (omega (arith, few_rows)) in
+    let columns = exact (columns_with p reduced) l.columns c few_columns in
+    record {
+      kinds = k;
+      rows = rows;
+      columns = columns;
+      few = record { few_rows = subst (λ n. n ≤ 600) rows few_rows; few_columns = subst (λ n. n ≤ 2400) columns few_columns };
+    }

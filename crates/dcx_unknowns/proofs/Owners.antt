@@ -1,6 +1,6 @@
 -- Unknowns and the entries whose own they are.
-use Rattle.std.proofs.Common.{◌≡◌, ◌⊎◌, inl, inr, ℕ, zero, suc, ◌+◌, ◌*◌, ◌<◌, ◌≤◌, true, List, [], ◌∷◌, ◌++◌, length, map, take, get_or, replicate, Option, Some, option_map, refl, sym, ap, subst, ◌∙◌, arith, zero-add, add-zero, length-append}
-use Rattle.std.specs.Prelude.{flat_map, sum_by, slice_get, All}
+use Rattle.std.proofs.Common.{◌≡◌, ◌⊎◌, inl, inr, ℕ, zero, suc, ◌+◌, ◌*◌, ◌<◌, ◌≤◌, List, [], ◌∷◌, ◌++◌, length, map, take, get_or, replicate, Some, option_map, refl, sym, ap, subst, ◌∙◌, arith, zero-add, add-zero, length-append}
+use Rattle.std.specs.Prelude.{sum_by, slice_get, All}
 use Rattle.std.proofs.Math.Path.{fun_ext}
 use Rattle.std.proofs.lemmas.List.{length-map, take_all, map_push}
 use Rattle.std.proofs.lemmas.List.Concat.{length-flat_map}
@@ -13,8 +13,8 @@ use Rattle.dcx_call.specs.declared.attribute.Variable.{Variable}
 use Rattle.dcx_tree.proofs.Lawful.{mapped}
 use Rattle.dcx_linear.specs.declared.row.UnknownKind.{UnknownKind}
 use Rattle.dcx_linear.specs.Size.{columns_for}
-use Rattle.dcx_unknowns.specs.Own.{is_own, own_entries, own_count, own_before}
-use Rattle.dcx_unknowns.specs.Unknowns.{demanded, sides_in, own_of, Owner, owners_from, owners, variable_unknowns, kind_of, own_kinds, variable_kinds, first_unknown}
+use Rattle.dcx_unknowns.specs.Own.{own_count, own_before}
+use Rattle.dcx_unknowns.specs.Unknowns.{demanded, sides_in, own_of, Owner, owners_from, variable_unknowns, kind_of, own_kinds, variable_kinds, first_unknown}
 use Rattle.dcx_unknowns.specs.Laws.{IsVariable, HasOwn, AreNumbered}
 use Rattle.dcx_unknowns.proofs.Places.{in_left, in_right, in_either, own_at, own_listed, own_count_is, own_before-le, places_next}
 

@@ -1,6 +1,6 @@
 -- Points that are read from unknowns, and unknowns that are read from points.
-use Rattle.std.proofs.Common.{◌≡◌, ◌≢◌, ℕ, ◌+◌, ◌<◌, Bool, true, false, if◌then◌else◌, List, Option, Some, None, option_map, refl, sym, ap, ap₂, subst, ◌∙◌, zero-add, pos}
-use Rattle.std.specs.Prelude.{nat_lt, nat_le, nat_eq, slice_get, All}
+use Rattle.std.proofs.Common.{◌≡◌, ℕ, ◌+◌, ◌<◌, Bool, true, false, if◌then◌else◌, List, Option, Some, None, option_map, refl, sym, ap, subst, ◌∙◌, zero-add, pos}
+use Rattle.std.specs.Prelude.{nat_lt, nat_le, nat_eq, slice_get}
 use Rattle.std.proofs.Math.Path.{fun_ext}
 use Rattle.std.proofs.lemmas.Bool.{lt-ltb, eqb-false}
 use Rattle.std.proofs.lemmas.Option.{get_or_from_slice_get, slice_get_within}
@@ -25,11 +25,11 @@ use Rattle.dcx_linear.specs.declared.row.UnknownKind.{UnknownKind}
 use Rattle.dcx_linear.specs.FormTerms.{Unknowns}
 use Rattle.dcx_linear.specs.Rows.{IsOfKind, AreOfKinds}
 use Rattle.dcx_domain.proofs.Places.{entry_here, place_here}
-use Rattle.dcx_unknowns.specs.Own.{row_in, column_in, is_own, mirror_of, source_of, own_before}
+use Rattle.dcx_unknowns.specs.Own.{row_in, column_in, mirror_of, source_of, own_before}
 use Rattle.dcx_unknowns.specs.Unknowns.{demanded, sides_in, Owner, kind_of, variable_kinds, first_unknown, unknown_in, unknown_from, number_at, array_from, point_at, nobody, owners, unknowns_of, IsSquareFor, AreSquare}
-use Rattle.dcx_unknowns.specs.Laws.{IsVariable, HasOwn, KeepsDomain, AreKept, AreAlike, StandForPoints}
-use Rattle.dcx_unknowns.proofs.Sources.{Owns, own_source, source_own, source_mirror, source_off, mirror_entry}
-use Rattle.dcx_unknowns.proofs.Owners.{owner_of, are_numbered, owned, IsOwned}
+use Rattle.dcx_unknowns.specs.Laws.{IsVariable, HasOwn, AreKept, AreAlike, StandForPoints}
+use Rattle.dcx_unknowns.proofs.Sources.{Owns, source_own, source_mirror, source_off, mirror_entry}
+use Rattle.dcx_unknowns.proofs.Owners.{owner_of, are_numbered, owned}
 
 -- ---- arrays
 below : (n : ℕ) (f : Numbers) (j : ℕ) → j < n → first_of n f j ≡ f j

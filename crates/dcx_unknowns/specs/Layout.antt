@@ -1,6 +1,6 @@
 -- The unknowns and the rows of a reduced program: those of the variables, then the auxiliary unknowns of the atoms that are
 -- reduced, by node; the rows of the constraints, then those of the graphs, by node and result entry.
-use Rattle.std.specs.Prelude.{◌≡◌, ℕ, ◌+◌, ◌<◌, ◌≤◌, Bool, true, false, not, if◌then◌else◌, List, [], ◌∷◌, ◌++◌, length, map, Option, Some, None, slice_get, slice_index_or, sum_by, flat_map}
+use Rattle.std.specs.Prelude.{◌≡◌, ℕ, ◌+◌, ◌<◌, ◌≤◌, Bool, false, not, if◌then◌else◌, List, [], ◌++◌, length, map, Option, Some, None, slice_get, slice_index_or, sum_by, flat_map}
 use Rattle.std.specs.List.{range_with_len}
 use Rattle.dcx_shape.specs.Shape.{sides_of}
 use Rattle.dcx_shape.specs.Sides.{entries_of}

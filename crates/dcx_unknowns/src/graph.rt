@@ -13,7 +13,11 @@ use dcx_tree::{Call, NodeId, Problem};
 use std::alloc::{AllocError, Global};
 
 /// The graph of a node: that of an atom, and `None` of any other call.
-pub fn node_graph(alloc: Global, problem: &Problem, node: NodeId) -> Result<Option<Graph>, AllocError>
+pub fn node_graph(
+    alloc: Global,
+    problem: &Problem,
+    node: NodeId,
+) -> Result<Option<Graph>, AllocError>
     requires { node.0 < length problem.now.tree }
     ensures { IfOk result (IsNodeGraph problem.now.tree node.0) }
 {

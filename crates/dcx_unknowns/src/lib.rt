@@ -19,8 +19,8 @@
 #![tactic(auto)]
 
 mod graph;
-mod layout;
 pub mod laws;
+mod layout;
 mod own;
 mod size;
 mod stop;

@@ -1,5 +1,5 @@
 -- A node that is reduced has its rows and columns, and any other has none.
-use Rattle.std.proofs.Common.{◌≡◌, ◌+◌, ◌<◌, min, length, true, false, map, sum_by, slice_get, arith, sym, ap, ap₂, ◌∙◌}
+use Rattle.std.proofs.Common.{◌+◌, min, length, true, map, sum_by, slice_get, sym, ap, ap₂, ◌∙◌}
 use Rattle.dcx_linear.specs.Size.{columns_for, capped}
 use Rattle.dcx_unknowns.specs.Layout.{marked, rows_counted, rows_if, aux_if, aux_kind}
 use Rattle.dcx_unknowns.proofs.Layouts.{capped_sum, aux_columns_at, rows_more, rows_no_more, columns_more, columns_no_more}

@@ -1,5 +1,5 @@
 -- The rows and the columns of a graph are those of the node.
-use Rattle.std.proofs.Common.{◌≡◌, List, length, map, sum_by, Option, Some, None, true, sym, ap, subst, ◌∙◌, slice_get}
+use Rattle.std.proofs.Common.{List, length, map, sum_by, Option, Some, None, sym, ap, subst, ◌∙◌}
 use Rattle.dcx_atom.specs.declared.graph.AuxKind.{AuxKind}
 use Rattle.dcx_atom.specs.declared.graph.Graph.{Graph}
 use Rattle.dcx_atom.specs.declared.graph.GraphRow.{GraphRow}

@@ -1,5 +1,5 @@
 -- The kinds of a graph's unknowns are those of the node.
-use Rattle.std.proofs.Common.{◌≡◌, ◌++◌, List, map, Option, Some, None, OnOk, true, sym, ap, subst, ◌∙◌}
+use Rattle.std.proofs.Common.{◌≡◌, ◌++◌, List, map, Option, Some, None, OnOk, sym, ap, subst, ◌∙◌}
 use Rattle.std.proofs.lemmas.List.{append-nil}
 use Rattle.dcx_atom.specs.declared.graph.AuxKind.{AuxKind}
 use Rattle.dcx_atom.specs.declared.graph.Graph.{Graph}

@@ -1,5 +1,5 @@
 -- Each unknown of a variable has the columns of its kind.
-use Rattle.std.proofs.Common.{◌≡◌, ◌*◌, arith, sym, ap, ap₂, ◌∙◌}
+use Rattle.std.proofs.Common.{◌*◌, sym, ap, ap₂, ◌∙◌}
 use Rattle.dcx_linear.specs.Size.{columns_for}
 use Rattle.dcx_unknowns.specs.Unknowns.{kind_of}
 use Rattle.dcx_unknowns.proofs.Owners.{own_columns}

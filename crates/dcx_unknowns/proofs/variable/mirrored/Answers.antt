@@ -1,5 +1,5 @@
 -- The mirror of an entry of a square variable that has no unknown of its own stands before it.
-use Rattle.std.proofs.Common.{◌≡◌, ◌<◌, false, arith, sym, ap, ap₂, subst, ◌∙◌}
+use Rattle.std.proofs.Common.{◌≡◌, ◌<◌, false, arith, sym, subst}
 use Rattle.dcx_shape.specs.Sides.{rows_of, cols_of}
 use Rattle.dcx_call.specs.declared.attribute.Attribute.{Attribute}
 use Rattle.dcx_call.specs.declared.attribute.Attribute.TheVariants.{Symmetric}
