@@ -23,3 +23,4 @@ pub mod Multiples
 pub mod FormsAt
 pub mod MapStops
 pub mod NamedForms
+pub mod Size

@@ -25,6 +25,7 @@
 //! | rows at a setting tell the first operation that passes, with its row; the kinds stay | `Rows::at` |
 //! | sums of parts, multiples and forms at a setting are no wider | `sum_laws::widths_of_parts`, `sum_laws::widths_of_multiples`, `setting_laws::widths_at_setting` |
 //! | each unknown of the rows has a kind | `Rows`, `laws::widths_bound_unknowns`, `laws::widths_of_sums`, `laws::widths_of_changed` |
+//! | how many columns unknowns have | `UnknownKind::columns`, `unknown_columns` |
 //! | multipliers show that no solution is better, or that there is none | `laws::optimal_is_least`, `laws::infeasible_has_no_solution` |
 #![tactic(auto)]
 
@@ -45,6 +46,7 @@ mod row;
 mod rows;
 mod rows_at;
 pub mod setting_laws;
+mod size;
 mod slots;
 mod stop;
 pub mod sum_laws;
@@ -60,4 +62,5 @@ pub use param_term::{ParamTerm, ParamTerms};
 pub use part::Part;
 pub use row::{Row, RowKind, RowList, UnknownKind, UnknownKinds};
 pub use rows::Rows;
+pub use size::{capped_length, unknown_columns};
 pub use stop::CoefStop;
