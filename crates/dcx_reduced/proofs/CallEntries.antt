@@ -1,8 +1,7 @@
 -- The entries that a call makes of what stands for its arguments are its value there; those of an atom are beyond it where
 -- its graph holds.
-use Rattle.std.proofs.Common.{◌≡◌, ℕ, ◌<◌, true, IsTrue, if◌then◌else◌, List, [], ◌∷◌, map, Some, refl, sym, ap, ◌∙◌, subst, pos}
+use Rattle.std.proofs.Common.{◌≡◌, ℕ, ◌<◌, IsTrue, if◌then◌else◌, List, [], ◌∷◌, map, Some, refl, sym, ap, ◌∙◌, subst, pos}
 use Rattle.std.specs.Prelude.{nat_lt}
-use Rattle.std.specs.List.{list_all}
 use Rattle.std.proofs.Math.Path.{fun_ext}
 use Rattle.dcx_math.specs.Rational.{ℚ, whole, ◌+ℚ◌, ◌*ℚ◌, ◌/ℚ◌}
 use Rattle.dcx_math.specs.Sums.{rat_sum_by}
@@ -23,7 +22,7 @@ use Rattle.dcx_convex.specs.Nodes.{Numbers, Point, Setting, first_of, arguments,
 use Rattle.dcx_convex.specs.Rules.{Rules, Judgement, is_constant, judgement_by}
 use Rattle.dcx_convex.specs.Reductions.{StandsFor}
 use Rattle.dcx_convex.proofs.Signs.{at_test}
-use Rattle.dcx_convex.proofs.Beyond.{beyond_refl, beyond_same}
+use Rattle.dcx_convex.proofs.Beyond.{beyond_refl}
 use Rattle.dcx_convex.proofs.Convexity.{same_bend_is}
 use Rattle.dcx_call.specs.declared.call.Call.{Call}
 use Rattle.dcx_call.specs.declared.call.Call.TheVariants as calls

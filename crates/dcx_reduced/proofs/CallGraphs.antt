@@ -1,6 +1,6 @@
 -- The auxiliary unknowns and the rows of a call: where they hold, its graph does, and its filling makes them hold.
-use Rattle.std.proofs.Common.{◌≡◌, ℕ, suc, ◌<◌, List, [], ◌∷◌, length, map, Some, refl, sym, ◌∙◌, pos}
-use Rattle.dcx_math.specs.Rational.{ℚ, whole, ◌≤ℚ◌}
+use Rattle.std.proofs.Common.{◌≡◌, ℕ, suc, List, [], ◌∷◌, length, map, Some, refl, sym, ◌∙◌, pos}
+use Rattle.dcx_math.specs.Rational.{whole, ◌≤ℚ◌}
 use Rattle.dcx_shape.specs.declared.shape.Sides.{Sides}
 use Rattle.dcx_shape.specs.Sides.{entries_of}
 use Rattle.dcx_atom.specs.Arrays.{Entries}

@@ -1,5 +1,5 @@
 -- Nodes that are numbers by the rules: what stands for one is its value, and so it is what the call makes of its arguments.
-use Rattle.std.proofs.Common.{◌≡◌, ℕ, ◌<◌, arith, IsTrue, List, [], ◌∷◌, length, map, All, refl, sym, ap, ◌∙◌, subst}
+use Rattle.std.proofs.Common.{◌≡◌, ℕ, ◌<◌, arith, IsTrue, List, [], ◌∷◌, length, map, refl, sym, ap, ◌∙◌, subst}
 use Rattle.std.specs.Prelude.{◌&&◌}
 use Rattle.std.specs.List.{list_all}
 use Rattle.std.proofs.lemmas.Bool.{and_parts, and_from}

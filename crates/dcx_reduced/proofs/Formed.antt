@@ -1,9 +1,7 @@
 -- Forms that meet the equations: each node's from those of its arguments, which stand before it.
-use Rattle.std.proofs.Common.{◌≡◌, ℕ, zero, suc, ◌+◌, ◌<◌, arith, Bool, true, false, IsTrue, List, map, Option, Some, None, slice_get, refl, sym, ap, ap₂, ◌∙◌}
+use Rattle.std.proofs.Common.{◌≡◌, ℕ, zero, suc, ◌+◌, ◌<◌, arith, Bool, true, false, IsTrue, List, map, Option, Some, None, slice_get, refl, ap, ap₂, ◌∙◌}
 use Rattle.std.proofs.lemmas.Bool.{and_parts}
 use Rattle.dcx_shape.specs.Sides.{entries_of}
-use Rattle.dcx_atom.specs.Rows.{Filling}
-use Rattle.dcx_arena.specs.Nodes.{IsNode}
 use Rattle.dcx_convex.specs.Nodes as convex
 use Rattle.dcx_convex.specs.Nodes.{Numbers, Point, Setting, zeros, first_of, arguments}
 use Rattle.dcx_convex.specs.Rules.{Rules, Plain, Parametrized, Judgement, is_constant, judgement_at}

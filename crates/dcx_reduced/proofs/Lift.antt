@@ -1,12 +1,11 @@
 -- The unknowns of a point: the entries of the variables, then the filling of each node's graph at the values of its arguments.
-use Rattle.std.proofs.Common.{◌≡◌, ℕ, ◌+◌, ◌-◌, ◌<◌, arith, Bool, true, false, if◌then◌else◌, List, [], ◌∷◌, length, map, get_or, Option, Some, None, slice_get, refl, sym, ap, ◌∙◌, subst, pos}
+use Rattle.std.proofs.Common.{◌≡◌, ℕ, ◌+◌, ◌-◌, ◌<◌, arith, Bool, if◌then◌else◌, List, [], ◌∷◌, length, map, get_or, Option, Some, None, slice_get, refl, sym, ap, ◌∙◌, pos}
 use Rattle.std.specs.Prelude.{nat_lt}
 use Rattle.std.specs.List.{flat_map, range_with_len}
 use Rattle.std.proofs.lemmas.Bool.{lt-ltb, le-ltb}
 use Rattle.std.proofs.lemmas.Option.{get_or_from_slice_get}
 use Rattle.std.proofs.lemmas.List.{length-append}
 use Rattle.dcx_math.specs.Rational.{ℚ, whole}
-use Rattle.dcx_atom.specs.declared.graph.AuxKind.{AuxKind}
 use Rattle.dcx_atom.specs.Rows.{Filling}
 use Rattle.dcx_convex.specs.Nodes.{Numbers, Point, Setting, zeros, arguments}
 use Rattle.dcx_convex.specs.Rules.{Rules}

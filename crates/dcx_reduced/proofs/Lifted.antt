@@ -1,9 +1,8 @@
 -- The unknowns of a point of the domain are of their kinds, the forms are the values there, and the rows hold.
-use Rattle.std.proofs.Common.{◌≡◌, ℕ, zero, suc, ◌+◌, ◌<◌, arith, Bool, true, false, List, [], length, map, Option, Some, None, slice_get, refl, sym, ap, ap₂, ◌∙◌, subst, pos}
+use Rattle.std.proofs.Common.{◌≡◌, ℕ, zero, suc, ◌+◌, ◌<◌, arith, Bool, true, false, List, length, map, Option, Some, None, slice_get, refl, sym, ap, ◌∙◌, subst}
 use Rattle.std.specs.List.{range_with_len}
 use Rattle.std.proofs.Math.Path.{fun_ext}
 use Rattle.std.proofs.lemmas.Option.{slice_get_within}
-use Rattle.dcx_math.specs.Rational.{ℚ, whole, ◌≤ℚ◌}
 use Rattle.dcx_shape.specs.declared.shape.Sides.{Sides}
 use Rattle.dcx_shape.specs.Sides.{entries_of}
 use Rattle.dcx_atom.specs.declared.graph.AuxKind.{AuxKind}
@@ -13,18 +12,18 @@ use Rattle.dcx_arena.specs.Nodes.{IsNode}
 use Rattle.dcx_convex.specs.Nodes as convex
 use Rattle.dcx_convex.specs.Nodes.{Numbers, Point, Setting, first_of, arguments, value_by}
 use Rattle.dcx_convex.specs.Rules.{Rules, is_constant, judgement_at}
-use Rattle.dcx_convex.specs.Reductions.{Unknowns, IsAssignment, RowsHold, IsLifted}
+use Rattle.dcx_convex.specs.Reductions.{Unknowns, RowsHold, IsLifted}
 use Rattle.dcx_convex.proofs.Told.{map-same, value_tells}
 use Rattle.dcx_tree.specs.declared.problem.Problem.{Problem}
-use Rattle.dcx_tree.specs.Nodes.{Node, head_of, arg_sides, convex_node}
+use Rattle.dcx_tree.specs.Nodes.{Node, arg_sides, convex_node}
 use Rattle.dcx_tree.specs.Meaning.{names_in, convex_problem, IsInDomain}
 use Rattle.dcx_linear.specs.Rows.{IsOfKind, AreOfKinds}
-use Rattle.dcx_unknowns.specs.Unknowns.{variable_unknowns, variable_kinds, point_at, unknowns_of, AreSquare}
+use Rattle.dcx_unknowns.specs.Unknowns.{variable_kinds, point_at, unknowns_of, AreSquare}
 use Rattle.dcx_unknowns.specs.Laws.{AreAlike}
 use Rattle.dcx_unknowns.specs.Layout.{is_reduced, call_aux, aux_if, call_rows, rows_if, aux_kind, aux_at, aux_before, unknown_kinds}
 use Rattle.dcx_unknowns.proofs.Owners.{are_numbered}
 use Rattle.dcx_unknowns.proofs.Domains.{stand_for_domain}
-use Rattle.dcx_reduced.specs.Equations.{Forms, call_entry, args_of, filling_of, AllStand, row_number, numbers_if, graph_numbers, reduced_with}
+use Rattle.dcx_reduced.specs.Equations.{Forms, call_entry, args_of, filling_of, AllStand, row_number, numbers_if, reduced_with}
 use Rattle.dcx_reduced.proofs.Lists.{Each, each_nil, each_map, each_flat, each_range, zip_flat}
 use Rattle.dcx_reduced.proofs.OwnTerms.{Agree}
 use Rattle.dcx_reduced.proofs.CallGraphs.{call_filling, filled_kinds, filled_rows, filled_value}

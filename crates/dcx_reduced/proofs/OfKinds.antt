@@ -1,9 +1,9 @@
 -- Unknowns of their kinds: those of the variables, and the auxiliary unknowns of each node.
-use Rattle.std.proofs.Common.{◌≡◌, inl, inr, ℕ, zero, suc, ◌+◌, ◌-◌, ◌<◌, ◌≤◌, arith, IsTrue, List, [], ◌∷◌, ◌++◌, length, map, get_or, Option, Some, None, option_map, slice_get, refl, sym, ap, ◌∙◌, subst, pos}
+use Rattle.std.proofs.Common.{◌≡◌, inl, inr, ℕ, zero, suc, ◌+◌, ◌<◌, arith, IsTrue, List, [], ◌∷◌, ◌++◌, length, map, Option, Some, None, option_map, slice_get, refl, sym, ap, ◌∙◌, subst, pos}
 use Rattle.std.specs.Prelude.{slice_index_or}
 use Rattle.std.specs.List.{flat_map, range_with_len, AllZip}
 use Rattle.std.proofs.lemmas.Bool.{false≢true}
-use Rattle.std.proofs.lemmas.Option.{none-some, same_Some, slice_get-map, slice_get_within}
+use Rattle.std.proofs.lemmas.Option.{none-some, same_Some, slice_get-map}
 use Rattle.dcx_math.specs.Rational.{ℚ, whole, ◌≤ℚ◌}
 use Rattle.dcx_atom.specs.declared.graph.AuxKind.{AuxKind}
 use Rattle.dcx_atom.specs.declared.graph.AuxKind.TheVariants as aux

@@ -1,5 +1,5 @@
 -- The graph of an atom speaks of no unknowns but its own, of which there are as many as kinds.
-use Rattle.std.proofs.Common.{◌≡◌, ℕ, zero, suc, ◌+◌, ◌*◌, ◌<◌, arith, List, [], ◌∷◌, length, map, Some, refl, sym, ap, ◌∙◌, subst, replicate, pos, negsuc}
+use Rattle.std.proofs.Common.{◌≡◌, ℕ, zero, suc, ◌+◌, ◌*◌, ◌<◌, arith, List, [], ◌∷◌, length, map, Some, sym, ap, ◌∙◌, subst, replicate, pos, negsuc}
 use Rattle.std.proofs.lemmas.List.{length-replicate}
 use Rattle.dcx_math.specs.Rational.{ℚ, whole}
 use Rattle.dcx_shape.specs.declared.shape.Sides.{Sides}
@@ -17,13 +17,13 @@ use Rattle.dcx_elem.specs.Calls.{abs_meaning, pos_meaning, neg_meaning}
 use Rattle.dcx_elem.specs.Extremes.{alike, extreme_meaning}
 use Rattle.dcx_elem.specs.ExtremeLaws.{alike_are}
 use Rattle.dcx_fold.specs.Groups.{groups, member, fold_sides}
-use Rattle.dcx_fold.specs.GroupLaws.{IsFold, is_fold, first_is, all_members}
+use Rattle.dcx_fold.specs.GroupLaws.{is_fold, first_is, all_members}
 use Rattle.dcx_fold.specs.Folds.{unknowns_form}
 use Rattle.dcx_fold.specs.FoldLaws.{groups_of_value}
 use Rattle.dcx_fold.specs.Calls.{max_of_meaning, min_of_meaning, norm1_meaning, norm_inf_meaning}
 use Rattle.dcx_fold.specs.Largest.{level_row, level_form, largest_meaning}
 use Rattle.dcx_fold.specs.Running.{only_vector, running_rows, running_meaning}
-use Rattle.dcx_fold.specs.RunningLaws.{IsRunning, is_running}
+use Rattle.dcx_fold.specs.RunningLaws.{is_running}
 use Rattle.dcx_reduced.proofs.OwnTerms.{AreOwnTerms, AreOwnRows, IsOwnForm, rows_below, rows_joined, form_below, bound_own, bounds_own}
 
 -- the rows and the results of a value of so many entries speak of the call's own unknowns

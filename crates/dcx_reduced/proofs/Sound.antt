@@ -1,5 +1,5 @@
 -- Where unknowns are of their kinds and the rows of the graphs hold, forms that meet the equations stand for the nodes.
-use Rattle.std.proofs.Common.{◌≡◌, ℕ, ◌+◌, ◌<◌, arith, Bool, true, false, IsTrue, List, length, map, Option, Some, slice_get, refl, sym, ap, ap₂, ◌∙◌, subst, pos}
+use Rattle.std.proofs.Common.{◌≡◌, ℕ, ◌+◌, ◌<◌, arith, Bool, true, false, List, length, map, slice_get, refl, ap, ap₂, subst, pos}
 use Rattle.std.proofs.Math.Path.{fun_ext}
 use Rattle.std.proofs.lemmas.Option.{slice_get_within}
 use Rattle.dcx_math.specs.Rational.{ℚ, whole, ◌≤ℚ◌}
@@ -19,7 +19,7 @@ use Rattle.dcx_linear.specs.Rows.{AreOfKinds}
 use Rattle.dcx_unknowns.specs.Unknowns.{variable_unknowns, variable_kinds, point_at}
 use Rattle.dcx_unknowns.specs.Layout.{is_reduced, call_aux, aux_if, call_rows, rows_if, aux_kind, aux_at, aux_before, unknown_kinds}
 use Rattle.dcx_unknowns.proofs.Owners.{are_numbered}
-use Rattle.dcx_reduced.specs.Equations.{Forms, args_of, filling_of, AllStand, row_number, numbers_if, graph_numbers, reduced_with}
+use Rattle.dcx_reduced.specs.Equations.{Forms, args_of, filling_of, AllStand, row_number, numbers_if, reduced_with}
 use Rattle.dcx_reduced.proofs.Lists.{Each, each_part, each_unmap, range_at}
 use Rattle.dcx_reduced.proofs.Constants.{value_stands, number_is}
 use Rattle.dcx_reduced.proofs.CallEntries.{CallHolds, entries_stand}

@@ -1,15 +1,14 @@
 -- Points of unknowns: they are told by the unknowns of the variables, and a node of a variable is one that is declared.
-use Rattle.std.proofs.Common.{◌≡◌, ℕ, ◌+◌, ◌<◌, List, map, Option, Some, None, option_map, slice_get, refl, sym, ap, ◌∙◌, subst, pos}
+use Rattle.std.proofs.Common.{◌≡◌, ℕ, ◌+◌, ◌<◌, List, Option, Some, None, option_map, refl, sym, ap, ◌∙◌, subst}
 use Rattle.std.proofs.Props.{props}
 use Rattle.std.proofs.Math.Logic.{∥∥₁_elim}
 use Rattle.std.proofs.lemmas.Option.{slice_get_within, get_or_from_slice_get}
-use Rattle.dcx_math.specs.Rational.{ℚ}
 use Rattle.dcx_math.proofs.Orders.{≡ℚ_prop}
 use Rattle.dcx_shape.specs.declared.shape.Sides.{Sides}
 use Rattle.dcx_shape.specs.Shape.{sides_of}
 use Rattle.dcx_shape.specs.Sides.{entries_of}
 use Rattle.dcx_arena.specs.Nodes.{IsNode}
-use Rattle.dcx_convex.specs.Nodes.{Numbers, Point, Setting, first_of, value_by}
+use Rattle.dcx_convex.specs.Nodes.{Numbers, Point, Setting, value_by}
 use Rattle.dcx_call.specs.declared.attribute.Variable.{Variable}
 use Rattle.dcx_call.specs.declared.call.Call.{Call}
 use Rattle.dcx_call.specs.declared.call.Call.TheVariants as calls
