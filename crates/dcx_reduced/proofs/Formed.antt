@@ -1,5 +1,5 @@
 -- Forms that meet the equations: each node's from those of its arguments, which stand before it.
-use Rattle.std.proofs.Common.{◌≡◌, ℕ, zero, suc, ◌+◌, ◌<◌, arith, Bool, true, false, IsTrue, List, map, Option, Some, None, slice_get, refl, ap, ap₂, ◌∙◌}
+use Rattle.std.proofs.Common.{◌≡◌, ℕ, zero, suc, ◌<◌, arith, Bool, true, false, IsTrue, List, map, Option, Some, None, slice_get, refl, ap, ap₂, ◌∙◌}
 use Rattle.std.proofs.lemmas.Bool.{and_parts}
 use Rattle.dcx_shape.specs.Sides.{entries_of}
 use Rattle.dcx_convex.specs.Nodes as convex
@@ -12,8 +12,8 @@ use Rattle.dcx_tree.specs.declared.problem.Problem.{Problem}
 use Rattle.dcx_tree.specs.Nodes.{Node, arg_sides}
 use Rattle.dcx_tree.specs.Meaning.{names_in}
 use Rattle.dcx_unknowns.specs.Unknowns.{point_at}
-use Rattle.dcx_unknowns.specs.Layout.{is_reduced, first_aux}
-use Rattle.dcx_reduced.specs.Equations.{Forms, call_entry, Stands, AllStand}
+use Rattle.dcx_unknowns.specs.Layout.{is_reduced}
+use Rattle.dcx_reduced.specs.Equations.{Forms, call_entry, filling_of, Stands, AllStand}
 use Rattle.dcx_reduced.proofs.NodeForms.{nodes_of, not_reduced}
 
 -- a number reaches no variable
@@ -25,7 +25,7 @@ module _ (rules : Rules) (p : Problem) (s : Setting) where
   module _ (u : Unknowns) where
     -- the form of node i, where it is reduced, from these forms of its arguments
     abbrev entries_from : ℕ → Node → List Numbers → Numbers
-    entries_from i n fs = first_of (entries_of n.sides) (call_entry (names_in p) s (point_at p.variables u) n.call (arg_sides p.tree n) (arguments fs) (λ k. u (first_aux rules p i + k)))
+    entries_from i n fs = first_of (entries_of n.sides) (call_entry (names_in p) s (point_at p.variables u) n.call (arg_sides p.tree n) (arguments fs) (filling_of rules p i u))
 
     abbrev form_by : ℕ → (ℕ → Numbers) → Bool → Option Node → Numbers
     form_by i f false o = convex.value_at (nodes_of p) s (point_at p.variables u) i

@@ -41,7 +41,7 @@ module _ (rules : Rules) (p : Problem) (s : Setting) (f g : Forms) (stand : AllS
   node_determined : (i : ℕ) (n : Node) → IsNode p.tree i n → is_reduced rules p i ≡ true → map (f u) n.args ≡ map (g u) n.args → f u i ≡ g u i
   node_determined i n at e args = fun_ext (λ j.
       reduced_form p rules s f stand i n at e u j
-      ∙ ap (λ (fs : List Numbers). first_of (entries_of n.sides) (call_entry (names_in p) s (point_at p.variables u) n.call (arg_sides p.tree n) (arguments fs) (filling_of rules p s f i u)) j) args
+      ∙ ap (λ (fs : List Numbers). first_of (entries_of n.sides) (call_entry (names_in p) s (point_at p.variables u) n.call (arg_sides p.tree n) (arguments fs) (filling_of rules p i u)) j) args
       ∙ sym (reduced_form p rules s g also i n at e u j))
 
   determined_below : (m i : ℕ) → i < m → i < length p.tree → f u i ≡ g u i

@@ -43,26 +43,26 @@ module _ (rules : Rules) (p : Problem) (s : Setting) (forms : Forms) (u : Unknow
     aux_is = ap₂ (aux_if p.tree) reduced at
 
     -- the auxiliary unknowns of node i are of their kinds
-    node_kinds : AreOfKinds (unknown_kinds rules p) u → KindsHold (call_aux p.tree n n.call) (filling_of rules p s forms i u)
+    node_kinds : AreOfKinds (unknown_kinds rules p) u → KindsHold (call_aux p.tree n n.call) (filling_of rules p i u)
     node_kinds of =
         let own = variable_kinds p.variables in
         let count = (are_numbered p.variables).kinds in
         let h = part_holds (aux_at rules p) (length p.tree) i (λ m. u (length own + m)) within_tree (kinds_right own (map aux_kind (aux_before rules p (length p.tree))) u of) in
-        let there : (λ (k : ℕ). u (length own + (length (aux_before rules p i) + k))) ≡ filling_of rules p s forms i u =
+        let there : (λ (k : ℕ). u (length own + (length (aux_before rules p i) + k))) ≡ filling_of rules p i u =
         fun_ext (λ k. let e : length own + (length (aux_before rules p i) + k) ≡ (variable_unknowns p.variables + length (aux_before rules p i)) + k = omega (arith, count) in ap u e) in
         subst (λ (t : Filling). KindsHold (call_aux p.tree n n.call) t) there
         (subst (λ (ks : List AuxKind). KindsHold ks (λ k. u (length own + (length (aux_before rules p i) + k)))) aux_is h)
 
     -- and its rows hold
-    node_rows : RowsHold (reduced_with rules p s forms) u → Each (RowHolds (args_of rules p s forms n u) (filling_of rules p s forms i u)) (call_rows p.tree n n.call)
+    node_rows : RowsHold (reduced_with rules p s forms) u → Each (RowHolds (args_of rules p s forms n u) (filling_of rules p i u)) (call_rows p.tree n n.call)
     node_rows holds =
         let part = each_part (IsKept u) (λ i. numbers_if rules p s forms i (slice_get p.tree i) (rows_if p.tree (is_reduced rules p i) (slice_get p.tree i))) _ holds i i (range_at (length p.tree) i within_tree) in
         let here = subst (Each (IsKept u)) (ap₂ (λ b o. numbers_if rules p s forms i o (rows_if p.tree b o)) reduced at) part in
         each_unmap (IsKept u) (row_number rules p s forms i n) (call_rows p.tree n n.call) here
 
     node_holds : AreOfKinds (unknown_kinds rules p) u → RowsHold (reduced_with rules p s forms) u →
-        CallHolds n.call (arg_sides p.tree n) (entries_of n.sides) (args_of rules p s forms n u) (filling_of rules p s forms i u)
-    node_holds of holds = graph_holds p.tree n n.call (args_of rules p s forms n u) (filling_of rules p s forms i u) (node_kinds of) (node_rows holds)
+        CallHolds n.call (arg_sides p.tree n) (entries_of n.sides) (args_of rules p s forms n u) (filling_of rules p i u)
+    node_holds of holds = graph_holds p.tree n n.call (args_of rules p s forms n u) (filling_of rules p i u) (node_kinds of) (node_rows holds)
 
   module _ (all : AllStand rules p s forms) (of : AreOfKinds (unknown_kinds rules p) u) (holds : RowsHold (reduced_with rules p s forms) u) where
     abbrev point : Point
@@ -75,7 +75,7 @@ module _ (rules : Rules) (p : Problem) (s : Setting) (forms : Forms) (u : Unknow
       where
         by : (b : Bool) → is_reduced rules p i ≡ b → StandsFor rules s point (head_of (names_in p) n.call (arg_sides p.tree n) n.sides) (map (judgement_at rules (nodes_of p)) n.args) (map (forms u) n.args) (forms u i)
         by true e =
-            entries_stand (names_in p) s point rules (map (judgement_at rules (nodes_of p)) n.args) (arg_sides p.tree n) n.sides (map (forms u) n.args) (filling_of rules p s forms i u) (forms u i) n.call
+            entries_stand (names_in p) s point rules (map (judgement_at rules (nodes_of p)) n.args) (arg_sides p.tree n) n.sides (map (forms u) n.args) (filling_of rules p i u) (forms u i) n.call
             (p.nodes.shaped i n at) (not_constant p rules i n at e) (node_holds i n at e of holds) (reduced_form p rules s forms all i n at e u)
         by false e =
             let count = nodes_counted p in

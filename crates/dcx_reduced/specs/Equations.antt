@@ -40,17 +40,18 @@ call_entry names s x (calls.Atom m) args a t j = form_at ((atom_meaning m).resul
 call_entry names s x (calls.Linear l) args a t j = terms_at ((linear_meaning l).terms args j) a
 call_entry names s x (calls.Pairing q) args a t j = pairing_value q (pairs_at q (sides_at args 0) (sides_at args 1) j) (a 0) (a 1)
 
+-- the auxiliary unknowns of node i
+abbrev pub filling_of : Rules → Problem → ℕ → Unknowns → Filling
+filling_of rules p i u k = u (first_aux rules p i + k)
+
 module _ (rules : Rules) (p : Problem) (s : Setting) (forms : Forms) where
-  -- what stands for the arguments of a node, and its auxiliary unknowns
+  -- what stands for the arguments of a node
   abbrev pub args_of : Node → Unknowns → Entries
   args_of n u = arguments (map (forms u) n.args)
 
-  abbrev pub filling_of : ℕ → Unknowns → Filling
-  filling_of i u k = u (first_aux rules p i + k)
-
   -- entry j of node i, where it is reduced
   abbrev pub entry_by : ℕ → Node → Unknowns → ℕ → ℚ
-  entry_by i n u j = call_entry (names_in p) s (point_at p.variables u) n.call (arg_sides p.tree n) (args_of n u) (filling_of i u) j
+  entry_by i n u j = call_entry (names_in p) s (point_at p.variables u) n.call (arg_sides p.tree n) (args_of n u) (filling_of rules p i u) j
 
   -- what stands for a node: its value, where it is a number by the rules, and else what its call makes of what stands for
   -- its arguments
@@ -64,7 +65,7 @@ module _ (rules : Rules) (p : Problem) (s : Setting) (forms : Forms) where
   -- ---- rows
   -- a row of the graph of node i, at unknowns
   abbrev pub row_number : ℕ → Node → PlacedRow → Unknowns → ℚ
-  row_number i n r u = row_at r.row (args_of n u) (filling_of i u)
+  row_number i n r u = row_at r.row (args_of n u) (filling_of rules p i u)
 
   abbrev pub numbers_if : ℕ → Option Node → List PlacedRow → List (Unknowns → ℚ)
   numbers_if i None rows = []
