@@ -17,3 +17,4 @@ pub mod Forms
 pub mod FormLaws
 pub mod Rows
 pub mod Widths
+pub mod Size

@@ -18,6 +18,7 @@
 //! | operations keep these names | `Coef`: `sum_named`, `change_named` |
 //! | sums and multiples of forms are so at all unknowns and parameters | `laws::sum_of_forms`, `laws::changed_forms` |
 //! | each unknown of the rows has a kind | `Rows`, `laws::widths_bound_unknowns`, `laws::widths_of_sums`, `laws::widths_of_changed` |
+//! | how many columns unknowns have | `UnknownKind::columns`, `unknown_columns` |
 //! | multipliers show that no solution is better, or that there is none | `laws::optimal_is_least`, `laws::infeasible_has_no_solution` |
 #![tactic(auto)]
 
@@ -32,6 +33,7 @@ mod param_term;
 mod row;
 mod rows;
 mod site;
+mod size;
 mod stop;
 mod term;
 
@@ -43,4 +45,5 @@ pub use param_term::{ParamTerm, ParamTerms};
 pub use row::{Row, RowKind, RowList, UnknownKind, UnknownKinds};
 pub use rows::Rows;
 pub use site::Site;
+pub use size::{capped_length, unknown_columns};
 pub use stop::CoefStop;

@@ -24,7 +24,8 @@ use Rattle.dcx_std.specs.declared.start.Start.{Start}
 use Rattle.dcx_std.specs.WholeRows.{row_made, cost_made, numerators, IsSparseForm}
 use Rattle.dcx_std.specs.declared.stop.RowStop.{RowStop}
 use Rattle.dcx_std.specs.declared.stop.RowStop.TheVariants as stops
-use Rattle.dcx_std.specs.Size.{capped, column_count}
+use Rattle.dcx_linear.specs.Size.{capped}
+use Rattle.dcx_std.specs.Size.{column_count}
 use Rattle.dcx_std.specs.Columns.{turned, number_in, cost_in, start_column, columns_of}
 
 -- ---- rows

@@ -1,6 +1,6 @@
 use Rattle.std.proofs.Common.{◌≡◌, take, sum_by}
-use Rattle.dcx_std.specs.Size.{columns_for, capped}
-use Rattle.dcx_std.proofs.size.unknown_columns.Given as goal
+use Rattle.dcx_linear.specs.Size.{columns_for, capped}
+use Rattle.dcx_linear.proofs.size.unknown_columns.Given as goal
 
 -- the columns of the kinds so far
 abbrev pub invariant-kinds : goal.invariant-kinds
