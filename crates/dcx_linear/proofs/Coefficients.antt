@@ -41,13 +41,12 @@ module _ {C : Type 0} (number_of : C → Option Frac) (Q : C → Type 0) where
 
   -- a sum has a fact that sums of coefficients keep
   pub sum_keeps : (Sums : C → C → Result C Passes → Type 0) → ((a b c : C) → Sums a b (Ok c) → Q a → Q b → Q c) → (f g h : Form C) → sum_gives_linear number_of Sums f g (Ok h) → OfAll f → OfAll g → OfAll h
-  sum_keeps Sums keeps f g h s a b =
-      (
-        keeps f.constant g.constant h.constant s.1.0 a.0 b.0,
-        each_formed unknown_of z (λ k. SumsAt z (sum_gives_unknown Sums) (term_at unknown_of f.terms k) (term_at unknown_of g.terms k)) T
+  sum_keeps Sums keeps f g h s a b = (
+    keeps f.constant g.constant h.constant s.1.0 a.0 b.0,
+    each_formed unknown_of z (λ k. SumsAt z (sum_gives_unknown Sums) (term_at unknown_of f.terms k) (term_at unknown_of g.terms k)) T
         (λ k v q. sum_has Sums keeps (term_at unknown_of f.terms k) (term_at unknown_of g.terms k) v (λ t e. term_at-All unknown_of T f.terms k t a.1 e) (λ t e. term_at-All unknown_of T g.terms k t b.1 e) q)
         h.terms s.1.1,
-      )
+  )
 
   change_has : (Changes : FormTerm C → Result (FormTerm C) Passes → Type 0) (keeps : (t v : FormTerm C) → Changes t (Ok v) → T t → T v) (x : Option (FormTerm C)) (v : FormTerm C) → ((t : FormTerm C) → x ≡ Some t → T t)
       → ChangesAt z Changes x (Ok (Some v)) → T v
@@ -69,12 +68,11 @@ module _ {C : Type 0} (number_of : C → Option Frac) (Q : C → Type 0) where
 
   -- a multiple has the facts of the coefficient that changes keep
   pub multiple_keeps : (Changes : Change → C → Result C Passes → Type 0) → ((change : Change) (a c : C) → Changes change a (Ok c) → Q a → Q c) → (c : C) (f h : Form C) → multiple_gives number_of Changes c f (Ok h) → Q c → OfAll h
-  multiple_keeps Changes keeps c f h s a =
-      (
-        keeps (Scale s.1.0.0) c h.constant s.1.0.2 a,
-        each_formed unknown_of z (λ k. ChangesAt z (times_unknown number_of Changes c) (term_at unknown_of f.terms k)) T
+  multiple_keeps Changes keeps c f h s a = (
+    keeps (Scale s.1.0.0) c h.constant s.1.0.2 a,
+    each_formed unknown_of z (λ k. ChangesAt z (times_unknown number_of Changes c) (term_at unknown_of f.terms k)) T
         (λ k v q. change_gets (times_unknown number_of Changes c) (λ t w r. keeps (Scale r.1.0) c w.coefficient r.1.2 a) (term_at unknown_of f.terms k) v q) h.terms s.1.1,
-      )
+  )
 
   -- an unknown has the facts of numbers
   pub unknown_has : (of_number : Frac → C) → ((x : Frac) → Q (of_number x)) → {unknown : ℕ} (f : Form C) → IsUnknownForm of_number unknown f → OfAll f

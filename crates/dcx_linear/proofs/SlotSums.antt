@@ -158,13 +158,12 @@ module _ {C : Type 0} (number_of : C → Option Frac) where
     -- a term is added where its slot is written
     pub term_added : (cs : List C) (t : FormTerm C) (s w : C) → t.unknown < length cs → s ≡ get_or cs t.unknown s → z t ≡ false → adds_to_slot number_of Sums s t.coefficient (Ok w)
         → adds_term number_of Sums (listed_from number_of 0 cs) t (Ok (listed_from number_of 0 (set cs t.unknown w)))
-    term_added cs t s w lt is nonzero h =
-        (
-          subst (λ x. SumsAt z G x (Some t) (Ok (term_at unknown_of (Listed 0 (set cs t.unknown w)) t.unknown))) (sym (read_slot cs 0 t.unknown t.unknown s (omega arith) lt is))
+    term_added cs t s w lt is nonzero h = (
+      subst (λ x. SumsAt z G x (Some t) (Ok (term_at unknown_of (Listed 0 (set cs t.unknown w)) t.unknown))) (sym (read_slot cs 0 t.unknown t.unknown s (omega arith) lt is))
           (subst (λ x. SumsAt z G (kept_term number_of t.unknown s) (Some t) (Ok x)) (sym (written_slot cs 0 t.unknown t.unknown w (omega arith) lt))
           (at_slot t s w nonzero (is_told_zero (number_of s)) h)),
-          λ k d. other_slots cs 0 t.unknown t.unknown w k (omega arith) d,
-        )
+      λ k d. other_slots cs 0 t.unknown t.unknown w k (omega arith) d,
+    )
 
     pass_slot : (t : FormTerm C) (s : C) (passes : Passes) (b : Bool) → sum_with_slot b Sums s t.coefficient (Err passes) → SumsAt z G (if b then None else Some (term t.unknown s)) (Some t) (Err passes)
     pass_slot t s passes true h = cc
@@ -208,13 +207,12 @@ module _ {C : Type 0} (number_of : C → Option Frac) where
     term_stops ts t rest passes h above = record {
       key = t.unknown;
       here = SumsAt-same (term_at unknown_of ts t.unknown) (term_at unknown_of ts t.unknown) (Some t) (term_at unknown_of (t ∷ rest) t.unknown) (Err passes) (Err passes) refl (sym (term_at-here unknown_of t rest t.unknown refl)) refl h;
-      before = λ k lt.
-          (
-            term_at unknown_of ts k,
-            SumsAt-same (term_at unknown_of ts k) (term_at unknown_of ts k) None (term_at unknown_of (t ∷ rest) k) (Ok (term_at unknown_of ts k)) (Ok (term_at unknown_of ts k)) refl
+      before = λ k lt. (
+        term_at unknown_of ts k,
+        SumsAt-same (term_at unknown_of ts k) (term_at unknown_of ts k) None (term_at unknown_of (t ∷ rest) k) (Ok (term_at unknown_of ts k)) (Ok (term_at unknown_of ts k)) refl
             (sym (term_at-below unknown_of (t ∷ rest) k (All-cons (λ v. k < unknown_of v) t rest lt (All-weaker (λ v. t.unknown < unknown_of v) (λ v. k < unknown_of v) (λ v a. omega (arith, a, lt)) rest above)))) refl
             (with_none (term_at unknown_of ts k)),
-          );
+      );
     }
 
     -- nothing is left to add

@@ -55,10 +55,7 @@ fn at_rows(
 fn copy_kinds(alloc: Global, kinds: &UnknownKinds) -> Result<UnknownKinds, AllocError>
     ensures { IfOk result (λ k. k ≡ kinds.now) }
 {
-    Ok(UnknownKinds::from_vec(Vec::from_slice(
-        alloc,
-        kinds.as_slice(),
-    )?))
+    Ok(UnknownKinds::from_vec(Vec::from_slice(alloc, kinds.as_slice())?))
 }
 
 impl Rows<ParamForm> {

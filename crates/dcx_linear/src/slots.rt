@@ -50,11 +50,7 @@ fn add_to<C: Coef>(alloc: Global, slot: &mut C, coefficient: C) -> Result<(), Co
 }
 
 /// Adds a term whose coefficient isn't 0.
-fn add_term<C: Coef>(
-    alloc: Global,
-    slots: &mut Vec<C>,
-    term: FormTerm<C>,
-) -> Result<(), CoefStop>
+fn add_term<C: Coef>(alloc: Global, slots: &mut Vec<C>, term: FormTerm<C>) -> Result<(), CoefStop>
     requires room { length slots.old.items ≤ 4294967296 }
     requires nonzero { has_zero_coefficient C.number_of term ≡ false }
     ensures room { length slots.new.items ≤ 4294967296 }
