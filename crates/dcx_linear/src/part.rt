@@ -11,6 +11,7 @@ use crate::stop::CoefStop;
 use std::alloc::Global;
 
 /// A form, and what is done to it before it is added.
+#[derive(Drop)]
 pub struct Part<'a, C: Coef> {
     /// What is done.
     pub change: Change,

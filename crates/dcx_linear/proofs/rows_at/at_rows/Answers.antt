@@ -1,9 +1,12 @@
-use Rattle.std.proofs.Common.{◌≡◌, Err, arith}
+use Rattle.std.proofs.Common.{◌≡◌, Err, sym, subst, arith}
 use Rattle.std.proofs.lemmas.Result.{err_from_is_err_and}
-use Rattle.dcx_linear.specs.FormsAt.{form_on_row, rows_at}
+use Rattle.dcx_linear.specs.FormsAt.{IsListedRow, form_on_row, rows_at}
 use Rattle.dcx_linear.specs.MapStops.{OnRow-weaker}
 use Rattle.dcx_linear.proofs.SettingRows.{row_goes, row_stops, rows_end}
 use Rattle.dcx_linear.proofs.rows_at.at_rows.Goals as goal
+
+pub at_row-requires : goal.at_row-requires
+at_row-requires c = subst (IsListedRow c.args.setting.now) (sym c.index-rows-index.is) (c.requires c.rows.index c.index-rows-index.result (omega arith))
 
 pub returns-in_err-form : goal.returns-in_err-form
 returns-in_err-form c =
