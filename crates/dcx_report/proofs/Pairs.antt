@@ -3,7 +3,7 @@ use Rattle.std.proofs.Common.{◌≡◌, ℕ, zero, suc, ◌+◌, ◌<◌, ◌�
 use Rattle.std.specs.Prelude.{IfSome}
 use Rattle.std.specs.List.{slice_get, flat_map}
 use Rattle.std.proofs.lemmas.Option.{none-some, same_Some, slice_get-get_or, slice_get_past}
-use Rattle.std.proofs.lemmas.List.{take_more}
+use Rattle.std.proofs.lemmas.List.{take_more, append-nil}
 use Rattle.std.proofs.lemmas.Grind.{flat_map-append}
 use Rattle.std.proofs.lemmas.Map.Entries.{lookup_from_place}
 use Rattle.std.specs.Cmp.Lexicographic.{nat_list_eq_equiv}
@@ -43,4 +43,6 @@ lines_more line (x ∷ xs) i start old new l h more =
     let item = get_or (x ∷ xs) i x in
     let here : new ≡ old ++ line item = subst (λ o. IfSome o (λ y. new ≡ old ++ line y)) (slice_get-get_or (x ∷ xs) i x l) more in
     let taken : take (i + 1) (x ∷ xs) ≡ take i (x ∷ xs) ++ item ∷ [] = take_more (x ∷ xs) i x l in
-    rw (here, h, taken, flat_map-append line (take i (x ∷ xs)) (item ∷ [])) (simp append_assoc)
+    let front = flat_map line (take i (x ∷ xs)) in
+    here ∙ ap (λ o. o ++ line item) h ∙ append_assoc start front (line item)
+    ∙ ap (λ t. start ++ t) (sym (ap (flat_map line) taken ∙ flat_map-append line (take i (x ∷ xs)) (item ∷ []) ∙ ap (λ t. front ++ t) (append-nil (line item))))
