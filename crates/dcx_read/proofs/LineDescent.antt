@@ -5,16 +5,17 @@ use Rattle.std.proofs.lemmas.List.{map_push}
 use Rattle.dcx_shape.specs.declared.place.Place.{Place}
 use Rattle.dcx_tokens.specs.declared.token.Token.{Token}
 use Rattle.dcx_read.specs.declared.role.Role.TheVariants as roles
-use Rattle.dcx_read.specs.declared.role.Bracket.{Bracket}
+use Rattle.dcx_syntax.specs.declared.bracket.Bracket.{Bracket}
 use Rattle.dcx_read.specs.declared.front.Stop.{Stop}
-use Rattle.dcx_read.specs.declared.tree.Named.{Named}
-use Rattle.dcx_read.specs.Terminal.{Terminal, terminals}
-use Rattle.dcx_read.specs.Expressions.{Expr}
-use Rattle.dcx_read.specs.Statements.{Balanced, nothing, within, Line, Lines, no_lines, lines, repeats, trimmed, trimmed_all}
-use Rattle.dcx_read.specs.View.{chained}
+use Rattle.dcx_syntax.specs.declared.tree.Named.{Named}
+use Rattle.dcx_syntax.specs.Terminal.{Terminal}
+use Rattle.dcx_read.specs.Terminals.{terminals}
+use Rattle.dcx_syntax.specs.Expressions.{Expr}
+use Rattle.dcx_syntax.specs.Statements.{Balanced, nothing, within, Line, Lines, no_lines, lines, repeats, trimmed, trimmed_all}
+use Rattle.dcx_syntax.specs.View.{chained, then_line, lines_of}
 use Rattle.dcx_read.specs.Moves.{Symbol, expr_s, newline_s, balanced_s, closes_s, line_s, lines_s, dedent_s, lines_join, Tree}
 use Rattle.dcx_read.specs.Steps.{Gives, Progress, Loop, Stops, Front, FrontOf, Refuses}
-use Rattle.dcx_read.specs.Lines.{FrontPlain, LacksPlain, BalancedTo, then_line, lines_of, starts_line, ReadsLine, ReadsLines, ReadsBody, EndsBlock}
+use Rattle.dcx_read.specs.Lines.{FrontPlain, LacksPlain, BalancedTo, starts_line, ReadsLine, ReadsLines, ReadsBody, EndsBlock}
 use Rattle.dcx_read.specs.Steps.{Lacks, Closes, IsBeside}
 use Rattle.dcx_read.proofs.Progress.{Join, front, begun, goes, stops}
 use Rattle.dcx_read.proofs.Loops.{pushed, loop-stops}

@@ -1,20 +1,21 @@
 //! The descent over lines: one function for each rule, that decides by the tokens at the front.
 ghost use Rattle.std.specs.Prelude.{◌≡◌, ◌<◌, ◌≤◌, ◌∷◌, length, map, IfOk};
-ghost use Rattle.dcx_read.specs.Terminal.{terminals, plain};
-ghost use Rattle.dcx_read.specs.Terminal as marks_of;
-ghost use Rattle.dcx_read.specs.Statements.{importing, repeats};
-ghost use Rattle.dcx_read.specs.View.{expr_view};
+ghost use Rattle.dcx_syntax.specs.Terminal.{plain};
+ghost use Rattle.dcx_read.specs.Terminals.{terminals};
+ghost use Rattle.dcx_syntax.specs.Terminal as marks_of;
+ghost use Rattle.dcx_syntax.specs.Statements.{importing, repeats};
+ghost use Rattle.dcx_syntax.specs.View.{expr_view, line_view, lines_of};
 ghost use Rattle.dcx_read.specs.Moves.{module_s, alias_s, line_s};
 ghost use Rattle.dcx_read.specs.declared.role.Role.TheVariants as roles;
 ghost use Rattle.dcx_read.specs.Steps.{Reads, Lacks};
-ghost use Rattle.dcx_read.specs.Lines.{module_at, line_view, lines_of, LacksPlain, BalancedTo, ReadsBalanced, ReadsEnded, ReadsLine, ReadsHead, ReadsBody, ReadsLines, EndsBlock};
+ghost use Rattle.dcx_read.specs.Lines.{module_at, LacksPlain, BalancedTo, ReadsBalanced, ReadsEnded, ReadsLine, ReadsHead, ReadsBody, ReadsLines, EndsBlock};
 
 use crate::expression::expr;
 use crate::front::*;
 use crate::made::*;
-use crate::role::{Bracket, Mark};
-use crate::tree::*;
+use crate::role::Mark;
 use dcx_shape::Place;
+use dcx_syntax::*;
 use dcx_tokens::Token;
 use std::alloc::Global;
 

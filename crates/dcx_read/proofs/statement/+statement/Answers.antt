@@ -1,11 +1,11 @@
 -- What each answer is read from.
 use Rattle.std.proofs.Common.{arith, ◌∙◌, [], ◌∷◌, map, length, refl, sym}
 use Rattle.std.proofs.lemmas.Result.{err_from_is_err_and}
-use Rattle.dcx_read.specs.Terminal.{terminals, plain}
-use Rattle.dcx_read.specs.Terminal as marks_of
-use Rattle.dcx_read.specs.Statements.{repeats}
-use Rattle.dcx_read.specs.View.{expr_view}
-use Rattle.dcx_read.specs.Lines.{line_view, lines_of}
+use Rattle.dcx_syntax.specs.Terminal.{plain}
+use Rattle.dcx_read.specs.Terminals.{terminals}
+use Rattle.dcx_syntax.specs.Terminal as marks_of
+use Rattle.dcx_syntax.specs.Statements.{repeats}
+use Rattle.dcx_syntax.specs.View.{expr_view, line_view, lines_of}
 use Rattle.dcx_read.specs.Moves.{dedent_s, line_s, lines_s}
 use Rattle.dcx_read.proofs.Progress.{goes, stops}
 use Rattle.dcx_read.proofs.Rules.{dedent-gives, dedent-stops, for-front}
