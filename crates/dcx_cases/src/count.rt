@@ -105,13 +105,7 @@ impl Count {
 }
 
 /// Tells what was wanted and what came.
-fn tell(
-    rt: &impl Print,
-    at: At,
-    words: &str,
-    wanted: &Wanted,
-    came: &Came,
-) -> io::Result<()> {
+fn tell(rt: &impl Print, at: At, words: &str, wanted: &Wanted, came: &Came) -> io::Result<()> {
     let At { file, line } = at;
     println!(rt; "{file}:{line}: {words}")?;
     match wanted.status {

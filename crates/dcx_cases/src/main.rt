@@ -3,8 +3,10 @@
 
 mod bytes;
 mod calls;
+mod case;
 mod cases;
 mod count;
+mod fronts;
 mod gathered;
 mod pages;
 mod running;
@@ -18,7 +20,11 @@ use std::rt::Files;
 use std::{fs, io};
 
 /// Runs the cases of a file: a page with examples, or a list of cases.
-fn run_file(rt: &(impl Files + Print + AllocGlobal), name: &str, count: &mut Count) -> io::Result<()> {
+fn run_file(
+    rt: &(impl Files + Print + AllocGlobal),
+    name: &str,
+    count: &mut Count,
+) -> io::Result<()> {
     let text = fs::read_to_string(rt, name)?;
     if name.ends_with(".md") {
         run_page(rt, name, text.as_str(), count)

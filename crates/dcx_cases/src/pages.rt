@@ -1,6 +1,6 @@
 //! The examples of a page, which docs/CASES.md describes.
 
-use crate::cases::run_case;
+use crate::case::run_case;
 use crate::count::{At, Count, Wanted};
 use crate::running::Given;
 use std::alloc::{AllocError, Global};

@@ -13,6 +13,24 @@ pub(crate) struct Section<'a> {
     pub body: Vec<u8>,
 }
 
+impl Section<'_> {
+    /// Whether there is no head and no line below it.
+    pub(crate) fn is_empty(&self) -> bool {
+        self.head.is_empty() && self.body.is_empty()
+    }
+
+    /// The first word of the head, and what follows it.
+    pub(crate) fn words(&self) -> (&str, &str) {
+        self.head.split_once(' ').unwrap_or((self.head, ""))
+    }
+
+    /// Whether there are lines below the head only where it takes some.
+    pub(crate) fn is_well_formed(&self) -> bool {
+        let (word, _) = self.words();
+        self.body.is_empty() || matches!(word, "start" | "file" | "gives" | "begins")
+    }
+}
+
 /// The sections of a text. The first one has no head. Empty lines and lines behind a `#` count for nothing.
 pub(crate) fn sections<'a>(
     rt: &(impl Files + AllocGlobal),

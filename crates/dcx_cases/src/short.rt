@@ -43,7 +43,10 @@ fn told(alloc: Global, words: &str) -> Result<Option<Wanted>, AllocError> {
         return Ok(None);
     };
     let mut report = String::new(alloc);
-    write!(report, "accepted\nobjective {sense} sign {sign} curvature {curvature}\n")?;
+    write!(
+        report,
+        "accepted\nobjective {sense} sign {sign} curvature {curvature}\n"
+    )?;
     if let Some(dpp) = parts.next() {
         write!(report, "dpp {dpp}\n")?;
     }
@@ -63,7 +66,10 @@ fn refused(alloc: Global, words: &str, mark: Mark) -> Result<Option<Wanted>, All
     let blank = if carried.is_empty() { "" } else { " " };
     let Mark { line, column } = mark;
     let mut report = String::new(alloc);
-    write!(report, "refused script {number} {name} at {line}:{column}{blank}{carried}\n")?;
+    write!(
+        report,
+        "refused script {number} {name} at {line}:{column}{blank}{carried}\n"
+    )?;
     Ok(Some(Wanted {
         status: Some(1),
         report: report.into_bytes(),
@@ -80,26 +86,40 @@ fn wanted(alloc: Global, words: &str, mark: Mark) -> Result<Option<Wanted>, Allo
     }
 }
 
+/// Adds what a text stands for, with its mark taken out. Gives the place of the mark, or the start where there is none;
+/// `None` where a backslash stands for nothing.
+fn push_marked(script: &mut Vec<u8>, text: &str) -> Result<Option<Mark>, AllocError> {
+    let Some((before, after)) = text.split_once('^') else {
+        return Ok(if push_escaped(script, text)? {
+            Some(START)
+        } else {
+            None
+        });
+    };
+    let is_read = push_escaped(script, before)?;
+    let mark = place_behind(script);
+    let is_read = push_escaped(script, after)? && is_read;
+    Ok(if is_read { Some(mark) } else { None })
+}
+
 /// The case of a line, behind these bytes; `None` where the line is no case.
 ///
-/// A `^` in the script marks the place of the refusal and is taken out. Without one it is the start of the script.
-pub(crate) fn short_case(alloc: Global, start: &[u8], line: &str) -> Result<Option<Short>, AllocError> {
+/// A `^` in the script marks the place of the refusal. Without one it is the start of the script.
+pub(crate) fn short_case(
+    alloc: Global,
+    start: &[u8],
+    line: &str,
+) -> Result<Option<Short>, AllocError> {
     let Some((words, text)) = line.split_once('|') else {
         return Ok(None);
     };
-    let text = text.strip_prefix(' ').unwrap_or(text);
     let mut script = start.to_vec(alloc)?;
-    let mut mark = START;
-    let mut is_read = true;
-    if let Some((before, after)) = text.split_once('^') {
-        is_read = push_escaped(&mut script, before)?;
-        mark = place_behind(&script);
-        is_read = push_escaped(&mut script, after)? && is_read;
-    } else {
-        is_read = push_escaped(&mut script, text)?;
-    }
+    let text = text.strip_prefix(' ').unwrap_or(text);
+    let Some(mark) = push_marked(&mut script, text)? else {
+        return Ok(None);
+    };
     match wanted(alloc, words.trim_end(), mark)? {
-        Some(wanted) if is_read => Ok(Some(Short { script, wanted })),
-        _ => Ok(None),
+        Some(wanted) => Ok(Some(Short { script, wanted })),
+        None => Ok(None),
     }
 }
