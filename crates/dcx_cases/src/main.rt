@@ -16,8 +16,8 @@ mod short;
 use cases::run_cases;
 use count::Count;
 use pages::run_page;
-use std::rt::Files;
-use std::{fs, io};
+use std::rt::{Env, Files};
+use std::{env, fs, io};
 
 /// Runs the cases of a file: a page with examples, or a list of cases.
 fn run_file(
@@ -33,10 +33,24 @@ fn run_file(
     }
 }
 
+/// The names of the files to run, one a line: those that the words name, or else those of the index.
+fn names(rt: &(impl Files + Env + AllocGlobal)) -> io::Result<String> {
+    let mut names = String::new(rt.alloc());
+    for name in env::args(rt)?.skip(1) {
+        names.push_str(name.as_str())?;
+        names.push_str("\n")?;
+    }
+    if names.is_empty() {
+        fs::read_to_string(rt, "index.txt")
+    } else {
+        Ok(names)
+    }
+}
+
 fn main(rt: HostRuntime) -> io::Result<()> {
-    let index = fs::read_to_string(&rt, "index.txt")?;
+    let names = names(&rt)?;
     let mut count = Count::new();
-    for name in index.lines() {
+    for name in names.as_str().lines() {
         run_file(&rt, name, &mut count)?;
     }
     let Count { cases, differ } = count;
