@@ -242,7 +242,10 @@ fn indexed<'a>(
 {
     let (first, after) = index(alloc, text, within)?;
     let others = indices(alloc, text, after);
-    index_made(place, beside(first, closed(others, Mark::Closes(Bracket::Square))))
+    index_made(
+        place,
+        beside(first, closed(others, Mark::Closes(Bracket::Square))),
+    )
 }
 
 /// The indices behind the first one.

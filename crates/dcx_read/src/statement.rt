@@ -232,7 +232,9 @@ fn whole<'a>(
     ensures { EndsBlock (λ x. (line_view x.0, x.1.now)) (λ x. (repeats place x.0.0.each (expr_view x.0.0.from) (line_view x.0.1.0) (lines_of (map line_view x.0.1.1.items)), x.1.now)) result parts.entry }
 {
     match parts {
-        Ok(((begun, (first, others)), rest)) => match for_of(alloc, place, begun.each, begun.from, first, others) {
+        Ok(((begun, (first, others)), rest)) => match for_of(
+            alloc, place, begun.each, begun.from, first, others,
+        ) {
             Ok(line) => Ok((line, rest)),
             Err(_) => Err(Stop::Memory),
         },
@@ -252,7 +254,11 @@ fn block<'a>(
     ensures shorter { IfOk result (λ x. length x.1.now < length tokens.now) }
 {
     let (each, from, inside) = head(alloc, text, place, tokens)?;
-    whole(alloc, place, beside(Begun { each, from }, body(alloc, text, inside)))
+    whole(
+        alloc,
+        place,
+        beside(Begun { each, from }, body(alloc, text, inside)),
+    )
 }
 
 /// A line, with the lines inside it, and the tokens behind.
