@@ -1,4 +1,4 @@
-//! Tables of worked cases for shapes, tokens, scripts and settings, over the public calls of their crates.
+//! Tables of worked cases for settings files, and for what no command shows of shapes, tokens and syntax trees.
 //!
 //! They stand in a crate of their own so that those crates are proved once and not again with their tests.
 #![tactic(auto)]

@@ -1,6 +1,6 @@
-//! Tables of worked cases on trees, problems and the verdicts of the rules, over the public calls of their crates.
+//! Tables of worked cases on trees that are made by hand, and on values of their nodes, which no command shows.
 //!
-//! They stand in a crate of their own so that those crates are proved once and not again with their tests.
+//! They stand in a crate of their own so that the crate of trees is proved once and not again with its tests.
 #![tactic(auto)]
 
 #[cfg(test)]
@@ -9,5 +9,3 @@ mod gathered;
 mod gathering;
 #[cfg(test)]
 mod values;
-#[cfg(test)]
-mod verdicts;

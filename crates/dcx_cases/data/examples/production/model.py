@@ -1,0 +1,6 @@
+import cvxpy as cp
+import numpy as np
+x = cp.Variable(nonneg=True)
+y = cp.Variable(nonneg=True)
+prob = cp.Problem(cp.Minimize(-3*x - 2*y), [x + y <= 4, x <= 3])
+prob.solve()

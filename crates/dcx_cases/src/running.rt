@@ -1,0 +1,122 @@
+//! The program over files in memory: the status and the bytes that it gives.
+ghost use Rattle.std.specs.Prelude.{◌≡◌, ◌<◌};
+
+use crate::gathered::gathered;
+use dcx_host::{Library, MemoryLibrary, MemorySink, Sink};
+use dcx_shape::Bytes;
+use dcx_steps::Steps;
+use dcx_top::run;
+use std::alloc::{AllocError, Global};
+use std::collections::BTreeMap;
+use std::marker::Brand;
+use std::sync::ledger::{Blank, Ledger};
+
+/// What the program is given.
+#[derive(Drop)]
+pub(crate) struct Given {
+    /// The words behind the program's name, separated by blanks.
+    pub words: String,
+    pub files: BTreeMap<String, Bytes>,
+    /// The numbers of the calls of the library that fail, from 0.
+    pub reads: Vec<u64>,
+    /// The numbers of the calls of the sink that fail, from 0.
+    pub writes: Vec<u64>,
+    /// How many bytes the sink takes at once.
+    pub most: usize,
+}
+
+/// What the program gives.
+#[derive(Drop)]
+pub(crate) struct Came {
+    pub status: u8,
+    pub report: Vec<u8>,
+}
+
+impl Given {
+    /// Words alone, with no file and no call that fails.
+    pub(crate) fn of(alloc: Global, words: &str) -> Result<Given, AllocError> {
+        Ok(Given {
+            words: String::from_str(alloc, words)?,
+            files: BTreeMap::new(alloc),
+            reads: Vec::new(alloc),
+            writes: Vec::new(alloc),
+            most: usize::MAX,
+        })
+    }
+
+    /// Adds a file.
+    pub(crate) fn put(
+        &mut self,
+        alloc: Global,
+        name: &str,
+        bytes: Vec<u8>,
+    ) -> Result<(), AllocError> {
+        let name = String::from_str(alloc, name)?;
+        self.files.insert(name, Bytes::from_vec(bytes))?;
+        Ok(())
+    }
+}
+
+/// The status of the program over a library and a sink of any kind, with a counter of its own.
+fn run_with<L: Library, K: Sink, S: Ledger>(
+    alloc: Global,
+    words: &[String],
+    library: &mut L,
+    sink: &mut K,
+    blank: Blank,
+) -> u8
+    requires name { blank.name ≡ S.name }
+    requires parts { blank.parts ≡ S.parts }
+    requires some { 0 < blank.parts }
+{
+    let mut steps = Steps::<S>::new(blank);
+    run(alloc, words, library, sink, &mut steps).status
+}
+
+/// The same, with a counter whose kind doesn't matter.
+fn status_with<L: Library, K: Sink>(
+    alloc: Global,
+    words: &[String],
+    library: &mut L,
+    sink: &mut K,
+) -> u8 {
+    run_with::<L, K, Brand>(alloc, words, library, sink, Blank::new(1))
+}
+
+/// The words that are separated by blanks.
+fn words_of(alloc: Global, text: &str) -> Result<Vec<String>, AllocError> {
+    let mut words = Vec::new(alloc);
+    for word in text.split_whitespace() {
+        words.push(String::from_str(alloc, word)?)?;
+    }
+    Ok(words)
+}
+
+/// What the problem of a file is, where the words ask for that.
+fn asked(alloc: Global, words: &[String], given: &Given) -> Result<Option<Came>, AllocError> {
+    let [verb, name] = words else {
+        return Ok(None);
+    };
+    if verb.as_str() != "gather" {
+        return Ok(None);
+    }
+    let Some(bytes) = given.files.get(name) else {
+        return Ok(None);
+    };
+    Ok(Some(gathered(alloc, bytes.as_slice())?))
+}
+
+/// What the program gives, or, for the verb `gather`, the lines of the problem.
+pub(crate) fn outcome(alloc: Global, given: Given) -> Result<Came, AllocError> {
+    let words = words_of(alloc, given.words.as_str())?;
+    if let Some(came) = asked(alloc, &words, &given)? {
+        return Ok(came);
+    }
+    let mut library = MemoryLibrary::new(given.files, given.reads);
+    let mut sink = MemorySink::new(alloc, given.most, given.writes);
+    let status = status_with(alloc, &words, &mut library, &mut sink);
+    Ok(Came {
+        status,
+        report: sink.bytes,
+    })
+}
