@@ -1,3 +1,4 @@
+-- Points of the domain of a problem are unknowns of their kinds.
 use Rattle.dcx_unknowns.proofs.LawsHold.{domains_are_unknowns}
 use Rattle.dcx_unknowns.proofs.laws.domains_are_unknowns.Goals as goal
 

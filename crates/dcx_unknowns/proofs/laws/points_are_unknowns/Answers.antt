@@ -1,3 +1,4 @@
+-- Points of the domain are unknowns of their kinds.
 use Rattle.dcx_unknowns.proofs.LawsHold.{points_are_unknowns}
 use Rattle.dcx_unknowns.proofs.laws.points_are_unknowns.Goals as goal
 

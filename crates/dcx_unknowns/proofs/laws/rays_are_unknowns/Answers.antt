@@ -1,3 +1,4 @@
+-- The point of unknowns along a ray goes along a ray.
 use Rattle.dcx_unknowns.proofs.LawsHold.{rays_are_unknowns}
 use Rattle.dcx_unknowns.proofs.laws.rays_are_unknowns.Goals as goal
 

@@ -1,3 +1,4 @@
+-- The variables of a problem have few unknowns.
 use Rattle.dcx_unknowns.proofs.LawsHold.{unknowns_are_few}
 use Rattle.dcx_unknowns.proofs.laws.unknowns_are_few.Goals as goal
 

@@ -1,3 +1,4 @@
+-- Unknowns are numbered by the entries that have their own.
 use Rattle.dcx_unknowns.proofs.LawsHold.{unknowns_are_numbered}
 use Rattle.dcx_unknowns.proofs.laws.unknowns_are_numbered.Goals as goal
 
