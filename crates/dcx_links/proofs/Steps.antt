@@ -1,7 +1,6 @@
 -- What a link says of the numbers of its line.
-use Rattle.std.proofs.Common.{◌≡◌, ◌≢◌, ℕ, ◌+◌, ◌<◌, ◌≤◌, length, Some, refl, ◌∙◌, arith, pos}
+use Rattle.std.proofs.Common.{◌≡◌, ◌≢◌, ℕ, ◌+◌, ◌<◌, length, Some, refl, ◌∙◌, arith}
 use Rattle.dcx_links.specs.declared.store.Store.{Store}
-use Rattle.dcx_links.specs.declared.walk.Entry.{Entry}
 use Rattle.dcx_links.specs.Lines.{none, IsNext, Leads}
 use Rattle.dcx_links.specs.Cells.{cell_at, IsAt, InRow, InColumn, IsSound, number_in}
 use Rattle.dcx_links.specs.Views.{row_in, column_in}

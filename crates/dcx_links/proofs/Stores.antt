@@ -1,8 +1,8 @@
 -- What is found at a spot.
-use Rattle.std.proofs.Common.{◌≡◌, ◌≢◌, ℕ, ◌+◌, ◌<◌, ◌≤◌, List, length, get_or, Option, Some, None, refl, sym, ap, ◌∙◌, arith, pos}
+use Rattle.std.proofs.Common.{◌≡◌, ◌≢◌, ℕ, ◌+◌, ◌<◌, ◌≤◌, List, length, get_or, Option, Some, refl, sym, ◌∙◌, arith, pos}
 use Rattle.std.proofs.lemmas.Option.{slice_get_read, get_or_from_slice_get}
 use Rattle.dcx_links.specs.declared.store.Cell.{Cell}
-use Rattle.dcx_links.specs.Lines.{none, IsNext, Leads, IsFrom, IsSpot, AreApart}
+use Rattle.dcx_links.specs.Lines.{none, IsNext, Leads, IsSpot, AreApart}
 use Rattle.dcx_links.specs.Cells.{cell_at, IsAt, InRow, InColumn, IsStore, cell_number}
 use Rattle.dcx_links.proofs.Lines.{nothing_from, leads_on}
 use Rattle.dcx_links.proofs.Numbers.{at_within, number_is, number_none}

@@ -3,7 +3,7 @@ use Rattle.std.specs.Int.{w128}
 use Rattle.dcx_links.specs.Cells.{cell_at}
 use Rattle.dcx_links.proofs.Numbers.{at_within}
 use Rattle.dcx_links.proofs.Stores.{cell_read}
-use Rattle.dcx_links.proofs.Changes.{changed, changed_there, changed_same, now_at}
+use Rattle.dcx_links.proofs.Changes.{changed, changed_there, changed_same}
 use Rattle.dcx_links.proofs.write.change_at.Goals as goal
 
 pub returns-clause-sound : goal.returns-clause-sound

@@ -5,7 +5,7 @@ use Rattle.dcx_links.specs.Lines.{IsSpot, link_of}
 use Rattle.dcx_links.specs.Cells.{head_at, InRow, InColumn, bound_in_row, bound_in_column, cell_at, next_in_row_at, next_in_column_at}
 use Rattle.dcx_links.proofs.Stores.{cell_read}
 use Rattle.dcx_links.proofs.Free.{some_free}
-use Rattle.dcx_links.proofs.Inserts.{length_head, inserted, inserted_there, inserted_same, new_at, keep_at}
+use Rattle.dcx_links.proofs.Inserts.{length_head, inserted, inserted_there, inserted_same}
 use Rattle.dcx_links.proofs.write.insert_at.Goals as goal
 
 pub index-requires : goal.index-requires

@@ -6,7 +6,7 @@ use Rattle.dcx_links.proofs.Lines.{spot_lands}
 use Rattle.dcx_links.proofs.Numbers.{cell_there, at_within}
 use Rattle.dcx_links.proofs.Stores.{cell_read, row_apart}
 use Rattle.dcx_links.proofs.Inserts.{length_head, length_row, length_column}
-use Rattle.dcx_links.proofs.Removes.{removed, removed_there, removed_same, keep_others}
+use Rattle.dcx_links.proofs.Removes.{removed, removed_there, removed_same}
 use Rattle.dcx_links.proofs.write.remove_at.Goals as goal
 
 pub index-cell-requires : goal.index-cell-requires

@@ -1,9 +1,7 @@
 -- The link leads to the next number of the line.
-use Rattle.std.proofs.Common.{rules, ◌≡◌, ◌+◌, ◌<◌, length, Some, refl, subst, ap, to_z, of_z, to_z-of_z, SFits}
+use Rattle.std.proofs.Common.{rules, ◌≡◌, ◌+◌, ◌<◌, length, refl, subst, ap, to_z-of_z, SFits}
 use Rattle.std.specs.Int.{w128}
-use Rattle.dcx_links.specs.declared.walk.Entry.{Entry}
 use Rattle.dcx_links.specs.Cells.{cell_at}
-use Rattle.dcx_links.specs.Views.{column_in}
 use Rattle.dcx_links.specs.Walks.{Walk, IsOver, ComesNext}
 use Rattle.dcx_links.proofs.Passes.{walk_at, shorter}
 use Rattle.dcx_links.proofs.Steps.{column_over, column_comes, column_next, column_link_within}
