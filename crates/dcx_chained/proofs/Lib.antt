@@ -11,3 +11,4 @@ pub mod Pivoted
 pub mod Turned
 pub mod Rewritten
 pub mod Lines
+pub mod Agreements

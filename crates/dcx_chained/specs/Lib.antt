@@ -2,3 +2,4 @@
 pub mod Rows
 pub mod NewRow
 pub mod Tables
+pub mod Agreement

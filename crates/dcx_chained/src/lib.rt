@@ -14,6 +14,7 @@ mod build;
 mod chained;
 mod clear;
 mod factors;
+pub mod laws;
 mod mix;
 mod wide;
 
