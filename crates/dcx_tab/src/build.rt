@@ -9,7 +9,7 @@ use crate::rows::{ColumnKind, IntRow};
 use std::alloc::{AllocError, Global};
 
 /// How many columns stand before the first artificial one.
-pub(crate) fn plain_of(kinds: &[ColumnKind]) -> usize
+pub fn plain_of(kinds: &[ColumnKind]) -> usize
     ensures { result ≡ plain_count kinds.now }
 {
     let mut plain = 0;
@@ -89,7 +89,7 @@ fn row_basis(alloc: Global, rows: &[IntRow]) -> Result<Vec<u32>, AllocError>
 }
 
 /// The first basic columns, z and w at the last two rows.
-pub(crate) fn first_basis(alloc: Global, program: &Program) -> Result<Vec<u32>, AllocError>
+pub fn first_basis(alloc: Global, program: &Program) -> Result<Vec<u32>, AllocError>
     ensures { IfOk result (λ basis. basis.items ≡ (first_tableau program.now).basis) }
 {
     let mut basis = row_basis(alloc, program.rows.as_slice())?;

@@ -1,0 +1,14 @@
+-- The lemmas.
+pub mod Counts
+pub mod RowReads
+pub mod Signs
+pub mod Mixed
+pub mod Divisors
+pub mod Cleared
+pub mod Formed
+pub mod Columns
+pub mod Pivoted
+pub mod Turned
+pub mod Rewritten
+pub mod Lines
+pub mod Agreements

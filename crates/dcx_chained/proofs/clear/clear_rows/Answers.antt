@@ -1,0 +1,116 @@
+-- One more row is cleared.
+use Rattle.std.proofs.Common.{arith, ◌≡◌, ◌≢◌, ℕ, ◌<◌, length, pos, refl, sym, ap, ◌∙◌, subst, inl, inr}
+use Rattle.std.proofs.lemmas.Bool.{cases_eq}
+use Rattle.dcx_tab.specs.Rows.{Row, entry, AllSmall}
+use Rattle.dcx_tab.specs.Pivot.{turned, eliminated, IsRowFormed}
+use Rattle.dcx_tab.proofs.LineSteps.{turned-positive}
+use Rattle.dcx_tab.proofs.Pivots.{turns}
+use Rattle.dcx_links.specs.Matrix.{Matrix, listed, number_at, row_of}
+use Rattle.dcx_chained.proofs.Counts.{some_count, some_count-less}
+use Rattle.dcx_chained.proofs.RowReads.{length-row_of, entry-row_of, number_of_row}
+use Rattle.dcx_chained.proofs.Cleared.{was_row, done_row, small_row, eliminated_there}
+use Rattle.dcx_chained.proofs.clear.clear_rows.Goals as goal
+
+as_long : (m : Matrix) (i r column : ℕ) → entry (row_of m r) column ≢ pos 0 → length (row_of m i) ≡ length (turned column (row_of m r))
+as_long m i r column some = length-row_of m i ∙ sym ((turns column (row_of m r) some).width ∙ length-row_of m r)
+
+pub rows-init : goal.rows-init
+rows-init c = record { height = refl; width = refl; pivot = refl; rows = λ i lt other. inl refl }
+
+pub other_row-requires : goal.other_row-requires
+other_row-requires c = let w = c.rows.invariant.width in let h = c.requires.column in omega (arith, w, h)
+
+pub clear_row-requires-clause-pivot_row : goal.clear_row-requires-clause-pivot_row
+clear_row-requires-clause-pivot_row c = let w = c.rows.invariant.height in let h = c.requires.pivot_row in omega (arith, w, h)
+
+pub clear_row-requires-clause-column : goal.clear_row-requires-clause-column
+clear_row-requires-clause-column c = let w = c.rows.invariant.width in let h = c.requires.column in omega (arith, w, h)
+
+pub clear_row-requires-clause-some : goal.clear_row-requires-clause-some
+clear_row-requires-clause-some c = subst (λ (w : Row). entry w c.args.column ≢ pos 0) (sym c.rows.invariant.pivot) c.requires.some
+
+pub clear_row-requires-clause-met : goal.clear_row-requires-clause-met
+clear_row-requires-clause-met c = c.in-Some.ensures.met
+
+pub clear_row-requires-clause-small : goal.clear_row-requires-clause-small
+clear_row-requires-clause-small c = λ k lt.
+    let m = c.args.links.now in
+    let v = c.rows.invariant in
+    let h = v.height in
+    let k_in : k < m.height = omega (arith, lt, h) in
+    elim (cases_eq k c.args.r) [
+      | inl e ↦ subst AllSmall (sym (ap (λ n. row_of c.rows.links n) e ∙ v.pivot)) (c.requires.small c.args.r c.requires.pivot_row)
+      | inr d ↦ small_row c.args.column (turned c.args.column (row_of m c.args.r)) (row_of m k) (row_of c.rows.links k) (v.rows k k_in d) (as_long m k c.args.r c.args.column c.requires.some) (c.requires.small k k_in) (c.requires.formed k k_in d)
+    ]
+
+pub clear_row-requires-clause-room : goal.clear_row-requires-clause-room
+clear_row-requires-clause-room c = let w = c.rows.invariant.width in let h = c.requires.room in let l = c.rows.auto.entries in omega (arith, w, h, l)
+
+pub clear_row-requires-clause-formed : goal.clear_row-requires-clause-formed
+clear_row-requires-clause-formed c =
+    let m = c.args.links.now in
+    let v = c.rows.invariant in
+    let i = c.in-Some.i in
+    let n = c.in-Some.ensures in
+    let h = v.height in
+    let b = n.below in
+    let i_in : i < m.height = omega (arith, b, h) in
+    let by = turned c.args.column (row_of m c.args.r) in
+    let was = was_row c.args.column by (row_of m i) (row_of c.rows.links i) (v.rows i i_in n.other) (as_long m i c.args.r c.args.column c.requires.some) (turned-positive c.args.column (row_of m c.args.r) c.requires.some) n.met in
+    subst (λ (w : Row). IsRowFormed c.args.column (turned c.args.column w) (row_of c.rows.links i)) (sym v.pivot) (subst (IsRowFormed c.args.column by) (sym was) (c.requires.formed i i_in n.other))
+
+pub rows-smaller : goal.rows-smaller
+rows-smaller c =
+    let m = c.args.links.now in
+    let now = c.rows.links in
+    let next = c.clear_row.new.links in
+    let v = c.rows.invariant in
+    let i = c.in-Some.i in
+    let n = c.in-Some.ensures in
+    let cl = c.clear_row.ensures in
+    let w = v.width in
+    let column = c.args.column in
+    let in_column : column < now.width = let h = c.requires.column in omega (arith, w, h) in
+    let in_next : column < next.width = let h = cl.width in omega (arith, in_column, h) in
+    let some : entry (row_of now c.args.r) column ≢ pos 0 = subst (λ (x : Row). entry x column ≢ pos 0) (sym v.pivot) c.requires.some in
+    let zero : number_at next i column ≡ pos 0 = sym (entry-row_of next i column in_next) ∙ ap (λ (x : Row). entry x column) cl.row
+    ∙ eliminated_there column (turned column (row_of now c.args.r)) (row_of now i) (as_long now i c.args.r column some) (turned-positive column (row_of now c.args.r) some) n.met in
+    let met : number_at now i column ≢ pos 0 = λ z. n.met (entry-row_of now i column in_column ∙ z) in
+    subst (λ k. some_count (listed k (λ q. number_at next q column)) < some_count (listed now.height (λ q. number_at now q column))) (sym cl.height)
+    (some_count-less now.height (λ q. number_at now q column) (λ q. number_at next q column) i n.below met zero (λ q lt other. number_of_row next now q q column in_next in_column (cl.same q other)))
+
+pub rows-preserved : goal.rows-preserved
+rows-preserved c =
+    let m = c.args.links.now in
+    let now = c.rows.links in
+    let next = c.clear_row.new.links in
+    let v = c.rows.invariant in
+    let i = c.in-Some.i in
+    let n = c.in-Some.ensures in
+    let cl = c.clear_row.ensures in
+    let h = v.height in
+    let b = n.below in
+    let i_in : i < m.height = omega (arith, b, h) in
+    let column = c.args.column in
+    let by = turned column (row_of m c.args.r) in
+    let was = was_row column by (row_of m i) (row_of now i) (v.rows i i_in n.other) (as_long m i c.args.r column c.requires.some) (turned-positive column (row_of m c.args.r) c.requires.some) n.met in
+    let cleared : row_of next i ≡ eliminated column by (row_of m i) = cl.row ∙ ap (λ (w : Row). eliminated column (turned column w) (row_of now i)) v.pivot ∙ ap (eliminated column by) was in
+    record {
+      height = cl.height ∙ v.height;
+      width = cl.width ∙ v.width;
+      pivot = cl.same c.args.r (λ e. n.other (sym e)) ∙ v.pivot;
+      rows = λ k lt other. elim (cases_eq k i) [
+        | inl e ↦ inr (subst (λ q. row_of next q ≡ eliminated column by (row_of m q)) (sym e) cleared)
+        | inr d ↦ elim (v.rows k lt other) [
+          | inl stays ↦ inl (cl.same k d ∙ stays)
+          | inr done ↦ inr (cl.same k d ∙ done)
+        ]
+      ];
+    }
+
+pub returns-clause-rows : goal.returns-clause-rows
+returns-clause-rows c = λ i lt other.
+    let m = c.args.links.now in
+    let v = c.rows.invariant in
+    let h = v.height in
+    done_row c.args.column (turned c.args.column (row_of m c.args.r)) (row_of m i) (row_of c.rows.links i) (v.rows i lt other) (c.in_default.ensures.none i (omega (arith, lt, h)) other)

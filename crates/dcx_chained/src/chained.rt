@@ -1,0 +1,116 @@
+//! A tableau in linked cells.
+ghost use Rattle.std.specs.Prelude.{◌≡◌, ℕ, ◌+◌, ◌<◌, ◌≤◌, ◌^◌, length};
+ghost use Rattle.dcx_tab.specs.Rows.{AllSmall};
+ghost use Rattle.dcx_links.specs.Matrix.{row_of};
+
+use crate::build::{put_line, put_rows};
+use crate::clear::{clear_rows, turn_row};
+use crate::wide::first_wide;
+use dcx_links::{Entry, Links};
+use dcx_tab::{Program, Tableau, WideAt, first_basis, plain_of};
+use std::alloc::{AllocError, Global};
+
+/// A tableau in linked cells: only numbers other than 0 are met.
+#[derive(Drop)]
+pub struct Chained {
+    links: Links,
+    entries: Vec<Entry>,
+    basis: Vec<u32>,
+    rows: u32,
+    columns: u32,
+    plain: u32,
+    ghost height: { links.height ≡ rows + 2 },
+    ghost width: { links.width ≡ columns + 3 },
+    ghost room: { length entries.items ≡ columns + 3 },
+    ghost basis_size: { length basis.items ≡ rows + 2 },
+    ghost row_count: { rows + 2 < 2 ^ 32 },
+    ghost column_count: { columns + 3 < 2 ^ 32 },
+    ghost plain_below: { plain ≤ columns },
+    ghost small: { (i : ℕ) → i < rows + 2 → AllSmall (row_of links i) },
+}
+
+impl Chained {
+    ghost use Rattle.std.specs.Prelude.{IfOk};
+    ghost use Rattle.dcx_tab.specs.First.{first_tableau};
+    ghost use Rattle.dcx_chained.specs.Tables.{table_of};
+
+    /// The tableau from which the simplex starts on a program. Takes all memory that the tableau needs.
+    pub fn build(alloc: Global, program: &Program) -> Result<Chained, AllocError>
+        ensures { IfOk result (λ c. table_of c ≡ first_tableau program.now) }
+    {
+        let rows = program.rows.as_slice();
+        let count = rows.len() as u32;
+        let kinds = program.columns.as_slice();
+        let columns = kinds.len() as u32;
+        let mut links = Links::reserve(alloc, count + 2, columns + 3)?;
+        let entries = vec![in alloc; Entry { at: 0, value: 0 }; kinds.len() + 3]?;
+        let basis = first_basis(alloc, program)?;
+        put_rows(&mut links, rows);
+        let objective = &program.objective;
+        put_line(
+            &mut links,
+            count,
+            objective.entries.as_slice(),
+            objective.lead,
+            0,
+            objective.right,
+        );
+        let phase = &program.phase;
+        put_line(
+            &mut links,
+            count + 1,
+            phase.entries.as_slice(),
+            0,
+            phase.lead,
+            phase.right,
+        );
+        Ok(Chained {
+            links,
+            entries,
+            basis,
+            rows: count,
+            columns,
+            plain: plain_of(kinds) as u32,
+        })
+    }
+}
+
+impl Tableau for Chained {
+    ghost use Rattle.dcx_chained.specs.Tables.{table_of};
+
+    ghost table = { table_of };
+
+    ghost plain_below = { λ t. t.plain_below };
+
+    ghost few_columns = { λ t. t.column_count };
+
+    fn rows(&self) -> u32 {
+        self.rows
+    }
+
+    fn columns(&self) -> u32 {
+        self.columns
+    }
+
+    fn plain(&self) -> u32 {
+        self.plain
+    }
+
+    fn entry(&self, row: u32, column: u32) -> i128 {
+        self.links.get(row, column)
+    }
+
+    fn basis(&self, row: u32) -> u32 {
+        self.basis[row as usize]
+    }
+
+    fn pivot(&mut self, row: u32, column: u32) -> Result<(), WideAt> {
+        if let Some(at) = first_wide(&self.links, row, column) {
+            return Err(at);
+        }
+        clear_rows(&mut self.links, row, column, &mut self.entries);
+        turn_row(&mut self.links, row, column, &mut self.entries);
+        self.basis[row as usize] = column;
+        Ok(())
+    }
+}

@@ -1,0 +1,83 @@
+//! The rows of a pivot.
+ghost use Rattle.std.specs.Prelude.{◌≡◌, ◌≢◌, ℕ, ◌<◌, ◌≤◌, length, pos, IfSome, IfNone};
+ghost use Rattle.dcx_tab.specs.Rows.{entry, AllSmall};
+ghost use Rattle.dcx_tab.specs.Pivot.{turned, eliminated, IsRowFormed};
+ghost use Rattle.dcx_links.specs.Matrix.{row_of};
+
+use crate::factors::factors_at;
+use crate::mix::{divisor_of, mix, put_row};
+use dcx_links::{Entry, Links};
+use dcx_tab::Factors;
+
+/// Clears row `i` at the column of a pivot at row `r`.
+fn clear_row(links: &mut Links, i: u32, r: u32, column: u32, entries: &mut [Entry])
+    requires row { i < links.old.height }
+    requires pivot_row { r < links.old.height }
+    requires column { column < links.old.width }
+    requires some { entry (row_of links.old r) column ≢ pos 0 }
+    requires met { entry (row_of links.old i) column ≢ pos 0 }
+    requires small { (k : ℕ) → k < links.old.height → AllSmall (row_of links.old k) }
+    requires room { links.old.width ≤ length entries.old }
+    requires formed { IsRowFormed column (turned column (row_of links.old r)) (row_of links.old i) }
+    ensures row { row_of links.new i ≡ eliminated column (turned column (row_of links.old r)) (row_of links.old i) }
+    ensures same { (k : ℕ) → k ≢ i → row_of links.new k ≡ row_of links.old k }
+    ensures height { links.new.height ≡ links.old.height }
+    ensures width { links.new.width ≡ links.old.width }
+{
+    let factors = factors_at(links, i, r, column);
+    let count = mix(links, i, r, factors, entries);
+    let divisor = divisor_of(entries, count);
+    put_row(links, i, entries, count, divisor);
+}
+
+/// The first row other than row `r` with a number other than 0 in a column.
+fn other_row(links: &Links, r: u32, column: u32) -> Option<u32>
+    requires { column < links.now.width }
+    ensures below { IfSome result (λ i. i < links.now.height) }
+    ensures other { IfSome result (λ i. i ≢ r) }
+    ensures met { IfSome result (λ i. entry (row_of links.now i) column ≢ pos 0) }
+    ensures none { IfNone result ((i : ℕ) → i < links.now.height → i ≢ r → entry (row_of links.now i) column ≡ pos 0) }
+{
+    let mut walk = links.column(column);
+    let first = walk.next()?;
+    if first.at != r {
+        return Some(first.at);
+    }
+    let second = walk.next()?;
+    Some(second.at)
+}
+
+/// Clears all rows but row `r` at the column of a pivot at row `r`.
+pub(crate) fn clear_rows(links: &mut Links, r: u32, column: u32, entries: &mut [Entry])
+    requires pivot_row { r < links.old.height }
+    requires column { column < links.old.width }
+    requires some { entry (row_of links.old r) column ≢ pos 0 }
+    requires small { (k : ℕ) → k < links.old.height → AllSmall (row_of links.old k) }
+    requires room { links.old.width ≤ length entries.old }
+    requires formed { (i : ℕ) → i < links.old.height → i ≢ r → IsRowFormed column (turned column (row_of links.old r)) (row_of links.old i) }
+    ensures rows { (i : ℕ) → i < links.old.height → i ≢ r → row_of links.new i ≡ eliminated column (turned column (row_of links.old r)) (row_of links.old i) }
+    ensures same { row_of links.new r ≡ row_of links.old r }
+    ensures height { links.new.height ≡ links.old.height }
+    ensures width { links.new.width ≡ links.old.width }
+{
+    'rows: while let Some(i) = other_row(links, r, column) {
+        clear_row(links, i, r, column, entries);
+    }
+}
+
+/// Negates row `r` where its number in a column is negative.
+pub(crate) fn turn_row(links: &mut Links, r: u32, column: u32, entries: &mut [Entry])
+    requires row { r < links.old.height }
+    requires column { column < links.old.width }
+    requires small { AllSmall (row_of links.old r) }
+    requires room { links.old.width ≤ length entries.old }
+    ensures row { row_of links.new r ≡ turned column (row_of links.old r) }
+    ensures same { (k : ℕ) → k ≢ r → row_of links.new k ≡ row_of links.old k }
+    ensures height { links.new.height ≡ links.old.height }
+    ensures width { links.new.width ≡ links.old.width }
+{
+    if links.get(r, column) < 0 {
+        let count = mix(links, r, r, Factors { row: -1, by: 0 }, entries);
+        put_row(links, r, entries, count, 1);
+    }
+}

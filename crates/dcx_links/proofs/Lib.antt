@@ -1,0 +1,14 @@
+pub mod Lines
+pub mod Numbers
+pub mod Stores
+pub mod Inserts
+pub mod Pigeons
+pub mod Free
+pub mod Removes
+pub mod Empty
+pub mod Chains
+pub mod Changes
+pub mod Listed
+pub mod Matrices
+pub mod Steps
+pub mod Passes

@@ -1,0 +1,81 @@
+-- What is found at a spot.
+use Rattle.std.proofs.Common.{◌≡◌, ◌≢◌, ℕ, ◌+◌, ◌<◌, ◌≤◌, List, length, get_or, Option, Some, refl, sym, ◌∙◌, arith, pos}
+use Rattle.std.proofs.lemmas.Option.{slice_get_read, get_or_from_slice_get}
+use Rattle.dcx_links.specs.declared.store.Cell.{Cell}
+use Rattle.dcx_links.specs.Lines.{none, IsNext, Leads, IsSpot, AreApart}
+use Rattle.dcx_links.specs.Cells.{cell_at, IsAt, InRow, InColumn, IsStore, cell_number}
+use Rattle.dcx_links.proofs.Lines.{nothing_from, leads_on}
+use Rattle.dcx_links.proofs.Numbers.{at_within, number_is, number_none}
+
+pub cell_read : (cells : List Cell) (i : ℕ) (x : Cell) → i < length cells → x ≡ get_or cells i x → x ≡ cell_at cells i
+cell_read cells i x lt e = sym (get_or_from_slice_get cells i x (record { value = pos 0; row = 0; column = 0; next_in_row = 0; next_in_column = 0 }) (slice_get_read cells (length cells) i x refl lt e))
+
+module _ (cells : List Cell) (rh ch : List ℕ) (free : ℕ) (store : IsStore cells rh ch free) where
+  pub at_real : (i m q : ℕ) → IsAt cells i m q → i < none
+  at_real i m q at = let z = at_within cells i at.number in let y = store.few in omega (arith, z, y)
+
+  pub row_apart : AreApart (InRow cells)
+  row_apart = record {
+    one_line = λ i l m q p h k. sym h.in_row ∙ k.in_row;
+    one_position = λ i l m q p h k. sym h.in_column ∙ k.in_column;
+    one_cell = λ i j l q h k. store.one_cell i j l q h k;
+    real = λ i l q h. at_real i l q h;
+  }
+
+  pub column_apart : AreApart (InColumn cells)
+  column_apart = record {
+    one_line = λ i l m q p h k. sym h.in_column ∙ k.in_column;
+    one_position = λ i l m q p h k. sym h.in_row ∙ k.in_row;
+    one_cell = λ i j l q h k. store.one_cell i j q l h k;
+    real = λ i l q h. at_real i q l h;
+  }
+
+  module _ (row column : ℕ) (s : Option ℕ) (b link : ℕ) (spot : IsSpot (InRow cells) row column s b link) where
+    pub empty_none : link ≡ none → (i : ℕ) → ¬ IsAt cells i row column
+    empty_none e i at = let z = nothing_from (InRow cells) row b column link spot.next spot.within at_real e i column at in let y = spot.within in omega (arith, z, y)
+
+    leads : link ≢ none → Leads (InRow cells) row b link
+    leads d = leads_on (InRow cells) row b column link spot.next spot.within at_real d
+
+    pub link_within : link ≢ none → link < length cells
+    link_within d = at_within cells link (leads d).here.number
+
+    pub found : link ≢ none → (cell_at cells link).column ≡ column → IsAt cells link row column
+    found d e = let h = (leads d).here in record { number = h.number; in_row = h.in_row; in_column = e }
+
+    pub empty_other : link ≢ none → (cell_at cells link).column ≢ column → (i : ℕ) → ¬ IsAt cells i row column
+    empty_other d e i at =
+        let h = leads d in
+        let z = h.first i column at spot.within in
+        let y = spot.gap link h.position h.here h.beyond in
+        let x = h.here.in_column in
+        e (omega (arith, z, y, x))
+
+    pub number_found : link ≢ none → (cell_at cells link).column ≡ column → (cell_at cells link).value ≡ cell_number cells row column
+    number_found d e = sym (number_is cells store.one_cell link row column (found d e))
+
+  -- a walk along a row
+  module _ (row b link : ℕ) (next : IsNext (InRow cells) row b link) where
+    pub walk_leads : link ≢ none → Leads (InRow cells) row b link
+    walk_leads d = leads_on (InRow cells) row b b link next (omega arith) at_real d
+
+    pub walk_within : link ≢ none → link < length cells
+    walk_within d = at_within cells link (walk_leads d).here.number
+
+    pub walk_here : link ≢ none → IsAt cells link row (cell_at cells link).column
+    walk_here d = let h = (walk_leads d).here in record { number = h.number; in_row = h.in_row; in_column = refl }
+
+    pub walk_number : link ≢ none → cell_number cells row (cell_at cells link).column ≡ (cell_at cells link).value
+    walk_number d = number_is cells store.one_cell link row (cell_at cells link).column (walk_here d)
+
+    pub walk_beyond : link ≢ none → b ≤ (cell_at cells link).column
+    walk_beyond d = let h = walk_leads d in let e = h.here.in_column in let z = h.beyond in omega (arith, z, e)
+
+    pub walk_next : link ≢ none → IsNext (InRow cells) row ((cell_at cells link).column + 1) (cell_at cells link).next_in_row
+    walk_next d = store.rows_linked.linked row (Some link) ((cell_at cells link).column + 1) ((cell_at cells link).column, walk_here d, refl)
+
+    pub walk_zeros : link ≢ none → (c : ℕ) → b ≤ c → c < (cell_at cells link).column → cell_number cells row c ≡ pos 0
+    walk_zeros d c le lt = number_none cells row c (λ i at. let h = walk_leads d in let z = h.first i c at le in let e = h.here.in_column in omega (arith, z, e, lt))
+
+    pub walk_ends : link ≡ none → (c : ℕ) → b ≤ c → cell_number cells row c ≡ pos 0
+    walk_ends e c le = number_none cells row c (λ i at. let z = nothing_from (InRow cells) row b b link next (omega arith) at_real e i c at in omega (arith, z, le))

@@ -1,0 +1,133 @@
+//! The matrix.
+ghost use Rattle.std.specs.Prelude.{◌≡◌, ℕ, ◌<◌, pos, IfOk, length};
+ghost use Rattle.dcx_links.specs.Matrix.{number_at, row_of, column_of};
+ghost use Rattle.dcx_links.specs.Cells.{number_in, IsSound};
+
+use crate::pair::{Ahead, PairWalk};
+use crate::reserve::{make_heads, store_of};
+use crate::search::row_spot;
+use crate::store::{NONE, Store};
+use crate::walk::{ColumnWalk, RowWalk};
+use crate::write::{Near, put};
+use std::alloc::{AllocError, Global};
+use std::marker::Model;
+
+/// The number at a place, looked for from a cell, if that stands before it in its row, and else from the head.
+fn number_near(store: &Store, row: u32, column: u32, near: u32) -> i128
+    requires sound { IsSound store.now }
+    requires row { row < length store.now.row_heads.items }
+    ensures { result ≡ number_in store.now row column }
+{
+    let spot = row_spot(&store.cells, &store.row_heads, row, column, near);
+    if spot.link == NONE {
+        return 0;
+    }
+    let cell = store.cells[spot.link as usize];
+    if cell.column == column { cell.value } else { 0 }
+}
+
+/// A sparse matrix. Its memory is taken once, for a number at each place.
+#[derive(Drop)]
+pub struct Links {
+    store: Store,
+    near_rows: Vec<u32>,
+    near_columns: Vec<u32>,
+}
+
+impl Model for Links {
+    ghost use Rattle.dcx_links.specs.Matrix.{Matrix};
+
+    ghost Value = { Matrix };
+
+    ghost use Rattle.dcx_links.specs.Views.{matrix_of, AreLinked};
+
+    ghost view = { λ l. matrix_of l.store };
+
+    ghost invariant = { λ l. AreLinked l.store l.near_rows.items l.near_columns.items };
+}
+
+impl Links {
+    /// A matrix of zeros, with the memory for a number at each place. No other call takes memory.
+    ///
+    /// A matrix of 2^32 - 1 places or more is refused as one for which there is no memory.
+    pub fn reserve(alloc: Global, rows: u32, columns: u32) -> Result<Links, AllocError>
+        ensures height { IfOk result (λ l. l.height ≡ rows) }
+        ensures width { IfOk result (λ l. l.width ≡ columns) }
+        ensures zeros { IfOk result (λ l. (r c : ℕ) → number_at l r c ≡ pos 0) }
+    {
+        let store = store_of(alloc, rows, columns)?;
+        let near_rows = make_heads(alloc, rows)?;
+        let near_columns = make_heads(alloc, columns)?;
+        Ok(Links {
+            store,
+            near_rows,
+            near_columns,
+        })
+    }
+
+    /// The number at a place.
+    pub fn get(&self, row: u32, column: u32) -> i128
+        requires row { row < self.now.height }
+        requires column { column < self.now.width }
+        ensures { result ≡ number_at self.now row column }
+    {
+        let near = self.near_rows[row as usize];
+        number_near(&self.store, row, column, near)
+    }
+
+    /// Puts a number at a place. At 0 the cell of the place is free again, and another number takes a cell, which is always there.
+    pub fn set(&mut self, row: u32, column: u32, value: i128)
+        requires row { row < self.old.height }
+        requires column { column < self.old.width }
+        ensures there { number_at self.new row column ≡ value }
+        ensures same { (r c : ℕ) → ¬ ((r ≡ row) × (c ≡ column)) → number_at self.new r c ≡ number_at self.old r c }
+        ensures height { self.new.height ≡ self.old.height }
+        ensures width { self.new.width ≡ self.old.width }
+    {
+        let start = Near {
+            in_row: self.near_rows[row as usize],
+            in_column: self.near_columns[column as usize],
+        };
+        let near = put(&mut self.store, row, column, value, start);
+        self.near_rows[row as usize] = near.in_row;
+        self.near_columns[column as usize] = near.in_column;
+    }
+
+    /// The numbers of a row other than 0, by rising columns.
+    pub fn row(&self, row: u32) -> RowWalk<'_>
+        requires { row < self.now.height }
+        ensures { result ≡ record { numbers = row_of self.now row; from = 0 } }
+    {
+        RowWalk {
+            store: &self.store,
+            row,
+            from: 0,
+            link: self.store.row_heads[row as usize],
+        }
+    }
+
+    /// The numbers of a column other than 0, by rising rows.
+    pub fn column(&self, column: u32) -> ColumnWalk<'_>
+        requires { column < self.now.width }
+        ensures { result ≡ record { numbers = column_of self.now column; from = 0 } }
+    {
+        ColumnWalk {
+            store: &self.store,
+            column,
+            from: 0,
+            link: self.store.column_heads[column as usize],
+        }
+    }
+
+    /// What two rows have in the columns where one of them has a number other than 0, by rising columns.
+    pub fn pairs(&self, first: u32, second: u32) -> PairWalk<'_>
+        requires first { first < self.now.height }
+        requires second { second < self.now.height }
+        ensures { result ≡ record { first = row_of self.now first; second = row_of self.now second; from = 0 } }
+    {
+        PairWalk {
+            first: Ahead::begin(self.row(first)),
+            second: Ahead::begin(self.row(second)),
+        }
+    }
+}

@@ -1,0 +1,224 @@
+//! Numbers put at places, and taken from them.
+ghost use Rattle.std.specs.Prelude.{◌≡◌, ◌≢◌, ℕ, ◌<◌, length, pos, IfSome};
+ghost use Rattle.dcx_links.specs.Lines.{IsSpot, link_of};
+ghost use Rattle.dcx_links.specs.Cells.{head_at, InRow, InColumn, IsAt, next_in_row_at, next_in_column_at, bound_in_row, bound_in_column, number_in, with_next_in_row, with_next_in_column, with_head, IsSound};
+
+use crate::search::{Spot, column_spot, is_there, row_spot};
+use crate::store::{Cell, NONE, Store};
+
+/// Makes the link of a row that comes from a cell, or else from the head, lead to another cell.
+fn link_row(cells: &mut Vec<Cell>, heads: &mut Vec<u32>, row: u32, from: Option<u32>, to: u32)
+    requires within { row < length heads.old.items }
+    requires from { IfSome from (λ i. i < length cells.old.items) }
+    ensures cells { cells.new.items ≡ with_next_in_row cells.old.items from to }
+    ensures heads { heads.new.items ≡ with_head heads.old.items row from to }
+{
+    match from {
+        None => heads[row as usize] = to,
+        Some(i) => cells[i as usize].next_in_row = to,
+    }
+}
+
+/// Makes the link of a column that comes from a cell, or else from the head, lead to another cell.
+fn link_column(cells: &mut Vec<Cell>, heads: &mut Vec<u32>, column: u32, from: Option<u32>, to: u32)
+    requires within { column < length heads.old.items }
+    requires from { IfSome from (λ i. i < length cells.old.items) }
+    ensures cells { cells.new.items ≡ with_next_in_column cells.old.items from to }
+    ensures heads { heads.new.items ≡ with_head heads.old.items column from to }
+{
+    match from {
+        None => heads[column as usize] = to,
+        Some(i) => cells[i as usize].next_in_column = to,
+    }
+}
+
+/// Puts a number other than 0 at a place that has none, behind links that were found before. Answers its cell.
+fn insert_at(
+    store: &mut Store,
+    row: u32,
+    column: u32,
+    value: i128,
+    in_row: Spot,
+    in_column: Spot,
+) -> u32
+    requires sound { IsSound store.old }
+    requires row { row < length store.old.row_heads.items }
+    requires column { column < length store.old.column_heads.items }
+    requires number { value ≢ pos 0 }
+    requires empty { (i : ℕ) → ¬ IsAt store.old.cells.items i row column }
+    requires in_row { IsSpot (InRow store.old.cells.items) row column in_row.from (bound_in_row store.old.cells.items in_row.from) in_row.link }
+    requires row_link { in_row.link ≡ link_of (head_at store.old.row_heads.items) (next_in_row_at store.old.cells.items) row in_row.from }
+    requires in_column { IsSpot (InColumn store.old.cells.items) column row in_column.from (bound_in_column store.old.cells.items in_column.from) in_column.link }
+    requires column_link { in_column.link ≡ link_of (head_at store.old.column_heads.items) (next_in_column_at store.old.cells.items) column in_column.from }
+    ensures sound { IsSound store.new }
+    ensures rows { length store.new.row_heads.items ≡ length store.old.row_heads.items }
+    ensures columns { length store.new.column_heads.items ≡ length store.old.column_heads.items }
+    ensures there { number_in store.new row column ≡ value }
+    ensures same { (r c : ℕ) → ¬ ((r ≡ row) × (c ≡ column)) → number_in store.new r c ≡ number_in store.old r c }
+{
+    let free = store.free;
+    store.free = store.cells[free as usize].next_in_row;
+    store.cells[free as usize] = Cell {
+        value,
+        row,
+        column,
+        next_in_row: in_row.link,
+        next_in_column: in_column.link,
+    };
+    link_row(
+        &mut store.cells,
+        &mut store.row_heads,
+        row,
+        in_row.from,
+        free,
+    );
+    link_column(
+        &mut store.cells,
+        &mut store.column_heads,
+        column,
+        in_column.from,
+        free,
+    );
+    free
+}
+
+/// Takes the number from a place that has one, behind links that were found before.
+fn remove_at(store: &mut Store, row: u32, column: u32, in_row: Spot, in_column: Spot)
+    requires sound { IsSound store.old }
+    requires row { row < length store.old.row_heads.items }
+    requires column { column < length store.old.column_heads.items }
+    requires there { number_in store.old row column ≢ pos 0 }
+    requires in_row { IsSpot (InRow store.old.cells.items) row column in_row.from (bound_in_row store.old.cells.items in_row.from) in_row.link }
+    requires row_link { in_row.link ≡ link_of (head_at store.old.row_heads.items) (next_in_row_at store.old.cells.items) row in_row.from }
+    requires in_column { IsSpot (InColumn store.old.cells.items) column row in_column.from (bound_in_column store.old.cells.items in_column.from) in_column.link }
+    requires column_link { in_column.link ≡ link_of (head_at store.old.column_heads.items) (next_in_column_at store.old.cells.items) column in_column.from }
+    ensures sound { IsSound store.new }
+    ensures rows { length store.new.row_heads.items ≡ length store.old.row_heads.items }
+    ensures columns { length store.new.column_heads.items ≡ length store.old.column_heads.items }
+    ensures there { number_in store.new row column ≡ pos 0 }
+    ensures same { (r c : ℕ) → ¬ ((r ≡ row) × (c ≡ column)) → number_in store.new r c ≡ number_in store.old r c }
+{
+    let at = in_row.link;
+    let cell = store.cells[at as usize];
+    link_row(
+        &mut store.cells,
+        &mut store.row_heads,
+        row,
+        in_row.from,
+        cell.next_in_row,
+    );
+    link_column(
+        &mut store.cells,
+        &mut store.column_heads,
+        column,
+        in_column.from,
+        cell.next_in_column,
+    );
+    store.cells[at as usize] = Cell {
+        value: 0,
+        row,
+        column,
+        next_in_row: store.free,
+        next_in_column: NONE,
+    };
+    store.free = at;
+}
+
+/// Puts another number in the place of one, none of both 0.
+fn change_at(store: &mut Store, at: u32, row: u32, column: u32, value: i128)
+    requires sound { IsSound store.old }
+    requires number { value ≢ pos 0 }
+    requires here { IsAt store.old.cells.items at row column }
+    ensures sound { IsSound store.new }
+    ensures rows { length store.new.row_heads.items ≡ length store.old.row_heads.items }
+    ensures columns { length store.new.column_heads.items ≡ length store.old.column_heads.items }
+    ensures there { number_in store.new row column ≡ value }
+    ensures same { (r c : ℕ) → ¬ ((r ≡ row) × (c ≡ column)) → number_in store.new r c ≡ number_in store.old r c }
+{
+    store.cells[at as usize].value = value;
+}
+
+/// Cells from which the places of a row and of a column are looked for, if they stand before them.
+#[derive(Clone, Copy)]
+pub(crate) struct Near {
+    pub(crate) in_row: u32,
+    pub(crate) in_column: u32,
+}
+
+/// Puts a number other than 0 at a place that has none.
+fn put_in(store: &mut Store, row: u32, column: u32, value: i128, in_row: Spot, near: u32) -> Near
+    requires sound { IsSound store.old }
+    requires row { row < length store.old.row_heads.items }
+    requires column { column < length store.old.column_heads.items }
+    requires number { value ≢ pos 0 }
+    requires empty { (i : ℕ) → ¬ IsAt store.old.cells.items i row column }
+    requires in_row { IsSpot (InRow store.old.cells.items) row column in_row.from (bound_in_row store.old.cells.items in_row.from) in_row.link }
+    requires row_link { in_row.link ≡ link_of (head_at store.old.row_heads.items) (next_in_row_at store.old.cells.items) row in_row.from }
+    ensures sound { IsSound store.new }
+    ensures rows { length store.new.row_heads.items ≡ length store.old.row_heads.items }
+    ensures columns { length store.new.column_heads.items ≡ length store.old.column_heads.items }
+    ensures there { number_in store.new row column ≡ value }
+    ensures same { (r c : ℕ) → ¬ ((r ≡ row) × (c ≡ column)) → number_in store.new r c ≡ number_in store.old r c }
+{
+    let in_column = column_spot(&store.cells, &store.column_heads, row, column, near);
+    let cell = insert_at(store, row, column, value, in_row, in_column);
+    Near {
+        in_row: cell,
+        in_column: cell,
+    }
+}
+
+/// Takes the number from a place that has one.
+fn take_out(store: &mut Store, row: u32, column: u32, in_row: Spot, near: u32) -> Near
+    requires sound { IsSound store.old }
+    requires row { row < length store.old.row_heads.items }
+    requires column { column < length store.old.column_heads.items }
+    requires there { number_in store.old row column ≢ pos 0 }
+    requires in_row { IsSpot (InRow store.old.cells.items) row column in_row.from (bound_in_row store.old.cells.items in_row.from) in_row.link }
+    requires row_link { in_row.link ≡ link_of (head_at store.old.row_heads.items) (next_in_row_at store.old.cells.items) row in_row.from }
+    ensures sound { IsSound store.new }
+    ensures rows { length store.new.row_heads.items ≡ length store.old.row_heads.items }
+    ensures columns { length store.new.column_heads.items ≡ length store.old.column_heads.items }
+    ensures there { number_in store.new row column ≡ pos 0 }
+    ensures same { (r c : ℕ) → ¬ ((r ≡ row) × (c ≡ column)) → number_in store.new r c ≡ number_in store.old r c }
+{
+    let in_column = column_spot(&store.cells, &store.column_heads, row, column, near);
+    remove_at(store, row, column, in_row, in_column);
+    Near {
+        in_row: in_row.from.unwrap_or(NONE),
+        in_column: in_column.from.unwrap_or(NONE),
+    }
+}
+
+/// Puts a number at a place. The column is searched only where a cell comes to it or leaves it.
+///
+/// Answers the cells at the place, or before it, as far as it found them.
+pub(crate) fn put(store: &mut Store, row: u32, column: u32, value: i128, near: Near) -> Near
+    requires sound { IsSound store.old }
+    requires row { row < length store.old.row_heads.items }
+    requires column { column < length store.old.column_heads.items }
+    ensures sound { IsSound store.new }
+    ensures rows { length store.new.row_heads.items ≡ length store.old.row_heads.items }
+    ensures columns { length store.new.column_heads.items ≡ length store.old.column_heads.items }
+    ensures there { number_in store.new row column ≡ value }
+    ensures same { (r c : ℕ) → ¬ ((r ≡ row) × (c ≡ column)) → number_in store.new r c ≡ number_in store.old r c }
+{
+    let in_row = row_spot(&store.cells, &store.row_heads, row, column, near.in_row);
+    if is_there(&store.cells, row, column, in_row) {
+        if value == 0 {
+            return take_out(store, row, column, in_row, near.in_column);
+        }
+        change_at(store, in_row.link, row, column, value);
+        return Near {
+            in_row: in_row.link,
+            in_column: near.in_column,
+        };
+    }
+    if value == 0 {
+        return Near {
+            in_row: in_row.from.unwrap_or(NONE),
+            in_column: near.in_column,
+        };
+    }
+    put_in(store, row, column, value, in_row, near.in_column)
+}
