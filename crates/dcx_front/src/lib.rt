@@ -23,6 +23,7 @@ mod fault;
 pub mod laws;
 mod numbers;
 mod refusal;
+mod refusing;
 mod sites;
 
 pub use accepted::Accepted;

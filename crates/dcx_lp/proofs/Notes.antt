@@ -2,6 +2,7 @@
 use Rattle.std.proofs.Common.{◌≡◌, ℕ, zero, suc, ◌+◌, ◌-◌, List, [], ◌∷◌, length, map, take, refl, sym, ap, ap₂, ◌∙◌, subst, Some, Ok, Err, arith}
 use Rattle.std.specs.Prelude.{Result, slice_range}
 use Rattle.std.proofs.lemmas.List.{take_all}
+use Rattle.std.proofs.lemmas.Option.{same_Some}
 use Rattle.dcx_math.specs.Rational.{◌*ℚ◌}
 use Rattle.dcx_frac.specs.declared.fraction.Frac.{Frac}
 use Rattle.dcx_frac.specs.declared.fraction.Op.TheVariants.{Mul}
@@ -65,8 +66,9 @@ first_from i (n ∷ notes) row passes e = by (product_of n.factor n.reduced_cost
         → (passing_from (suc i) (map (multiplier_formed Optimal AtMost) notes) ≡ Some (row, passes) → IsFirstFrom (suc i) notes row passes) → IsFirstFrom i (n ∷ notes) row passes
     by (Ok y) is h more = behind (is.fits.0 refl) (more h)
     by (Err p) is h more =
-        let place : i ≡ row = cc in
-        let asked : p ≡ passes = cc in
+        let both : (i, p) ≡ (row, passes) = same_Some (i, p) (row, passes) h in
+        let place : i ≡ row = ap (λ (q : ℕ × Passes). q.0) both in
+        let asked : p ≡ passes = ap (λ (q : ℕ × Passes). q.1) both in
         record {
           k = 0;
           at = omega (arith, place);
