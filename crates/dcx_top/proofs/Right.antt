@@ -1,5 +1,5 @@
 -- The headline follows from the cause of each answer.
-use Rattle.std.proofs.Common.{◌≡◌, ℕ, List, [], ◌∷◌, ◌++◌, map, refl, sym, ap₂, subst, Option, Some}
+use Rattle.std.proofs.Common.{◌≡◌, ℕ, List, [], ◌∷◌, ◌++◌, map, refl, sym, ap₂, subst, Option, Some, Ok}
 use Rattle.dcx_frac.specs.declared.fraction.Frac.{Frac}
 use Rattle.dcx_frac.specs.Frac.{value}
 use Rattle.dcx_tree.specs.declared.constraint.Sense.{Sense}
@@ -9,9 +9,12 @@ use Rattle.dcx_answer.specs.declared.answer.Answer.TheVariants as answer
 use Rattle.dcx_report.specs.declared.outcome.Outcome.{Outcome}
 use Rattle.dcx_report.specs.declared.outcome.OutcomeEnd.{OutcomeEnd}
 use Rattle.dcx_report.specs.declared.outcome.OutcomeEnd.TheVariants as end
+use Rattle.dcx_front.specs.declared.accepted.Accepted.{Accepted}
 use Rattle.dcx_front.specs.declared.checked.Checked.{Checked}
+use Rattle.dcx_front.specs.declared.refusal.Refusal.{Refusal}
+use Rattle.dcx_front.specs.Accepts.{Gives}
 use Rattle.dcx_front.specs.Checks.{IsFoundOf}
-use Rattle.dcx_front.proofs.OneVerdict.{acceptance}
+use Rattle.dcx_front.proofs.OneVerdict.{IsAcceptance, acceptance}
 use Rattle.dcx_report.specs.declared.run.Word.{Word}
 use Rattle.dcx_report.specs.declared.run.Run.{Run}
 use Rattle.dcx_report.specs.declared.run.Run.TheVariants as run
@@ -59,6 +62,26 @@ not_solved bytes word sense outcomes (accepted a c g f e) = cc
 not_solved bytes word sense outcomes (refused r g e) = cc
 not_solved bytes word sense outcomes (without_memory e) = cc
 
+-- the accepted problem that a check tells of
+record IsFound (bytes : List ℕ) (c : Checked) : Type 0 where
+  given : Accepted
+  gives : Gives bytes (Ok given)
+  found : IsFoundOf given.work.problem c
+
+found_by : (bytes : List ℕ) (c d : Checked) (a : Accepted) → Gives bytes (Ok a) → IsFoundOf a.work.problem d → run.Checked c ≡ run.Checked d → IsFound bytes c
+found_by bytes c d a g f e = let same : d ≡ c = cc in record { given = a; gives = g; found = subst (IsFoundOf a.work.problem) same f }
+
+not_refused : (c : Checked) (r : Refusal) → run.Checked c ≡ run.Refused r → ⊥
+not_refused c r e = cc
+
+not_memory : (c : Checked) → run.Checked c ≡ run.Memory → ⊥
+not_memory c e = cc
+
+is_found : (bytes : List ℕ) (c : Checked) → ChecksBytes bytes (run.Checked c) → IsFound bytes c
+is_found bytes c (accepted a d g f e) = found_by bytes c d a g f e
+is_found bytes c (refused r g e) = absurd (not_refused c r e)
+is_found bytes c (without_memory e) = absurd (not_memory c e)
+
 module _ (words : List (List ℕ)) (told : Option Files) (name : List ℕ) (bytes : List ℕ) (are_told : IsTold told name bytes) where
   right_over : (word : Word) (sense : Sense) (outcomes : List Outcome) (verb : Verb) → form_of words ≡ Some (verb, name) → GivesRun verb bytes (run.Solved word sense outcomes) → IsRightOver words told outcomes
   right_over word sense outcomes Check form gives = absurd (not_solved bytes word sense outcomes gives)
@@ -72,23 +95,21 @@ module _ (words : List (List ℕ)) (told : Option Files) (name : List ℕ) (byte
     right = right_outcomes gives.2.0 outcomes gives.2.2;
   }
 
+  over : (c : Checked) (a : Accepted) → IsAcceptance bytes a → IsFoundOf a.work.problem c → form_of words ≡ Some (Check, name) → IsAcceptedOver words told c
+  over c a h found form = record {
+    name = name;
+    form = form;
+    bytes = bytes;
+    are_told = are_told;
+    script = h.script;
+    spelled = h.spelled;
+    work = a.work;
+    stands_for = h.stands_for;
+    accepted = record { accepted = h.judged.accepted; convex = h.judged.convex; found = found };
+  }
+
   accepted_over : (c : Checked) (verb : Verb) → form_of words ≡ Some (verb, name) → GivesRun verb bytes (run.Checked c) → IsAcceptedOver words told c
-  accepted_over c Check form (accepted a d g f e) =
-      let h = acceptance bytes a g in
-      let same : d ≡ c = cc in
-      record {
-        name = name;
-        form = form;
-        bytes = bytes;
-        are_told = are_told;
-        script = h.script;
-        spelled = h.spelled;
-        work = a.work;
-        stands_for = h.stands_for;
-        accepted = record { accepted = h.judged.accepted; convex = h.judged.convex; found = subst (IsFoundOf a.work.problem) same f };
-      }
-  accepted_over c Check form (refused r g e) = cc
-  accepted_over c Check form (without_memory e) = cc
+  accepted_over c Check form gives = let k = is_found bytes c gives in over c k.given (acceptance bytes k.given k.gives) k.found form
   accepted_over c Solve form gives = absurd gives
 
 pub right_answers : (words : List (List ℕ)) (told : Option Files) (risen : Type 0) (r : Run) → Answers words told risen r → AnswersAreRight words told r
