@@ -1,0 +1,16 @@
+//! Worked cases in plain files: what a line asks, what it wants, and whether that is what came.
+//!
+//! A line is `PART | PART | .. => WANTED`. Lines that are empty or begin with `#` are none.
+#![tactic(auto)]
+
+mod arrays;
+mod fault;
+mod fractions;
+mod running;
+mod sizes;
+
+pub use arrays::{Filled, array, numbers};
+pub use fault::CaseFault;
+pub use fractions::{Number, Numbers, Passing};
+pub use running::{Cases, Tally};
+pub use sizes::{Size, shape};
