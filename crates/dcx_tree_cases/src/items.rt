@@ -117,7 +117,11 @@ pub(crate) fn push_item<T: Pushed>(
 }
 
 /// Pushes what a text says, item by item. `Unreadable` where a push gives no node.
-pub(crate) fn push_all<T: Pushed>(alloc: Global, tree: &mut T, items: &str) -> Result<(), CaseFault> {
+pub(crate) fn push_all<T: Pushed>(
+    alloc: Global,
+    tree: &mut T,
+    items: &str,
+) -> Result<(), CaseFault> {
     for item in items.split(';') {
         if push_item(alloc, tree, item)?.is_err() {
             return Err(CaseFault::Unreadable);

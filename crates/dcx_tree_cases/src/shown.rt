@@ -15,8 +15,7 @@ pub(crate) fn pushed_text(
             let word = match what {
                 Count::Nodes => "nodes",
                 Count::Entries => "entries",
-                Count::Items => "items",
-                Count::Solves => "solves",
+                _ => "others",
             };
             format!(in alloc; "{count} {word}")
         }

@@ -19,14 +19,14 @@ impl Cases for Values {
                 push_all(alloc, &mut tree, items)?;
                 let point = point(alloc, of_point)?;
                 let setting = setting(alloc, of_setting)?;
-                values(alloc, &tree, nodes, &point, &setting)
+                values_text(alloc, &tree, nodes, &point, &setting)
             }
             _ => Err(CaseFault::Unreadable),
         }
     }
 }
 
-fn values(
+fn values_text(
     alloc: Global,
     tree: &Tree,
     nodes: &str,

@@ -1,0 +1,308 @@
+//! Problems that are gathered from a tree.
+ghost use Rattle.std.specs.Prelude.{◌≡◌, ◌≢◌, ◌↔◌, ℕ, Contains, IsTrue};
+ghost use Rattle.std.specs.List.{IsDistinct};
+ghost use Rattle.dcx_point.specs.Pairs.{same_name};
+ghost use Rattle.dcx_arena.specs.Nodes.{IsNode};
+ghost use Rattle.dcx_tree.specs.Nodes.{Node};
+ghost use Rattle.dcx_tree.specs.Problems.{IsListed, declared_names};
+
+use crate::items::push_all;
+use crate::leaves::{count, parameter, variable};
+use dcx_arena::NodeId;
+use dcx_call::{Call, Parameter, Variable};
+use dcx_case_lines::{CaseFault, Cases};
+use dcx_shape::{Name, Place, Shape};
+use dcx_tree::{
+    Constraint, Constraints, Kind, Parameters, Problem, Roots, Sense, Tree, Variables, gather,
+};
+use std::alloc::{AllocError, Global};
+
+/// `nodes LINE SENSE NODE | ITEMS | CONSTRAINTS` for the nodes of the problem, and the same with `kept` for what else it
+/// keeps. The variable `x` of two entries and the parameter `p` are declared, and a constraint is written `8 0 <= 5`.
+pub(crate) struct Problems;
+
+impl Cases for Problems {
+    fn answer(&self, alloc: Global, parts: &[&str]) -> Result<String, CaseFault> {
+        match *parts {
+            [first, items, constraints] => {
+                let words: Vec<&str> = first.split_whitespace().collect(alloc)?;
+                let mut tree = Tree::new(alloc);
+                push_all(alloc, &mut tree, items)?;
+                let roots = roots(alloc, &words, constraints)?;
+                let problem = problem_of(alloc, &tree, &roots)?;
+                match *words {
+                    ["nodes", ..] => Ok(nodes_text(alloc, &problem.tree)?),
+                    _ => kept_text(alloc, &problem),
+                }
+            }
+            _ => Err(CaseFault::Unreadable),
+        }
+    }
+}
+
+/// The beginning of a line.
+fn line(word: &str) -> Result<Place, CaseFault> {
+    Ok(Place {
+        line: count(word)?,
+        column: 1,
+    })
+}
+
+/// A demand on two nodes of two entries.
+fn constraint(alloc: Global, text: &str) -> Result<Constraint, CaseFault> {
+    let words: Vec<&str> = text.split_whitespace().collect(alloc)?;
+    let (at, left, sign, right) = match *words {
+        [at, left, sign, right] => (at, left, sign, right),
+        _ => return Err(CaseFault::Unreadable),
+    };
+    Ok(Constraint {
+        kind: match sign {
+            "<=" => Kind::AtMost,
+            "==" => Kind::Equal,
+            _ => return Err(CaseFault::Unreadable),
+        },
+        left: NodeId(count(left)?),
+        right: NodeId(count(right)?),
+        shape: Shape::vector(2).ok_or(CaseFault::Unreadable)?,
+        place: line(at)?,
+    })
+}
+
+fn constraints(alloc: Global, text: &str) -> Result<Vec<Constraint>, CaseFault> {
+    let mut constraints = Vec::new(alloc);
+    for item in text.split(';') {
+        constraints.push(constraint(alloc, item)?)?;
+    }
+    Ok(constraints)
+}
+
+/// What is to be small or great, where it stands, and what is demanded.
+fn roots(alloc: Global, words: &[&str], demands: &str) -> Result<Roots, CaseFault> {
+    let (at, sense, node) = match *words {
+        [_, at, "minimize", node] => (at, Sense::Minimize, node),
+        [_, at, "maximize", node] => (at, Sense::Maximize, node),
+        _ => return Err(CaseFault::Unreadable),
+    };
+    let variables = vec![in alloc; variable(alloc, "x", 2)?]?;
+    let parameters = vec![in alloc; parameter(alloc, "p")?]?;
+    Ok(Roots {
+        sense,
+        objective: NodeId(count(node)?),
+        objective_place: line(at)?,
+        constraints: Constraints::from_vec(constraints(alloc, demands)?),
+        variables: Variables::from_vec(variables),
+        parameters: Parameters::from_vec(parameters),
+    })
+}
+
+/// The problem of these roots. `Unreadable` where they are no roots of the tree, or where what is declared isn't one
+/// variable and one parameter, or two variables.
+pub(crate) fn problem_of(alloc: Global, tree: &Tree, roots: &Roots) -> Result<Problem, CaseFault> {
+    let variables = roots.variables.as_slice();
+    let parameters = roots.parameters.as_slice();
+    if !tree.is_objective(roots.objective) {
+        return Err(CaseFault::Unreadable);
+    }
+    if !tree.are_constraints(roots.constraints.as_slice()) {
+        return Err(CaseFault::Unreadable);
+    }
+    if !is_distinct(variables, parameters) {
+        return Err(CaseFault::Unreadable);
+    }
+    if !are_listed(variables, parameters, tree) {
+        return Err(CaseFault::Unreadable);
+    }
+    match gather(alloc, tree, roots) {
+        Ok(problem) => Ok(problem),
+        Err(_) => Err(CaseFault::Memory),
+    }
+}
+
+/// Whether one variable and one parameter are there, or two variables, of different names.
+fn is_distinct(variables: &[Variable], parameters: &[Parameter]) -> bool
+    ensures { IsTrue result → IsDistinct same_name (declared_names variables.now parameters.now) }
+{
+    if parameters.is_empty() {
+        are_two(variables, parameters)
+    } else {
+        is_one_of_each(variables, parameters)
+    }
+}
+
+/// Whether two variables of different names are there, and no parameter.
+fn are_two(variables: &[Variable], parameters: &[Parameter]) -> bool
+    ensures { IsTrue result → IsDistinct same_name (declared_names variables.now parameters.now) }
+{
+    if variables.len() != 2 || parameters.len() != 0 {
+        return false;
+    }
+    differ(&variables[0].name, &variables[1].name)
+}
+
+/// Whether one variable and one parameter are there, of different names.
+fn is_one_of_each(variables: &[Variable], parameters: &[Parameter]) -> bool
+    ensures { IsTrue result → IsDistinct same_name (declared_names variables.now parameters.now) }
+{
+    if variables.len() != 1 || parameters.len() != 1 {
+        return false;
+    }
+    differ(&variables[0].name, &parameters[0].name)
+}
+
+fn differ(a: &Name, b: &Name) -> bool
+    ensures { IsTrue result ↔ (a.now ≢ b.now) }
+{
+    a != b
+}
+
+/// Whether a tree has no other variables and no other parameters than these.
+fn are_listed(variables: &[Variable], parameters: &[Parameter], tree: &Tree) -> bool
+    ensures { IsTrue result → (i : ℕ) (n : Node) → IsNode tree.now i n → IsListed variables.now parameters.now n.call }
+{
+    for i in 0..tree.nodes() {
+        if !is_listed(variables, parameters, tree.call(NodeId(i))) {
+            return false;
+        }
+    }
+    true
+}
+
+/// Whether a call is no other variable and no other parameter than these.
+fn is_listed(variables: &[Variable], parameters: &[Parameter], call: &Call) -> bool
+    ensures { IsTrue result → IsListed variables.now parameters.now call.now }
+{
+    match call {
+        Call::Variable(variable) => has_variable(variables, variable),
+        Call::Parameter(parameter) => has_parameter(parameters, parameter),
+        Call::Constant(_) => true,
+        Call::Atom(_) => true,
+        Call::Linear(_) => true,
+        Call::Pairing(_) => true,
+    }
+}
+
+/// Whether a variable is among these.
+fn has_variable(variables: &[Variable], wanted: &Variable) -> bool
+    ensures { IsTrue result → Contains variables.now wanted.now }
+{
+    for variable in variables {
+        if is_same_variable(variable, wanted) {
+            return true;
+        }
+    }
+    false
+}
+
+/// Whether a parameter is among these.
+fn has_parameter(parameters: &[Parameter], wanted: &Parameter) -> bool
+    ensures { IsTrue result → Contains parameters.now wanted.now }
+{
+    for parameter in parameters {
+        if is_same_parameter(parameter, wanted) {
+            return true;
+        }
+    }
+    false
+}
+
+fn is_same_name(a: &Name, b: &Name) -> bool
+    ensures { IsTrue result ↔ (a.now ≡ b.now) }
+{
+    a == b
+}
+
+fn is_same_shape(a: &Shape, b: &Shape) -> bool
+    ensures { IsTrue result ↔ (a.now ≡ b.now) }
+{
+    a == b
+}
+
+fn is_same_variable(a: &Variable, b: &Variable) -> bool
+    ensures { IsTrue result ↔ (a.now ≡ b.now) }
+{
+    is_same_name(&a.name, &b.name)
+        && is_same_shape(&a.shape, &b.shape)
+        && a.attribute == b.attribute
+        && a.whole == b.whole
+}
+
+fn is_same_parameter(a: &Parameter, b: &Parameter) -> bool
+    ensures { IsTrue result ↔ (a.now ≡ b.now) }
+{
+    is_same_name(&a.name, &b.name)
+        && is_same_shape(&a.shape, &b.shape)
+        && a.attribute == b.attribute
+}
+
+/// A node with the line of its call and its first two arguments.
+fn node_text(alloc: Global, tree: &Tree, node: u32) -> Result<String, AllocError> {
+    if node >= tree.nodes() {
+        return String::from_str(alloc, "none");
+    }
+    let id = NodeId(node);
+    let word = match tree.call(id) {
+        Call::Parameter(_) => "parameter",
+        Call::Variable(_) => "variable",
+        _ => "call",
+    };
+    let (line, size) = (tree.place(id).line, tree.shape(id).size());
+    let mut text = format!(in alloc; "{line} {word} ({size})")?;
+    for i in 0..4 {
+        if let Some(arg) = tree.arg(id, i) {
+            text.push_str(&format!(in alloc; " {}", arg.0)?)?;
+        }
+    }
+    Ok(text)
+}
+
+/// The nodes of a tree, and what stands behind the last.
+pub(crate) fn nodes_text(alloc: Global, tree: &Tree) -> Result<String, AllocError> {
+    let mut text = String::new(alloc);
+    for node in 0..tree.nodes() {
+        text.push_str(&node_text(alloc, tree, node)?)?;
+        text.push_str("; ")?;
+    }
+    text.push_str(&node_text(alloc, tree, tree.nodes())?)?;
+    Ok(text)
+}
+
+/// A constraint, as it is written.
+fn constraint_text(alloc: Global, constraint: &Constraint) -> Result<String, AllocError> {
+    let sign = match constraint.kind {
+        Kind::AtMost => "<=",
+        Kind::Equal => "==",
+    };
+    let (left, right) = (constraint.left.0, constraint.right.0);
+    format!(in alloc; "; {} {left} {sign} {right}", constraint.place.line)
+}
+
+/// The objective, the constraints, and the names of the variables and of the parameters.
+fn kept_text(alloc: Global, problem: &Problem) -> Result<String, CaseFault> {
+    let sense = match problem.sense {
+        Sense::Minimize => "minimize",
+        Sense::Maximize => "maximize",
+    };
+    let line = problem.objective_place.line;
+    let mut text = format!(in alloc; "{line} {sense} {}", problem.objective.0)?;
+    for constraint in problem.constraints.as_slice() {
+        text.push_str(&constraint_text(alloc, constraint)?)?;
+    }
+    text.push_str("; variables")?;
+    for variable in problem.variables.as_slice() {
+        push_name(&mut text, &variable.name)?;
+    }
+    text.push_str("; parameters")?;
+    for parameter in problem.parameters.as_slice() {
+        push_name(&mut text, &parameter.name)?;
+    }
+    Ok(text)
+}
+
+/// A name behind a blank.
+fn push_name(text: &mut String, name: &Name) -> Result<(), CaseFault> {
+    text.push_str(" ")?;
+    match str::from_utf8(name.as_slice()) {
+        Ok(word) => Ok(text.push_str(word)?),
+        Err(_) => Err(CaseFault::Unreadable),
+    }
+}
