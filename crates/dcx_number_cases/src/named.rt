@@ -1,0 +1,137 @@
+//! Points and settings: arrays that are put under names and looked up.
+use dcx_atom::Array;
+use dcx_case_lines::{CaseFault, Cases, Number, Numbers};
+use dcx_frac::Fracs;
+use dcx_point::{Point, Setting};
+use dcx_shape::{Name, Shape};
+use std::alloc::{AllocError, Global};
+
+/// `point | x 5; y 7 | x z => 2; x y; 5 none`: how many names there are after the puts, the names in order, and what is found
+/// under some; the same with `setting`. The empty name is written `''`.
+pub(crate) struct Puts;
+
+impl Cases for Puts {
+    fn answer(&self, alloc: Global, parts: &[&str]) -> Result<String, CaseFault> {
+        match *parts {
+            ["point", puts, words] => {
+                let mut point = Point::empty(alloc);
+                put_all(alloc, &mut point, puts)?;
+                Ok(told(alloc, &point, words)?)
+            }
+            ["setting", puts, words] => {
+                let mut setting = Setting::empty(alloc);
+                put_all(alloc, &mut setting, puts)?;
+                Ok(told(alloc, &setting, words)?)
+            }
+            _ => Err(CaseFault::Unreadable),
+        }
+    }
+}
+
+/// Arrays under names.
+trait Named {
+    fn put_array(&mut self, name: Name, value: Array) -> Result<(), AllocError>;
+
+    fn count(&self) -> usize;
+
+    fn nth(&self, i: usize) -> Option<&Name>;
+
+    fn found(&self, name: &Name) -> Option<&Array>;
+}
+
+impl Named for Point {
+    fn put_array(&mut self, name: Name, value: Array) -> Result<(), AllocError> {
+        self.put(name, value)
+    }
+
+    fn count(&self) -> usize {
+        self.len()
+    }
+
+    fn nth(&self, i: usize) -> Option<&Name> {
+        self.name_at(i)
+    }
+
+    fn found(&self, name: &Name) -> Option<&Array> {
+        self.get(name)
+    }
+}
+
+impl Named for Setting {
+    fn put_array(&mut self, name: Name, value: Array) -> Result<(), AllocError> {
+        self.put(name, value)
+    }
+
+    fn count(&self) -> usize {
+        self.len()
+    }
+
+    fn nth(&self, i: usize) -> Option<&Name> {
+        self.name_at(i)
+    }
+
+    fn found(&self, name: &Name) -> Option<&Array> {
+        self.get(name)
+    }
+}
+
+/// The name of a word.
+fn name(alloc: Global, word: &str) -> Result<Name, AllocError> {
+    let letters = if word == "''" { "" } else { word };
+    Ok(Name::from_vec(Vec::from_slice(alloc, letters.as_bytes())?))
+}
+
+/// The scalar array of a word.
+fn scalar(alloc: Global, word: &str) -> Result<Array, CaseFault> {
+    let entries = vec![in alloc; word.parse::<Number>()?.0]?;
+    Ok(Array {
+        shape: Shape::scalar(),
+        entries: Fracs::from_vec(entries),
+    })
+}
+
+fn put_all<N: Named>(alloc: Global, named: &mut N, puts: &str) -> Result<(), CaseFault> {
+    if puts.is_empty() {
+        return Ok(());
+    }
+    for item in puts.split(';') {
+        let (word, number) = item.trim().split_once(' ').ok_or(CaseFault::Unreadable)?;
+        named.put_array(name(alloc, word)?, scalar(alloc, number)?)?;
+    }
+    Ok(())
+}
+
+/// The names in order, and then whether there is one more.
+fn names_text<N: Named>(alloc: Global, named: &N) -> Result<String, AllocError> {
+    let mut text = String::new(alloc);
+    for i in 0..named.count() {
+        if let Some(name) = named.nth(i) {
+            let letters = str::from_utf8(name.as_slice()).unwrap_or("no text");
+            text.push_str(&format!(in alloc; " {letters}")?)?;
+        }
+    }
+    if named.nth(named.count()).is_some() {
+        text.push_str(" and more")?;
+    }
+    Ok(text)
+}
+
+/// What is found under each of some names.
+fn found_text<N: Named>(alloc: Global, named: &N, words: &str) -> Result<String, AllocError> {
+    let mut text = String::new(alloc);
+    for word in words.split_whitespace() {
+        match named.found(&name(alloc, word)?) {
+            Some(array) => {
+                text.push_str(&format!(in alloc; " {}", Numbers(array.entries.as_slice()))?)?
+            }
+            None => text.push_str(" none")?,
+        }
+    }
+    Ok(text)
+}
+
+fn told<N: Named>(alloc: Global, named: &N, words: &str) -> Result<String, AllocError> {
+    let names = names_text(alloc, named)?;
+    let found = found_text(alloc, named, words)?;
+    format!(in alloc; "{};{names};{found}", named.count())
+}
