@@ -31,7 +31,7 @@ pub use library::{FetchFault, Library};
 pub use memory::{MemoryLibrary, MemorySink, SteadyLibrary, SteadySink};
 pub use outcome::{Outcome, OutcomeEnd};
 pub use outcomes::Outcomes;
-pub use real::{FileLibrary, OutSink};
+pub use real::{FileLibrary, OutSink, read_at_most};
 pub use refusal::{Carried, Refusal, RefusalSource};
 pub use report::report_text;
 pub use run::{Run, Word};

@@ -28,8 +28,10 @@ impl<'a, R: Files> FileLibrary<'a, R> {
 // How many bytes one read asks for at most.
 const BUFFER: usize = 4096;
 
-// All that the reader has left, if that is not more than `most` bytes. At most one byte more is read.
-fn read_at_most<F: Read>(alloc: Global, file: &mut F, most: usize) -> Result<Bytes, FetchFault>
+/// All that the reader has left, if that is not more than `most` bytes; else `TooLong`. At most one byte more is read.
+///
+/// `Failed` where a read fails, and `Memory` where memory runs out.
+pub fn read_at_most<F: Read>(alloc: Global, file: &mut F, most: usize) -> Result<Bytes, FetchFault>
     ensures size { IfOk result (λ bytes. length bytes ≤ most) }
     ensures whole { IfOk result (λ bytes. IfSome (F.remaining file.old) (λ all. bytes ≡ all)) }
     ensures too_long { IsErrOf result FetchFault.TooLong → IfSome (F.remaining file.old) (λ all. most < length all) }
