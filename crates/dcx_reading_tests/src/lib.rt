@@ -1,13 +1,7 @@
-//! Tables of worked cases for shapes, tokens, scripts and settings, over the public calls of their crates.
+//! Tables of worked cases for scripts, over the public calls of the reader.
 //!
-//! They stand in a crate of their own so that those crates are proved once and not again with their tests.
+//! They stand in a crate of their own so that the reader is proved once and not again with its tests.
 #![tactic(auto)]
 
 #[cfg(test)]
 mod scripts;
-#[cfg(test)]
-mod settings;
-#[cfg(test)]
-mod shapes;
-#[cfg(test)]
-mod tokens;
