@@ -1,23 +1,23 @@
 -- The right side of an assignment, which is a postfix and nothing else, or not, and a postfix that is just a name.
 use Rattle.std.proofs.Common.{◌≡◌, Bool, true, false, true≢false, ◌&&◌, ◌==◌, List, [], ◌∷◌, map, length, Vec, vec_len, Some, None, refl, sym, ap, ◌∙◌, Global, arith}
 use Rattle.std.proofs.lemmas.Bool.Decides.{nat_tests}
-use Rattle.dcx_read.specs.declared.tree.Named.{Named}
-use Rattle.dcx_read.specs.declared.tree.Signed.{Signed}
-use Rattle.dcx_read.specs.declared.tree.Added as code_added
-use Rattle.dcx_read.specs.declared.tree.Compared as code_compared
-use Rattle.dcx_read.specs.declared.tree.Expr as code_expr
-use Rattle.dcx_read.specs.declared.tree.Expr.{the_lemmas}
-use Rattle.dcx_read.specs.declared.tree.Factor as code_factor
-use Rattle.dcx_read.specs.declared.tree.Postfix as code_postfix
-use Rattle.dcx_read.specs.declared.tree.Primary.TheVariants as primaries
-use Rattle.dcx_read.specs.declared.tree.Trailer as code_trailer
-use Rattle.dcx_read.specs.declared.tree.Power as code_power
-use Rattle.dcx_read.specs.declared.tree.Raised as code_raised
-use Rattle.dcx_read.specs.declared.tree.Scaled as code_scaled
-use Rattle.dcx_read.specs.declared.tree.Sum as code_sum
-use Rattle.dcx_read.specs.declared.tree.Term as code_term
-use Rattle.dcx_read.specs.Expressions.{Expr, expr, Compared, no_comparison, compared, Sum, sum, Added, no_addition, added, Term, term, Scaled, no_scaling, scaled, Factor, factor, Power, power_of, Raised, no_power, raised, exponent, Postfix, postfix, Trailers, no_trailer, attribute, call, indexed, Primary, name_at, Arg, Index, Step}
-use Rattle.dcx_read.specs.View.{chained, compared_view, added_view, scaled_view, raised_view, expr_view, sum_view, term_view, factor_view, power_view, postfix_view, primary_view, arg_layer, index_layer, primary_layer, step_layer, trailer_layer, added_layer, compared_layer, expr_layer, factor_layer, postfix_layer, power_layer, raised_layer, scaled_layer, sum_layer, term_layer}
+use Rattle.dcx_syntax.specs.declared.tree.Named.{Named}
+use Rattle.dcx_syntax.specs.declared.tree.Signed.{Signed}
+use Rattle.dcx_syntax.specs.declared.tree.Added as code_added
+use Rattle.dcx_syntax.specs.declared.tree.Compared as code_compared
+use Rattle.dcx_syntax.specs.declared.tree.Expr as code_expr
+use Rattle.dcx_syntax.specs.declared.tree.Expr.{the_lemmas}
+use Rattle.dcx_syntax.specs.declared.tree.Factor as code_factor
+use Rattle.dcx_syntax.specs.declared.tree.Postfix as code_postfix
+use Rattle.dcx_syntax.specs.declared.tree.Primary.TheVariants as primaries
+use Rattle.dcx_syntax.specs.declared.tree.Trailer as code_trailer
+use Rattle.dcx_syntax.specs.declared.tree.Power as code_power
+use Rattle.dcx_syntax.specs.declared.tree.Raised as code_raised
+use Rattle.dcx_syntax.specs.declared.tree.Scaled as code_scaled
+use Rattle.dcx_syntax.specs.declared.tree.Sum as code_sum
+use Rattle.dcx_syntax.specs.declared.tree.Term as code_term
+use Rattle.dcx_syntax.specs.Expressions.{Expr, expr, Compared, no_comparison, compared, Sum, sum, Added, no_addition, added, Term, term, Scaled, no_scaling, scaled, Factor, factor, Power, power_of, Raised, no_power, raised, exponent, Postfix, postfix, Trailers, no_trailer, attribute, call, indexed, Primary, name_at, Arg, Index, Step}
+use Rattle.dcx_syntax.specs.View.{chained, compared_view, added_view, scaled_view, raised_view, expr_view, sum_view, term_view, factor_view, power_view, postfix_view, primary_view, arg_layer, index_layer, primary_layer, step_layer, trailer_layer, added_layer, compared_layer, expr_layer, factor_layer, postfix_layer, power_layer, raised_layer, scaled_layer, sum_layer, term_layer}
 use Rattle.dcx_elab.specs.Statements.{only_postfix, is_just_name}
 use Rattle.dcx_elab.specs.View.{trailers_from}
 use Rattle.dcx_elab.proofs.Seen.{is_none, some-at, postfix-seen, name-seen}

@@ -1,8 +1,8 @@
 -- Names and attributes that are called: what comes of a call, and of a fault in it.
 use Rattle.std.proofs.Common.{◌≡◌, ℕ, Bool, false, List, ◌∷◌, Option, Ok, ap, subst, ◌∙◌}
 use Rattle.dcx_shape.specs.declared.place.Place.{Place}
-use Rattle.dcx_read.specs.declared.tree.Named.{Named}
-use Rattle.dcx_read.specs.Expressions.{name_at, Trailers, attribute, call, indexed, Args, Index, Indices, postfix}
+use Rattle.dcx_syntax.specs.declared.tree.Named.{Named}
+use Rattle.dcx_syntax.specs.Expressions.{name_at, Trailers, attribute, call, indexed, Args, Index, Indices, postfix}
 use Rattle.dcx_kinds.specs.declared.fault.ElabFault.{ElabFault}
 use Rattle.dcx_kinds.specs.Values.{Value, State, and_then, ◌>>=◌, done}
 use Rattle.dcx_kinds.specs.View.{Fails}

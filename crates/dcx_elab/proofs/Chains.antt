@@ -1,8 +1,8 @@
 -- What is carried out one after the other, and what comes of a fault and of a value there.
 use Rattle.std.proofs.Common.{◌≡◌, ℕ, true, false, true≢false, List, [], ◌∷◌, ◌++◌, Option, None, Result, Ok, Err, refl, sym, ap, ◌∙◌, append_assoc, append-nil}
 use Rattle.dcx_shape.specs.declared.place.Place.{Place}
-use Rattle.dcx_read.specs.declared.tree.Named.{Named}
-use Rattle.dcx_read.specs.Expressions.{Primary, name_at, Trailers, no_trailer, attribute, call, indexed, Args, Index, Indices, Optional, Step, slice, postfix, more_indices}
+use Rattle.dcx_syntax.specs.declared.tree.Named.{Named}
+use Rattle.dcx_syntax.specs.Expressions.{Primary, name_at, Trailers, no_trailer, attribute, call, indexed, Args, Index, Indices, Optional, Step, slice, postfix, more_indices}
 use Rattle.dcx_kinds.specs.declared.fault.ElabFault.{ElabFault}
 use Rattle.dcx_kinds.specs.declared.fault.ElabFault.TheVariants.{UnknownCall, Memory}
 use Rattle.dcx_kinds.specs.Values.{Value, State, Act, and_then, ◌>>=◌, done, look}

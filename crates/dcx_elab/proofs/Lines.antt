@@ -5,15 +5,14 @@ use Rattle.std.proofs.lemmas.Option.{slice_get_within, get_or_from_slice_get}
 use Rattle.indexmap.specs.IndexMap.{insert_entry}
 use Rattle.dcx_shape.specs.declared.place.Place.{Place}
 use Rattle.dcx_point.specs.Pairs.{same_name}
-use Rattle.dcx_read.specs.declared.tree.Named.{Named}
-use Rattle.dcx_read.specs.declared.tree.Expr as code_expr
-use Rattle.dcx_read.specs.declared.tree.Line as code_line
-use Rattle.dcx_read.specs.declared.tree.Line.{the_lemmas}
-use Rattle.dcx_read.specs.declared.tree.Line.TheVariants as forms
-use Rattle.dcx_read.specs.Expressions.{Expr}
-use Rattle.dcx_read.specs.View.{expr_view}
-use Rattle.dcx_read.specs.Lines.{line_view, lines_of}
-use Rattle.dcx_read.specs.Statements.{Line, assign, add_to, set_value, repeats, Lines, lines}
+use Rattle.dcx_syntax.specs.declared.tree.Named.{Named}
+use Rattle.dcx_syntax.specs.declared.tree.Expr as code_expr
+use Rattle.dcx_syntax.specs.declared.tree.Line as code_line
+use Rattle.dcx_syntax.specs.declared.tree.Line.{the_lemmas}
+use Rattle.dcx_syntax.specs.declared.tree.Line.TheVariants as forms
+use Rattle.dcx_syntax.specs.Expressions.{Expr}
+use Rattle.dcx_syntax.specs.View.{expr_view, line_view, lines_of}
+use Rattle.dcx_syntax.specs.Statements.{Line, assign, add_to, set_value, repeats, Lines, lines}
 use Rattle.dcx_kinds.specs.declared.fault.ElabFault.{ElabFault}
 use Rattle.dcx_kinds.specs.Values.{Value, Values, nothing, list as list_value, State, Act, and_then, ◌>>=◌, ◌>>◌, bind, joined, step}
 use Rattle.dcx_kinds.specs.View.{Fails, Gives}

@@ -3,12 +3,12 @@ use Rattle.std.proofs.Common.{◌≡◌, ℕ, ◌+◌, ◌<◌, ◌≤◌, Bool,
 use Rattle.std.proofs.lemmas.List.{at_drop_more, at_drop_all, drop_more}
 use Rattle.std.proofs.lemmas.Option.{slice_get_within, get_or_from_slice_get}
 use Rattle.dcx_shape.specs.declared.place.Place.{Place}
-use Rattle.dcx_read.specs.declared.tree.Named.{Named}
-use Rattle.dcx_read.specs.declared.tree.Arg as code_arg
-use Rattle.dcx_read.specs.declared.tree.Index as code_index
-use Rattle.dcx_read.specs.declared.tree.Expr as code_expr
-use Rattle.dcx_read.specs.Expressions.{Expr, Arg, MoreArgs, Indices, MoreItems, tuple, list, comprehension}
-use Rattle.dcx_read.specs.View.{chained, then_arg, args_ending, args_of, indices_of, items_ending, more_items_of, items_of as tree_items, arg_view, index_view, expr_view}
+use Rattle.dcx_syntax.specs.declared.tree.Named.{Named}
+use Rattle.dcx_syntax.specs.declared.tree.Arg as code_arg
+use Rattle.dcx_syntax.specs.declared.tree.Index as code_index
+use Rattle.dcx_syntax.specs.declared.tree.Expr as code_expr
+use Rattle.dcx_syntax.specs.Expressions.{Expr, Arg, MoreArgs, Indices, MoreItems, tuple, list, comprehension}
+use Rattle.dcx_syntax.specs.View.{chained, then_arg, args_ending, args_of, indices_of, items_ending, more_items_of, items_of as tree_items, arg_view, index_view, expr_view}
 use Rattle.dcx_kinds.specs.declared.fault.ElabFault.{ElabFault}
 use Rattle.dcx_kinds.specs.Values.{Value, Values, values_of, items_of, State, Act, and_then, ◌>>=◌, ◌>>◌, done, room, with_room, tuple as tuple_value, list as list_value, list_of}
 use Rattle.dcx_kinds.specs.View.{Fails}

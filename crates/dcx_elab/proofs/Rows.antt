@@ -2,10 +2,10 @@
 use Rattle.std.specs.Prelude.{◌≡◌, refl, [], codes, Err, true}
 use native.Mathlib.Decide.{dec_lt, dec_le}
 use Rattle.dcx_arena.specs.declared.fault.Count.TheVariants.{Entries}
-use Rattle.dcx_read.specs.declared.tree.Comparison.TheVariants.{AtMost, Less}
-use Rattle.dcx_read.specs.declared.tree.Sign.TheVariants.{Plus}
-use Rattle.dcx_read.specs.Expressions.{Expr, expr, sum, added, no_addition, term, no_scaling, factor, power_of, no_power, compared, no_comparison, postfix, no_trailer, tuple, items, items_end, no_args, args, more_args, args_end, by_place, by_name, at, slice, present, no_step, truth_at}
-use Rattle.dcx_read.specs.Statements.{Lines, no_lines}
+use Rattle.dcx_syntax.specs.declared.tree.Comparison.TheVariants.{AtMost, Less}
+use Rattle.dcx_syntax.specs.declared.tree.Sign.TheVariants.{Plus}
+use Rattle.dcx_syntax.specs.Expressions.{Expr, expr, sum, added, no_addition, term, no_scaling, factor, power_of, no_power, compared, no_comparison, postfix, no_trailer, tuple, items, items_end, no_args, args, more_args, args_end, by_place, by_name, at, slice, present, no_step, truth_at}
+use Rattle.dcx_syntax.specs.Statements.{Lines, no_lines}
 use Rattle.dcx_kinds.specs.declared.fault.ElabFault.TheVariants.{UnknownName, UnknownCall, BadArgument, NotOffered, ShapeClash, IndexRange, EmptyResult, NoProblem, TooMany}
 use Rattle.dcx_array.specs.Shapes.{dec_few, shape_with}
 use Rattle.dcx_elab.specs.Meaning.{meaning}

@@ -4,11 +4,11 @@ use Rattle.std.proofs.Common.{lit<}
 use native.Mathlib.Nat.{eq-one_of_dvd-one}
 use Rattle.dcx_frac.specs.declared.fraction.Frac.{Frac}
 use Rattle.dcx_shape.specs.declared.place.Place.{Place}
-use Rattle.dcx_read.specs.declared.tree.Named.{Named}
-use Rattle.dcx_read.specs.declared.tree.Module.TheVariants.{Cvxpy, Numpy}
-use Rattle.dcx_read.specs.declared.tree.Comparison.{Comparison}
-use Rattle.dcx_read.specs.Expressions.{Expr, expr, no_comparison, compared, Sum, sum, no_addition, term, no_scaling, factor, power_of, no_power, Postfix, postfix, no_trailer, attribute, call, indexed, Args, args, args_end, more_args, by_place, no_index, Index, number_at, name_at, list, items_end}
-use Rattle.dcx_read.specs.Statements.{importing, assign, Lines, no_lines, lines}
+use Rattle.dcx_syntax.specs.declared.tree.Named.{Named}
+use Rattle.dcx_syntax.specs.declared.tree.Module.TheVariants.{Cvxpy, Numpy}
+use Rattle.dcx_syntax.specs.declared.tree.Comparison.{Comparison}
+use Rattle.dcx_syntax.specs.Expressions.{Expr, expr, no_comparison, compared, Sum, sum, no_addition, term, no_scaling, factor, power_of, no_power, Postfix, postfix, no_trailer, attribute, call, indexed, Args, args, args_end, more_args, by_place, no_index, Index, number_at, name_at, list, items_end}
+use Rattle.dcx_syntax.specs.Statements.{importing, assign, Lines, no_lines, lines}
 
 abbrev pub place : ℕ → ℕ → Place
 place line column = record { line = line; column = column }

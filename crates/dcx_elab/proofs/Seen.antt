@@ -2,29 +2,29 @@
 use Rattle.std.proofs.Common.{◌≡◌, ℕ, ◌+◌, ◌<◌, ◌≤◌, Bool, true, false, List, [], map, length, get_or, Option, refl, sym, ap, subst, ◌∙◌, rules, Box, Vec, Global}
 use Rattle.std.proofs.lemmas.List.{at_drop_more, at_drop_all}
 use Rattle.dcx_shape.specs.declared.place.Place.{Place}
-use Rattle.dcx_read.specs.declared.tree.Named.{Named}
-use Rattle.dcx_read.specs.declared.tree.Arg as code_arg
-use Rattle.dcx_read.specs.declared.tree.Index as code_index
-use Rattle.dcx_read.specs.declared.tree.Primary as code_primary
-use Rattle.dcx_read.specs.declared.tree.Step as code_step
-use Rattle.dcx_read.specs.declared.tree.Trailer as code_trailer
-use Rattle.dcx_read.specs.declared.tree.Trailer.{the_lemmas}
-use Rattle.dcx_read.specs.declared.tree.Trailer.TheVariants as trailers
-use Rattle.dcx_read.specs.declared.tree.Primary.TheVariants as primaries
-use Rattle.dcx_read.specs.declared.tree.Index.TheVariants as indices
-use Rattle.dcx_read.specs.declared.tree.Added as code_added
-use Rattle.dcx_read.specs.declared.tree.Compared as code_compared
-use Rattle.dcx_read.specs.declared.tree.Expr as code_expr
-use Rattle.dcx_read.specs.declared.tree.Factor as code_factor
-use Rattle.dcx_read.specs.declared.tree.Postfix as code_postfix
-use Rattle.dcx_read.specs.declared.tree.Power as code_power
-use Rattle.dcx_read.specs.declared.tree.Raised as code_raised
-use Rattle.dcx_read.specs.declared.tree.Scaled as code_scaled
-use Rattle.dcx_read.specs.declared.tree.Sum as code_sum
-use Rattle.dcx_read.specs.declared.tree.Term as code_term
-use Rattle.dcx_read.specs.declared.tree.Arg.TheOpen.{Trailer-F, Primary-F}
-use Rattle.dcx_read.specs.Expressions.{Primary, name_at, number_at, text_at, truth_at, none_at, unit, round, tuple, empty_list, list, comprehension, postfix, slice, Trailers, no_trailer, attribute, call, indexed}
-use Rattle.dcx_read.specs.View.{chained, args_of, items_of, more_items_of, indices_of, optional_view, arg_view, index_view, trailer_view, primary_view, step_view, expr_view, postfix_view}
+use Rattle.dcx_syntax.specs.declared.tree.Named.{Named}
+use Rattle.dcx_syntax.specs.declared.tree.Arg as code_arg
+use Rattle.dcx_syntax.specs.declared.tree.Index as code_index
+use Rattle.dcx_syntax.specs.declared.tree.Primary as code_primary
+use Rattle.dcx_syntax.specs.declared.tree.Step as code_step
+use Rattle.dcx_syntax.specs.declared.tree.Trailer as code_trailer
+use Rattle.dcx_syntax.specs.declared.tree.Trailer.{the_lemmas}
+use Rattle.dcx_syntax.specs.declared.tree.Trailer.TheVariants as trailers
+use Rattle.dcx_syntax.specs.declared.tree.Primary.TheVariants as primaries
+use Rattle.dcx_syntax.specs.declared.tree.Index.TheVariants as indices
+use Rattle.dcx_syntax.specs.declared.tree.Added as code_added
+use Rattle.dcx_syntax.specs.declared.tree.Compared as code_compared
+use Rattle.dcx_syntax.specs.declared.tree.Expr as code_expr
+use Rattle.dcx_syntax.specs.declared.tree.Factor as code_factor
+use Rattle.dcx_syntax.specs.declared.tree.Postfix as code_postfix
+use Rattle.dcx_syntax.specs.declared.tree.Power as code_power
+use Rattle.dcx_syntax.specs.declared.tree.Raised as code_raised
+use Rattle.dcx_syntax.specs.declared.tree.Scaled as code_scaled
+use Rattle.dcx_syntax.specs.declared.tree.Sum as code_sum
+use Rattle.dcx_syntax.specs.declared.tree.Term as code_term
+use Rattle.dcx_syntax.specs.declared.tree.Arg.TheOpen.{Trailer-F, Primary-F}
+use Rattle.dcx_syntax.specs.Expressions.{Primary, name_at, number_at, text_at, truth_at, none_at, unit, round, tuple, empty_list, list, comprehension, postfix, slice, Trailers, no_trailer, attribute, call, indexed}
+use Rattle.dcx_syntax.specs.View.{chained, args_of, items_of, more_items_of, indices_of, optional_view, arg_view, index_view, trailer_view, primary_view, step_view, expr_view, postfix_view}
 use Rattle.dcx_elab.specs.View.{trailers_from}
 
 -- ---- trailers

@@ -1,7 +1,7 @@
 -- Signs before a value, the last one first.
 use Rattle.std.proofs.Common.{◌≡◌, ℕ, ◌+◌, ◌<◌, List, [], ◌∷◌, ◌++◌, take, length, get_or, Result, Ok, Err, refl, ap, ◌∙◌}
 use Rattle.std.proofs.lemmas.List.{take_more}
-use Rattle.dcx_read.specs.declared.tree.Signed.{Signed}
+use Rattle.dcx_syntax.specs.declared.tree.Signed.{Signed}
 use Rattle.dcx_kinds.specs.declared.fault.ElabFault.{ElabFault}
 use Rattle.dcx_kinds.specs.Values.{Value, State, and_then, done}
 use Rattle.dcx_kinds.specs.View.{Fails}

@@ -9,7 +9,7 @@ use Rattle.indexmap.specs.IndexMap.{insert_entry}
 use Rattle.dcx_shape.specs.declared.place.Place.{Place}
 use Rattle.dcx_point.specs.Pairs.{same_name}
 use Rattle.dcx_point.proofs.Puts.{same_name-refl, same_name-true}
-use Rattle.dcx_read.specs.Statements.{Lines, no_lines, lines}
+use Rattle.dcx_syntax.specs.Statements.{Lines, no_lines, lines}
 use Rattle.dcx_kinds.specs.declared.fault.ElabFault.{ElabFault}
 use Rattle.dcx_kinds.specs.Values.{Value, State, Act, and_then, ◌>>=◌, ◌>>◌, done, bind, restore, step, room, bound_to, most_steps}
 use Rattle.dcx_elab.specs.Turns.{turn, turns, each_turn}

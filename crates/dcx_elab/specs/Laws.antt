@@ -4,7 +4,7 @@ use Rattle.std.specs.List.{IsDistinct}
 use Rattle.std.specs.Map.{keys_of, lookup}
 use Rattle.dcx_shape.specs.declared.place.Place.{Place}
 use Rattle.dcx_point.specs.Pairs.{same_name}
-use Rattle.dcx_read.specs.Statements.{Lines, no_lines, lines}
+use Rattle.dcx_syntax.specs.Statements.{Lines, no_lines, lines}
 use Rattle.dcx_kinds.specs.declared.fault.ElabFault.{ElabFault}
 use Rattle.dcx_kinds.specs.Values.{Value, State, Act, ◌>>=◌, ◌>>◌}
 use Rattle.dcx_state.specs.Declarations.{start}

@@ -1,9 +1,9 @@
 -- What a script stands for: the state at its end and what is asked there, or the first fault.
 use Rattle.std.specs.Prelude.{◌≡◌, Option, Some, None, Result, Ok, Err}
 use Rattle.dcx_tree.specs.Gather.{IsProblemOf}
-use Rattle.dcx_read.specs.declared.tree.Script.{Script}
-use Rattle.dcx_read.specs.Statements.{Lines}
-use Rattle.dcx_read.specs.Lines.{script_view}
+use Rattle.dcx_syntax.specs.declared.tree.Script.{Script}
+use Rattle.dcx_syntax.specs.Statements.{Lines}
+use Rattle.dcx_syntax.specs.View.{script_view}
 use Rattle.dcx_kinds.specs.declared.fault.ElabFault.{ElabFault}
 use Rattle.dcx_kinds.specs.declared.fault.ElabFault.TheVariants.{NoProblem}
 use Rattle.dcx_kinds.specs.Values.{Asked, State}

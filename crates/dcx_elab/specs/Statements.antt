@@ -1,11 +1,11 @@
 -- What a line does: one line for each form of the syntax tree.
 use Rattle.std.specs.Prelude.{ℕ, Bool, true, false, not, ◌&&◌, List, [], Option, Some, None}
 use Rattle.dcx_shape.specs.declared.place.Place.{Place}
-use Rattle.dcx_read.specs.declared.tree.Import.{Import}
-use Rattle.dcx_read.specs.declared.tree.Named.{Named}
-use Rattle.dcx_read.specs.declared.tree.Sign.TheVariants.{Plus}
-use Rattle.dcx_read.specs.Expressions.{Expr, expr, no_comparison, sum, no_addition, term, no_scaling, factor, power_of, no_power, Postfix, postfix, no_trailer, name_at}
-use Rattle.dcx_read.specs.Statements.{Line, importing, assign, add_to, set_value, evaluate, prints, repeats, Lines, no_lines, lines}
+use Rattle.dcx_syntax.specs.declared.tree.Import.{Import}
+use Rattle.dcx_syntax.specs.declared.tree.Named.{Named}
+use Rattle.dcx_syntax.specs.declared.tree.Sign.TheVariants.{Plus}
+use Rattle.dcx_syntax.specs.Expressions.{Expr, expr, no_comparison, sum, no_addition, term, no_scaling, factor, power_of, no_power, Postfix, postfix, no_trailer, name_at}
+use Rattle.dcx_syntax.specs.Statements.{Line, importing, assign, add_to, set_value, evaluate, prints, repeats, Lines, no_lines, lines}
 use Rattle.dcx_kinds.specs.declared.fault.ElabFault.TheVariants.{NotOffered}
 use Rattle.dcx_kinds.specs.Values.{Value, library, Act, ◌>>=◌, ◌>>◌, done, unless, look, bind, step}
 use Rattle.dcx_kinds.specs.Kinds.{reading, is_list}

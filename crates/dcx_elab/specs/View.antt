@@ -1,9 +1,9 @@
 -- Comparisons and trailers of the code from an index on, and what it means that a function returns what leaves something to be done.
 use Rattle.std.specs.Prelude.{◌≡◌, ℕ, List, map, drop, Result, Ok, Err}
-use Rattle.dcx_read.specs.declared.tree.Compared as code_compared
-use Rattle.dcx_read.specs.declared.tree.Trailer as code_trailer
-use Rattle.dcx_read.specs.Expressions.{Compared, no_comparison, Trailers, no_trailer}
-use Rattle.dcx_read.specs.View.{chained, compared_view, trailer_view}
+use Rattle.dcx_syntax.specs.declared.tree.Compared as code_compared
+use Rattle.dcx_syntax.specs.declared.tree.Trailer as code_trailer
+use Rattle.dcx_syntax.specs.Expressions.{Compared, no_comparison, Trailers, no_trailer}
+use Rattle.dcx_syntax.specs.View.{chained, compared_view, trailer_view}
 use Rattle.dcx_kinds.specs.declared.fault.ElabFault.{ElabFault}
 use Rattle.dcx_kinds.specs.Values.{State, Act}
 use Rattle.dcx_kinds.specs.View.{Fails}

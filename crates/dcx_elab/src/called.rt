@@ -8,10 +8,10 @@ ghost use Rattle.dcx_elab.specs.View.{trailers_from};
 
 use dcx_functions::function_called;
 use dcx_kinds::{ElabFault, Value};
-use dcx_read::{Module, Named, Trailer};
 use dcx_shape::{Name, Place};
 use dcx_signature::{Function, Given, arguments, function_named, is_word, solve_row};
 use dcx_state::State;
+use dcx_syntax::{Module, Named, Trailer};
 
 /// Whether a name that is called without a dot is `range`. A name that is bound is no call, and another isn't known.
 pub fn is_range(state: &State, name: &Named) -> Result<bool, ElabFault>

@@ -1,7 +1,7 @@
 //! What an expression gives: one function for each rule of the grammar, and one for each of its repetitions.
 ghost use Rattle.std.specs.Prelude.{Bool, [], ◌∷◌, ◌<◌, ◌≤◌, length, map, option_copied, option_map, IfOk, if◌then◌else◌};
-ghost use Rattle.dcx_read.specs.Expressions.{no_addition, no_scaling, no_power, name_at, attribute as attribute_of, postfix as postfix_of};
-ghost use Rattle.dcx_read.specs.View.{chained, args_of, indices_of, more_items_of, optional_view, step_view, expr_view, sum_view, added_view, term_view, scaled_view, factor_view, power_view, raised_view, postfix_view, arg_view, index_view, primary_view};
+ghost use Rattle.dcx_syntax.specs.Expressions.{no_addition, no_scaling, no_power, name_at, attribute as attribute_of, postfix as postfix_of};
+ghost use Rattle.dcx_syntax.specs.View.{chained, args_of, indices_of, more_items_of, optional_view, step_view, expr_view, sum_view, added_view, term_view, scaled_view, factor_view, power_view, raised_view, postfix_view, arg_view, index_view, primary_view};
 ghost use Rattle.dcx_kinds.specs.Values.{items_of, nothing, done, and_then};
 ghost use Rattle.dcx_kinds.specs.Meant.{meant};
 ghost use Rattle.dcx_kinds.specs.View.{Gives};
@@ -18,15 +18,15 @@ use dcx_kinds::{ElabFault, Items, Value};
 use dcx_operators::{
     Evaluated, add_values, attribute_value, compare_values, index_value, scale_values,
 };
-use dcx_read::{
-    Added, Arg, Compared, Expr, Factor, Index, Named, Postfix, Power, Primary, Raised, Scaled,
-    Step, Sum, Term, Trailer,
-};
 use dcx_shape::{Name, Place};
 use dcx_signature::{
     Given, Through, expr_place, is_ignored_word, items_through, number_value, primary_place,
 };
 use dcx_state::State;
+use dcx_syntax::{
+    Added, Arg, Compared, Expr, Factor, Index, Named, Postfix, Power, Primary, Raised, Scaled,
+    Step, Sum, Term, Trailer,
+};
 use std::rc::Rc;
 
 // ---- comparisons, sums and products

@@ -7,9 +7,9 @@ ghost use Rattle.dcx_elab.specs.Expressions as meaning;
 
 use dcx_kinds::{ElabFault, Items, Value};
 use dcx_operators::sign_value;
-use dcx_read::Signed;
 use dcx_shape::Bytes;
 use dcx_state::State;
+use dcx_syntax::Signed;
 use std::alloc::{AllocError, Global};
 use std::rc::Rc;
 

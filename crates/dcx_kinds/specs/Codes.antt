@@ -6,8 +6,8 @@ use Rattle.dcx_shape.specs.declared.place.Place.{Place}
 use Rattle.dcx_shape.specs.contracts.place.Place.{the_row as place_row}
 use Rattle.dcx_atom.specs.declared.array.Array.{Array}
 use Rattle.dcx_atom.specs.contracts.array.Array.{the_row as array_row}
-use Rattle.dcx_read.specs.declared.tree.Module.{Module}
-use Rattle.dcx_read.specs.contracts.tree.Module.{the_row as module_row}
+use Rattle.dcx_syntax.specs.declared.tree.Module.{Module}
+use Rattle.dcx_syntax.specs.contracts.tree.Module.{the_row as module_row}
 use Rattle.dcx_tree.specs.declared.constraint.Sense.{Sense}
 use Rattle.dcx_tree.specs.contracts.constraint.Sense.{the_row as sense_row}
 use Rattle.dcx_tree.specs.declared.constraint.Constraint.{Constraint}

@@ -15,7 +15,7 @@ use Rattle.dcx_arena.specs.Nodes.{Node}
 use Rattle.dcx_call.specs.declared.attribute.Variable.{Variable}
 use Rattle.dcx_call.specs.declared.attribute.Parameter.{Parameter}
 use Rattle.dcx_call.specs.declared.call.Call.{Call}
-use Rattle.dcx_read.specs.declared.tree.Module.{Module}
+use Rattle.dcx_syntax.specs.declared.tree.Module.{Module}
 use Rattle.dcx_kinds.specs.declared.fault.ElabFault.{ElabFault}
 use Rattle.dcx_kinds.specs.declared.fault.ElabFault.TheVariants.{UnknownName, BadArgument, TooMany}
 use Rattle.dcx_kinds.specs.Faults.{array_fault_at}

@@ -6,12 +6,12 @@ use Rattle.dcx_shape.specs.declared.place.Place.{Place}
 use Rattle.dcx_shape.specs.declared.index.Pick.{Pick}
 use Rattle.dcx_shape.specs.declared.index.Pick.TheVariants as picks
 use Rattle.dcx_atom.specs.declared.array.Array.{Array}
-use Rattle.dcx_read.specs.declared.tree.Sign.{Sign}
-use Rattle.dcx_read.specs.declared.tree.Sign.TheVariants.{Plus, Minus}
-use Rattle.dcx_read.specs.declared.tree.Scaling.{Scaling}
-use Rattle.dcx_read.specs.declared.tree.Scaling.TheVariants.{Times, Over, Matmul}
-use Rattle.dcx_read.specs.declared.tree.Comparison.{Comparison}
-use Rattle.dcx_read.specs.declared.tree.Comparison.TheVariants.{AtMost, AtLeast, Equal, Less, Greater, NotEqual}
+use Rattle.dcx_syntax.specs.declared.tree.Sign.{Sign}
+use Rattle.dcx_syntax.specs.declared.tree.Sign.TheVariants.{Plus, Minus}
+use Rattle.dcx_syntax.specs.declared.tree.Scaling.{Scaling}
+use Rattle.dcx_syntax.specs.declared.tree.Scaling.TheVariants.{Times, Over, Matmul}
+use Rattle.dcx_syntax.specs.declared.tree.Comparison.{Comparison}
+use Rattle.dcx_syntax.specs.declared.tree.Comparison.TheVariants.{AtMost, AtLeast, Equal, Less, Greater, NotEqual}
 use Rattle.dcx_kinds.specs.Values.{Value, Values, items_of, plain, list, expression, State, Act}
 use Rattle.dcx_kinds.specs.Nodes.{Operand}
 use Rattle.dcx_kinds.specs.Kinds.{Reading}

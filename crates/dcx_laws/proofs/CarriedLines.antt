@@ -1,9 +1,9 @@
 -- Lines keep what is carried, where the names that they bind are ones that may be bound.
 use Rattle.std.proofs.Common.{ℕ, List, [], ◌∷◌, Option, Some, None}
 use Rattle.dcx_shape.specs.declared.place.Place.{Place}
-use Rattle.dcx_read.specs.declared.tree.Sign.{Sign}
-use Rattle.dcx_read.specs.Expressions.{Expr, Postfix}
-use Rattle.dcx_read.specs.Statements.{Line, importing, assign, add_to, set_value, evaluate, prints, repeats, Lines, no_lines, lines}
+use Rattle.dcx_syntax.specs.declared.tree.Sign.{Sign}
+use Rattle.dcx_syntax.specs.Expressions.{Expr, Postfix}
+use Rattle.dcx_syntax.specs.Statements.{Line, importing, assign, add_to, set_value, evaluate, prints, repeats, Lines, no_lines, lines}
 use Rattle.dcx_kinds.specs.Values.{Value, State, Act, ◌>>◌, bind, step}
 use Rattle.dcx_kinds.specs.Kinds.{Reading}
 use Rattle.dcx_state.specs.Declarations.{give}

@@ -13,8 +13,8 @@ use Rattle.dcx_call.specs.Calls.{shape_of}
 use Rattle.dcx_array.specs.declared.fault.ArrayFault.{ArrayFault}
 use Rattle.dcx_array.specs.declared.fault.ArrayFault.TheVariants as array_faults
 use Rattle.dcx_array.specs.Operators.{added, negated}
-use Rattle.dcx_read.specs.declared.tree.Sign.TheVariants.{Plus, Minus}
-use Rattle.dcx_read.specs.declared.tree.Comparison.TheVariants.{AtMost, AtLeast}
+use Rattle.dcx_syntax.specs.declared.tree.Sign.TheVariants.{Plus, Minus}
+use Rattle.dcx_syntax.specs.declared.tree.Comparison.TheVariants.{AtMost, AtLeast}
 use Rattle.dcx_kinds.specs.declared.fault.ElabFault.{ElabFault}
 use Rattle.dcx_kinds.specs.declared.fault.ElabFault.TheVariants.{ShapeClash}
 use Rattle.dcx_kinds.specs.Values.{Value, plain, list, expression, State, Act, and_then, ◌>>=◌, done, or_fault, or_array_fault}

@@ -18,7 +18,7 @@ use Rattle.dcx_tree.specs.Expressions.{Value as Numbered, value_of}
 use Rattle.dcx_array.specs.Arrays.{entry}
 use Rattle.dcx_array.specs.declared.fault.ArrayFault.{ArrayFault}
 use Rattle.dcx_array.specs.Operators.{subtracted as difference, negated}
-use Rattle.dcx_read.specs.declared.tree.Sign.TheVariants.{Plus, Minus}
+use Rattle.dcx_syntax.specs.declared.tree.Sign.TheVariants.{Plus, Minus}
 use Rattle.dcx_kinds.specs.declared.fault.ElabFault.{ElabFault}
 use Rattle.dcx_kinds.specs.Values.{Value, plain, list, expression, items_of, State, and_then, done, or_array_fault}
 use Rattle.dcx_kinds.specs.Nodes.{Operand, standing, constant, push, subtracted}

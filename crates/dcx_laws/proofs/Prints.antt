@@ -1,6 +1,6 @@
 -- Lines without what their calls of `print` print.
 use Rattle.std.proofs.Common.{◌≡◌, refl, ap, ◌∙◌}
-use Rattle.dcx_read.specs.Statements.{Line, importing, assign, add_to, set_value, evaluate, prints, repeats, Lines, no_lines, lines, trimmed, trimmed_all}
+use Rattle.dcx_syntax.specs.Statements.{Line, importing, assign, add_to, set_value, evaluate, prints, repeats, Lines, no_lines, lines, trimmed, trimmed_all}
 use Rattle.dcx_kinds.specs.Values.{Act, ◌>>=◌, ◌>>◌, step}
 use Rattle.dcx_signature.specs.Turns.{items_through}
 use Rattle.dcx_state.specs.Declarations.{start}

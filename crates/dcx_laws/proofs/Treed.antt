@@ -5,7 +5,7 @@ use Rattle.dcx_shape.specs.declared.place.Place.{Place}
 use Rattle.dcx_arena.specs.Nodes.{AreNodes}
 use Rattle.dcx_call.specs.declared.call.Call.{Call}
 use Rattle.dcx_call.specs.Calls.{shape_of}
-use Rattle.dcx_read.specs.Statements.{Lines}
+use Rattle.dcx_syntax.specs.Statements.{Lines}
 use Rattle.dcx_kinds.specs.Values.{State}
 use Rattle.dcx_kinds.specs.Nodes.{push}
 use Rattle.dcx_state.specs.Declarations.{start}

@@ -7,8 +7,8 @@ use Rattle.dcx_atom.specs.declared.array.Array.{Array}
 use Rattle.dcx_array.specs.declared.fault.ArrayFault.{ArrayFault}
 use Rattle.dcx_array.specs.declared.fault.ArrayFault.TheVariants.{Wide}
 use Rattle.dcx_array.specs.Operators.{negated_number, added, subtracted, negated}
-use Rattle.dcx_read.specs.declared.tree.Sign.TheVariants.{Plus, Minus}
-use Rattle.dcx_read.specs.declared.tree.Comparison.TheVariants.{AtMost, AtLeast}
+use Rattle.dcx_syntax.specs.declared.tree.Sign.TheVariants.{Plus, Minus}
+use Rattle.dcx_syntax.specs.declared.tree.Comparison.TheVariants.{AtMost, AtLeast}
 use Rattle.dcx_kinds.specs.declared.fault.ElabFault.{ElabFault}
 use Rattle.dcx_kinds.specs.declared.fault.ElabFault.TheVariants.{ShapeClash, PlainWide}
 use Rattle.dcx_kinds.specs.Values.{Value, expression, State, Act, ◌>>=◌}

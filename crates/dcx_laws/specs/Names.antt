@@ -4,12 +4,12 @@ use Rattle.std.specs.List.{list_any}
 use Rattle.dcx_point.specs.Pairs.{same_name}
 use Rattle.dcx_tree.specs.declared.problem.Problem.{Problem}
 use Rattle.dcx_tree.specs.Meaning.{convex_problem}
-use Rattle.dcx_read.specs.declared.tree.Module.{Module}
-use Rattle.dcx_read.specs.declared.tree.Module.TheVariants.{Cvxpy, Numpy}
-use Rattle.dcx_read.specs.declared.tree.Script.{Script}
-use Rattle.dcx_read.specs.Expressions.{Expr}
-use Rattle.dcx_read.specs.Statements.{Lines}
-use Rattle.dcx_read.specs.Lines.{script_view}
+use Rattle.dcx_syntax.specs.declared.tree.Module.{Module}
+use Rattle.dcx_syntax.specs.declared.tree.Module.TheVariants.{Cvxpy, Numpy}
+use Rattle.dcx_syntax.specs.declared.tree.Script.{Script}
+use Rattle.dcx_syntax.specs.Expressions.{Expr}
+use Rattle.dcx_syntax.specs.Statements.{Lines}
+use Rattle.dcx_syntax.specs.View.{script_view}
 use Rattle.dcx_kinds.specs.Values.{State, Act}
 use Rattle.dcx_signature.specs.Table.{module_name}
 use Rattle.dcx_elab.specs.declared.work.Work.{Work}

@@ -6,7 +6,7 @@ use Rattle.dcx_arena.specs.Unfold.{Expressions, Unfold}
 use Rattle.dcx_call.specs.declared.call.Call.{Call}
 use Rattle.dcx_call.specs.Values.{Given}
 use Rattle.dcx_tree.specs.Expressions.{values_of}
-use Rattle.dcx_read.specs.declared.tree.Sign.TheVariants.{Minus}
+use Rattle.dcx_syntax.specs.declared.tree.Sign.TheVariants.{Minus}
 use Rattle.dcx_kinds.specs.Values.{Value, expression, State}
 use Rattle.dcx_operators.specs.Operators.{add_values}
 use Rattle.dcx_laws.specs.Trees.{HasTree, IsThere}

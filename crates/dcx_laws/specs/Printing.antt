@@ -1,9 +1,9 @@
 -- What stands in a `print` has no meaning.
 use Rattle.std.specs.Prelude.{◌≡◌, ℕ, List}
 use Rattle.dcx_tokens.specs.declared.token.Token.{Token}
-use Rattle.dcx_read.specs.declared.tree.Script.{Script}
-use Rattle.dcx_read.specs.Statements.{Lines, trimmed_all}
-use Rattle.dcx_read.specs.Lines.{script_view}
+use Rattle.dcx_syntax.specs.declared.tree.Script.{Script}
+use Rattle.dcx_syntax.specs.Statements.{Lines, trimmed_all}
+use Rattle.dcx_syntax.specs.View.{script_view}
 use Rattle.dcx_read.specs.Parses.{IsTree}
 use Rattle.dcx_kinds.specs.Values.{State}
 use Rattle.dcx_elab.specs.Statements.{lines_mean}

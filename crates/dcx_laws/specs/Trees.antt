@@ -4,8 +4,8 @@ use Rattle.std.specs.List.{AllByRecursion}
 use Rattle.dcx_arena.specs.Nodes.{Node, AreNodes}
 use Rattle.dcx_call.specs.declared.call.Call.{Call}
 use Rattle.dcx_call.specs.Calls.{shape_of}
-use Rattle.dcx_read.specs.Expressions.{Expr}
-use Rattle.dcx_read.specs.Statements.{Lines}
+use Rattle.dcx_syntax.specs.Expressions.{Expr}
+use Rattle.dcx_syntax.specs.Statements.{Lines}
 use Rattle.dcx_kinds.specs.Values.{Value, plain, text, truth, nothing, tuple, list, range, library, expression, constraint, objective, problem, result, Values, end, item, State, Act}
 use Rattle.dcx_state.specs.Declarations.{start}
 use Rattle.dcx_elab.specs.Expressions.{expr_means}

@@ -8,9 +8,9 @@ use dcx_kinds::{ElabFault, Extent, Items, Value, rows_array};
 use dcx_operators::{
     Evaluated, add_values, attribute_value, compare_values, index_value, scale_values, sign_value,
 };
-use dcx_read::{Comparison, Named, Scaling, Sign};
 use dcx_shape::{Name, Place, Sides};
 use dcx_state::{Flags, State};
+use dcx_syntax::{Comparison, Named, Scaling, Sign};
 use std::alloc::{AllocError, Global};
 use std::process::Abort;
 use std::rc::Rc;

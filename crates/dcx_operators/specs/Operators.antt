@@ -6,12 +6,12 @@ use Rattle.dcx_atom.specs.declared.array.Array.{Array}
 use Rattle.dcx_affine.specs.declared.pairing.Pairing.TheVariants as pairings
 use Rattle.dcx_call.specs.declared.call.Call.TheVariants as calls
 use Rattle.dcx_call.specs.declared.linears.LinearCall.TheVariants as linears
-use Rattle.dcx_read.specs.declared.tree.Sign.{Sign}
-use Rattle.dcx_read.specs.declared.tree.Sign.TheVariants.{Plus, Minus}
-use Rattle.dcx_read.specs.declared.tree.Scaling.{Scaling}
-use Rattle.dcx_read.specs.declared.tree.Scaling.TheVariants.{Times, Over, Matmul}
-use Rattle.dcx_read.specs.declared.tree.Comparison.{Comparison}
-use Rattle.dcx_read.specs.declared.tree.Comparison.TheVariants.{AtMost, AtLeast, Equal, Less, Greater, NotEqual}
+use Rattle.dcx_syntax.specs.declared.tree.Sign.{Sign}
+use Rattle.dcx_syntax.specs.declared.tree.Sign.TheVariants.{Plus, Minus}
+use Rattle.dcx_syntax.specs.declared.tree.Scaling.{Scaling}
+use Rattle.dcx_syntax.specs.declared.tree.Scaling.TheVariants.{Times, Over, Matmul}
+use Rattle.dcx_syntax.specs.declared.tree.Comparison.{Comparison}
+use Rattle.dcx_syntax.specs.declared.tree.Comparison.TheVariants.{AtMost, AtLeast, Equal, Less, Greater, NotEqual}
 use Rattle.dcx_array.specs.declared.fault.ArrayFault.{ArrayFault}
 use Rattle.dcx_array.specs.Operators.{added, subtracted as difference, multiplied as product, divided, matrix_multiplied, negated}
 use Rattle.dcx_tree.specs.declared.constraint.Kind.TheVariants as kinds

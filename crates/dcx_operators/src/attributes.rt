@@ -12,9 +12,9 @@ use dcx_array::transpose;
 use dcx_atom::Array;
 use dcx_call::{Call, LinearCall};
 use dcx_kinds::{ElabFault, Value, as_plain};
-use dcx_read::Named;
 use dcx_shape::{Name, Place, Sides};
 use dcx_state::State;
+use dcx_syntax::Named;
 use std::alloc::Global;
 
 /// Whether a name is that of the transpose.

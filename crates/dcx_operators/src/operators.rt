@@ -18,9 +18,9 @@ use dcx_call::{Call, LinearCall, copy_array};
 use dcx_kinds::{
     ElabFault, Items, Operand, Reading, Value, as_plain, joined, operand_read, read_value,
 };
-use dcx_read::{Comparison, Scaling, Sign};
 use dcx_shape::Place;
 use dcx_state::State;
+use dcx_syntax::{Comparison, Scaling, Sign};
 use dcx_tree::{Constraint, Kind};
 use std::alloc::{AllocError, Global};
 use std::rc::Rc;

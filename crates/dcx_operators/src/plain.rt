@@ -4,7 +4,7 @@ ghost use Rattle.dcx_operators.specs.Operators.{plain_added, plain_scaled};
 
 use dcx_array::{ArrayFault, add, divide, matmul, multiply, subtract};
 use dcx_atom::Array;
-use dcx_read::{Scaling, Sign};
+use dcx_syntax::{Scaling, Sign};
 use std::alloc::Global;
 
 /// The sum or the difference of two plain arrays.

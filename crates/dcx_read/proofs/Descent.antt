@@ -7,12 +7,13 @@ use Rattle.dcx_frac.specs.declared.fraction.Frac.{Frac}
 use Rattle.dcx_tokens.specs.declared.token.Token.{Token}
 use Rattle.dcx_read.specs.declared.role.Role.{Role}
 use Rattle.dcx_read.specs.declared.role.Role.TheVariants as roles
-use Rattle.dcx_read.specs.declared.role.Bracket.TheVariants.{Round, Square, Curly}
+use Rattle.dcx_syntax.specs.declared.bracket.Bracket.TheVariants.{Round, Square, Curly}
 use Rattle.dcx_read.specs.declared.front.Stop.{Stop}
 use Rattle.dcx_read.specs.Role.{role_of}
-use Rattle.dcx_read.specs.Terminal.{Terminal, opens, terminal, terminals}
-use Rattle.dcx_read.specs.Expressions.{Primary, postfix, Trailers, args, args_end, no_args, Arg, Expr, items, items_end, no_items, Index, Indices, more_indices, indexed, no_trailer}
-use Rattle.dcx_read.specs.View.{chained, then_index, args_of, items_of, more_items_of}
+use Rattle.dcx_syntax.specs.Terminal.{Terminal, opens}
+use Rattle.dcx_read.specs.Terminals.{terminal, terminals}
+use Rattle.dcx_syntax.specs.Expressions.{Primary, postfix, Trailers, args, args_end, no_args, Arg, Expr, items, items_end, no_items, Index, Indices, more_indices, indexed, no_trailer}
+use Rattle.dcx_syntax.specs.View.{chained, then_index, args_of, items_of, more_items_of}
 use Rattle.dcx_read.specs.Moves.{Symbol, Tree, move, leaf, expr_s, arg_s, args_s, more_args_s, items_s, more_items_s, index_s, indices_s, closes_s, postfix_s, trailers_s, primary_s, args_behind, args_join, items_behind, items_join}
 use Rattle.dcx_read.specs.Steps.{Gives, Progress, Loop, StopsAt, Stops, Front, Lacks, starts_expr, Reads, ReadsOne, Closes, IsBeside, MakesOne}
 use Rattle.dcx_read.specs.Leaves.{is_leaf}

@@ -4,13 +4,14 @@ use Rattle.dcx_shape.specs.declared.place.Place.{Place}
 use Rattle.dcx_tokens.specs.declared.token.Token.{Token}
 use Rattle.dcx_read.specs.declared.role.Role.{Role}
 use Rattle.dcx_read.specs.declared.role.Role.TheVariants as roles
-use Rattle.dcx_read.specs.declared.tree.Sign.{Sign}
+use Rattle.dcx_syntax.specs.declared.tree.Sign.{Sign}
 use Rattle.dcx_read.specs.declared.role.Mark.{Mark}
 use Rattle.dcx_read.specs.declared.role.Mark.TheVariants as marks
 use Rattle.dcx_read.specs.Role.{role_of, role_with, mark_of}
-use Rattle.dcx_read.specs.declared.tree.Signed.{Signed}
-use Rattle.dcx_read.specs.Expressions.{signs_text}
-use Rattle.dcx_read.specs.Terminal.{plain, signs, Terminal, terminal, terminals, spelled, named_by}
+use Rattle.dcx_syntax.specs.declared.tree.Signed.{Signed}
+use Rattle.dcx_syntax.specs.Expressions.{signs_text}
+use Rattle.dcx_syntax.specs.Terminal.{plain, signs, Terminal}
+use Rattle.dcx_read.specs.Terminals.{terminal, terminals, spelled, named_by}
 use Rattle.std.proofs.lemmas.List.{take_rest}
 use Rattle.dcx_read.specs.Reading.{pass, on_ok, read}
 use Rattle.dcx_read.specs.Moves.{Symbol, name_s, move, grammar}

@@ -5,16 +5,17 @@ use Rattle.std.proofs.lemmas.List.{map_push}
 use Rattle.dcx_shape.specs.declared.place.Place.{Place}
 use Rattle.dcx_tokens.specs.declared.token.Token.{Token}
 use Rattle.dcx_read.specs.declared.role.Role.TheVariants as roles
-use Rattle.dcx_read.specs.declared.role.Bracket.{Bracket}
+use Rattle.dcx_syntax.specs.declared.bracket.Bracket.{Bracket}
 use Rattle.dcx_read.specs.declared.front.Stop.{Stop}
-use Rattle.dcx_read.specs.declared.tree.Named.{Named}
-use Rattle.dcx_read.specs.Terminal.{Terminal, terminals}
-use Rattle.dcx_read.specs.Expressions.{Expr}
-use Rattle.dcx_read.specs.Statements.{Balanced, nothing, within, Line, Lines, no_lines, lines, repeats, trimmed, trimmed_all}
-use Rattle.dcx_read.specs.View.{chained}
+use Rattle.dcx_syntax.specs.declared.tree.Named.{Named}
+use Rattle.dcx_syntax.specs.Terminal.{Terminal}
+use Rattle.dcx_read.specs.Terminals.{terminals}
+use Rattle.dcx_syntax.specs.Expressions.{Expr}
+use Rattle.dcx_syntax.specs.Statements.{Balanced, nothing, within, Line, Lines, no_lines, lines, repeats, trimmed, trimmed_all}
+use Rattle.dcx_syntax.specs.View.{chained, then_line, lines_of}
 use Rattle.dcx_read.specs.Moves.{Symbol, expr_s, newline_s, balanced_s, closes_s, line_s, lines_s, dedent_s, lines_join, Tree}
 use Rattle.dcx_read.specs.Steps.{Gives, Progress, Loop, Stops, Front, FrontOf, Refuses}
-use Rattle.dcx_read.specs.Lines.{FrontPlain, LacksPlain, BalancedTo, then_line, lines_of, starts_line, ReadsLine, ReadsLines, ReadsBody, EndsBlock}
+use Rattle.dcx_read.specs.Lines.{FrontPlain, LacksPlain, BalancedTo, starts_line, ReadsLine, ReadsLines, ReadsBody, EndsBlock}
 use Rattle.dcx_read.specs.Steps.{Lacks, Closes, IsBeside}
 use Rattle.dcx_read.proofs.Progress.{Join, front, begun, goes, stops}
 use Rattle.dcx_read.proofs.Loops.{pushed, loop-stops}
@@ -104,9 +105,31 @@ module _ {F U X Y : Type 0} (view : X → (F × U) × List Token) (seen : Y → 
   body-ends t g e (Err a) (Ok b) d r c i = absurd c
   body-ends t g e a (Err b) (Ok d) r c i = absurd i
   body-ends t g e a (Ok b) (Err d) r c i = absurd i
-  body-ends t g e (Ok a) (Ok b) (Ok d) r c i =
-      (t, (r.0, (terminals source behind, (terminals source (seen a).1, (ap first i.0 ∙ e, (ap rest (i.1.0 ∙ c.0) ∙ r.1.1, (g, (r.1.0,
-      subst (λ z. Gives dedent_s (terminals source (seen a).1) tt (terminals source z)) (sym i.1.1) (dedent-gives source (seen a).1 (seen b).1 c.1)))))))))
+  body-ends t g e (Ok a) (Ok b) (Ok d) r c i = (
+    t,
+    (
+      r.0,
+      (
+        terminals source behind,
+        (
+          terminals source (seen a).1,
+          (
+            ap first i.0 ∙ e,
+            (
+              ap rest (i.1.0 ∙ c.0) ∙ r.1.1,
+              (
+                g,
+                (
+                  r.1.0,
+                  subst (λ z. Gives dedent_s (terminals source (seen a).1) tt (terminals source z)) (sym i.1.1) (dedent-gives source (seen a).1 (seen b).1 c.1),
+                ),
+              ),
+            ),
+          ),
+        ),
+      ),
+    ),
+  )
 
   pub body-shorter : (n most : ℕ) → n < most → (inner closing : Result Y Stop) (body : Result X Stop) → IfOk inner (λ y. length (seen y).1 ≤ n) → Closes roles.Dedent seen closing inner → IsBeside view seen f body closing → IfOk body (λ x. length (view x).1 < most)
   body-shorter n most k inner closing (Err d) h c i = tt
@@ -125,11 +148,14 @@ module _ {F U X Y Z : Type 0} (view : X → (F × U) × List Token) (seen : Y �
   block-ends source us inside h (Ok a) (Err b) d r i e = absurd i
   block-ends source us inside h a (Err b) (Ok d) r i e = absurd e
   block-ends source us inside h (Ok a) (Ok b) (Err d) r i e = rw e tt
-  block-ends source us inside h (Ok a) (Ok b) (Ok d) (t, (ts, (mid, (end, (e1, (e2, (g1, (g2, g3)))))))) i e =
-      (repeats place (name f) (from f) t ts,
-      (subst (λ z. Gives line_s us (repeats place (name f) (from f) t ts) (terminals source z)) (sym (e.1 ∙ i.1.1))
-      (finish line_s dedent_s us end (terminals source (seen a).1) (λ z. repeats place (name f) (from f) t ts) tt _ (goes line_s lines_s us mid end (dedent_s ∷ []) _ ts (goes line_s line_s us inside mid (lines_s ∷ dedent_s ∷ []) (block_join (repeats place (name f) (from f))) t h g1) g2) g3 refl),
-      e.0 ∙ ap₂ (λ a b. repeats place (name a) (from a) (first b) (rest b)) i.0 i.1.0 ∙ ap₂ (repeats place (name f) (from f)) e1 e2))
+  block-ends source us inside h (Ok a) (Ok b) (Ok d) (t, (ts, (mid, (end, (e1, (e2, (g1, (g2, g3)))))))) i e = (
+    repeats place (name f) (from f) t ts,
+    (
+      subst (λ z. Gives line_s us (repeats place (name f) (from f) t ts) (terminals source z)) (sym (e.1 ∙ i.1.1))
+          (finish line_s dedent_s us end (terminals source (seen a).1) (λ z. repeats place (name f) (from f) t ts) tt _ (goes line_s lines_s us mid end (dedent_s ∷ []) _ ts (goes line_s line_s us inside mid (lines_s ∷ dedent_s ∷ []) (block_join (repeats place (name f) (from f))) t h g1) g2) g3 refl),
+      e.0 ∙ ap₂ (λ a b. repeats place (name a) (from a) (first b) (rest b)) i.0 i.1.0 ∙ ap₂ (repeats place (name f) (from f)) e1 e2,
+    ),
+  )
 
   pub block-shorter : (n most : ℕ) → n < most → (body : Result Y Stop) (parts : Result X Stop) (whole : Result Z Stop) → IfOk body (λ y. length (seen y).1 < n) → IsBeside view seen f parts body → EndsBlock kept made whole parts → IfOk whole (λ x. length (kept x).1 < most)
   block-shorter n most k body parts (Err d) h i e = tt

@@ -4,16 +4,17 @@ use Rattle.dcx_shape.specs.declared.place.Place.{Place}
 use Rattle.dcx_tokens.specs.declared.token.Token.{Token}
 use Rattle.dcx_read.specs.declared.role.Role.{Role}
 use Rattle.dcx_read.specs.declared.role.Role.TheVariants as roles
-use Rattle.dcx_read.specs.declared.role.Bracket.{Bracket}
-use Rattle.dcx_read.specs.declared.role.Bracket.TheVariants.{Round, Square, Curly}
+use Rattle.dcx_syntax.specs.declared.bracket.Bracket.{Bracket}
+use Rattle.dcx_syntax.specs.declared.bracket.Bracket.TheVariants.{Round, Square, Curly}
 use Rattle.dcx_read.specs.declared.front.Stop.{Stop}
-use Rattle.dcx_read.specs.declared.tree.Module.{Module}
-use Rattle.dcx_read.specs.declared.tree.Named.{Named}
+use Rattle.dcx_syntax.specs.declared.tree.Module.{Module}
+use Rattle.dcx_syntax.specs.declared.tree.Named.{Named}
 use Rattle.dcx_read.specs.Role.{role_of}
-use Rattle.dcx_read.specs.Terminal.{Terminal, opens, closes, plain, dot, terminal, terminals, spelled, named_by}
-use Rattle.dcx_read.specs.Terminal as marks_of
-use Rattle.dcx_read.specs.Expressions.{named, attribute}
-use Rattle.dcx_read.specs.Statements.{nothing, beside, within, Line, importing, prints, repeats, assign, add_to, set_value, no_lines}
+use Rattle.dcx_syntax.specs.Terminal.{Terminal, opens, closes, plain, dot}
+use Rattle.dcx_read.specs.Terminals.{terminal, terminals, spelled, named_by}
+use Rattle.dcx_syntax.specs.Terminal as marks_of
+use Rattle.dcx_syntax.specs.Expressions.{named, attribute}
+use Rattle.dcx_syntax.specs.Statements.{nothing, beside, within, Line, importing, prints, repeats, assign, add_to, set_value, no_lines}
 use Rattle.dcx_read.specs.Words.{ModuleAt, module_named, is_value_word}
 use Rattle.dcx_read.specs.Reading.{leading, pass, on_ok, read}
 use Rattle.dcx_read.specs.Moves.{Symbol, expr_s, trailers_s, raised_s, scaled_s, added_s, compared_s, rest_s, after_name_s, name_s, opens_s, closes_s, colon_s, in_s, newline_s, indent_s, dedent_s, module_s, alias_s, balanced_s, after_first_s, after_dot_s, line_s, lines_s, Tree, trees, move, grammar}

@@ -4,12 +4,13 @@ use Rattle.std.proofs.lemmas.List.{map_push}
 use Rattle.dcx_tokens.specs.declared.token.Token.{Token}
 use Rattle.dcx_read.specs.declared.role.Role.{Role}
 use Rattle.dcx_read.specs.declared.role.Role.TheVariants as roles
-use Rattle.dcx_read.specs.declared.tree.Sign.{Sign}
-use Rattle.dcx_read.specs.declared.tree.Signed.{Signed}
+use Rattle.dcx_syntax.specs.declared.tree.Sign.{Sign}
+use Rattle.dcx_syntax.specs.declared.tree.Signed.{Signed}
 use Rattle.dcx_read.specs.declared.front.Stop.{Stop}
-use Rattle.dcx_read.specs.Terminal.{Terminal, terminals, terminal, plain, signs}
-use Rattle.dcx_read.specs.Expressions.{Expr, Factor, factor, Power, Exponent, exponent, Postfix, Arg, Args, no_args, args, args_end, MoreArgs, Items, no_items, items, items_end, MoreItems, signs_text}
-use Rattle.dcx_read.specs.View.{chained, then_arg, then_item, args_of, items_of}
+use Rattle.dcx_syntax.specs.Terminal.{Terminal, plain, signs}
+use Rattle.dcx_read.specs.Terminals.{terminals, terminal}
+use Rattle.dcx_syntax.specs.Expressions.{Expr, Factor, factor, Power, Exponent, exponent, Postfix, Arg, Args, no_args, args, args_end, MoreArgs, Items, no_items, items, items_end, MoreItems, signs_text}
+use Rattle.dcx_syntax.specs.View.{chained, then_arg, then_item, args_of, items_of}
 use Rattle.dcx_read.specs.Moves.{Symbol, Tree, trees, factor_s, exponent_s, power_s, postfix_s, signed_factor, signed_exponent, args_behind, items_behind}
 use Rattle.dcx_read.specs.Moves as moves
 use Rattle.dcx_read.specs.Reading.{leading}

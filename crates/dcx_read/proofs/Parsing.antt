@@ -12,13 +12,14 @@ use Rattle.dcx_tokens.specs.Position.{end_of}
 use Rattle.dcx_tokens.proofs.Faults.{of_tokens}
 use Rattle.dcx_read.specs.declared.front.Stop.{Stop}
 use Rattle.dcx_read.specs.declared.front.Stop.TheVariants as stops
-use Rattle.dcx_read.specs.declared.tree.Script.{Script}
-use Rattle.dcx_read.specs.Terminal.{Terminal, terminal_of, terminals}
-use Rattle.dcx_read.specs.Statements.{Lines, trimmed_all}
+use Rattle.dcx_syntax.specs.declared.tree.Script.{Script}
+use Rattle.dcx_syntax.specs.Terminal.{Terminal}
+use Rattle.dcx_read.specs.Terminals.{terminal_of, terminals}
+use Rattle.dcx_syntax.specs.Statements.{Lines, trimmed_all}
 use Rattle.dcx_read.specs.Moves.{lines_s}
 use Rattle.dcx_read.specs.Steps.{Gives, Stops}
 use Rattle.dcx_read.specs.Whole.{IsUnexpected}
-use Rattle.dcx_read.specs.Lines.{script_view}
+use Rattle.dcx_syntax.specs.View.{script_view}
 use Rattle.dcx_read.specs.Parses.{IsTree, ReadsScript, stop_fault, Parses, HasTokens, IsReading, no_text, no_tokens, first_place, IsUnexpectedAt}
 use Rattle.dcx_read.proofs.Whole.{read-whole, read-more, read-stops}
 

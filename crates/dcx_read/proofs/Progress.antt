@@ -2,7 +2,8 @@
 use Rattle.std.proofs.Common.{◌≡◌, List, [], ◌∷◌, ◌++◌, Result, Ok, Err, refl, sym, ap, subst, ◌∙◌}
 use Rattle.dcx_read.specs.declared.front.Stop.{Stop}
 use Rattle.dcx_read.specs.declared.front.Stop.TheVariants.{Memory, At}
-use Rattle.dcx_read.specs.Terminal.{Terminal, terminals}
+use Rattle.dcx_syntax.specs.Terminal.{Terminal}
+use Rattle.dcx_read.specs.Terminals.{terminals}
 use Rattle.dcx_read.specs.Reading.{Forest, on_ok, read}
 use Rattle.dcx_read.specs.Moves.{Symbol, Tree, trees, grammar}
 use Rattle.dcx_read.specs.Steps.{Gives, Progress, Loop, StopsAt, Stops}

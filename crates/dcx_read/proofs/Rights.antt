@@ -4,15 +4,15 @@ use Rattle.std.proofs.lemmas.List.{append-nil}
 use Rattle.std.specs.Prelude.{codes, bytes_eq, if◌then◌else◌}
 use Rattle.std.proofs.lemmas.Slice.Eq.{bytes_eq-Decides}
 use Rattle.dcx_shape.specs.declared.place.Place.{Place}
-use Rattle.dcx_read.specs.declared.tree.Module.{Module}
-use Rattle.dcx_read.specs.declared.tree.Module.TheVariants.{Cvxpy, Numpy}
-use Rattle.dcx_read.specs.declared.tree.Named.{Named}
-use Rattle.dcx_read.specs.declared.tree.Signed.{Signed}
-use Rattle.dcx_read.specs.declared.role.Bracket.{Bracket}
-use Rattle.dcx_read.specs.declared.role.Bracket.TheVariants.{Round, Square, Curly}
-use Rattle.dcx_read.specs.Terminal.{Terminal, opens, closes, plain, name, number, text, truth, none, compares, signs, scales, power, plus_equal, import, for, print, as_word, in_word, dot, comma, colon, equal, newline, indent, dedent}
-use Rattle.dcx_read.specs.Expressions.{named, expr_text, factor, Factor, factor_text, exponent, Exponent, exponent_text, arg_text, no_args, args, Args, args_text, more_args_text, no_items, items, Items, items_text, more_items_text, primary_text, index_text, Expr}
-use Rattle.dcx_read.specs.Statements.{module_bytes, line_text}
+use Rattle.dcx_syntax.specs.declared.tree.Module.{Module}
+use Rattle.dcx_syntax.specs.declared.tree.Module.TheVariants.{Cvxpy, Numpy}
+use Rattle.dcx_syntax.specs.declared.tree.Named.{Named}
+use Rattle.dcx_syntax.specs.declared.tree.Signed.{Signed}
+use Rattle.dcx_syntax.specs.declared.bracket.Bracket.{Bracket}
+use Rattle.dcx_syntax.specs.declared.bracket.Bracket.TheVariants.{Round, Square, Curly}
+use Rattle.dcx_syntax.specs.Terminal.{Terminal, opens, closes, plain, name, number, text, truth, none, compares, signs, scales, power, plus_equal, import, for, print, as_word, in_word, dot, comma, colon, equal, newline, indent, dedent}
+use Rattle.dcx_syntax.specs.Expressions.{named, expr_text, factor, Factor, factor_text, exponent, Exponent, exponent_text, arg_text, no_args, args, Args, args_text, more_args_text, no_items, items, Items, items_text, more_items_text, primary_text, index_text, Expr}
+use Rattle.dcx_syntax.specs.Statements.{module_bytes, line_text}
 use Rattle.dcx_read.specs.Words.{module_named, is_value_word}
 use Rattle.dcx_read.specs.Reading.{Forest, leading}
 use Rattle.dcx_read.specs.Moves.{Symbol, expr_s, compared_s, sum_s, added_s, term_s, scaled_s, factor_s, power_s, raised_s, exponent_s, postfix_s, trailers_s, args_s, more_args_s, arg_s, after_name_s, rest_s, indices_s, index_s, after_index_s, optional_s, step_s, primary_s, in_round_s, after_round_s, in_square_s, after_square_s, items_s, more_items_s, name_s, opens_s, closes_s, colon_s, in_s, newline_s, indent_s, dedent_s, module_s, alias_s, balanced_s, after_first_s, after_dot_s, line_s, lines_s, Tree, trees, grammar, primary_move, postfix_move, as_round, as_square, signed_factor, signed_exponent}

@@ -4,23 +4,24 @@ use Rattle.dcx_shape.specs.declared.place.Place.{Place}
 use Rattle.dcx_tokens.specs.declared.token.Token.{Token}
 use Rattle.dcx_read.specs.declared.role.Role.{Role}
 use Rattle.dcx_read.specs.declared.role.Role.TheVariants as roles
-use Rattle.dcx_read.specs.declared.role.Bracket.{Bracket}
-use Rattle.dcx_read.specs.declared.role.Bracket.TheVariants.{Round, Square, Curly}
-use Rattle.dcx_read.specs.declared.tree.Comparison.{Comparison}
-use Rattle.dcx_read.specs.declared.tree.Sign.{Sign}
-use Rattle.dcx_read.specs.declared.tree.Named.{Named}
-use Rattle.dcx_read.specs.declared.tree.Scaling.{Scaling}
+use Rattle.dcx_syntax.specs.declared.bracket.Bracket.{Bracket}
+use Rattle.dcx_syntax.specs.declared.bracket.Bracket.TheVariants.{Round, Square, Curly}
+use Rattle.dcx_syntax.specs.declared.tree.Comparison.{Comparison}
+use Rattle.dcx_syntax.specs.declared.tree.Sign.{Sign}
+use Rattle.dcx_syntax.specs.declared.tree.Named.{Named}
+use Rattle.dcx_syntax.specs.declared.tree.Scaling.{Scaling}
 use Rattle.dcx_read.specs.declared.front.Stop.{Stop}
 use Rattle.dcx_read.specs.declared.front.Stop.TheVariants.{Memory, At}
 use Rattle.dcx_read.specs.Role.{role_of}
-use Rattle.dcx_read.specs.Terminal.{Terminal, opens, closes, plain, name, signs, comma, colon, in_word, newline, indent, dedent, terminal, terminal_of, terminals, spelled, named_by}
-use Rattle.dcx_read.specs.Expressions.{named, no_comparison, no_addition, no_scaling, no_power, no_trailer, no_args, args_end, no_items, items_end, no_index, no_step, absent, compared, added, scaled, raised, attribute, call, indexed, more_indices, step, slice, by_name}
+use Rattle.dcx_syntax.specs.Terminal.{Terminal, opens, closes, plain, name, signs, comma, colon, in_word, newline, indent, dedent}
+use Rattle.dcx_read.specs.Terminals.{terminal, terminal_of, terminals, spelled, named_by}
+use Rattle.dcx_syntax.specs.Expressions.{named, no_comparison, no_addition, no_scaling, no_power, no_trailer, no_args, args_end, no_items, items_end, no_index, no_step, absent, compared, added, scaled, raised, attribute, call, indexed, more_indices, step, slice, by_name}
 use Rattle.dcx_read.specs.Reading.{Forest, Move, shift, pass, leading, otherwise, on_ok, shifted, read}
 use Rattle.dcx_read.specs.Moves.{Symbol, expr_s, compared_s, sum_s, added_s, term_s, scaled_s, factor_s, power_s, raised_s, exponent_s, postfix_s, trailers_s, args_s, more_args_s, arg_s, after_name_s, rest_s, indices_s, index_s, after_index_s, optional_s, step_s, primary_s, in_round_s, after_round_s, in_square_s, after_square_s, items_s, more_items_s, name_s, opens_s, closes_s, colon_s, in_s, newline_s, indent_s, dedent_s, module_s, alias_s, balanced_s, after_first_s, after_dot_s, line_s, lines_s, Tree, trees, move, empty, grammar}
 use Rattle.dcx_read.specs.Moves as moves
 use Rattle.dcx_read.specs.Steps.{Gives, Progress, Loop, StopsAt, Stops, Front, FrontOf, FrontPair, Lacks, LacksPair, Refuses, begins_expr, starts_expr}
 use Rattle.dcx_read.proofs.Complete.{is_shift}
-use Rattle.dcx_read.specs.Terminal as marks_of
+use Rattle.dcx_syntax.specs.Terminal as marks_of
 use Rattle.dcx_read.proofs.Progress.{Join, front, twice, pointwise, turns, goes, done}
 use Rattle.dcx_read.proofs.Fronts.{front-terminals, Passes, passes}
 

@@ -1,9 +1,9 @@
 -- Which kinds of tokens may begin a tree of a symbol, and which may go on one.
 use Rattle.std.proofs.Common.{◌≡◌, ℕ, Bool, true, false, cond, List, [], ◌∷◌, refl}
 use Rattle.std.specs.Prelude.{nat_le}
-use Rattle.dcx_read.specs.declared.role.Bracket.{Bracket}
-use Rattle.dcx_read.specs.declared.role.Bracket.TheVariants.{Round, Square, Curly}
-use Rattle.dcx_read.specs.Terminal.{Plain, Terminal, opens, closes, plain, name, number, text, truth, none, compares, signs, scales, power, plus_equal, import, for, print, as_word, in_word, dot, comma, colon, equal, newline, indent, dedent, other}
+use Rattle.dcx_syntax.specs.declared.bracket.Bracket.{Bracket}
+use Rattle.dcx_syntax.specs.declared.bracket.Bracket.TheVariants.{Round, Square, Curly}
+use Rattle.dcx_syntax.specs.Terminal.{Plain, Terminal, opens, closes, plain, name, number, text, truth, none, compares, signs, scales, power, plus_equal, import, for, print, as_word, in_word, dot, comma, colon, equal, newline, indent, dedent, other}
 use Rattle.dcx_read.specs.Moves.{Symbol, trees}
 use Rattle.dcx_read.specs.Moves as symbols
 use Rattle.dcx_read.proofs.Complete.{Sets}

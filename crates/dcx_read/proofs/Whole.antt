@@ -2,10 +2,10 @@
 use Rattle.std.proofs.Common.{◌≡◌, ◌⊎◌, inl, inr, List, [], ◌∷◌, ◌++◌, None, Ok, Err, refl, sym, ap, subst, ◌∙◌}
 use Rattle.std.proofs.lemmas.List.{append-nil, append_cancel_right}
 use Rattle.dcx_shape.specs.declared.place.Place.{Place}
-use Rattle.dcx_read.specs.declared.tree.Module.TheVariants.{Numpy}
-use Rattle.dcx_read.specs.Terminal.{Terminal}
-use Rattle.dcx_read.specs.Expressions.{Expr, expr, no_comparison, Sum, sum, no_addition, Term, term, no_scaling, Factor, factor, Power, power_of, no_power, exponent, Postfix, postfix, no_trailer, no_args, args_end, by_place, no_index, at, absent, no_step, none_at, no_items, items_end}
-use Rattle.dcx_read.specs.Statements.{nothing, evaluate, Lines, no_lines, lines_text}
+use Rattle.dcx_syntax.specs.declared.tree.Module.TheVariants.{Numpy}
+use Rattle.dcx_syntax.specs.Terminal.{Terminal}
+use Rattle.dcx_syntax.specs.Expressions.{Expr, expr, no_comparison, Sum, sum, no_addition, Term, term, no_scaling, Factor, factor, Power, power_of, no_power, exponent, Postfix, postfix, no_trailer, no_args, args_end, by_place, no_index, at, absent, no_step, none_at, no_items, items_end}
+use Rattle.dcx_syntax.specs.Statements.{nothing, evaluate, Lines, no_lines, lines_text}
 use Rattle.dcx_read.specs.Reading.{Forest, Read, read}
 use Rattle.dcx_read.specs.Moves.{Symbol, lines_s, Tree, trees, grammar}
 use Rattle.dcx_read.specs.Moves as moves

@@ -1,7 +1,7 @@
 -- The laws of the grammar, as the clauses of the law functions say them.
 use Rattle.std.specs.Prelude.{◌≡◌, ◌⊎◌, List}
-use Rattle.dcx_read.specs.Terminal.{Terminal}
-use Rattle.dcx_read.specs.Statements.{Lines, lines_text}
+use Rattle.dcx_syntax.specs.Terminal.{Terminal}
+use Rattle.dcx_syntax.specs.Statements.{Lines, lines_text}
 use Rattle.dcx_read.specs.Whole.{IsUnexpected, IsScript}
 
 -- Terminals have at most one tree; they have one, or a first of them that goes on no script, and not both.

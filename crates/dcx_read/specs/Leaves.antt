@@ -4,7 +4,7 @@ use Rattle.dcx_tokens.specs.declared.token.Token.{Token}
 use Rattle.dcx_read.specs.declared.role.Role.{Role}
 use Rattle.dcx_read.specs.declared.role.Role.TheVariants as roles
 use Rattle.dcx_read.specs.Role.{role_of}
-use Rattle.dcx_read.specs.Terminal.{terminals}
+use Rattle.dcx_read.specs.Terminals.{terminals}
 use Rattle.dcx_read.specs.Moves.{primary_s, Tree}
 use Rattle.dcx_read.specs.Steps.{Gives}
 

@@ -1,11 +1,8 @@
 pub mod Role
-pub mod Terminal
-pub mod Expressions
-pub mod Statements
+pub mod Terminals
 pub mod Words
 pub mod Reading
 pub mod Moves
-pub mod View
 pub mod Steps
 pub mod Leaves
 pub mod Lines

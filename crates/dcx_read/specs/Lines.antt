@@ -1,4 +1,4 @@
--- The lines of the code, as those of `Statements`, and what reading them answers.
+-- What reading the lines of the code answers, as those of `Statements`.
 use Rattle.std.specs.Prelude.{◌≡◌, ◌⊎◌, ℕ, Bool, true, false, List, [], ◌∷◌, map, Result, Ok, Err}
 use Rattle.dcx_tokens.specs.declared.token.Token.{Token}
 use Rattle.dcx_shape.specs.declared.place.Place.{Place}
@@ -6,43 +6,17 @@ use Rattle.dcx_read.specs.declared.front.Stop.{Stop}
 use Rattle.dcx_read.specs.declared.front.Stop.TheVariants.{Memory}
 use Rattle.dcx_read.specs.declared.role.Role.{Role}
 use Rattle.dcx_read.specs.declared.role.Role.TheVariants as roles
-use Rattle.dcx_read.specs.declared.tree.Line as code_line
-use Rattle.dcx_read.specs.declared.tree.Line.TheOpen.{Line-F}
-use Rattle.dcx_read.specs.declared.tree.Script.{Script}
-use Rattle.dcx_read.specs.declared.tree.Named.{Named}
+use Rattle.dcx_syntax.specs.declared.tree.Named.{Named}
 use Rattle.dcx_read.specs.Role.{role_of}
-use Rattle.dcx_read.specs.Terminal.{Terminal, terminals, spelled}
-use Rattle.dcx_read.specs.Statements.{Balanced, nothing, Line, importing, assign, add_to, set_value, evaluate, prints, repeats, Lines, no_lines, lines, trimmed, trimmed_all}
-use Rattle.dcx_read.specs.View.{chained, expr_view}
-use Rattle.dcx_read.specs.declared.tree.Module.{Module}
-use Rattle.dcx_read.specs.Expressions.{Expr}
+use Rattle.dcx_syntax.specs.Terminal.{Terminal}
+use Rattle.dcx_read.specs.Terminals.{terminals, spelled}
+use Rattle.dcx_syntax.specs.Statements.{Balanced, nothing, Line, importing, assign, add_to, set_value, evaluate, prints, repeats, Lines, no_lines, lines, trimmed, trimmed_all}
+use Rattle.dcx_syntax.specs.declared.tree.Module.{Module}
+use Rattle.dcx_syntax.specs.Expressions.{Expr}
 use Rattle.dcx_read.specs.Words.{ModuleAt, is_value_word}
 use Rattle.dcx_read.specs.Moves.{expr_s, balanced_s, newline_s, line_s, lines_s, dedent_s, trees}
 use Rattle.dcx_read.specs.Reading.{Forest}
 use Rattle.dcx_read.specs.Steps.{Gives, Progress, Loop, Stops, FrontPair, begins_expr}
-
-abbrev pub then_line : Line → Lines → Lines
-then_line l rest = lines l rest
-
--- lines one after the other
-abbrev pub lines_of : List Line → Lines
-lines_of ls = chained (map then_line ls) no_lines
-
--- one level of a line, with the lines inside it already seen
-abbrev pub line_layer : Line-F Line → Line
-line_layer (Line-F.Import i) = importing i
-line_layer (Line-F.Assign n x) = assign n (expr_view x)
-line_layer (Line-F.AddTo n p x) = add_to n p (expr_view x)
-line_layer (Line-F.SetValue n p x) = set_value n p (expr_view x)
-line_layer (Line-F.Evaluate x) = evaluate (expr_view x)
-line_layer (Line-F.Print p q) = prints p q nothing
-line_layer (Line-F.For p n x first rest) = repeats p n (expr_view x) first.value (lines_of rest.items)
-
-abbrev pub line_view : code_line.Line → Line
-line_view = code_line.fold-Line Line line_layer
-
-abbrev pub script_view : Script → Lines
-script_view s = lines_of (map line_view s.lines.items)
 
 -- a line is read, of which what its calls of print print isn't kept
 abbrev pub ReadsLine : {X : Type 0} (source : List ℕ) → (X → Line × List Token) → Result X Stop → List Terminal → Type 0

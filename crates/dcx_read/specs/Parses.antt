@@ -9,10 +9,10 @@ use Rattle.dcx_tokens.specs.Position.{end_of}
 use Rattle.dcx_tokens.specs.Reading.{IsLexed}
 use Rattle.dcx_read.specs.declared.front.Stop.{Stop}
 use Rattle.dcx_read.specs.declared.front.Stop.TheVariants as stops
-use Rattle.dcx_read.specs.declared.tree.Script.{Script}
-use Rattle.dcx_read.specs.Terminal.{terminals}
-use Rattle.dcx_read.specs.Statements.{Lines, trimmed_all}
-use Rattle.dcx_read.specs.Lines.{script_view}
+use Rattle.dcx_syntax.specs.declared.tree.Script.{Script}
+use Rattle.dcx_read.specs.Terminals.{terminals}
+use Rattle.dcx_syntax.specs.Statements.{Lines, trimmed_all}
+use Rattle.dcx_syntax.specs.View.{script_view}
 use Rattle.dcx_read.specs.Whole.{IsScript, IsUnexpected}
 
 -- the script is the tree of these tokens of the text, where what its calls of print print isn't kept

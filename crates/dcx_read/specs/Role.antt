@@ -6,10 +6,10 @@ use Rattle.dcx_tokens.specs.declared.token.Keyword.{Keyword}
 use Rattle.dcx_tokens.specs.declared.token.Keyword.TheVariants as words
 use Rattle.dcx_tokens.specs.declared.token.Symbol.{Symbol}
 use Rattle.dcx_tokens.specs.declared.token.Symbol.TheVariants as symbols
-use Rattle.dcx_read.specs.declared.tree.Comparison.TheVariants as comparisons
-use Rattle.dcx_read.specs.declared.tree.Sign.TheVariants as signs
-use Rattle.dcx_read.specs.declared.tree.Scaling.TheVariants as scalings
-use Rattle.dcx_read.specs.declared.role.Bracket.TheVariants.{Round, Square, Curly}
+use Rattle.dcx_syntax.specs.declared.tree.Comparison.TheVariants as comparisons
+use Rattle.dcx_syntax.specs.declared.tree.Sign.TheVariants as signs
+use Rattle.dcx_syntax.specs.declared.tree.Scaling.TheVariants as scalings
+use Rattle.dcx_syntax.specs.declared.bracket.Bracket.TheVariants.{Round, Square, Curly}
 use Rattle.dcx_read.specs.declared.role.Role.{Role}
 use Rattle.dcx_read.specs.declared.role.Role.TheVariants as roles
 use Rattle.dcx_read.specs.declared.role.Mark.{Mark}

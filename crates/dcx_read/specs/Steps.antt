@@ -6,12 +6,13 @@ use Rattle.dcx_read.specs.declared.front.Stop.{Stop}
 use Rattle.dcx_read.specs.declared.front.Stop.TheVariants.{Memory, At}
 use Rattle.dcx_read.specs.declared.role.Role.{Role}
 use Rattle.dcx_read.specs.declared.role.Role.TheVariants as roles
-use Rattle.dcx_read.specs.declared.role.Bracket.TheVariants.{Round, Square}
-use Rattle.dcx_read.specs.declared.tree.Sign.{Sign}
-use Rattle.dcx_read.specs.declared.tree.Signed.{Signed}
+use Rattle.dcx_syntax.specs.declared.bracket.Bracket.TheVariants.{Round, Square}
+use Rattle.dcx_syntax.specs.declared.tree.Sign.{Sign}
+use Rattle.dcx_syntax.specs.declared.tree.Signed.{Signed}
 use Rattle.dcx_read.specs.Role.{role_of}
-use Rattle.dcx_read.specs.Terminal.{Terminal, terminals}
-use Rattle.dcx_read.specs.Expressions.{signs_text}
+use Rattle.dcx_syntax.specs.Terminal.{Terminal}
+use Rattle.dcx_read.specs.Terminals.{terminals}
+use Rattle.dcx_syntax.specs.Expressions.{signs_text}
 use Rattle.dcx_read.specs.Reading.{Forest, on_ok, read}
 use Rattle.dcx_read.specs.Moves.{Symbol, Tree, trees, grammar}
 

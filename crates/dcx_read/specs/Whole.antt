@@ -1,7 +1,7 @@
 -- Scripts as whole texts: the one tree that the terminals spell, or the first of them that goes on no text.
 use Rattle.std.specs.Prelude.{◌≡◌, List, [], ◌∷◌, ◌++◌}
-use Rattle.dcx_read.specs.Terminal.{Terminal}
-use Rattle.dcx_read.specs.Statements.{Lines, lines_text}
+use Rattle.dcx_syntax.specs.Terminal.{Terminal}
+use Rattle.dcx_syntax.specs.Statements.{Lines, lines_text}
 
 -- the text goes on after the front with the first terminal of the rest, or ends there as the rest does
 abbrev pub GoesOn : (text front rest : List Terminal) → Type 0

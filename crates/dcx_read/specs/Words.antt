@@ -1,8 +1,8 @@
 -- The names that rules of the grammar spell out.
 use Rattle.std.specs.Prelude.{ℕ, Bool, Option, Some, None, List, codes, bytes_eq, if◌then◌else◌}
 use Rattle.dcx_shape.specs.declared.place.Place.{Place}
-use Rattle.dcx_read.specs.declared.tree.Module.{Module}
-use Rattle.dcx_read.specs.declared.tree.Module.TheVariants.{Cvxpy, Numpy}
+use Rattle.dcx_syntax.specs.declared.tree.Module.{Module}
+use Rattle.dcx_syntax.specs.declared.tree.Module.TheVariants.{Cvxpy, Numpy}
 
 -- a module's name, and its place
 pub record ModuleAt : Type 0 where

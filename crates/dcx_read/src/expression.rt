@@ -1,20 +1,21 @@
 //! The descent over expressions: one function for each rule, that decides by the token at the front.
 ghost use Rattle.std.specs.Prelude.{◌≡◌, ◌<◌, ◌≤◌, ◌∷◌, length, map, IfOk, IfSome};
-ghost use Rattle.dcx_read.specs.declared.role.Bracket.TheVariants as brackets;
+ghost use Rattle.dcx_syntax.specs.declared.bracket.Bracket.TheVariants as brackets;
 ghost use Rattle.dcx_read.specs.declared.role.Role.TheVariants as roles;
-ghost use Rattle.dcx_read.specs.Terminal.{terminals, opens, plain};
-ghost use Rattle.dcx_read.specs.Terminal as marks_of;
-ghost use Rattle.dcx_read.specs.Expressions.{no_trailer, indexed};
-ghost use Rattle.dcx_read.specs.View.{args_of, items_of, indices_of, arg_view, index_view, primary_view, step_view, trailer_view, expr_view, factor_view, postfix_view, power_view, sum_view, term_view, optional_view};
+ghost use Rattle.dcx_syntax.specs.Terminal.{opens, plain};
+ghost use Rattle.dcx_read.specs.Terminals.{terminals};
+ghost use Rattle.dcx_syntax.specs.Terminal as marks_of;
+ghost use Rattle.dcx_syntax.specs.Expressions.{no_trailer, indexed};
+ghost use Rattle.dcx_syntax.specs.View.{args_of, items_of, indices_of, arg_view, index_view, primary_view, step_view, trailer_view, expr_view, factor_view, postfix_view, power_view, sum_view, term_view, optional_view};
 ghost use Rattle.dcx_read.specs.Moves.{expr_s, sum_s, term_s, factor_s, power_s, postfix_s, trailers_s, args_s, arg_s, indices_s, index_s, optional_s, step_s, primary_s, after_square_s, items_s, square_for};
 ghost use Rattle.dcx_read.specs.Leaves.{ReadsLeaf, EndsByComma};
 ghost use Rattle.dcx_read.specs.Steps.{Reads, ReadsOne, MakesOne, Front, IsSigns};
 
 use crate::front::*;
 use crate::made::*;
-use crate::role::{Bracket, Mark};
-use crate::tree::*;
+use crate::role::Mark;
 use dcx_shape::{Bytes, Place};
+use dcx_syntax::*;
 use dcx_tokens::Token;
 use std::alloc::{AllocError, Global};
 
@@ -241,7 +242,10 @@ fn indexed<'a>(
 {
     let (first, after) = index(alloc, text, within)?;
     let others = indices(alloc, text, after);
-    index_made(place, beside(first, closed(others, Mark::Closes(Bracket::Square))))
+    index_made(
+        place,
+        beside(first, closed(others, Mark::Closes(Bracket::Square))),
+    )
 }
 
 /// The indices behind the first one.

@@ -2,23 +2,23 @@
 ghost use Rattle.std.specs.Prelude.{◌≡◌, ◌<◌, ◌≤◌, Bool, [], ◌∷◌, length, IfOk, IfErr, IfSome, MatchOption};
 ghost use Rattle.dcx_read.specs.declared.front.Stop.TheVariants as stops;
 ghost use Rattle.dcx_read.specs.declared.role.Role.TheVariants as roles;
-ghost use Rattle.dcx_read.specs.declared.tree.Comparison.{Comparison};
-ghost use Rattle.dcx_read.specs.declared.tree.Sign.{Sign};
-ghost use Rattle.dcx_read.specs.declared.tree.Scaling.{Scaling};
+ghost use Rattle.dcx_syntax.specs.declared.tree.Comparison.{Comparison};
+ghost use Rattle.dcx_syntax.specs.declared.tree.Sign.{Sign};
+ghost use Rattle.dcx_syntax.specs.declared.tree.Scaling.{Scaling};
 ghost use Rattle.dcx_frac.specs.declared.fraction.Frac.{Frac};
 ghost use Rattle.dcx_read.specs.Role.{role_with};
-ghost use Rattle.dcx_read.specs.Terminal.{spelled, named_by, terminals};
+ghost use Rattle.dcx_read.specs.Terminals.{spelled, named_by, terminals};
 ghost use Rattle.dcx_read.specs.Moves.{name_s};
-ghost use Rattle.dcx_read.specs.declared.role.Bracket.{Bracket};
+ghost use Rattle.dcx_syntax.specs.declared.bracket.Bracket.{Bracket};
 ghost use Rattle.dcx_read.specs.Leaves.{FrontText};
 ghost use Rattle.dcx_read.specs.Words.{module_named, is_value_word};
 ghost use Rattle.dcx_read.specs.Lines.{FrontValue, LacksValue, FrontPlain, LacksPlain, starts_line};
 ghost use Rattle.dcx_read.specs.Steps.{Closes, IsBeside, Front, FrontOf, Lacks, Refuses, Reads, starts_expr, FrontName, FrontPair, LacksPair};
 
-use crate::role::{Bracket, Mark, Role, mark_in, role_in};
-use crate::tree::{Comparison, Module, Named, Scaling, Sign};
+use crate::role::{Mark, Role, mark_in, role_in};
 use dcx_frac::Frac;
 use dcx_shape::{Name, Place};
+use dcx_syntax::{Bracket, Comparison, Module, Named, Scaling, Sign};
 use dcx_tokens::Token;
 use std::alloc::{AllocError, AllocFailed, Global};
 

@@ -1,7 +1,7 @@
-//! The grammar of a script, and its syntax trees.
+//! The parser: the syntax tree of a script.
 //!
-//! `tree` has one struct or enum for each rule. The rules themselves stand in `specs/`: `Expressions` and `Statements` have one kind of
-//! tree for each rule and say how it is spelled, `Terminal` says what the grammar sees in a token and which places a tree keeps.
+//! The trees and the rules of the grammar are those of `dcx_syntax`. `specs/Terminals.antt` says what the grammar sees in a token, with
+//! the bytes and the place that a tree keeps of it.
 //!
 //! | what must hold | where |
 //! |---|---|
@@ -13,7 +13,7 @@
 //! | one token decides what is read | `specs/Moves.antt`, by `proofs/Decided.antt`, on which the law rests |
 //! | what the grammar sees in a token | `role::role_in` |
 //! | what stands at the front of the tokens | `front` |
-//! | a tree of the code is the tree of the grammar that its parts make | `made`, by `specs/View.antt`, `Lines.antt` |
+//! | a tree of the code is the tree of the grammar that its parts make | `made`, by `specs/View.antt` of `dcx_syntax` |
 //! | each rule is read as the grammar says, or reading stops at the first token that it doesn't go on with | `expression`, `statement`, by `specs/Steps.antt`, `Lines.antt` |
 //!
 //! `parse` reads the bytes of a file, `parse_tokens` the tokens of a text. Both go down the rules, one function for each: `expression`
@@ -27,11 +27,10 @@ mod made;
 mod parser;
 mod role;
 mod statement;
-mod tree;
 
-pub use dcx_tokens::ReadFault;
-pub use parser::{parse, parse_tokens};
-pub use tree::{
+pub use dcx_syntax::{
     Added, Arg, Compared, Comparison, Expr, Factor, Import, Index, Line, Module, Named, Postfix,
     Power, Primary, Raised, Scaled, Scaling, Script, Sign, Signed, Signs, Step, Sum, Term, Trailer,
 };
+pub use dcx_tokens::ReadFault;
+pub use parser::{parse, parse_tokens};

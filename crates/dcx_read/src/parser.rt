@@ -4,8 +4,8 @@ ghost use Rattle.dcx_read.specs.Parses.{ReadsScript, stop_fault, Parses, IsReadi
 
 use crate::front::Stop;
 use crate::statement::lines;
-use crate::tree::Script;
 use dcx_shape::Place;
+use dcx_syntax::Script;
 use dcx_tokens::{ReadFault, Token, end_place, read_text, tokens};
 use std::alloc::Global;
 

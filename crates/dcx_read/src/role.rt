@@ -2,17 +2,9 @@
 ghost use Rattle.std.specs.Prelude.{◌≡◌};
 ghost use Rattle.dcx_read.specs.Role.{role_of, keyword_role_of, symbol_role_of, mark_of};
 
-use crate::tree::{Comparison, Scaling, Sign};
 use dcx_frac::Frac;
+use dcx_syntax::{Bracket, Comparison, Scaling, Sign};
 use dcx_tokens::{Keyword, Symbol, TokenKind};
-
-/// A kind of bracket.
-#[derive(Clone, Copy, Debug, PartialEq, Eq)]
-pub enum Bracket {
-    Round,
-    Square,
-    Curly,
-}
 
 /// What the grammar tells apart in tokens.
 #[derive(Clone, Copy)]

@@ -1,20 +1,21 @@
 //! The descent over lines: one function for each rule, that decides by the tokens at the front.
 ghost use Rattle.std.specs.Prelude.{◌≡◌, ◌<◌, ◌≤◌, ◌∷◌, length, map, IfOk};
-ghost use Rattle.dcx_read.specs.Terminal.{terminals, plain};
-ghost use Rattle.dcx_read.specs.Terminal as marks_of;
-ghost use Rattle.dcx_read.specs.Statements.{importing, repeats};
-ghost use Rattle.dcx_read.specs.View.{expr_view};
+ghost use Rattle.dcx_syntax.specs.Terminal.{plain};
+ghost use Rattle.dcx_read.specs.Terminals.{terminals};
+ghost use Rattle.dcx_syntax.specs.Terminal as marks_of;
+ghost use Rattle.dcx_syntax.specs.Statements.{importing, repeats};
+ghost use Rattle.dcx_syntax.specs.View.{expr_view, line_view, lines_of};
 ghost use Rattle.dcx_read.specs.Moves.{module_s, alias_s, line_s};
 ghost use Rattle.dcx_read.specs.declared.role.Role.TheVariants as roles;
 ghost use Rattle.dcx_read.specs.Steps.{Reads, Lacks};
-ghost use Rattle.dcx_read.specs.Lines.{module_at, line_view, lines_of, LacksPlain, BalancedTo, ReadsBalanced, ReadsEnded, ReadsLine, ReadsHead, ReadsBody, ReadsLines, EndsBlock};
+ghost use Rattle.dcx_read.specs.Lines.{module_at, LacksPlain, BalancedTo, ReadsBalanced, ReadsEnded, ReadsLine, ReadsHead, ReadsBody, ReadsLines, EndsBlock};
 
 use crate::expression::expr;
 use crate::front::*;
 use crate::made::*;
-use crate::role::{Bracket, Mark};
-use crate::tree::*;
+use crate::role::Mark;
 use dcx_shape::Place;
+use dcx_syntax::*;
 use dcx_tokens::Token;
 use std::alloc::Global;
 
@@ -231,7 +232,9 @@ fn whole<'a>(
     ensures { EndsBlock (λ x. (line_view x.0, x.1.now)) (λ x. (repeats place x.0.0.each (expr_view x.0.0.from) (line_view x.0.1.0) (lines_of (map line_view x.0.1.1.items)), x.1.now)) result parts.entry }
 {
     match parts {
-        Ok(((begun, (first, others)), rest)) => match for_of(alloc, place, begun.each, begun.from, first, others) {
+        Ok(((begun, (first, others)), rest)) => match for_of(
+            alloc, place, begun.each, begun.from, first, others,
+        ) {
             Ok(line) => Ok((line, rest)),
             Err(_) => Err(Stop::Memory),
         },
@@ -251,7 +254,11 @@ fn block<'a>(
     ensures shorter { IfOk result (λ x. length x.1.now < length tokens.now) }
 {
     let (each, from, inside) = head(alloc, text, place, tokens)?;
-    whole(alloc, place, beside(Begun { each, from }, body(alloc, text, inside)))
+    whole(
+        alloc,
+        place,
+        beside(Begun { each, from }, body(alloc, text, inside)),
+    )
 }
 
 /// A line, with the lines inside it, and the tokens behind.

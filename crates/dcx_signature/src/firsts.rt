@@ -1,10 +1,10 @@
 //! The place of the first token of an expression.
 ghost use Rattle.std.specs.Prelude.{◌≡◌};
-ghost use Rattle.dcx_read.specs.View.{primary_view, factor_view, expr_view};
+ghost use Rattle.dcx_syntax.specs.View.{primary_view, factor_view, expr_view};
 ghost use Rattle.dcx_signature.specs.Firsts as meaning;
 
-use dcx_read::{Expr, Factor, Primary};
 use dcx_shape::Place;
+use dcx_syntax::{Expr, Factor, Primary};
 
 /// The place of the first token of a primary.
 pub fn primary_place(primary: &Primary) -> Place

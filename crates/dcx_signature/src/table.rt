@@ -7,8 +7,8 @@ ghost use Rattle.dcx_signature.specs.Table.{function_named, ignored_words, modul
 ghost use Rattle.dcx_signature.specs.Table as table;
 ghost use Rattle.dcx_signature.specs.View.{param_seen, row_seen, entry_seen};
 
-use dcx_read::Module;
 use dcx_shape::Name;
+use dcx_syntax::Module;
 
 /// A call of the language.
 #[derive(Clone, Copy, Debug, PartialEq, Eq)]

@@ -8,10 +8,11 @@ use Rattle.dcx_tokens.specs.declared.token.Token.{Token}
 use Rattle.dcx_tokens.specs.Position.{end_of}
 use Rattle.dcx_tokens.proofs.OneReading.{one_reading}
 use Rattle.dcx_tokens.proofs.Texts.{text_apart, no_text_one}
-use Rattle.dcx_read.specs.declared.tree.Script.{Script}
-use Rattle.dcx_read.specs.Terminal.{Terminal, terminals, terminal_of}
-use Rattle.dcx_read.specs.Statements.{lines_text, trimmed_all}
-use Rattle.dcx_read.specs.Lines.{script_view}
+use Rattle.dcx_syntax.specs.declared.tree.Script.{Script}
+use Rattle.dcx_syntax.specs.Terminal.{Terminal}
+use Rattle.dcx_read.specs.Terminals.{terminals, terminal_of}
+use Rattle.dcx_syntax.specs.Statements.{lines_text, trimmed_all}
+use Rattle.dcx_syntax.specs.View.{script_view}
 use Rattle.dcx_read.specs.Whole.{GoesOn, IsUnexpected}
 use Rattle.dcx_read.specs.Parses.{first_place, IsUnexpectedAt, HasTokens, HasNoTokens, no_text, no_tokens, IsReading}
 use Rattle.dcx_read.proofs.Whole.{apart}

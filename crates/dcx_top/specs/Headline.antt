@@ -18,7 +18,7 @@ use Rattle.dcx_plain.specs.Phrases.{Every}
 use Rattle.dcx_plain.specs.Plain.{Spells}
 use Rattle.dcx_plain.specs.Meaning.{Program, program_of}
 use Rattle.dcx_plain.specs.Answers.{IsOptimal, IsUnbounded}
-use Rattle.dcx_read.specs.declared.tree.Script as reading
+use Rattle.dcx_syntax.specs.declared.tree.Script as reading
 use Rattle.dcx_read.specs.Parses.{IsReading}
 use Rattle.dcx_elab.specs.declared.work.Work.{Work}
 use Rattle.dcx_elab.specs.Meaning.{Elaborates}

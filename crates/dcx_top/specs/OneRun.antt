@@ -2,7 +2,7 @@
 use Rattle.std.specs.Prelude.{◌≡◌, ◌≢◌, ◌↔◌, ℕ, List, Option, Some, None, Ok, Err, ⊤}
 use Rattle.dcx_tokens.specs.declared.fault.ReadFault.{ReadFault}
 use Rattle.dcx_tokens.specs.declared.fault.ReadFault.TheVariants as reads
-use Rattle.dcx_read.specs.declared.tree.Script.{Script}
+use Rattle.dcx_syntax.specs.declared.tree.Script.{Script}
 use Rattle.dcx_read.specs.Parses.{IsReading}
 use Rattle.dcx_tree.specs.Meaning.{IsAccepted}
 use Rattle.dcx_kinds.specs.declared.fault.ElabFault.{ElabFault}

@@ -5,7 +5,7 @@ ghost use Rattle.dcx_math.specs.Rational.{Fits};
 use crate::read::{fault_text, number};
 use dcx_case_lines::{CaseFault, Cases};
 use dcx_kinds::{ElabFault, Value, whole_number};
-use dcx_read::Module;
+use dcx_syntax::Module;
 use dcx_shape::{Name, Place};
 use dcx_signature::{
     Argument, Bound, Function, Given, Through, arguments, function_named, items_through,

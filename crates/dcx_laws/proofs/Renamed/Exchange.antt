@@ -3,8 +3,8 @@ use Rattle.std.proofs.Common.{◌≡◌, ℕ, Bool, true, false, cond, List, ref
 use Rattle.std.specs.Prelude.{◌||◌, codes}
 use Rattle.dcx_point.specs.Pairs.{same_name}
 use Rattle.dcx_point.proofs.Puts.{same_name-refl, same_name-true}
-use Rattle.dcx_read.specs.declared.tree.Module.{Module}
-use Rattle.dcx_read.specs.declared.tree.Module.TheVariants.{Cvxpy, Numpy}
+use Rattle.dcx_syntax.specs.declared.tree.Module.{Module}
+use Rattle.dcx_syntax.specs.declared.tree.Module.TheVariants.{Cvxpy, Numpy}
 use Rattle.dcx_signature.specs.Table.{module_name}
 use Rattle.dcx_laws.specs.Names.{IsRenaming, is_word, exchanged}
 

@@ -2,11 +2,11 @@
 use Rattle.std.proofs.Common.{◌≡◌, ℕ, Bool, List, [], Option, Some, None, option_map, Result, Ok, Err, refl, sym, ap, ◌∙◌}
 use Rattle.std.specs.Prelude.{not, ◌&&◌}
 use Rattle.dcx_shape.specs.declared.place.Place.{Place}
-use Rattle.dcx_read.specs.declared.tree.Import.{Import}
-use Rattle.dcx_read.specs.declared.tree.Named.{Named}
-use Rattle.dcx_read.specs.declared.tree.Sign.TheVariants.{Plus}
-use Rattle.dcx_read.specs.Expressions.{Expr, expr, no_comparison, sum, no_addition, term, no_scaling, factor, power_of, no_power, Postfix, postfix, no_trailer, name_at}
-use Rattle.dcx_read.specs.Statements.{Line, importing, assign, add_to, set_value, evaluate, prints, repeats, Lines, no_lines, lines}
+use Rattle.dcx_syntax.specs.declared.tree.Import.{Import}
+use Rattle.dcx_syntax.specs.declared.tree.Named.{Named}
+use Rattle.dcx_syntax.specs.declared.tree.Sign.TheVariants.{Plus}
+use Rattle.dcx_syntax.specs.Expressions.{Expr, expr, no_comparison, sum, no_addition, term, no_scaling, factor, power_of, no_power, Postfix, postfix, no_trailer, name_at}
+use Rattle.dcx_syntax.specs.Statements.{Line, importing, assign, add_to, set_value, evaluate, prints, repeats, Lines, no_lines, lines}
 use Rattle.dcx_kinds.specs.declared.fault.ElabFault.{ElabFault}
 use Rattle.dcx_kinds.specs.declared.fault.ElabFault.TheVariants.{NotOffered}
 use Rattle.dcx_kinds.specs.Values.{Value, library, Asked, State, Act, ◌>>=◌, ◌>>◌, done, unless, bind, step}

@@ -17,12 +17,12 @@ use Rattle.dcx_array.specs.Operators.{transposed}
 use Rattle.dcx_array.specs.Picks.{indexed, picked_array}
 use Rattle.dcx_call.specs.declared.call.Call.TheVariants as calls
 use Rattle.dcx_call.specs.declared.linears.LinearCall.TheVariants as linears
-use Rattle.dcx_read.specs.declared.tree.Sign.{Sign}
-use Rattle.dcx_read.specs.declared.tree.Sign.TheVariants.{Plus, Minus}
-use Rattle.dcx_read.specs.declared.tree.Scaling.{Scaling}
-use Rattle.dcx_read.specs.declared.tree.Scaling.TheVariants.{Times, Over, Matmul}
-use Rattle.dcx_read.specs.declared.tree.Comparison.{Comparison}
-use Rattle.dcx_read.specs.declared.tree.Comparison.TheVariants.{AtMost, AtLeast, Equal, Less, Greater, NotEqual}
+use Rattle.dcx_syntax.specs.declared.tree.Sign.{Sign}
+use Rattle.dcx_syntax.specs.declared.tree.Sign.TheVariants.{Plus, Minus}
+use Rattle.dcx_syntax.specs.declared.tree.Scaling.{Scaling}
+use Rattle.dcx_syntax.specs.declared.tree.Scaling.TheVariants.{Times, Over, Matmul}
+use Rattle.dcx_syntax.specs.declared.tree.Comparison.{Comparison}
+use Rattle.dcx_syntax.specs.declared.tree.Comparison.TheVariants.{AtMost, AtLeast, Equal, Less, Greater, NotEqual}
 use Rattle.dcx_tree.specs.declared.constraint.Kind.TheVariants as kinds
 use Rattle.dcx_kinds.specs.declared.fault.ElabFault.TheVariants.{BadArgument, NotOffered, ShapeClash, IndexRange}
 use Rattle.dcx_kinds.specs.Values.{Value, Values, plain, list, expression, items_of, Act}

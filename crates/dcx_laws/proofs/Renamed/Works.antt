@@ -20,8 +20,8 @@ use Rattle.dcx_kinds.specs.declared.fault.ElabFault.{ElabFault}
 use Rattle.dcx_kinds.specs.Values.{Asked, State}
 use Rattle.dcx_state.specs.Declarations.{standing_setting, events_or_end}
 use Rattle.dcx_state.specs.Ends.{roots_in}
-use Rattle.dcx_read.specs.declared.tree.Script.{Script}
-use Rattle.dcx_read.specs.Lines.{script_view}
+use Rattle.dcx_syntax.specs.declared.tree.Script.{Script}
+use Rattle.dcx_syntax.specs.View.{script_view}
 use Rattle.dcx_elab.specs.declared.work.Work.{Work}
 use Rattle.dcx_elab.specs.Meaning.{meaning, IsWork, Elaborates}
 use Rattle.dcx_laws.specs.Renamed.{lines_renamed, entries_renamed, variable_renamed, parameter_renamed, call_renamed, node_renamed, state_renamed, meaning_renamed, IsRenamedProblem, IsRenamedWork}

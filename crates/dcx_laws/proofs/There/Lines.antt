@@ -1,7 +1,7 @@
 -- Lines, and what the laws say of values.
 use Rattle.std.proofs.Common.{◌≡◌, ℕ, ◌≤◌, List, [], ◌∷◌, length, Option, Some, None, Ok, le_refl, arith}
-use Rattle.dcx_read.specs.Expressions.{Expr, Postfix}
-use Rattle.dcx_read.specs.Statements.{Line, importing, assign, add_to, set_value, evaluate, prints, repeats, Lines, no_lines, lines}
+use Rattle.dcx_syntax.specs.Expressions.{Expr, Postfix}
+use Rattle.dcx_syntax.specs.Statements.{Line, importing, assign, add_to, set_value, evaluate, prints, repeats, Lines, no_lines, lines}
 use Rattle.dcx_kinds.specs.Values.{Value, Values, plain, text, truth, nothing, tuple, list, range, library, expression, constraint, objective, problem, result, end, item, State, Act, ◌>>◌}
 use Rattle.dcx_state.specs.Declarations.{start}
 use Rattle.dcx_signature.specs.Arguments.{Bound}

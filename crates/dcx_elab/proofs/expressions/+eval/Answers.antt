@@ -3,11 +3,11 @@ use Rattle.std.proofs.Common.{◌≡◌, ℕ, ◌+◌, ◌<◌, ◌≤◌, false
 use Rattle.std.proofs.lemmas.Grind.{common_steps}
 use Rattle.std.proofs.lemmas.Result.{err_from_is_err_and}
 use Rattle.dcx_shape.specs.declared.place.Place.{Place}
-use Rattle.dcx_read.specs.declared.tree.Expr as code_expr
-use Rattle.dcx_read.specs.declared.tree.Index as code_index
-use Rattle.dcx_read.specs.declared.tree.Trailer as code_trailer
-use Rattle.dcx_read.specs.Expressions.{Primary, name_at, Index, Postfix, postfix, Trailers, attribute}
-use Rattle.dcx_read.specs.View.{args_of, indices_of, more_items_of, optional_view, arg_view, index_view, expr_view, primary_view, postfix_view, step_view}
+use Rattle.dcx_syntax.specs.declared.tree.Expr as code_expr
+use Rattle.dcx_syntax.specs.declared.tree.Index as code_index
+use Rattle.dcx_syntax.specs.declared.tree.Trailer as code_trailer
+use Rattle.dcx_syntax.specs.Expressions.{Primary, name_at, Index, Postfix, postfix, Trailers, attribute}
+use Rattle.dcx_syntax.specs.View.{args_of, indices_of, more_items_of, optional_view, arg_view, index_view, expr_view, primary_view, postfix_view, step_view}
 use Rattle.dcx_kinds.specs.declared.fault.ElabFault.{ElabFault}
 use Rattle.dcx_kinds.specs.declared.value.Value as code_value
 use Rattle.dcx_kinds.specs.Values.{Value, items_of, State, and_then, done}

@@ -1,7 +1,7 @@
 -- What is meant is what is left to be done at the present state.
 use Rattle.std.proofs.Common.{◌≡◌, ◌-◌, Bool, [], ◌∷◌, map, drop, length, option_copied}
-use Rattle.dcx_read.specs.Expressions.{no_addition, no_scaling}
-use Rattle.dcx_read.specs.View.{chained, args_of, indices_of, more_items_of, arg_view, index_view, added_view, scaled_view, expr_view}
+use Rattle.dcx_syntax.specs.Expressions.{no_addition, no_scaling}
+use Rattle.dcx_syntax.specs.View.{chained, args_of, indices_of, more_items_of, arg_view, index_view, added_view, scaled_view, expr_view}
 use Rattle.dcx_kinds.specs.Values.{items_of, and_then, done}
 use Rattle.dcx_kinds.specs.Meant.{meant}
 use Rattle.dcx_operators.specs.View.{evaluated}

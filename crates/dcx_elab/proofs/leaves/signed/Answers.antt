@@ -1,8 +1,8 @@
 -- One sign more.
 use Rattle.std.proofs.Common.{◌≡◌, ◌+◌, ◌-◌, ◌<◌, length, take, ap, ◌∙◌, arith}
 use Rattle.std.proofs.lemmas.Result.{err_from_is_err_and}
-use Rattle.dcx_read.specs.declared.tree.Sign.TheVariants.{Plus}
-use Rattle.dcx_read.specs.declared.tree.Signed.{Signed}
+use Rattle.dcx_syntax.specs.declared.tree.Sign.TheVariants.{Plus}
+use Rattle.dcx_syntax.specs.declared.tree.Signed.{Signed}
 use Rattle.dcx_kinds.specs.Meant.{meant}
 use Rattle.dcx_kinds.proofs.Acts.{Fails-same}
 use Rattle.dcx_elab.specs.Expressions.{signed}

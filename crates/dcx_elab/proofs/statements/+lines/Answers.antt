@@ -1,10 +1,9 @@
 -- Each line is that of the definition, and what is left of the lines and of the turns is what is meant.
 use Rattle.std.proofs.Common.{◌≡◌, List, length, slice_get, map, Some, Ok, refl, sym, ap, subst, ◌∙◌, arith}
 use Rattle.std.proofs.lemmas.Result.{err_from_is_err_and}
-use Rattle.dcx_read.specs.declared.tree.Line as code_line
-use Rattle.dcx_read.specs.Statements.{Line}
-use Rattle.dcx_read.specs.Lines.{line_view, lines_of}
-use Rattle.dcx_read.specs.View.{expr_view}
+use Rattle.dcx_syntax.specs.declared.tree.Line as code_line
+use Rattle.dcx_syntax.specs.Statements.{Line}
+use Rattle.dcx_syntax.specs.View.{line_view, lines_of, expr_view}
 use Rattle.dcx_kinds.specs.Meant.{meant}
 use Rattle.dcx_kinds.specs.View.{Fails, Gives}
 use Rattle.dcx_kinds.proofs.Acts.{Fails-same}

@@ -1,6 +1,6 @@
 -- What is meant is what is left to be done at the present state.
 use Rattle.std.proofs.Common.{◌≡◌, map}
-use Rattle.dcx_read.specs.Lines.{line_view, lines_of}
+use Rattle.dcx_syntax.specs.View.{line_view, lines_of}
 use Rattle.dcx_signature.specs.View.{through_seen}
 use Rattle.dcx_elab.specs.Statements.{line_means, lines_mean}
 use Rattle.dcx_elab.proofs.Lines.{lines_from, turns_from}

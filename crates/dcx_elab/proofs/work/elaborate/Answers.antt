@@ -1,8 +1,8 @@
 -- What is asked at the end is what the lines leave.
 use Rattle.std.proofs.Common.{◌≡◌, List, Some, Ok, map, subst, ap, sym, ◌∙◌}
-use Rattle.dcx_read.specs.declared.tree.Line as code_line
-use Rattle.dcx_read.specs.Statements.{Lines}
-use Rattle.dcx_read.specs.Lines.{line_view, lines_of, script_view}
+use Rattle.dcx_syntax.specs.declared.tree.Line as code_line
+use Rattle.dcx_syntax.specs.Statements.{Lines}
+use Rattle.dcx_syntax.specs.View.{line_view, lines_of, script_view}
 use Rattle.dcx_kinds.specs.Values.{Asked, State}
 use Rattle.dcx_state.specs.Declarations.{start}
 use Rattle.dcx_elab.specs.Statements.{lines_mean}

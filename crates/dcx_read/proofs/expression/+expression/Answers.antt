@@ -1,11 +1,12 @@
 -- What each answer of the descent is read from.
 use Rattle.std.proofs.Common.{arith, Ok, IfSome, ◌∙◌, ◌<◌, false, [], ◌∷◌, length, map, refl, sym, ap, subst}
 use Rattle.std.proofs.lemmas.Result.{err_from_is_err_and}
-use Rattle.dcx_read.specs.declared.role.Bracket.TheVariants.{Round, Square}
-use Rattle.dcx_read.specs.Terminal.{terminals, opens, plain, named_by}
-use Rattle.dcx_read.specs.Terminal as marks_of
-use Rattle.dcx_read.specs.Expressions.{expr, compared, no_comparison, sum, added, no_addition, term, scaled, no_scaling, power_of, raised, no_power, exponent, postfix, no_trailer, attribute, call, indexed, no_index, more_indices, by_name, by_place, slice, absent, present, step, list, items_end}
-use Rattle.dcx_read.specs.View.{args_of, items_of, more_items_of, indices_of, arg_view, index_view, primary_view, step_view, trailer_view, added_view, compared_view, expr_view, factor_view, postfix_view, power_view, raised_view, scaled_view, sum_view, term_view, optional_view}
+use Rattle.dcx_syntax.specs.declared.bracket.Bracket.TheVariants.{Round, Square}
+use Rattle.dcx_syntax.specs.Terminal.{opens, plain}
+use Rattle.dcx_read.specs.Terminals.{terminals, named_by}
+use Rattle.dcx_syntax.specs.Terminal as marks_of
+use Rattle.dcx_syntax.specs.Expressions.{expr, compared, no_comparison, sum, added, no_addition, term, scaled, no_scaling, power_of, raised, no_power, exponent, postfix, no_trailer, attribute, call, indexed, no_index, more_indices, by_name, by_place, slice, absent, present, step, list, items_end}
+use Rattle.dcx_syntax.specs.View.{args_of, items_of, more_items_of, indices_of, arg_view, index_view, primary_view, step_view, trailer_view, added_view, compared_view, expr_view, factor_view, postfix_view, power_view, raised_view, scaled_view, sum_view, term_view, optional_view}
 use Rattle.dcx_read.specs.Moves.{expr_s, compared_s, sum_s, added_s, term_s, scaled_s, factor_s, power_s, raised_s, exponent_s, postfix_s, trailers_s, args_s, arg_s, indices_s, index_s, after_index_s, optional_s, step_s, primary_s, after_round_s, after_square_s, items_s, name_s, in_s, closes_s, as_index, no_slice, slices, as_round, round_holds, round_closed, round_goes_on, as_square, square_holds, square_lists, square_for, items_behind}
 use Rattle.dcx_read.specs.Steps.{ReadsOne}
 use Rattle.dcx_read.specs.Leaves.{ReadsLeaf}

@@ -1,8 +1,8 @@
 -- How far each function may still go, and what each loop has read.
 use Rattle.std.proofs.Common.{◌+◌, ◌*◌, ◌<◌, ◌≤◌, length, map}
-use Rattle.dcx_read.specs.Terminal.{terminals}
-use Rattle.dcx_read.specs.Expressions.{expr, sum, term, power_of, postfix}
-use Rattle.dcx_read.specs.View.{chained, then_index, arg_view, index_view, primary_view, trailer_view, added_view, compared_view, expr_view, factor_view, postfix_view, raised_view, scaled_view, sum_view, term_view}
+use Rattle.dcx_read.specs.Terminals.{terminals}
+use Rattle.dcx_syntax.specs.Expressions.{expr, sum, term, power_of, postfix}
+use Rattle.dcx_syntax.specs.View.{chained, then_index, arg_view, index_view, primary_view, trailer_view, added_view, compared_view, expr_view, factor_view, postfix_view, raised_view, scaled_view, sum_view, term_view}
 use Rattle.dcx_read.specs.Moves.{expr_s, compared_s, sum_s, added_s, term_s, scaled_s, power_s, raised_s, postfix_s, trailers_s, args_s, indices_s, items_s}
 use Rattle.dcx_read.specs.Steps.{Loop}
 use Rattle.dcx_read.proofs.Loops.{args_after, items_after}

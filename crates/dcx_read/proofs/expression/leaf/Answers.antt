@@ -1,9 +1,9 @@
 -- What each answer is read from.
 use Rattle.std.proofs.Common.{rules, ◌≡◌, ◌∙◌, refl, sym, ap}
 use Rattle.dcx_read.specs.declared.role.Role.TheVariants as roles
-use Rattle.dcx_read.specs.Terminal.{terminals, named_by, spelled}
-use Rattle.dcx_read.specs.Expressions.{name_at, number_at, text_at, truth_at, none_at}
-use Rattle.dcx_read.specs.View.{primary_view}
+use Rattle.dcx_read.specs.Terminals.{terminals, named_by, spelled}
+use Rattle.dcx_syntax.specs.Expressions.{name_at, number_at, text_at, truth_at, none_at}
+use Rattle.dcx_syntax.specs.View.{primary_view}
 use Rattle.dcx_read.specs.Moves.{primary_s}
 use Rattle.dcx_read.proofs.Progress.{gives-is}
 use Rattle.dcx_read.proofs.Rules.{leaf-gives}

@@ -1,7 +1,7 @@
 -- What the loop has read.
 use Rattle.std.proofs.Common.{◌≤◌, ◌≡◌, ◌++◌, ℕ, List, length}
-use Rattle.dcx_read.specs.Terminal.{terminals}
-use Rattle.dcx_read.specs.Expressions.{signs_text}
+use Rattle.dcx_read.specs.Terminals.{terminals}
+use Rattle.dcx_syntax.specs.Expressions.{signs_text}
 use Rattle.dcx_read.proofs.expression.signs.Given as goal
 
 abbrev pub invariant-more : goal.invariant-more

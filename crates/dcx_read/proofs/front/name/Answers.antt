@@ -1,6 +1,6 @@
 use Rattle.std.proofs.Common.{◌≡◌, rules, sym, subst}
-use Rattle.dcx_read.specs.declared.tree.Named.{Named}
-use Rattle.dcx_read.specs.Terminal.{named_by, terminals}
+use Rattle.dcx_syntax.specs.declared.tree.Named.{Named}
+use Rattle.dcx_read.specs.Terminals.{named_by, terminals}
 use Rattle.dcx_read.specs.Moves.{name_s}
 use Rattle.dcx_read.specs.Steps.{Gives}
 use Rattle.dcx_read.proofs.Fronts.{name-gives, name-stops}

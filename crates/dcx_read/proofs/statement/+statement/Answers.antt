@@ -1,11 +1,11 @@
 -- What each answer is read from.
 use Rattle.std.proofs.Common.{arith, ◌∙◌, [], ◌∷◌, map, length, refl, sym}
 use Rattle.std.proofs.lemmas.Result.{err_from_is_err_and}
-use Rattle.dcx_read.specs.Terminal.{terminals, plain}
-use Rattle.dcx_read.specs.Terminal as marks_of
-use Rattle.dcx_read.specs.Statements.{repeats}
-use Rattle.dcx_read.specs.View.{expr_view}
-use Rattle.dcx_read.specs.Lines.{line_view, lines_of}
+use Rattle.dcx_syntax.specs.Terminal.{plain}
+use Rattle.dcx_read.specs.Terminals.{terminals}
+use Rattle.dcx_syntax.specs.Terminal as marks_of
+use Rattle.dcx_syntax.specs.Statements.{repeats}
+use Rattle.dcx_syntax.specs.View.{expr_view, line_view, lines_of}
 use Rattle.dcx_read.specs.Moves.{dedent_s, line_s, lines_s}
 use Rattle.dcx_read.proofs.Progress.{goes, stops}
 use Rattle.dcx_read.proofs.Rules.{dedent-gives, dedent-stops, for-front}
@@ -23,7 +23,7 @@ block-returns-clause-read t c =
     block-ends (λ x. ((x.0.0, x.0.1), x.1.now)) (λ x. (x.0, x.1.now)) (λ x. (line_view x.0, x.1.now)) c.args.place (λ b. b.each) (λ b. expr_view b.from) (λ u. line_view u.0) (λ u. lines_of (map line_view u.1.items)) (record { each = c.in_ok-each.each; from = c.in_ok-each.from }) c.args.text.now (plain (marks_of.for c.args.place) ∷ (terminals c.args.text.now c.args.tokens.now)) (terminals c.args.text.now c.in_ok-each.inside.now) c.in_ok-each.ensures.read c.body.result c.beside.result c.whole.result c.body.ensures.read c.beside.ensures c.whole.ensures
 
 pub block-returns-clause-shorter : goal.block-returns-clause-shorter
-block-returns-clause-shorter t c = 
+block-returns-clause-shorter t c =
     block-shorter (λ x. ((x.0.0, x.0.1), x.1.now)) (λ x. (x.0, x.1.now)) (λ x. (line_view x.0, x.1.now)) c.args.place (λ b. b.each) (λ b. expr_view b.from) (λ u. line_view u.0) (λ u. lines_of (map line_view u.1.items)) (record { each = c.in_ok-each.each; from = c.in_ok-each.from }) (length c.in_ok-each.inside.now) (length c.args.tokens.now) c.in_ok-each.ensures.shorter c.body.result c.beside.result c.whole.result c.body.ensures.shorter c.beside.ensures c.whole.ensures
 
 pub body-returns-in_err-first-clause-read : goal.body-returns-in_err-first-clause-read
@@ -36,7 +36,7 @@ body-returns-clause-read t c =
     body-ends (λ x. ((x.0.0, x.0.1), x.1.now)) (λ x. (x.0, x.1.now)) c.args.text.now (terminals c.args.text.now c.args.tokens.now) c.in_ok-first.behind.now c.in_ok-first.first line_view (λ u. lines_of (map line_view u.items)) c.in_ok-first.ensures.read.0 c.in_ok-first.ensures.read.1.0 c.in_ok-first.ensures.read.1.1 c.lines.result c.closed.result c.beside.result c.lines.ensures.read c.closed.ensures c.beside.ensures
 
 pub body-returns-clause-shorter : goal.body-returns-clause-shorter
-body-returns-clause-shorter t c = 
+body-returns-clause-shorter t c =
     body-shorter (λ x. ((x.0.0, x.0.1), x.1.now)) (λ x. (x.0, x.1.now)) c.args.text.now (terminals c.args.text.now c.args.tokens.now) c.in_ok-first.behind.now c.in_ok-first.first line_view (λ u. lines_of (map line_view u.items)) (length c.in_ok-first.behind.now) (length c.args.tokens.now) c.in_ok-first.ensures.shorter c.lines.result c.closed.result c.beside.result c.lines.ensures.shorter c.closed.ensures c.beside.ensures
 
 pub line-returns-in-Some-clause-read : goal.line-returns-in-Some-clause-read

@@ -1,8 +1,7 @@
 -- How far each function may still go, and what each loop has read.
 use Rattle.std.proofs.Common.{◌+◌, ◌*◌, ◌≤◌, length, map}
-use Rattle.dcx_read.specs.Terminal.{terminals}
-use Rattle.dcx_read.specs.View.{chained}
-use Rattle.dcx_read.specs.Lines.{line_view, then_line}
+use Rattle.dcx_read.specs.Terminals.{terminals}
+use Rattle.dcx_syntax.specs.View.{chained, line_view, then_line}
 use Rattle.dcx_read.proofs.LineDescent.{LinesTo}
 use Rattle.dcx_read.proofs.statement.+statement.Given as goal
 

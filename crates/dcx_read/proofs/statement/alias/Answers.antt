@@ -1,7 +1,7 @@
 -- What each answer is read from.
 use Rattle.std.proofs.Common.{Some, [], refl}
 use Rattle.std.proofs.lemmas.Result.{err_from_is_err_and}
-use Rattle.dcx_read.specs.Terminal.{terminals}
+use Rattle.dcx_read.specs.Terminals.{terminals}
 use Rattle.dcx_read.specs.Moves.{name_s, alias_s}
 use Rattle.dcx_read.proofs.Progress.{stops}
 use Rattle.dcx_read.proofs.Descent.{finish}

@@ -1,7 +1,7 @@
 -- What each answer is read from.
 use Rattle.std.proofs.Common.{inl, inr}
 use Rattle.std.proofs.lemmas.Result.{err_from_is_err_and}
-use Rattle.dcx_read.specs.View.{expr_view}
+use Rattle.dcx_syntax.specs.View.{expr_view}
 use Rattle.dcx_read.proofs.Rules.{newline-gives, newline-stops}
 use Rattle.dcx_read.proofs.statement.ended.Goals as goal
 

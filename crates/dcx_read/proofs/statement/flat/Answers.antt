@@ -1,6 +1,6 @@
 -- What each answer is read from.
 use Rattle.std.proofs.lemmas.Result.{err_from_is_err_and}
-use Rattle.dcx_read.specs.Statements.{importing}
+use Rattle.dcx_syntax.specs.Statements.{importing}
 use Rattle.dcx_read.proofs.LineRules.{import-front, print-front}
 use Rattle.dcx_read.proofs.statement.flat.Goals as goal
 

@@ -1,9 +1,10 @@
 -- What each answer is read from.
 use Rattle.std.proofs.Common.{[], ◌∷◌}
 use Rattle.std.proofs.lemmas.Result.{err_from_is_err_and}
-use Rattle.dcx_read.specs.Terminal.{terminals, plain}
-use Rattle.dcx_read.specs.Terminal as marks_of
-use Rattle.dcx_read.specs.View.{expr_view}
+use Rattle.dcx_syntax.specs.Terminal.{plain}
+use Rattle.dcx_read.specs.Terminals.{terminals}
+use Rattle.dcx_syntax.specs.Terminal as marks_of
+use Rattle.dcx_syntax.specs.View.{expr_view}
 use Rattle.dcx_read.specs.Moves.{expr_s, name_s, in_s, colon_s, newline_s, indent_s, dedent_s, line_s, lines_s}
 use Rattle.dcx_read.proofs.Progress.{goes, stops}
 use Rattle.dcx_read.proofs.Rules.{in-gives, in-stops, colon-gives, colon-stops, newline-gives, newline-stops, indent-gives, indent-stops}

@@ -1,8 +1,9 @@
 -- What each answer is read from.
 use Rattle.std.proofs.Common.{[], ◌∷◌, refl}
 use Rattle.std.proofs.lemmas.Result.{err_from_is_err_and}
-use Rattle.dcx_read.specs.Terminal.{terminals, plain}
-use Rattle.dcx_read.specs.Terminal as marks_of
+use Rattle.dcx_syntax.specs.Terminal.{plain}
+use Rattle.dcx_read.specs.Terminals.{terminals}
+use Rattle.dcx_syntax.specs.Terminal as marks_of
 use Rattle.dcx_read.specs.Lines.{module_at}
 use Rattle.dcx_read.specs.Moves.{newline_s, module_s, alias_s, line_s}
 use Rattle.dcx_read.proofs.Progress.{goes, stops}

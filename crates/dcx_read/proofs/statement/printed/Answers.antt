@@ -2,10 +2,11 @@
 use Rattle.std.proofs.Common.{[], ◌∷◌, refl}
 use Rattle.std.proofs.lemmas.Result.{err_from_is_err_and}
 use Rattle.dcx_read.specs.declared.role.Role.TheVariants as roles
-use Rattle.dcx_read.specs.declared.role.Bracket.TheVariants.{Round}
-use Rattle.dcx_read.specs.Terminal.{terminals, plain}
-use Rattle.dcx_read.specs.Terminal as marks_of
-use Rattle.dcx_read.specs.Statements.{prints}
+use Rattle.dcx_syntax.specs.declared.bracket.Bracket.TheVariants.{Round}
+use Rattle.dcx_syntax.specs.Terminal.{plain}
+use Rattle.dcx_read.specs.Terminals.{terminals}
+use Rattle.dcx_syntax.specs.Terminal as marks_of
+use Rattle.dcx_syntax.specs.Statements.{prints}
 use Rattle.dcx_read.specs.Moves.{closes_s, opens_s, newline_s, balanced_s, line_s}
 use Rattle.dcx_read.proofs.Progress.{goes, stops, stops-at}
 use Rattle.dcx_read.proofs.Rules.{closes_round-gives, closes_round-stops, newline-gives, newline-stops}

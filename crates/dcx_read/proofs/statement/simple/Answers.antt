@@ -1,9 +1,9 @@
 -- What each answer is read from.
 use Rattle.std.proofs.Common.{◌∙◌, ap}
 use Rattle.std.proofs.lemmas.Result.{err_from_is_err_and}
-use Rattle.dcx_read.specs.Terminal.{terminals, named_by}
-use Rattle.dcx_read.specs.Statements.{assign, add_to, set_value, evaluate}
-use Rattle.dcx_read.specs.View.{expr_view}
+use Rattle.dcx_read.specs.Terminals.{terminals, named_by}
+use Rattle.dcx_syntax.specs.Statements.{assign, add_to, set_value, evaluate}
+use Rattle.dcx_syntax.specs.View.{expr_view}
 use Rattle.dcx_read.specs.Moves.{line_s}
 use Rattle.dcx_read.proofs.LineRules.{line-assign, line-add, line-value, line-expr}
 use Rattle.dcx_read.proofs.LineDescent.{ended-gives, ended-stops}

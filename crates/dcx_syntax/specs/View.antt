@@ -1,22 +1,26 @@
 -- The syntax trees of the code, as those of `Expressions` and `Statements`.
 use Rattle.std.specs.Prelude.{Bool, true, false, List, [], ◌∷◌, map, Option, Some, None}
-use Rattle.dcx_read.specs.declared.tree.Arg as code_arg
-use Rattle.dcx_read.specs.declared.tree.Index as code_index
-use Rattle.dcx_read.specs.declared.tree.Primary as code_primary
-use Rattle.dcx_read.specs.declared.tree.Step as code_step
-use Rattle.dcx_read.specs.declared.tree.Trailer as code_trailer
-use Rattle.dcx_read.specs.declared.tree.Added as code_added
-use Rattle.dcx_read.specs.declared.tree.Compared as code_compared
-use Rattle.dcx_read.specs.declared.tree.Expr as code_expr
-use Rattle.dcx_read.specs.declared.tree.Factor as code_factor
-use Rattle.dcx_read.specs.declared.tree.Postfix as code_postfix
-use Rattle.dcx_read.specs.declared.tree.Power as code_power
-use Rattle.dcx_read.specs.declared.tree.Raised as code_raised
-use Rattle.dcx_read.specs.declared.tree.Scaled as code_scaled
-use Rattle.dcx_read.specs.declared.tree.Sum as code_sum
-use Rattle.dcx_read.specs.declared.tree.Term as code_term
-use Rattle.dcx_read.specs.declared.tree.Arg.TheOpen.{Arg-F, Index-F, Primary-F, Step-F, Trailer-F, Added-F, Compared-F, Expr-F, Factor-F, Postfix-F, Power-F, Raised-F, Scaled-F, Sum-F, Term-F}
-use Rattle.dcx_read.specs.Expressions.{Expr, expr, Compared, no_comparison, compared, Sum, sum, Added, no_addition, added, Term, term, Scaled, no_scaling, scaled, Factor, factor, Power, power_of, Raised, no_power, raised, exponent, Postfix, postfix, Trailers, no_trailer, attribute, call, indexed, Args, no_args, args, MoreArgs, args_end, args_comma, more_args, Arg, by_place, by_name, Indices, no_index, more_indices, Index, at, slice, Optional, absent, present, Step, no_step, step, Primary, number_at, text_at, name_at, truth_at, none_at, unit, round, tuple, empty_list, list, comprehension, Items, no_items, items, MoreItems, items_end, items_comma, more_items}
+use Rattle.dcx_syntax.specs.declared.tree.Arg as code_arg
+use Rattle.dcx_syntax.specs.declared.tree.Index as code_index
+use Rattle.dcx_syntax.specs.declared.tree.Primary as code_primary
+use Rattle.dcx_syntax.specs.declared.tree.Step as code_step
+use Rattle.dcx_syntax.specs.declared.tree.Trailer as code_trailer
+use Rattle.dcx_syntax.specs.declared.tree.Added as code_added
+use Rattle.dcx_syntax.specs.declared.tree.Compared as code_compared
+use Rattle.dcx_syntax.specs.declared.tree.Expr as code_expr
+use Rattle.dcx_syntax.specs.declared.tree.Factor as code_factor
+use Rattle.dcx_syntax.specs.declared.tree.Postfix as code_postfix
+use Rattle.dcx_syntax.specs.declared.tree.Power as code_power
+use Rattle.dcx_syntax.specs.declared.tree.Raised as code_raised
+use Rattle.dcx_syntax.specs.declared.tree.Scaled as code_scaled
+use Rattle.dcx_syntax.specs.declared.tree.Sum as code_sum
+use Rattle.dcx_syntax.specs.declared.tree.Term as code_term
+use Rattle.dcx_syntax.specs.declared.tree.Arg.TheOpen.{Arg-F, Index-F, Primary-F, Step-F, Trailer-F, Added-F, Compared-F, Expr-F, Factor-F, Postfix-F, Power-F, Raised-F, Scaled-F, Sum-F, Term-F}
+use Rattle.dcx_syntax.specs.declared.tree.Line as code_line
+use Rattle.dcx_syntax.specs.declared.tree.Line.TheOpen.{Line-F}
+use Rattle.dcx_syntax.specs.declared.tree.Script.{Script}
+use Rattle.dcx_syntax.specs.Expressions.{Expr, expr, Compared, no_comparison, compared, Sum, sum, Added, no_addition, added, Term, term, Scaled, no_scaling, scaled, Factor, factor, Power, power_of, Raised, no_power, raised, exponent, Postfix, postfix, Trailers, no_trailer, attribute, call, indexed, Args, no_args, args, MoreArgs, args_end, args_comma, more_args, Arg, by_place, by_name, Indices, no_index, more_indices, Index, at, slice, Optional, absent, present, Step, no_step, step, Primary, number_at, text_at, name_at, truth_at, none_at, unit, round, tuple, empty_list, list, comprehension, Items, no_items, items, MoreItems, items_end, items_comma, more_items}
+use Rattle.dcx_syntax.specs.Statements.{nothing, Line, importing, assign, add_to, set_value, evaluate, prints, repeats, Lines, no_lines, lines}
 
 -- what each item puts before the others, one after the other
 abbrev pub chained : {A : Type 0} → List (A → A) → A → A
@@ -168,3 +172,26 @@ term_view = code_term.fold-Term Arg Index Primary Step (Trailers → Trailers) (
 abbrev pub optional_view : Option code_expr.Expr → Optional
 optional_view None = absent
 optional_view (Some x) = present (expr_view x)
+
+abbrev pub then_line : Line → Lines → Lines
+then_line l rest = lines l rest
+
+-- lines one after the other
+abbrev pub lines_of : List Line → Lines
+lines_of ls = chained (map then_line ls) no_lines
+
+-- one level of a line, with the lines inside it already seen
+abbrev pub line_layer : Line-F Line → Line
+line_layer (Line-F.Import i) = importing i
+line_layer (Line-F.Assign n x) = assign n (expr_view x)
+line_layer (Line-F.AddTo n p x) = add_to n p (expr_view x)
+line_layer (Line-F.SetValue n p x) = set_value n p (expr_view x)
+line_layer (Line-F.Evaluate x) = evaluate (expr_view x)
+line_layer (Line-F.Print p q) = prints p q nothing
+line_layer (Line-F.For p n x first rest) = repeats p n (expr_view x) first.value (lines_of rest.items)
+
+abbrev pub line_view : code_line.Line → Line
+line_view = code_line.fold-Line Line line_layer
+
+abbrev pub script_view : Script → Lines
+script_view s = lines_of (map line_view s.lines.items)

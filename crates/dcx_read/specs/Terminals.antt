@@ -1,48 +1,13 @@
--- The tokens as the grammar sees them: what a token is, with the bytes and the place that a syntax tree keeps of it.
-use Rattle.std.specs.Prelude.{ℕ, Bool, List, map}
+-- What the grammar sees in the tokens of a text.
+use Rattle.std.specs.Prelude.{ℕ, List, map}
 use Rattle.std.specs.List.{slice_range}
-use Rattle.dcx_frac.specs.declared.fraction.Frac.{Frac}
 use Rattle.dcx_shape.specs.declared.place.Place.{Place}
 use Rattle.dcx_tokens.specs.declared.token.Token.{Token}
-use Rattle.dcx_read.specs.declared.tree.Comparison.{Comparison}
-use Rattle.dcx_read.specs.declared.tree.Sign.{Sign}
-use Rattle.dcx_read.specs.declared.tree.Scaling.{Scaling}
-use Rattle.dcx_read.specs.declared.tree.Named.{Named}
-use Rattle.dcx_read.specs.declared.role.Bracket.{Bracket}
+use Rattle.dcx_syntax.specs.declared.tree.Named.{Named}
+use Rattle.dcx_syntax.specs.Terminal.{Terminal, opens, closes, plain, name, number, text, truth, none, compares, signs, scales, power, plus_equal, import, for, print, as_word, in_word, dot, comma, colon, equal, newline, indent, dedent, other}
 use Rattle.dcx_read.specs.declared.role.Role.{Role}
 use Rattle.dcx_read.specs.declared.role.Role.TheVariants as roles
 use Rattle.dcx_read.specs.Role.{role_of}
-
--- a token that is no bracket
-pub data Plain : Type 0 where
-  name : (bytes : List ℕ) (place : Place) → Plain
-  number : (value : Frac) (place : Place) → Plain
-  text : (bytes : List ℕ) (place : Place) → Plain
-  truth : Bool → (place : Place) → Plain
-  none : (place : Place) → Plain
-  compares : Comparison → (place : Place) → Plain
-  signs : Sign → (place : Place) → Plain
-  scales : Scaling → (place : Place) → Plain
-  power : (place : Place) → Plain
-  plus_equal : (place : Place) → Plain
-  import : (place : Place) → Plain
-  for : (place : Place) → Plain
-  print : (place : Place) → Plain
-  as_word : Plain
-  in_word : Plain
-  dot : Plain
-  comma : Plain
-  colon : Plain
-  equal : Plain
-  newline : Plain
-  indent : Plain
-  dedent : Plain
-  other : Plain
-
-pub data Terminal : Type 0 where
-  opens : Bracket → (place : Place) → Terminal
-  closes : Bracket → Terminal
-  plain : Plain → Terminal
 
 abbrev pub terminal : Role → List ℕ → Place → Terminal
 terminal (roles.Opens b) bytes place = opens b place

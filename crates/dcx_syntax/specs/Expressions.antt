@@ -2,13 +2,13 @@
 use Rattle.std.specs.Prelude.{ℕ, Bool, List, [], ◌∷◌, ◌++◌}
 use Rattle.dcx_frac.specs.declared.fraction.Frac.{Frac}
 use Rattle.dcx_shape.specs.declared.place.Place.{Place}
-use Rattle.dcx_read.specs.declared.tree.Comparison.{Comparison}
-use Rattle.dcx_read.specs.declared.tree.Sign.{Sign}
-use Rattle.dcx_read.specs.declared.tree.Scaling.{Scaling}
-use Rattle.dcx_read.specs.declared.tree.Named.{Named}
-use Rattle.dcx_read.specs.declared.tree.Signed.{Signed}
-use Rattle.dcx_read.specs.declared.role.Bracket.TheVariants.{Round, Square}
-use Rattle.dcx_read.specs.Terminal.{Terminal, opens, closes, plain, name, number, text, truth, none, compares, signs, scales, power, for, in_word, dot, comma, colon, equal}
+use Rattle.dcx_syntax.specs.declared.tree.Comparison.{Comparison}
+use Rattle.dcx_syntax.specs.declared.tree.Sign.{Sign}
+use Rattle.dcx_syntax.specs.declared.tree.Scaling.{Scaling}
+use Rattle.dcx_syntax.specs.declared.tree.Named.{Named}
+use Rattle.dcx_syntax.specs.declared.tree.Signed.{Signed}
+use Rattle.dcx_syntax.specs.declared.bracket.Bracket.TheVariants.{Round, Square}
+use Rattle.dcx_syntax.specs.Terminal.{Terminal, opens, closes, plain, name, number, text, truth, none, compares, signs, scales, power, for, in_word, dot, comma, colon, equal}
 
 mutual
   -- expr = sum { ("<=" | ">=" | "==" | "<" | ">" | "!=") sum }

@@ -1,14 +1,14 @@
 -- The syntax trees of lines, one kind for each rule of the grammar, and how each is spelled.
 use Rattle.std.specs.Prelude.{ℕ, Option, Some, None, List, [], ◌∷◌, ◌++◌, codes}
 use Rattle.dcx_shape.specs.declared.place.Place.{Place}
-use Rattle.dcx_read.specs.declared.tree.Module.{Module}
-use Rattle.dcx_read.specs.declared.tree.Module.TheVariants.{Cvxpy, Numpy}
-use Rattle.dcx_read.specs.declared.tree.Import.{Import}
-use Rattle.dcx_read.specs.declared.tree.Named.{Named}
-use Rattle.dcx_read.specs.declared.role.Bracket.{Bracket}
-use Rattle.dcx_read.specs.declared.role.Bracket.TheVariants.{Round}
-use Rattle.dcx_read.specs.Terminal.{Plain, Terminal, opens, closes, plain, name, plus_equal, import, for, print, as_word, in_word, dot, colon, equal, newline, indent, dedent}
-use Rattle.dcx_read.specs.Expressions.{Expr, named, expr_text}
+use Rattle.dcx_syntax.specs.declared.tree.Module.{Module}
+use Rattle.dcx_syntax.specs.declared.tree.Module.TheVariants.{Cvxpy, Numpy}
+use Rattle.dcx_syntax.specs.declared.tree.Import.{Import}
+use Rattle.dcx_syntax.specs.declared.tree.Named.{Named}
+use Rattle.dcx_syntax.specs.declared.bracket.Bracket.{Bracket}
+use Rattle.dcx_syntax.specs.declared.bracket.Bracket.TheVariants.{Round}
+use Rattle.dcx_syntax.specs.Terminal.{Plain, Terminal, opens, closes, plain, name, plus_equal, import, for, print, as_word, in_word, dot, colon, equal, newline, indent, dedent}
+use Rattle.dcx_syntax.specs.Expressions.{Expr, named, expr_text}
 
 -- any list of tokens whose brackets match, each with one of its own kind
 pub data Balanced : Type 0 where

@@ -1,0 +1,4 @@
+pub mod Terminal
+pub mod Expressions
+pub mod Statements
+pub mod View
