@@ -5,12 +5,12 @@ ghost use Rattle.dcx_math.specs.Rational.{Fits};
 use crate::read::{fault_text, number};
 use dcx_case_lines::{CaseFault, Cases};
 use dcx_kinds::{ElabFault, Value, whole_number};
-use dcx_syntax::Module;
 use dcx_shape::{Name, Place};
 use dcx_signature::{
     Argument, Bound, Function, Given, Through, arguments, function_named, items_through,
     range_from, row_of,
 };
+use dcx_syntax::Module;
 use dcx_tree::Tree;
 use std::alloc::{AllocError, Global};
 
