@@ -1,5 +1,5 @@
 //! The cases of files, run one after another.
-ghost use Rattle.std.specs.Prelude.{◌≤◌};
+ghost use Rattle.std.specs.Prelude.{◌≡◌};
 
 use crate::fault::CaseFault;
 use std::alloc::{AllocError, Global};
@@ -66,6 +66,17 @@ fn differs<C: Cases>(
 }
 
 impl Tally {
+    /// No case yet.
+    pub fn new() -> Tally
+        ensures cases { result.cases ≡ 0 }
+        ensures differ { result.differ ≡ 0 }
+    {
+        Tally {
+            cases: 0,
+            differ: 0,
+        }
+    }
+
     /// Runs the cases of a text, and prints each that gives something else.
     fn count<C: Cases>(
         &mut self,
@@ -94,17 +105,6 @@ impl Tally {
     ) -> io::Result<()> {
         let text = fs::read_to_string(rt, file)?;
         self.count(rt, cases, text.as_str())
-    }
-}
-
-/// Runs nothing more, and prints how many cases there were and how many differ.
-impl Tally {
-    /// No case yet.
-    pub fn new() -> Tally {
-        Tally {
-            cases: 0,
-            differ: 0,
-        }
     }
 
     /// Prints how many cases there were, and how many differ.

@@ -1,6 +1,4 @@
 //! Shapes as they are written: `()`, `(3)` and `(2,3)`.
-ghost use Rattle.std.specs.Prelude.{◌≡◌, IfOk};
-ghost use Rattle.dcx_shape.specs.Shape.{sides_of};
 
 use crate::fault::CaseFault;
 use dcx_shape::Sides::{Matrix, Scalar, Vector};

@@ -1,6 +1,4 @@
 //! Shapes, and how they are combined.
-ghost use Rattle.std.specs.Prelude.{◌≢◌, pos};
-
 use dcx_array::{allowed_shape, common_shape};
 use dcx_case_lines::{CaseFault, Cases, Size, shape};
 use dcx_shape::{
