@@ -5,24 +5,11 @@ use dcx_affine::{
 };
 use dcx_atom::Axis;
 use dcx_call::{AtomCall, Attribute, Call, LinearCall, Parameter, Variable, Whole};
-use dcx_case_lines::{CaseFault, array, shape};
+use dcx_case_lines::{CaseFault, array, count, name, shape, words};
 use dcx_elem::{Abs, Maximum, Minimum, Neg, Pos};
 use dcx_fold::{CumMax, MaxOf, MinOf, Norm1, NormInf, SumLargest, SumSmallest};
-use dcx_shape::{Name, Places, Shape};
-use std::alloc::{AllocError, Global};
-
-/// The words of a text.
-pub(crate) fn words(alloc: Global, text: &str) -> Result<Vec<&str>, AllocError> {
-    text.split_whitespace().collect(alloc)
-}
-
-/// A count.
-pub(crate) fn count(word: &str) -> Result<u32, CaseFault> {
-    match word.parse::<u32>() {
-        Ok(count) => Ok(count),
-        Err(_) => Err(CaseFault::Unreadable),
-    }
-}
+use dcx_shape::{Places, Shape};
+use std::alloc::Global;
 
 /// Along which side.
 fn axis(words: &[&str]) -> Result<Axis, CaseFault> {
@@ -142,7 +129,7 @@ pub(crate) fn pairing(word: &str) -> Option<Pairing> {
 }
 
 /// The attribute of a word.
-fn attribute(word: &str) -> Result<Attribute, CaseFault> {
+pub(crate) fn attribute(word: &str) -> Result<Attribute, CaseFault> {
     match word {
         "free" => Ok(Attribute::Free),
         "nonneg" => Ok(Attribute::Nonneg),
@@ -154,18 +141,13 @@ fn attribute(word: &str) -> Result<Attribute, CaseFault> {
 }
 
 /// Which entries are whole, by a word.
-fn whole(word: &str) -> Result<Whole, CaseFault> {
+pub(crate) fn whole(word: &str) -> Result<Whole, CaseFault> {
     match word {
         "real" => Ok(Whole::Not),
         "integer" => Ok(Whole::Integer),
         "boolean" => Ok(Whole::Boolean),
         _ => Err(CaseFault::Unreadable),
     }
-}
-
-/// The name with these letters.
-pub(crate) fn name(alloc: Global, text: &str) -> Result<Name, AllocError> {
-    Ok(Name::from_vec(Vec::from_slice(alloc, text.as_bytes())?))
 }
 
 /// A scalar variable or parameter, `None` where the words say neither.

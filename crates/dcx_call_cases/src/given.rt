@@ -1,7 +1,6 @@
 //! Whether a point and a setting give a leaf its array.
-use crate::calls::{call, name};
-use dcx_case_lines::{CaseFault, Cases, array};
-use dcx_point::{Point, Setting};
+use crate::calls::call;
+use dcx_case_lines::{CaseFault, Cases, point, setting};
 use std::alloc::Global;
 
 /// `CALL | NAME ARRAY; NAME ARRAY | NAME ARRAY => yes` or `no`: the arrays of the point, and those of the setting.
@@ -24,22 +23,4 @@ impl Cases for Given {
             _ => Err(CaseFault::Unreadable),
         }
     }
-}
-
-fn point(alloc: Global, text: &str) -> Result<Point, CaseFault> {
-    let mut point = Point::empty(alloc);
-    for item in text.split(';') {
-        let (word, rest) = item.trim().split_once(' ').ok_or(CaseFault::Unreadable)?;
-        point.put(name(alloc, word)?, array(alloc, rest)?)?;
-    }
-    Ok(point)
-}
-
-fn setting(alloc: Global, text: &str) -> Result<Setting, CaseFault> {
-    let mut setting = Setting::empty(alloc);
-    for item in text.split(';') {
-        let (word, rest) = item.trim().split_once(' ').ok_or(CaseFault::Unreadable)?;
-        setting.put(name(alloc, word)?, array(alloc, rest)?)?;
-    }
-    Ok(setting)
 }

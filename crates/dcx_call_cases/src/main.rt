@@ -1,7 +1,9 @@
-//! Runs the cases of the calls: their shapes, signs, trends, values, rows, slopes and maps.
+//! Runs the cases of the calls: their shapes, signs, trends, values, rows, slopes and maps, and
+//! what is demanded of variables.
 #![tactic(auto)]
 
 mod calls;
+mod demands;
 mod given;
 mod maps;
 mod rows;
@@ -9,6 +11,7 @@ mod slopes;
 mod told;
 mod values;
 
+use crate::demands::Demands;
 use crate::given::Given;
 use crate::maps::Maps;
 use crate::rows::Rows;
@@ -26,5 +29,6 @@ fn main(rt: HostRuntime) -> io::Result<()> {
     tally.run(&rt, &Slopes, "slopes.txt")?;
     tally.run(&rt, &Maps, "maps.txt")?;
     tally.run(&rt, &Given, "given.txt")?;
+    tally.run(&rt, &Demands, "demands.txt")?;
     tally.print(&rt)
 }

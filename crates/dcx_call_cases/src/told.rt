@@ -1,8 +1,8 @@
 //! Shapes, signs, trends and bends that calls tell.
-use crate::calls::{atom, call, count, words};
+use crate::calls::{atom, call};
 use dcx_atom::{Atom, Bend, Sign, Trend};
 use dcx_call::Call;
-use dcx_case_lines::{CaseFault, Cases, Size, shape};
+use dcx_case_lines::{CaseFault, Cases, Size, count, shape};
 use dcx_shape::Shape;
 use std::alloc::Global;
 

@@ -3,9 +3,9 @@ ghost use Rattle.std.specs.Prelude.{◌≡◌, IfOk, map};
 ghost use Rattle.dcx_atom.specs.Arrays.{sides_list, array_sides};
 
 use crate::calls::call;
-use dcx_atom::{Array, ValueStop};
+use dcx_atom::Array;
 use dcx_call::Call;
-use dcx_case_lines::{CaseFault, Cases, Filled, Passing, array};
+use dcx_case_lines::{CaseFault, Cases, array, value_text};
 use dcx_point::{Point, Setting};
 use dcx_shape::Shape;
 use std::alloc::{AllocError, Global};
@@ -50,17 +50,5 @@ fn value(alloc: Global, call: &Call, args: &[Array]) -> Result<String, CaseFault
     if call.shape(&shapes).is_none() || !call.is_given(&point, &setting) {
         return Ok(String::from_str(alloc, "none")?);
     }
-    told(alloc, call.value(alloc, &point, &setting, args))
-}
-
-/// The array, or the first entry that stops the value.
-fn told(alloc: Global, value: Result<Array, ValueStop>) -> Result<String, CaseFault> {
-    match value {
-        Ok(array) => Ok(format!(in alloc; "{}", Filled(&array))?),
-        Err(ValueStop::Memory) => Err(CaseFault::Memory),
-        Err(ValueStop::ZeroDivisor { entry }) => { Ok(format!(in alloc; "divisor {entry} is 0")?) }
-        Err(ValueStop::Passes { entry, passes }) => {
-            Ok(format!(in alloc; "entry {entry}: {}", Passing(passes))?)
-        }
-    }
+    value_text(alloc, call.value(alloc, &point, &setting, args))
 }

@@ -1,8 +1,9 @@
 //! Arrays as they are written: the shape, and then the entries row by row.
 use crate::fault::CaseFault;
-use crate::fractions::{Number, Numbers};
+use crate::fractions::{Numbers, Passing};
 use crate::sizes::{Size, shape};
-use dcx_atom::Array;
+use crate::words::fraction;
+use dcx_atom::{Array, ValueStop};
 use dcx_frac::{Frac, Fracs};
 use dcx_shape::Shape;
 use std::alloc::{AllocError, Global};
@@ -12,7 +13,7 @@ use std::fmt::{self, Display};
 pub fn numbers(alloc: Global, text: &str) -> Result<Vec<Frac>, CaseFault> {
     let mut numbers = Vec::new(alloc);
     for word in text.split_whitespace() {
-        numbers.push(word.parse::<Number>()?.0)?;
+        numbers.push(fraction(word)?)?;
     }
     Ok(numbers)
 }
@@ -48,5 +49,17 @@ impl Display for Filled<'_> {
     fn fmt<W: fmt::Write>(&self, f: &mut fmt::Formatter<W>) -> fmt::Result {
         let size = Size(self.0.shape.sides());
         write!(f, "{size} {}", Numbers(self.0.entries.as_slice()))
+    }
+}
+
+/// The text of a value: the array, or the first entry that stops it.
+pub fn value_text(alloc: Global, value: Result<Array, ValueStop>) -> Result<String, CaseFault> {
+    match value {
+        Ok(array) => Ok(format!(in alloc; "{}", Filled(&array))?),
+        Err(ValueStop::Memory) => Err(CaseFault::Memory),
+        Err(ValueStop::ZeroDivisor { entry }) => Ok(format!(in alloc; "divisor {entry} is 0")?),
+        Err(ValueStop::Passes { entry, passes }) => {
+            Ok(format!(in alloc; "entry {entry}: {}", Passing(passes))?)
+        }
     }
 }

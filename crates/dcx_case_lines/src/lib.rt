@@ -6,11 +6,15 @@
 mod arrays;
 mod fault;
 mod fractions;
+mod named;
 mod running;
 mod sizes;
+mod words;
 
-pub use arrays::{Filled, array, numbers};
+pub use arrays::{Filled, array, numbers, value_text};
 pub use fault::CaseFault;
 pub use fractions::{Number, Numbers, Passing};
+pub use named::{point, setting};
 pub use running::{Cases, Tally};
 pub use sizes::{Size, shape};
+pub use words::{count, fraction, name, words};

@@ -2,7 +2,7 @@
 use dcx_atom::{
     SlopeStop, check_at_most, check_equal, check_weights, is_at_most, is_equal, sum_all,
 };
-use dcx_case_lines::{CaseFault, Cases, Number, Numbers, Passing};
+use dcx_case_lines::{CaseFault, Cases, Number, Numbers, Passing, count, fraction, words};
 use dcx_frac::{Frac, Fracs, Passes, gcd, write_frac};
 use std::alloc::{AllocError, Global};
 use std::cmp::Ordering;
@@ -18,8 +18,7 @@ impl Cases for Fractions {
             [text] => text,
             _ => return Err(CaseFault::Unreadable),
         };
-        let words: Vec<&str> = text.split_whitespace().collect(alloc)?;
-        match *words {
+        match *words(alloc, text)? {
             ["lowest", num, den] => lowest(alloc, num, den),
             ["gcd", a, b] => divisor(alloc, a, b),
             ["text", word] => written(alloc, fraction(word)?),
@@ -48,11 +47,6 @@ impl Cases for Fractions {
     }
 }
 
-/// The fraction of a word.
-fn fraction(word: &str) -> Result<Frac, CaseFault> {
-    Ok(word.parse::<Number>()?.0)
-}
-
 /// The fractions of words.
 fn fractions_of(alloc: Global, words: &[&str]) -> Result<Vec<Frac>, CaseFault> {
     let mut fractions = Vec::new(alloc);
@@ -60,14 +54,6 @@ fn fractions_of(alloc: Global, words: &[&str]) -> Result<Vec<Frac>, CaseFault> {
         fractions.push(fraction(*word)?)?;
     }
     Ok(fractions)
-}
-
-/// A count.
-fn count(word: &str) -> Result<u32, CaseFault> {
-    match word.parse::<u32>() {
-        Ok(count) => Ok(count),
-        Err(_) => Err(CaseFault::Unreadable),
-    }
 }
 
 /// A whole number of 128 bits.

@@ -1,6 +1,6 @@
 //! Points and settings: arrays that are put under names and looked up.
 use dcx_atom::Array;
-use dcx_case_lines::{CaseFault, Cases, Number, Numbers};
+use dcx_case_lines::{CaseFault, Cases, Numbers, fraction, name};
 use dcx_frac::Fracs;
 use dcx_point::{Point, Setting};
 use dcx_shape::{Name, Shape};
@@ -75,15 +75,14 @@ impl Named for Setting {
     }
 }
 
-/// The name of a word.
-fn name(alloc: Global, word: &str) -> Result<Name, AllocError> {
-    let letters = if word == "''" { "" } else { word };
-    Ok(Name::from_vec(Vec::from_slice(alloc, letters.as_bytes())?))
+/// The name of a word, which is empty where it is written `''`.
+fn name_of(alloc: Global, word: &str) -> Result<Name, AllocError> {
+    name(alloc, if word == "''" { "" } else { word })
 }
 
 /// The scalar array of a word.
 fn scalar(alloc: Global, word: &str) -> Result<Array, CaseFault> {
-    let entries = vec![in alloc; word.parse::<Number>()?.0]?;
+    let entries = vec![in alloc; fraction(word)?]?;
     Ok(Array {
         shape: Shape::scalar(),
         entries: Fracs::from_vec(entries),
@@ -96,7 +95,7 @@ fn put_all<N: Named>(alloc: Global, named: &mut N, puts: &str) -> Result<(), Cas
     }
     for item in puts.split(';') {
         let (word, number) = item.trim().split_once(' ').ok_or(CaseFault::Unreadable)?;
-        named.put_array(name(alloc, word)?, scalar(alloc, number)?)?;
+        named.put_array(name_of(alloc, word)?, scalar(alloc, number)?)?;
     }
     Ok(())
 }
@@ -120,7 +119,7 @@ fn names_text<N: Named>(alloc: Global, named: &N) -> Result<String, AllocError> 
 fn found_text<N: Named>(alloc: Global, named: &N, words: &str) -> Result<String, AllocError> {
     let mut text = String::new(alloc);
     for word in words.split_whitespace() {
-        match named.found(&name(alloc, word)?) {
+        match named.found(&name_of(alloc, word)?) {
             Some(array) => {
                 text.push_str(&format!(in alloc; " {}", Numbers(array.entries.as_slice()))?)?
             }

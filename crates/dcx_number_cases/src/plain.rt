@@ -4,7 +4,7 @@ use dcx_array::{
     subtract, transpose,
 };
 use dcx_atom::Array;
-use dcx_case_lines::{CaseFault, Cases, Filled, Number, Passing, Size, array};
+use dcx_case_lines::{CaseFault, Cases, Filled, Passing, Size, array, count, fraction};
 use std::alloc::{AllocError, Global};
 
 /// `ARRAY | + | ARRAY => ARRAY`, and the same with `-`, `*`, `/` and `@`; `negate | ARRAY`, `transpose | ARRAY`,
@@ -24,7 +24,7 @@ impl Cases for Arrays {
             ["constant", text] => constant_told(alloc, text),
             ["identity", text] => identity_told(alloc, text),
             ["number", text] => {
-                let made = number(alloc, text.parse::<Number>()?.0)?;
+                let made = number(alloc, fraction(text)?)?;
                 Ok(made_text(alloc, Ok(made))?)
             }
             _ => Err(CaseFault::Unreadable),
@@ -76,12 +76,9 @@ fn whole_text(alloc: Global, number: Option<i128>) -> Result<String, AllocError>
 fn constant_told(alloc: Global, text: &str) -> Result<String, CaseFault> {
     let (size, word) = text.split_once(' ').ok_or(CaseFault::Unreadable)?;
     let sides = size.parse::<Size>()?.0;
-    Ok(made_text(alloc, constant(alloc, sides, word.parse::<Number>()?.0))?)
+    Ok(made_text(alloc, constant(alloc, sides, fraction(word)?))?)
 }
 
 fn identity_told(alloc: Global, text: &str) -> Result<String, CaseFault> {
-    match text.parse::<u32>() {
-        Ok(n) => Ok(made_text(alloc, identity(alloc, n))?),
-        Err(_) => Err(CaseFault::Unreadable),
-    }
+    Ok(made_text(alloc, identity(alloc, count(text)?))?)
 }

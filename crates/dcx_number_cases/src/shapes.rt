@@ -1,6 +1,6 @@
 //! Shapes, and how they are combined.
 use dcx_array::{allowed_shape, common_shape};
-use dcx_case_lines::{CaseFault, Cases, Size, shape};
+use dcx_case_lines::{CaseFault, Cases, Size, count, shape, words};
 use dcx_shape::{
     Places, Shape, ShapeFault, Slice, broadcast, matmul_shape, reshape_map, slice_places,
 };
@@ -16,8 +16,7 @@ impl Cases for Shapes {
             [text] => text,
             _ => return Err(CaseFault::Unreadable),
         };
-        let words: Vec<&str> = text.split_whitespace().collect(alloc)?;
-        match *words {
+        match *words(alloc, text)? {
             ["shape", size] => shape_told(alloc, size.parse::<Size>()?),
             [a, "with", b] => Ok(sides(alloc, broadcast(shape(a)?, shape(b)?))?),
             [a, "@", b] => Ok(sides(alloc, matmul_shape(shape(a)?, shape(b)?))?),
@@ -97,10 +96,11 @@ fn places_text(alloc: Global, found: Result<Places, ShapeFault>) -> Result<Strin
 }
 
 fn sliced(alloc: Global, size: &str, slice: Slice) -> Result<String, CaseFault> {
-    match size.parse::<u32>() {
-        Ok(size) if slice.step != 0 => Ok(places_text(alloc, slice_places(alloc, size, slice))?),
-        _ => Err(CaseFault::Unreadable),
+    let size = count(size)?;
+    if slice.step == 0 {
+        return Err(CaseFault::Unreadable);
     }
+    Ok(places_text(alloc, slice_places(alloc, size, slice))?)
 }
 
 fn reshaped(alloc: Global, from: Shape, to: Shape, order: &str) -> Result<String, CaseFault> {

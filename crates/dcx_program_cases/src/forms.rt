@@ -1,6 +1,6 @@
 //! Forms in unknowns, over plain numbers and over affine ones.
-use crate::numbers::{fraction, stop_text};
-use dcx_case_lines::{CaseFault, Cases, Number};
+use crate::numbers::stop_text;
+use dcx_case_lines::{CaseFault, Cases, Number, count, fraction};
 use dcx_frac::Frac;
 use dcx_linear::{Coef, CoefStop, Form, FormTerm, ParamForm};
 use std::alloc::{AllocError, Global};
@@ -46,11 +46,7 @@ fn formed<C: Coef>(
 /// A multiple of an unknown.
 fn multiple<C: Coef>(alloc: Global, word: &str) -> Result<Form<C>, CaseFault> {
     let (coefficient, unknown) = word.split_once('*').ok_or(CaseFault::Unreadable)?;
-    let unknown = match unknown.parse::<u32>() {
-        Ok(unknown) => unknown,
-        Err(_) => return Err(CaseFault::Unreadable),
-    };
-    let one = Form::<C>::unknown(alloc, unknown)?;
+    let one = Form::<C>::unknown(alloc, count(unknown)?)?;
     match one.scale(alloc, &fraction(coefficient)?) {
         Ok(term) => Ok(term),
         Err(_) => Err(CaseFault::Unreadable),

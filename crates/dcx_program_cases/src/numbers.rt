@@ -2,7 +2,7 @@
 ghost use Rattle.std.specs.Prelude.{◌≡◌, ◌∷◌, [], IfOk};
 
 use dcx_atom::Array;
-use dcx_case_lines::{CaseFault, Cases, Number, Passing};
+use dcx_case_lines::{CaseFault, Cases, Number, Passing, fraction, name, words};
 use dcx_frac::{Frac, Fracs};
 use dcx_linear::{Coef, CoefStop, ParamForm};
 use dcx_point::Setting;
@@ -37,11 +37,6 @@ impl Cases for Coefficients {
     }
 }
 
-/// The fraction of a word.
-pub(crate) fn fraction(word: &str) -> Result<Frac, CaseFault> {
-    Ok(word.parse::<Number>()?.0)
-}
-
 /// Why there is no coefficient.
 pub(crate) fn stop_text(alloc: Global, stop: CoefStop) -> Result<String, AllocError> {
     match stop {
@@ -63,8 +58,7 @@ fn number_text<C: Coef>(alloc: Global, formed: Result<C, CoefStop>) -> Result<St
 
 /// Numbers go into any coefficients and come out again.
 fn coefficient<C: Coef>(alloc: Global, text: &str) -> Result<String, CaseFault> {
-    let words: Vec<&str> = text.split_whitespace().collect(alloc)?;
-    let formed = match *words {
+    let formed = match *words(alloc, text)? {
         ["zero"] => Ok(C::zero(alloc)),
         ["copy", word] => Ok(C::number(alloc, fraction(word)?).copy(alloc)?),
         [word] => Ok(C::number(alloc, fraction(word)?)),
@@ -83,11 +77,6 @@ fn coefficient<C: Coef>(alloc: Global, text: &str) -> Result<String, CaseFault> 
         _ => return Err(CaseFault::Unreadable),
     };
     Ok(number_text(alloc, formed)?)
-}
-
-/// The name of a parameter.
-fn name(alloc: Global, word: &str) -> Result<Name, AllocError> {
-    Ok(Name::from_vec(Vec::from_slice(alloc, word.as_bytes())?))
 }
 
 /// A multiple of the parameter `p` or `q`, as `2*p`.

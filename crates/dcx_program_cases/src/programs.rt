@@ -2,7 +2,7 @@
 use crate::made::program_text;
 use crate::rows::{form_of, rows_of};
 use crate::runs::{pivot_text, run_text};
-use dcx_case_lines::{CaseFault, Cases, Passing};
+use dcx_case_lines::{CaseFault, Cases, Passing, count, words};
 use dcx_frac::Frac;
 use dcx_linear::{Rows, Site};
 use dcx_std::{RowStop, check_size, integer_rows, least_multiple};
@@ -18,8 +18,7 @@ impl Cases for Programs {
         let Some((first, rest)) = parts.split_first() else {
             return Err(CaseFault::Unreadable);
         };
-        let words: Vec<&str> = first.split_whitespace().collect(alloc)?;
-        match *words {
+        match *words(alloc, first)? {
             ["multiple", unknowns] => multiple_text(alloc, count(unknowns)?, rest),
             ["size"] => Ok(size_text(alloc, &rows_of(alloc, rest)?)?),
             ["made"] => match program(alloc, &rows_of(alloc, rest)?)? {
@@ -36,14 +35,6 @@ impl Cases for Programs {
             },
             _ => Err(CaseFault::Unreadable),
         }
-    }
-}
-
-/// A count.
-fn count(word: &str) -> Result<u32, CaseFault> {
-    match word.parse::<u32>() {
-        Ok(count) => Ok(count),
-        Err(_) => Err(CaseFault::Unreadable),
     }
 }
 

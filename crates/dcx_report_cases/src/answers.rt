@@ -1,20 +1,9 @@
 //! Answers as they are written: `optimal VALUE`, `infeasible GAP` or `unbounded BOUND SLOPE`, and then `var NAME ARRAY`,
 //! `ray NAME ARRAY` and `dual ARRAY`.
-use dcx_case_lines::{CaseFault, Number, array};
+use dcx_case_lines::{CaseFault, array, fraction, name, words};
 use dcx_frac::Frac;
 use dcx_report::{Answer, Duals, Named, Point};
-use dcx_shape::Name;
 use std::alloc::Global;
-
-/// The fraction of a word.
-pub(crate) fn fraction(word: &str) -> Result<Frac, CaseFault> {
-    Ok(word.parse::<Number>()?.0)
-}
-
-/// The name with these letters.
-pub(crate) fn name(alloc: Global, word: &str) -> Result<Name, CaseFault> {
-    Ok(Name::from_vec(Vec::from_slice(alloc, word.as_bytes())?))
-}
 
 /// An array under its name.
 fn named(alloc: Global, text: &str) -> Result<Named, CaseFault> {
@@ -79,8 +68,7 @@ fn unbounded(alloc: Global, bound: Frac, slope: Frac, items: &str) -> Result<Ans
 /// The answer of a text.
 pub(crate) fn answer(alloc: Global, text: &str) -> Result<Answer, CaseFault> {
     let (first, items) = text.split_once(';').unwrap_or((text, ""));
-    let words: Vec<&str> = first.split_whitespace().collect(alloc)?;
-    match *words {
+    match *words(alloc, first)? {
         ["optimal", value] => optimal(alloc, fraction(value)?, items),
         ["infeasible", gap] => infeasible(alloc, fraction(gap)?, items),
         ["unbounded", bound, slope] => {

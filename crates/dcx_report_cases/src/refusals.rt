@@ -1,6 +1,6 @@
 //! Refusals as they are written: the number, the line and the column, and what is carried.
-use crate::stops::{count, passes};
-use dcx_case_lines::CaseFault;
+use crate::stops::passes;
+use dcx_case_lines::{CaseFault, count};
 use dcx_report::{Carried, Count, Refusal, RefusalSource, Rule};
 use dcx_shape::Place;
 

@@ -2,7 +2,7 @@
 use crate::answers::answer;
 use crate::refusals::{place, refusal};
 use crate::stops::{stop, stop_at};
-use dcx_case_lines::{CaseFault, Cases};
+use dcx_case_lines::{CaseFault, Cases, words};
 use dcx_report::{Outcome, OutcomeEnd, Outcomes, Run, Sense, Word, report_text};
 use std::alloc::Global;
 
@@ -14,8 +14,7 @@ impl Cases for Reports {
         let Some((first, rest)) = parts.split_first() else {
             return Err(CaseFault::Unreadable);
         };
-        let words: Vec<&str> = first.split_whitespace().collect(alloc)?;
-        match *words {
+        match *words(alloc, first)? {
             ["usage"] => told(alloc, &Run::Usage),
             ["fault"] => told(alloc, &Run::ReadFault),
             ["memory"] => told(alloc, &Run::Memory),
@@ -48,7 +47,7 @@ fn told(alloc: Global, run: &Run) -> Result<String, CaseFault> {
 
 /// The outcome of a stop.
 fn stopped(alloc: Global, text: &str) -> Result<Outcome, CaseFault> {
-    let words: Vec<&str> = text.split_whitespace().collect(alloc)?;
+    let words = words(alloc, text)?;
     match *words {
         ["at", line, column, ref rest @ ..] => {
             let place = Some(place(line, column)?);

@@ -3,19 +3,10 @@ ghost use Rattle.std.specs.Prelude.{◌≡◌, true, false, IfOk};
 ghost use Rattle.dcx_report.specs.NodeStops.{names_node};
 ghost use Rattle.dcx_report.specs.declared.outcome.OutcomeEnd.TheVariants as ends;
 
-use crate::answers::{fraction, name};
-use dcx_case_lines::{CaseFault, shape};
+use dcx_case_lines::{CaseFault, count, fraction, name, shape};
 use dcx_frac::{Op, Passes};
 use dcx_report::{NodeId, Site, Stop};
 use std::alloc::Global;
-
-/// A count.
-pub(crate) fn count(word: &str) -> Result<u32, CaseFault> {
-    match word.parse::<u32>() {
-        Ok(count) => Ok(count),
-        Err(_) => Err(CaseFault::Unreadable),
-    }
-}
 
 /// An operation that passes, with its operands.
 pub(crate) fn passes(left: &str, sign: &str, right: &str) -> Result<Passes, CaseFault> {

@@ -1,24 +1,22 @@
 //! Points that leave what is demanded of variables.
-use crate::given::point;
-use crate::leaves::{constant, name};
+use crate::leaves::constant;
 use crate::problems::problem_of;
 use dcx_arena::NodeId;
 use dcx_call::{Attribute, Call, Variable, Whole, copy_variable};
-use dcx_case_lines::{CaseFault, Cases, array};
-use dcx_domain::{is_domain_point, outside, point_outside};
+use dcx_case_lines::{CaseFault, Cases, name, point};
+use dcx_domain::{is_domain_point, point_outside};
 use dcx_shape::{Place, Shape};
 use dcx_tree::{Constraint, Constraints, Kind, Parameters, Problem, Roots, Sense, Tree, Variables};
 use std::alloc::Global;
 
-/// `ATTRIBUTE WHOLE | NUMBERS => ENTRY` for the first of nine numbers that leaves what is demanded of a 3 by 3 variable, and
-/// `point | POINT => VARIABLE ENTRY` for a nonneg variable `x` and a symmetric one `y`, with whether both are given.
+/// `point | POINT => VARIABLE ENTRY` for where a point leaves the domain of a nonneg variable `x` and a symmetric one `y`, and
+/// whether both are given and inside.
 pub(crate) struct Domains;
 
 impl Cases for Domains {
     fn answer(&self, alloc: Global, parts: &[&str]) -> Result<String, CaseFault> {
         match *parts {
             ["point", text] => point_told(alloc, text),
-            [demands, numbers] => outside_told(alloc, demands, numbers),
             _ => Err(CaseFault::Unreadable),
         }
     }
@@ -37,37 +35,6 @@ fn variable(
         attribute,
         whole,
     })
-}
-
-/// The attribute of a word.
-fn attribute(word: &str) -> Result<Attribute, CaseFault> {
-    match word {
-        "free" => Ok(Attribute::Free),
-        "nonneg" => Ok(Attribute::Nonneg),
-        "nonpos" => Ok(Attribute::Nonpos),
-        "symmetric" => Ok(Attribute::Symmetric),
-        "diag" => Ok(Attribute::Diag),
-        _ => Err(CaseFault::Unreadable),
-    }
-}
-
-/// Which entries are whole, by a word.
-fn whole(word: &str) -> Result<Whole, CaseFault> {
-    match word {
-        "real" => Ok(Whole::Not),
-        "integer" => Ok(Whole::Integer),
-        "boolean" => Ok(Whole::Boolean),
-        _ => Err(CaseFault::Unreadable),
-    }
-}
-
-fn outside_told(alloc: Global, demands: &str, text: &str) -> Result<String, CaseFault> {
-    let (kind, entries) = demands.split_once(' ').ok_or(CaseFault::Unreadable)?;
-    let variable = variable(alloc, "x", attribute(kind)?, whole(entries)?)?;
-    match outside(&variable, &array(alloc, text)?) {
-        Some(entry) => Ok(format!(in alloc; "{entry}")?),
-        None => Ok(String::from_str(alloc, "inside")?),
-    }
 }
 
 /// The problem in which `x` is at most `y`.

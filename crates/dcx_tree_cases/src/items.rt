@@ -1,9 +1,9 @@
 //! Pushes as they are written: the line of the script, the call, and the nodes of its arguments.
-use crate::leaves::{constant, count, leaf};
+use crate::leaves::{constant, leaf};
 use dcx_affine::{HStack, Minus, Pairing, Plus};
 use dcx_arena::{NodeId, Operator, Tree, TreeFault};
 use dcx_call::{AtomCall, Call, LinearCall};
-use dcx_case_lines::CaseFault;
+use dcx_case_lines::{CaseFault, count, words};
 use dcx_fold::SumLargest;
 use dcx_shape::Place;
 use std::alloc::Global;
@@ -104,8 +104,7 @@ pub(crate) fn push_item<T: Pushed>(
     tree: &mut T,
     item: &str,
 ) -> Result<Result<NodeId, TreeFault>, CaseFault> {
-    let words: Vec<&str> = item.split_whitespace().collect(alloc)?;
-    match *words {
+    match *words(alloc, item)? {
         [line, "below", most] => push_constants(alloc, tree, count(most)?, count(line)?),
         [line, "floors", floors] => Ok(push_floors(tree, count(floors)?, count(line)?)),
         [line, word, ref args @ ..] => {

@@ -1,23 +1,10 @@
 //! Variables, parameters and constants of a tree.
 use dcx_atom::Array;
 use dcx_call::{Attribute, Call, Parameter, Variable, Whole};
-use dcx_case_lines::CaseFault;
+use dcx_case_lines::{CaseFault, count, name};
 use dcx_frac::{Frac, Fracs};
-use dcx_shape::{Name, Shape};
+use dcx_shape::Shape;
 use std::alloc::{AllocError, Global};
-
-/// The name with these letters.
-pub(crate) fn name(alloc: Global, text: &str) -> Result<Name, AllocError> {
-    Ok(Name::from_vec(Vec::from_slice(alloc, text.as_bytes())?))
-}
-
-/// A number that a word spells.
-pub(crate) fn count(word: &str) -> Result<u32, CaseFault> {
-    match word.parse::<u32>() {
-        Ok(count) => Ok(count),
-        Err(_) => Err(CaseFault::Unreadable),
-    }
-}
 
 /// The free variable of this name, a vector of so many entries.
 pub(crate) fn variable(alloc: Global, text: &str, size: u32) -> Result<Variable, CaseFault> {

@@ -2,7 +2,6 @@
 #![tactic(auto)]
 
 mod domains;
-mod given;
 mod items;
 mod leaves;
 mod problems;

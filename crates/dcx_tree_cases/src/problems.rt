@@ -7,10 +7,10 @@ ghost use Rattle.dcx_tree.specs.Nodes.{Node};
 ghost use Rattle.dcx_tree.specs.Problems.{IsListed, declared_names};
 
 use crate::items::push_all;
-use crate::leaves::{count, parameter, variable};
+use crate::leaves::{parameter, variable};
 use dcx_arena::NodeId;
 use dcx_call::{Call, Parameter, Variable};
-use dcx_case_lines::{CaseFault, Cases};
+use dcx_case_lines::{CaseFault, Cases, count, words};
 use dcx_shape::{Name, Place, Shape};
 use dcx_tree::{
     Constraint, Constraints, Kind, Parameters, Problem, Roots, Sense, Tree, Variables, gather,
@@ -25,7 +25,7 @@ impl Cases for Problems {
     fn answer(&self, alloc: Global, parts: &[&str]) -> Result<String, CaseFault> {
         match *parts {
             [first, items, constraints] => {
-                let words: Vec<&str> = first.split_whitespace().collect(alloc)?;
+                let words = words(alloc, first)?;
                 let mut tree = Tree::new(alloc);
                 push_all(alloc, &mut tree, items)?;
                 let roots = roots(alloc, &words, constraints)?;
@@ -50,8 +50,7 @@ fn line(word: &str) -> Result<Place, CaseFault> {
 
 /// A demand on two nodes of two entries.
 fn constraint(alloc: Global, text: &str) -> Result<Constraint, CaseFault> {
-    let words: Vec<&str> = text.split_whitespace().collect(alloc)?;
-    let (at, left, sign, right) = match *words {
+    let (at, left, sign, right) = match *words(alloc, text)? {
         [at, left, sign, right] => (at, left, sign, right),
         _ => return Err(CaseFault::Unreadable),
     };

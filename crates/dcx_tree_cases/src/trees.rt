@@ -2,11 +2,10 @@
 ghost use Rattle.std.specs.Prelude.{◌<◌, IfOk};
 
 use crate::items::{counts, push_all, push_item};
-use crate::leaves::count;
 use crate::shown::{args_text, ids_text, node_text, nodes_text, pushed_text};
 use dcx_arena::{NodeId, Operator, Tree};
 use dcx_call::Call;
-use dcx_case_lines::{CaseFault, Cases};
+use dcx_case_lines::{CaseFault, Cases, count, words};
 use std::alloc::{AllocError, Global};
 
 /// `pushed | ITEMS` for what each push gives, `nodes | ITEMS` for the nodes, `node K | ITEMS` and `args K | ITEMS` for one,
@@ -41,8 +40,7 @@ fn pushed(alloc: Global, items: &str) -> Result<String, CaseFault> {
 }
 
 fn asked(alloc: Global, tree: &Tree<Call>, first: &str) -> Result<String, CaseFault> {
-    let words: Vec<&str> = first.split_whitespace().collect(alloc)?;
-    match *words {
+    match *words(alloc, first)? {
         ["nodes"] => Ok(nodes_text(alloc, tree)?),
         ["node", node] => Ok(node_text(alloc, tree, count(node)?)?),
         ["args", node] => Ok(args_text(alloc, tree, count(node)?)?),

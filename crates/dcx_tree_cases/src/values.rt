@@ -1,9 +1,8 @@
 //! Values of nodes at a point and a setting.
-use crate::given::{point, setting};
 use crate::items::{counts, push_all};
 use dcx_arena::NodeId;
 use dcx_atom::{Array, ValueStop};
-use dcx_case_lines::{CaseFault, Cases, Filled, Passing};
+use dcx_case_lines::{CaseFault, Cases, point, setting, value_text, words};
 use dcx_point::{Point, Setting};
 use dcx_tree::Tree;
 use std::alloc::Global;
@@ -33,14 +32,14 @@ fn values_text(
     point: &Point,
     setting: &Setting,
 ) -> Result<String, CaseFault> {
-    let words: Vec<&str> = nodes.split_whitespace().collect(alloc)?;
+    let words = words(alloc, nodes)?;
     let mut text = String::new(alloc);
     for (k, node) in counts(alloc, &words)?.iter().enumerate() {
         if k > 0 {
             text.push_str("; ")?;
         }
         match value_of(alloc, tree, *node, point, setting) {
-            Some(value) => text.push_str(&told(alloc, value)?)?,
+            Some(value) => text.push_str(&value_text(alloc, value)?)?,
             None => text.push_str("not given")?,
         }
     }
@@ -59,17 +58,5 @@ fn value_of(
         Some(tree.value(alloc, NodeId(node), point, setting))
     } else {
         None
-    }
-}
-
-/// The array, or the first entry that stops the value.
-fn told(alloc: Global, value: Result<Array, ValueStop>) -> Result<String, CaseFault> {
-    match value {
-        Ok(array) => Ok(format!(in alloc; "{}", Filled(&array))?),
-        Err(ValueStop::Memory) => Err(CaseFault::Memory),
-        Err(ValueStop::ZeroDivisor { entry }) => Ok(format!(in alloc; "divisor {entry} is 0")?),
-        Err(ValueStop::Passes { entry, passes }) => {
-            Ok(format!(in alloc; "entry {entry}: {}", Passing(passes))?)
-        }
     }
 }

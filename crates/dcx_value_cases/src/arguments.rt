@@ -3,7 +3,7 @@ ghost use Rattle.std.specs.Prelude.{IfOk};
 ghost use Rattle.dcx_math.specs.Rational.{Fits};
 
 use crate::read::{fault_text, number};
-use dcx_case_lines::{CaseFault, Cases};
+use dcx_case_lines::{CaseFault, Cases, count, name, words};
 use dcx_kinds::{ElabFault, Value, whole_number};
 use dcx_shape::{Name, Place};
 use dcx_signature::{
@@ -37,11 +37,6 @@ impl Cases for Arguments {
 /// A place of the line of a call.
 fn at(column: u32) -> Place {
     Place { line: 1, column }
-}
-
-/// The name with these letters.
-fn name(alloc: Global, word: &str) -> Result<Name, AllocError> {
-    Ok(Name::from_vec(Vec::from_slice(alloc, word.as_bytes())?))
 }
 
 /// The call of a name, in either module. A range is in none.
@@ -93,9 +88,7 @@ fn names(alloc: Global, texts: &[&str]) -> Result<Vec<Name>, AllocError> {
 fn given_as<'a>(alloc: Global, text: &str, name: &'a Name) -> Result<Given<'a>, CaseFault> {
     let (column, rest) = text.split_once(' ').ok_or(CaseFault::Unreadable)?;
     let (_, value) = rest.split_once('=').unwrap_or(("", rest));
-    let Ok(column) = column.parse::<u32>() else {
-        return Err(CaseFault::Unreadable);
-    };
+    let column = count(column)?;
     let word = if name.as_slice().is_empty() {
         None
     } else {
@@ -182,8 +175,7 @@ fn whole(word: &str) -> Result<i128, CaseFault>
 }
 
 fn range_told(alloc: Global, text: &str) -> Result<String, CaseFault> {
-    let words: Vec<&str> = text.split_whitespace().collect(alloc)?;
-    match *words {
+    match *words(alloc, text)? {
         [first, stop, step] => {
             let (first, stop) = (whole(first)?, whole(stop)?);
             through_told(alloc, range_from(alloc, at(1), first, stop, whole(step)?))

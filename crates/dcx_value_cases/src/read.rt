@@ -1,6 +1,6 @@
 //! Values as they are written, `5`, `[5, 6]`, `[[1, 2], [3]]`, `(2, 3)`, `node 4`, `True` and `None`, all at one place of a script.
 use dcx_arena::{Count, NodeId};
-use dcx_case_lines::{CaseFault, Number};
+use dcx_case_lines::{CaseFault, count, fraction};
 use dcx_kinds::{ElabFault, Items, Value};
 use dcx_shape::Place;
 use dcx_signature::number_value;
@@ -12,7 +12,7 @@ pub(crate) const HERE: Place = Place { line: 3, column: 7 };
 
 /// A plain number.
 pub(crate) fn number(alloc: Global, word: &str) -> Result<Value, CaseFault> {
-    Ok(number_value(alloc, word.parse::<Number>()?.0)?)
+    Ok(number_value(alloc, fraction(word)?)?)
 }
 
 /// One more item of a list.
@@ -94,10 +94,7 @@ pub(crate) fn items(alloc: Global, text: &str) -> Result<Items, CaseFault> {
 
 /// A node of a script.
 fn node(word: &str) -> Result<Value, CaseFault> {
-    match word.parse::<u32>() {
-        Ok(node) => Ok(Value::Expression(NodeId(node))),
-        Err(_) => Err(CaseFault::Unreadable),
-    }
+    Ok(Value::Expression(NodeId(count(word)?)))
 }
 
 /// The value that a text says.

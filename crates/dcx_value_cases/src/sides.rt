@@ -3,7 +3,7 @@ use crate::read::{HERE, fault_text, value};
 use dcx_arena::{Count, TreeFault};
 use dcx_array::ArrayFault;
 use dcx_atom::Axis;
-use dcx_case_lines::{CaseFault, Cases, Size};
+use dcx_case_lines::{CaseFault, Cases, Size, words};
 use dcx_kinds::{Extent, Value, array_fault, axis_of, sides_from, told_side, too_many, tree_fault};
 use std::alloc::{AllocError, Global};
 
@@ -39,8 +39,7 @@ fn size(word: &str) -> Result<u128, CaseFault> {
 
 /// The sides of a text.
 fn extent(alloc: Global, text: &str) -> Result<Extent, CaseFault> {
-    let words: Vec<&str> = text.split_whitespace().collect(alloc)?;
-    match *words {
+    match *words(alloc, text)? {
         [] => Ok(Extent::Scalar),
         [n] => Ok(Extent::Vector(size(n)?)),
         [m, n] => Ok(Extent::Matrix(size(m)?, size(n)?)),

@@ -1,11 +1,12 @@
-//! Points and settings as they are written: `x (2) 1 2; y (1) 3`.
-use crate::leaves::name;
-use dcx_case_lines::{CaseFault, array};
+//! Points and settings as they are written: `x (2) 1 2; y () 3`.
+use crate::arrays::array;
+use crate::fault::CaseFault;
+use crate::words::name;
 use dcx_point::{Point, Setting};
 use std::alloc::Global;
 
-/// The point of a text.
-pub(crate) fn point(alloc: Global, text: &str) -> Result<Point, CaseFault> {
+/// The point that a text says. `Unreadable` where it says none.
+pub fn point(alloc: Global, text: &str) -> Result<Point, CaseFault> {
     let mut point = Point::empty(alloc);
     if text.is_empty() {
         return Ok(point);
@@ -17,8 +18,8 @@ pub(crate) fn point(alloc: Global, text: &str) -> Result<Point, CaseFault> {
     Ok(point)
 }
 
-/// The setting of a text.
-pub(crate) fn setting(alloc: Global, text: &str) -> Result<Setting, CaseFault> {
+/// The setting that a text says. `Unreadable` where it says none.
+pub fn setting(alloc: Global, text: &str) -> Result<Setting, CaseFault> {
     let mut setting = Setting::empty(alloc);
     if text.is_empty() {
         return Ok(setting);
