@@ -32,7 +32,7 @@ fn multiple(
     ensures { IfOk result (λ f. form_width f ≤ count) }
 {
     let one = Form::<Frac>::unknown(alloc, unknown)?;
-    one.scale(alloc, &coefficient)
+    Ok(one.scale(alloc, &coefficient)?)
 }
 
 /// The sum of two forms in so many unknowns.
@@ -46,14 +46,14 @@ fn sum(
     requires right { form_width right.now ≤ count }
     ensures { IfOk result (λ f. form_width f ≤ count) }
 {
-    left.add(alloc, right)
+    Ok(left.add(alloc, right)?)
 }
 
 /// A constant, as a form in so many unknowns.
-fn constant(alloc: Global, count: u32, number: Frac) -> Form<Frac>
+fn constant(alloc: Global, count: u32, x: Frac) -> Form<Frac>
     ensures { form_width result ≤ count }
 {
-    Form::<Frac>::number(alloc, number)
+    Form::<Frac>::number(alloc, x)
 }
 
 /// The form with a constant and the coefficients of so many unknowns.
