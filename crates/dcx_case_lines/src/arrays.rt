@@ -2,7 +2,7 @@
 use crate::fault::CaseFault;
 use crate::fractions::{Numbers, Passing};
 use crate::sizes::{Size, shape};
-use crate::words::fraction;
+use crate::word::fraction;
 use dcx_atom::{Array, ValueStop};
 use dcx_frac::{Frac, Fracs};
 use dcx_shape::Shape;

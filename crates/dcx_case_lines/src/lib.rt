@@ -9,7 +9,7 @@ mod fractions;
 mod named;
 mod running;
 mod sizes;
-mod words;
+mod word;
 
 pub use arrays::{Filled, array, numbers, value_text};
 pub use fault::CaseFault;
@@ -17,4 +17,4 @@ pub use fractions::{Number, Numbers, Passing};
 pub use named::{point, setting};
 pub use running::{Cases, Tally};
 pub use sizes::{Size, shape};
-pub use words::{count, fraction, name, words};
+pub use word::{count, fraction, name, words};

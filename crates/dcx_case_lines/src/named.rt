@@ -1,7 +1,7 @@
 //! Points and settings as they are written: `x (2) 1 2; y () 3`.
 use crate::arrays::array;
 use crate::fault::CaseFault;
-use crate::words::name;
+use crate::word::name;
 use dcx_point::{Point, Setting};
 use std::alloc::Global;
 
