@@ -3,7 +3,7 @@
 
 ghost use Rattle.std.specs.Prelude.{◌≡◌, ◌<◌};
 
-use dcx_report::{FileLibrary, OutSink};
+use dcx_host::{FileLibrary, OutSink};
 use dcx_steps::Steps;
 use std::alloc::AllocError;
 use std::marker::Brand;

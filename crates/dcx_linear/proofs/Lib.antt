@@ -5,3 +5,12 @@ pub mod ParamForms
 pub mod Settings
 pub mod RowAnswers
 pub mod Widths
+pub mod Answered
+pub mod SlotSums
+pub mod PartSums
+pub mod MultipleLaws
+pub mod Coefficients
+pub mod SettingForms
+pub mod SettingRows
+pub mod PartSteps
+pub mod NumberForms

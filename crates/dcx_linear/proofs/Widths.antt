@@ -39,7 +39,7 @@ module _ {C : Type 0} (number_of : C → Option Frac) (n : ℕ) where
   sum_below Sums (Some t) None v h k s = h v (cc)
   sum_below Sums (Some t) (Some u) v h k s = kept_below (sum_gives_unknown Sums t u) (λ w q. subst (λ i. i < n) (sym q.1.0) (h t refl)) v s
 
-  change_below : (Changes : FormTerm C → Result (FormTerm C) Passes → Type 0) → ((t v : FormTerm C) → Changes t (Ok v) → v.unknown ≡ t.unknown) → (x : Option (FormTerm C)) (v : FormTerm C) → ((t : FormTerm C) → x ≡ Some t → t.unknown < n)
+  pub change_below : (Changes : FormTerm C → Result (FormTerm C) Passes → Type 0) → ((t v : FormTerm C) → Changes t (Ok v) → v.unknown ≡ t.unknown) → (x : Option (FormTerm C)) (v : FormTerm C) → ((t : FormTerm C) → x ≡ Some t → t.unknown < n)
       → ChangesAt (has_zero_coefficient number_of) Changes x (Ok (Some v)) → v.unknown < n
   change_below Changes keeps None v h s = cc
   change_below Changes keeps (Some t) v h s = kept_below (Changes t) (λ w q. subst (λ i. i < n) (sym (keeps t w q)) (h t refl)) v s

@@ -27,7 +27,8 @@ told_zero (Some x) e = (x, refl, (IsTrue-rat_eq (value x) (whole (pos 0))).0 e)
 
 module _ {C : Type 0} (value_at : C → Parameters → ℚ) (number_of : C → Option Frac) (number_value : (c : C) (x : Frac) (p : Parameters) → number_of c ≡ Some x → value_at c p ≡ value x)
     (x : Unknowns) (p : Parameters) where
-  zero_term : (t : FormTerm C) → has_zero_coefficient number_of t ≡ true → unknown_value value_at x p t ≡ whole (pos 0)
+  -- a term whose coefficient is 0 stands for 0
+  pub zero_term : (t : FormTerm C) → has_zero_coefficient number_of t ≡ true → unknown_value value_at x p t ≡ whole (pos 0)
   zero_term t e =
       let z = told_zero (number_of t.coefficient) e in
       ap (λ y. y *ℚ x t.unknown) (number_value t.coefficient z.0 p z.1 ∙ z.2) ∙ zero-*ℚ (x t.unknown)
@@ -60,10 +61,10 @@ module _ {C : Type 0} (value_at : C → Parameters → ℚ) (number_of : C → O
 
 -- ---- one answer
 module _ {C : Type 0} (number_of : C → Option Frac) where
-  same_linear : (f g : Form C) → f.constant ≡ g.constant → f.terms ≡ g.terms → f ≡ g
+  pub same_linear : (f g : Form C) → f.constant ≡ g.constant → f.terms ≡ g.terms → f ≡ g
   same_linear f g d e = ap₂ (λ c ts. let h : Form C = record { constant = c; terms = ts } in h) d e
 
-  one_given : (unknown : ℕ) (Forms : Result C Passes → Type 0) → ((r s : Result C Passes) → Forms r → Forms s → r ≡ s) → (r s : Result (FormTerm C) Passes) → GivesTerm unknown Forms r → GivesTerm unknown Forms s → r ≡ s
+  pub one_given : (unknown : ℕ) (Forms : Result C Passes → Type 0) → ((r s : Result C Passes) → Forms r → Forms s → r ≡ s) → (r s : Result (FormTerm C) Passes) → GivesTerm unknown Forms r → GivesTerm unknown Forms s → r ≡ s
   one_given unknown Forms one (Ok t) (Ok u) h k =
       let e = one (Ok t.coefficient) (Ok u.coefficient) h.1 k.1 in
       let d : t.coefficient ≡ u.coefficient = cc in

@@ -17,3 +17,10 @@ pub mod Forms
 pub mod FormLaws
 pub mod Rows
 pub mod Widths
+pub mod Slots
+pub mod Parts
+pub mod Multiples
+pub mod FormsAt
+pub mod MapStops
+pub mod NamedForms
+pub mod Size

@@ -76,7 +76,7 @@ pub(crate) fn copy_terms<T: Term>(alloc: Global, terms: &[T]) -> Result<Vec<T>, 
 }
 
 /// Puts the term at the end, unless it is 0.
-fn push_nonzero<T: Term>(list: &mut Vec<T>, term: T) -> Result<(), AllocError>
+pub(crate) fn push_nonzero<T: Term>(list: &mut Vec<T>, term: T) -> Result<(), AllocError>
     ensures { OnOk result (list.new.items ≡ list.old.items ++ option_to_list (kept T.is_zero term)) }
 {
     if !term.vanishes() {

@@ -10,7 +10,7 @@ use Rattle.dcx_math.proofs.Vectors.{rat_dot-scaled, length-rat_scaled, rat_dot-r
 use Rattle.dcx_frac.specs.Frac.{value}
 use Rattle.dcx_tab.specs.declared.rows.IntRow.{IntRow}
 use Rattle.dcx_tab.specs.Program.{entries_at, right_side_at, is_negated_at}
-use Rattle.dcx_simplex.specs.Reading.{row_factor}
+use Rattle.dcx_lp_answer.specs.Notes.{row_factor}
 use Rattle.dcx_plain.specs.Phrases.{Every}
 use Rattle.dcx_plain.specs.Meaning.{Bound}
 use Rattle.dcx_plain.specs.Answers.{excess_at, weighed}

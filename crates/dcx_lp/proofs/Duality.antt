@@ -15,12 +15,12 @@ use Rattle.dcx_tab.specs.declared.rows.ColumnKind.{ColumnKind}
 use Rattle.dcx_tab.specs.declared.rows.ColumnKind.TheVariants.{Slack, Artificial}
 use Rattle.dcx_tab.specs.declared.program.Program as tab
 use Rattle.dcx_tab.specs.Program.{kind_at, right_side_at, is_negated_at}
-use Rattle.dcx_simplex.specs.declared.answer.LpStatus.{LpStatus}
-use Rattle.dcx_simplex.specs.declared.answer.LpStatus.TheVariants as status
-use Rattle.dcx_simplex.specs.declared.answer.RowNote.{RowNote}
-use Rattle.dcx_simplex.specs.declared.answer.LpAnswer.{LpAnswer}
-use Rattle.dcx_simplex.specs.Reading.{numbers, reduced_cost_of, factor_of, row_factor, was_negated}
-use Rattle.dcx_simplex.specs.Right.{turned_if, offset, is_inequality, cost_at_columns, form_at, multiplier_at, combined_rows, HasSigns, IsSolution, IsAssignment, IsOptimalAnswer, IsInfeasibleAnswer, IsUnboundedAnswer, IsRightAs, IsRight}
+use Rattle.dcx_lp_answer.specs.declared.answer.LpStatus.{LpStatus}
+use Rattle.dcx_lp_answer.specs.declared.answer.LpStatus.TheVariants as status
+use Rattle.dcx_lp_answer.specs.declared.answer.RowNote.{RowNote}
+use Rattle.dcx_lp_answer.specs.declared.answer.LpAnswer.{LpAnswer}
+use Rattle.dcx_lp_answer.specs.Notes.{numbers, reduced_cost_of, factor_of, row_factor, was_negated}
+use Rattle.dcx_lp_answer.specs.Right.{turned_if, offset, is_inequality, cost_at_columns, form_at, multiplier_at, combined_rows, HasSigns, IsSolution, IsAssignment, IsOptimalAnswer, IsInfeasibleAnswer, IsUnboundedAnswer, IsRightAs, IsRight}
 use Rattle.dcx_plain.specs.Phrases.{Every}
 use Rattle.dcx_plain.specs.Meaning.{Bound, Program}
 use Rattle.dcx_plain.specs.Answers.{objective_at, excess_at, weighed, IsInDomain, IsFeasible, AreMultipliers, IsOptimal, IsUnbounded}

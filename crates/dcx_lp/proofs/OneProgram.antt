@@ -20,7 +20,7 @@ use Rattle.dcx_tab.specs.declared.rows.CostRow.{CostRow}
 use Rattle.dcx_tab.specs.Rows.{Row}
 use Rattle.dcx_tab.specs.Table.{Table}
 use Rattle.dcx_tab.specs.Program.{tableau_row, objective_row, phase_row, first_basic_of, is_negated, plain_count}
-use Rattle.dcx_simplex.specs.Reading.{row_factor}
+use Rattle.dcx_lp_answer.specs.Notes.{row_factor}
 use Rattle.dcx_plain.specs.Meaning.{Bound, Program}
 use Rattle.dcx_lp.specs.IntegerProgram.{unit, IsRowOf, AreRowsOf, IsProgramOf, IsSame}
 use Rattle.dcx_lp.proofs.ProgramForm.{width-left}

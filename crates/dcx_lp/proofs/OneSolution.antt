@@ -16,12 +16,13 @@ use Rattle.dcx_tab.specs.First.{first_tableau}
 use Rattle.dcx_tab.specs.declared.rows.ColumnKind.{ColumnKind}
 use Rattle.dcx_tab.specs.declared.rows.ColumnKind.TheVariants.{Slack}
 use Rattle.dcx_tab.specs.Program.{kind_at}
-use Rattle.dcx_simplex.specs.declared.answer.RowNote.{RowNote}
-use Rattle.dcx_simplex.specs.declared.answer.LpAnswer.{LpAnswer}
+use Rattle.dcx_lp_answer.specs.declared.answer.RowNote.{RowNote}
+use Rattle.dcx_lp_answer.specs.declared.answer.LpAnswer.{LpAnswer}
 use Rattle.dcx_simplex.specs.declared.run.LpEnd.{LpEnd}
 use Rattle.dcx_simplex.specs.declared.run.LpEnd.TheVariants as lp
 use Rattle.dcx_simplex.specs.Whole.{RunEnds}
-use Rattle.dcx_simplex.specs.Reading.{numbers, IsRead, IsOwnColumn, reduced_cost_of, factor_of}
+use Rattle.dcx_lp_answer.specs.Notes.{numbers, reduced_cost_of, factor_of}
+use Rattle.dcx_simplex.specs.Reading.{IsRead, IsOwnColumn}
 use Rattle.dcx_simplex.proofs.OneEnd.{ends_once}
 use Rattle.dcx_simplex.proofs.Starts.{starts}
 use Rattle.dcx_plain.specs.Meaning.{Program}

@@ -7,7 +7,7 @@ use Rattle.dcx_math.specs.Sums.{rat_at}
 use Rattle.dcx_tab.specs.declared.rows.ColumnKind.{ColumnKind}
 use Rattle.dcx_tab.specs.declared.rows.ColumnKind.TheVariants.{Unknown}
 use Rattle.dcx_tab.specs.Program.{kind_at}
-use Rattle.dcx_simplex.specs.Right.{is_inequality}
+use Rattle.dcx_lp_answer.specs.Right.{is_inequality}
 use Rattle.dcx_simplex.proofs.Starts.{same_test}
 use Rattle.dcx_lp.specs.IntegerProgram.{unknowns_from, slacks_from}
 use Rattle.dcx_lp.proofs.Joined.{rat_at-origin}

@@ -14,11 +14,11 @@ use Rattle.dcx_tab.specs.declared.program.Program as tab
 use Rattle.dcx_tab.specs.Rows.{AllSmall}
 use Rattle.dcx_tab.specs.Program.{is_negated}
 use Rattle.dcx_tab.specs.First.{first_tableau}
-use Rattle.dcx_simplex.specs.declared.answer.LpStatus.{LpStatus}
-use Rattle.dcx_simplex.specs.declared.answer.LpStatus.TheVariants as status
-use Rattle.dcx_simplex.specs.declared.answer.RowNote.{RowNote}
-use Rattle.dcx_simplex.specs.declared.answer.LpAnswer.{LpAnswer}
-use Rattle.dcx_simplex.specs.Reading.{numbers, row_factor}
+use Rattle.dcx_lp_answer.specs.declared.answer.LpStatus.{LpStatus}
+use Rattle.dcx_lp_answer.specs.declared.answer.LpStatus.TheVariants as status
+use Rattle.dcx_lp_answer.specs.declared.answer.RowNote.{RowNote}
+use Rattle.dcx_lp_answer.specs.declared.answer.LpAnswer.{LpAnswer}
+use Rattle.dcx_lp_answer.specs.Notes.{numbers, row_factor}
 use Rattle.dcx_plain.specs.Phrases.{Every}
 use Rattle.dcx_plain.specs.Answers.{IsOptimal, IsUnbounded}
 use Rattle.dcx_plain.specs.Meaning.{Bound, Program}

@@ -8,13 +8,14 @@ use Rattle.dcx_frac.specs.declared.fraction.Passes.{Passes}
 use Rattle.dcx_tab.specs.declared.program.Program as tab
 use Rattle.dcx_tab.specs.Table.{Table}
 use Rattle.dcx_tab.specs.First.{first_tableau}
-use Rattle.dcx_simplex.specs.declared.answer.LpStatus.TheVariants as status
-use Rattle.dcx_simplex.specs.declared.answer.RowNote.{RowNote}
-use Rattle.dcx_simplex.specs.declared.answer.LpAnswer.{LpAnswer}
+use Rattle.dcx_lp_answer.specs.declared.answer.LpStatus.TheVariants as status
+use Rattle.dcx_lp_answer.specs.declared.answer.RowNote.{RowNote}
+use Rattle.dcx_lp_answer.specs.declared.answer.LpAnswer.{LpAnswer}
 use Rattle.dcx_simplex.specs.declared.run.LpEnd.{LpEnd}
 use Rattle.dcx_simplex.specs.declared.run.LpEnd.TheVariants as lp
 use Rattle.dcx_simplex.specs.Whole.{RunEnds}
-use Rattle.dcx_simplex.specs.Reading.{numbers, IsRead}
+use Rattle.dcx_lp_answer.specs.Notes.{numbers}
+use Rattle.dcx_simplex.specs.Reading.{IsRead}
 use Rattle.dcx_plain.specs.Phrases.{Every}
 use Rattle.dcx_plain.specs.Meaning.{Program}
 use Rattle.dcx_plain.specs.Answers.{IsOptimal, IsUnbounded}

@@ -4,8 +4,8 @@
 //! Each function is a law: its clause is a statement about all programs, and the body is empty.
 ghost use Rattle.std.specs.Prelude.{◌≡◌, length};
 ghost use Rattle.dcx_tab.specs.declared.program.Program.{Program};
-ghost use Rattle.dcx_simplex.specs.declared.answer.LpAnswer.{LpAnswer};
-ghost use Rattle.dcx_simplex.specs.Right.{IsRight};
+ghost use Rattle.dcx_lp_answer.specs.declared.answer.LpAnswer.{LpAnswer};
+ghost use Rattle.dcx_lp_answer.specs.Right.{IsRight};
 ghost use Rattle.dcx_plain.specs.declared.script.Script.{Script};
 ghost use Rattle.dcx_plain.specs.Meaning.{program_of};
 ghost use Rattle.dcx_plain.specs.Meaning.{Program as Linear};

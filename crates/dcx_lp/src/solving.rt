@@ -1,7 +1,7 @@
 //! The solution of a linear program.
-ghost use Rattle.std.specs.Prelude.{◌≡◌, ◌≤◌, map, length, take, IfOk};
+ghost use Rattle.std.specs.Prelude.{◌≡◌, ◌≤◌, length, IfOk};
 ghost use Rattle.dcx_simplex.specs.Finished.{IsFinished};
-ghost use Rattle.dcx_simplex.specs.Reading.{numbers};
+ghost use Rattle.dcx_lp_answer.specs.Notes.{numbers};
 ghost use Rattle.dcx_tab.specs.Views.{table_of};
 ghost use Rattle.dcx_plain.specs.Meaning.{kept};
 ghost use Rattle.dcx_lp.specs.IntegerProgram.{IsSmall, IsProgramOf, Shows, first_numbers};
@@ -9,8 +9,10 @@ ghost use Rattle.dcx_lp.specs.Solution.{AreMultipliersOf, IsLong, IsShown, IsAns
 
 use crate::program::integer_program;
 use dcx_frac::{Frac, Fracs, Passes};
+use dcx_linear::RowKind;
+use dcx_lp_answer::{LpAnswer, LpStatus, MultiplierStop, multipliers};
 use dcx_plain::Linear;
-use dcx_simplex::{LpAnswer, LpEnd, LpStatus, RowNote, read_end};
+use dcx_simplex::{LpEnd, read_end};
 use dcx_tab::{Dense, Program};
 use std::alloc::{AllocError, Global};
 
@@ -67,24 +69,18 @@ enum Multipliers {
     Wide { row: u32, passes: Passes },
 }
 
-/// The multipliers that the notes of the rows show.
-fn found_multipliers(alloc: Global, notes: &[RowNote]) -> Result<Multipliers, AllocError>
-    requires { length notes.now ≤ 100 }
-    ensures { IfOk result (AreMultipliersOf notes.now) }
+/// The multipliers of the bounds that an optimal answer shows.
+fn found_multipliers(alloc: Global, answer: &LpAnswer) -> Result<Multipliers, AllocError>
+    requires optimal { answer.now.status ≡ LpStatus.Optimal }
+    requires few { length answer.now.rows ≤ 100 }
+    ensures { IfOk result (AreMultipliersOf answer.now.rows) }
 {
-    let mut found = Vec::with_capacity(alloc, notes.len())?;
-    'notes: for (row, note) in notes.iter().enumerate() {
-        match note.factor.mul(note.reduced_cost) {
-            Ok(multiplier) => found.push(multiplier)?,
-            Err(passes) => {
-                return Ok(Multipliers::Wide {
-                    row: row as u32,
-                    passes,
-                });
-            }
-        }
+    let count = answer.rows.as_slice().len() as u32;
+    match multipliers(alloc, answer, RowKind::AtMost, 0, count) {
+        Ok(multipliers) => Ok(Multipliers::Fit(multipliers)),
+        Err(MultiplierStop::Wide { row, passes }) => Ok(Multipliers::Wide { row, passes }),
+        Err(MultiplierStop::Memory) => Err(AllocError),
     }
-    Ok(Multipliers::Fit(Fracs::from_vec(found)))
 }
 
 /// The first `count` fractions.
@@ -107,7 +103,7 @@ fn shown(alloc: Global, linear: &Linear, answer: LpAnswer) -> Result<Solution, A
 {
     let variables = linear.objective.len();
     match answer.status {
-        LpStatus::Optimal => match found_multipliers(alloc, answer.rows.as_slice())? {
+        LpStatus::Optimal => match found_multipliers(alloc, &answer)? {
             Multipliers::Fit(multipliers) => Ok(Solution::Optimal {
                 value: answer.number,
                 point: firsts(answer.columns, variables),

@@ -2,9 +2,10 @@
 use crate::made::program_text;
 use crate::rows::{form_of, rows_of};
 use crate::runs::{pivot_text, run_text};
+use dcx_answer::Site;
 use dcx_case_lines::{CaseFault, Cases, Passing, count, words};
 use dcx_frac::Frac;
-use dcx_linear::{Rows, Site};
+use dcx_linear::Rows;
 use dcx_std::{RowStop, check_size, integer_rows, least_multiple};
 use dcx_tab::Program;
 use std::alloc::{AllocError, Global};

@@ -5,7 +5,8 @@ ghost use Rattle.dcx_tab.specs.Views.{table_of};
 ghost use Rattle.dcx_simplex.specs.Whole.{RunEnds};
 
 use dcx_case_lines::{Number, Numbers};
-use dcx_simplex::{LpAnswer, LpEnd, LpStatus, read_end, solve};
+use dcx_lp_answer::{LpAnswer, LpStatus};
+use dcx_simplex::{LpEnd, read_end, solve};
 use dcx_tab::{Dense, Program, Tableau};
 use std::alloc::{AllocError, Global};
 

@@ -7,6 +7,7 @@ use Rattle.dcx_frac.specs.declared.fraction.Frac.{Frac}
 use Rattle.dcx_tokens.specs.declared.token.Token.{Token}
 use Rattle.dcx_read.specs.declared.role.Role.{Role}
 use Rattle.dcx_read.specs.declared.role.Role.TheVariants as roles
+use Rattle.dcx_syntax.specs.declared.bracket.Bracket.{Bracket}
 use Rattle.dcx_syntax.specs.declared.bracket.Bracket.TheVariants.{Round, Square, Curly}
 use Rattle.dcx_read.specs.declared.front.Stop.{Stop}
 use Rattle.dcx_read.specs.Role.{role_of}
@@ -15,10 +16,11 @@ use Rattle.dcx_read.specs.Terminals.{terminal, terminals}
 use Rattle.dcx_syntax.specs.Expressions.{Primary, postfix, Trailers, args, args_end, no_args, Arg, Expr, items, items_end, no_items, Index, Indices, more_indices, indexed, no_trailer}
 use Rattle.dcx_syntax.specs.View.{chained, then_index, args_of, items_of, more_items_of}
 use Rattle.dcx_read.specs.Moves.{Symbol, Tree, move, leaf, expr_s, arg_s, args_s, more_args_s, items_s, more_items_s, index_s, indices_s, closes_s, postfix_s, trailers_s, primary_s, args_behind, args_join, items_behind, items_join}
-use Rattle.dcx_read.specs.Steps.{Gives, Progress, Loop, StopsAt, Stops, Front, Lacks, starts_expr, Reads, ReadsOne, Closes, IsBeside, MakesOne}
+use Rattle.dcx_read.specs.Steps.{Gives, Progress, Loop, StopsAt, Stops, Front, Lacks, starts_expr, Reads, ReadsOne, ReadsPair, Closes, IsBeside, Makes, MakesOne}
 use Rattle.dcx_read.specs.Leaves.{is_leaf}
 use Rattle.dcx_read.proofs.Progress.{front, begun, goes, joins, done, turns, stops}
 use Rattle.dcx_read.proofs.Rules.{indexed-item, closes_square-gives, closes_square-stops, item, begins_primary, primary-stops, primary-none, args-starts, args-comma, args-none, more_args-ends, items-starts, items-comma, items-none, more_items-ends}
+use Rattle.dcx_read.proofs.LineRules.{closes-gives, closes-stops}
 use Rattle.dcx_read.proofs.Loops.{pushed, loop-stops, args_after, args-more, args-last, args-none-behind, items_after, items-more, items-last, items-none-behind}
 
 -- the last part is read
@@ -167,3 +169,73 @@ module _ {F U X Y Z : Type 0} (view : X → (F × U) × List Token) (seen : Y �
   index-shorter n most k a (Err b) (Ok d) (Ok (Some e)) h c i m = absurd i
   index-shorter n most k a b (Err d) (Ok (Some e)) h c i m = absurd m
   index-shorter n most k (Ok a) (Ok b) (Ok d) (Ok (Some e)) h c i m = let o = ap length m.1 in let p = ap length i.1.1 in let q = ap length c.1.1.parts in omega (arith, o, p, q, h, k)
+
+pub loosely : {Y : Type 0} (r : Result Y Stop) (size : Y → ℕ) (n : ℕ) → IfOk r (λ y. size y < n) → IfOk r (λ y. size y ≤ n)
+loosely (Ok y) size n h = omega (arith, h)
+loosely (Err e) size n h = tt
+
+-- a bracket ends what is read
+pub closed-reads : {X U : Type 0} (P : X → Type 0) (s p : Symbol) (b : Bracket) (view : X → U × List Token) (source : List ℕ) (us mid : List Terminal) (make : Tree p → Tree s) (part : U → Tree p) (all : U → Tree s) → Progress s us mid (p ∷ closes_s b ∷ []) (λ ss g. front s ss (make g.0) g.1.1) → ((x : X) → P x → make (part (view x).0) ≡ all (view x).0)
+    → (inner closing : Result X Stop) → Reads p source (λ x. (part (view x).0, (view x).1)) inner mid → IfOk inner P → Closes (roles.Closes b) view closing inner → Reads s source (λ x. (all (view x).0, (view x).1)) closing us
+closed-reads P s p b view source us mid make part all h k (Err a) (Err d) r o c = rw c (stops s p us mid (closes_s b ∷ []) (λ ss g. front s ss (make g.0) g.1.1) source a h r)
+closed-reads P s p b view source us mid make part all h k (Err a) (Ok d) r o c = absurd c
+closed-reads P s p b view source us mid make part all h k (Ok a) (Err d) r o c = stops s (closes_s b) us (terminals source (view a).1) [] _ source d (goes s p us mid (terminals source (view a).1) (closes_s b ∷ []) _ (part (view a).0) h r) (closes-stops b source (view a).1 d c)
+closed-reads P s p b view source us mid make part all h k (Ok a) (Ok d) r o c =
+    finish s (closes_s b) us (terminals source (view a).1) (terminals source (view d).1) (λ z. make (part (view a).0)) tt (all (view d).0) (goes s p us mid (terminals source (view a).1) (closes_s b ∷ []) _ (part (view a).0) h r) (closes-gives b source (view a).1 (view d).1 c.1) (ap all c.0 ∙ sym (k a o))
+
+pub closed-shorter : {X U : Type 0} (b : Bracket) (view : X → U × List Token) (n most : ℕ) → n ≤ most → (inner closing : Result X Stop) → IfOk inner (λ x. length (view x).1 ≤ n) → Closes (roles.Closes b) view closing inner → IfOk closing (λ x. length (view x).1 < most)
+closed-shorter b view n most k inner (Err d) h c = tt
+closed-shorter b view n most k (Err a) (Ok d) h c = absurd c
+closed-shorter b view n most k (Ok a) (Ok d) h c = let q = ap length c.1.1.parts in omega (arith, q, h, k)
+
+-- the second of two parts is read
+module _ {F U X Y : Type 0} (view : X → (F × U) × List Token) (seen : Y → U × List Token) (f : F) where
+  pub pair-reads : (p q : Symbol) (source : List ℕ) (us mid : List Terminal) (first : F → Tree p) (second : U → Tree q) → Gives p us (first f) mid → (last : Result Y Stop) (parts : Result X Stop) → Reads q source (λ y. (second (seen y).0, (seen y).1)) last mid → IsBeside view seen f parts last → ReadsPair p q source (λ x. ((first (view x).0.0, second (view x).0.1), (view x).1)) parts us
+  pair-reads p q source us mid first second g (Err a) (Err b) r i = rw i (λ s from join h. stops s q from mid [] _ source a (goes s p from us mid (q ∷ []) join (first f) h g) r)
+  pair-reads p q source us mid first second g (Err a) (Ok b) r i = absurd i
+  pair-reads p q source us mid first second g (Ok a) (Err b) r i = absurd i
+  pair-reads p q source us mid first second g (Ok a) (Ok b) r i = (
+    mid,
+    (
+      subst (λ z. Gives p us (first z) mid) (sym i.0) g,
+      subst (λ z. Gives q mid (second z) (terminals source (view b).1)) (sym i.1.0) (subst (λ z. Gives q mid (second (seen a).0) (terminals source z)) (sym i.1.1) r),
+    ),
+  )
+
+  pub pair-shorter : (n most : ℕ) → n ≤ most → (last : Result Y Stop) (parts : Result X Stop) → IfOk last (λ y. length (seen y).1 ≤ n) → IsBeside view seen f parts last → IfOk parts (λ x. length (view x).1 ≤ most)
+  pair-shorter n most k last (Err b) h i = tt
+  pair-shorter n most k (Err a) (Ok b) h i = absurd i
+  pair-shorter n most k (Ok a) (Ok b) h i = let p = ap length i.1.1 in omega (arith, p, h, k)
+
+-- a tree is made of a part that is read and of what is read behind it
+module _ {F U X Y Z : Type 0} (s : Symbol) (view : X → (F × U) × List Token) (seen : Y → U × List Token) (kept : Z → Tree s × List Token) (complete : F → U → Tree s) (f : F) where
+  abbrev pub completed : X → Tree s × List Token
+  completed x = (complete (view x).0.0 (view x).0.1, (view x).1)
+
+  pub made-last : (p : Symbol) (source : List ℕ) (us mid : List Terminal) (make : Tree p → Tree s) (part : U → Tree p) → Progress s us mid (p ∷ []) (λ ss g. front s ss (make g.0) g.1) → ((u : U) → make (part u) ≡ complete f u)
+      → (last : Result Y Stop) (parts : Result X Stop) (whole : Result Z Stop) → Reads p source (λ y. (part (seen y).0, (seen y).1)) last mid → IsBeside view seen f parts last → Makes kept completed whole parts → Reads s source kept whole us
+  made-last p source us mid make part h k (Err a) (Err b) (Err d) r i m = rw (m, i) (stops s p us mid [] (λ ss g. front s ss (make g.0) g.1) source a h r)
+  made-last p source us mid make part h k (Err a) (Ok b) d r i m = absurd i
+  made-last p source us mid make part h k (Ok a) (Err b) d r i m = absurd i
+  made-last p source us mid make part h k a (Err b) (Ok d) r i m = absurd m
+  made-last p source us mid make part h k (Ok a) (Ok b) (Err d) r i m = rw m tt
+  made-last p source us mid make part h k (Ok a) (Ok b) (Ok d) r i m =
+      subst (λ z. Gives s us (kept d).0 (terminals source z)) (sym (m.1 ∙ i.1.1))
+      (finish s p us mid (terminals source (seen a).1) make (part (seen a).0) (kept d).0 h r (m.0 ∙ ap₂ complete i.0 i.1.0 ∙ sym (k (seen a).0)))
+
+  pub made-pair : (p q : Symbol) (source : List ℕ) (us mid : List Terminal) (make : Tree p → Tree q → Tree s) (first : U → Tree p) (second : U → Tree q) → Progress s us mid (p ∷ q ∷ []) (λ ss g. front s ss (make g.0 g.1.0) g.1.1) → ((u : U) → make (first u) (second u) ≡ complete f u)
+      → (last : Result Y Stop) (parts : Result X Stop) (whole : Result Z Stop) → ReadsPair p q source (λ y. ((first (seen y).0, second (seen y).0), (seen y).1)) last mid → IsBeside view seen f parts last → Makes kept completed whole parts → Reads s source kept whole us
+  made-pair p q source us mid make first second h k (Err a) (Err b) (Err d) r i m = rw (m, i) (r s us (λ ss g. front s ss (make g.0 g.1.0) g.1.1) h)
+  made-pair p q source us mid make first second h k (Err a) (Ok b) d r i m = absurd i
+  made-pair p q source us mid make first second h k (Ok a) (Err b) d r i m = absurd i
+  made-pair p q source us mid make first second h k a (Err b) (Ok d) r i m = absurd m
+  made-pair p q source us mid make first second h k (Ok a) (Ok b) (Err d) r i m = rw m tt
+  made-pair p q source us mid make first second h k (Ok a) (Ok b) (Ok d) r i m =
+      subst (λ z. Gives s us (kept d).0 (terminals source z)) (sym (m.1 ∙ i.1.1))
+      (finish s q us r.0 (terminals source (seen a).1) (make (first (seen a).0)) (second (seen a).0) (kept d).0 (goes s p us mid r.0 (q ∷ []) (λ ss g. front s ss (make g.0 g.1.0) g.1.1) (first (seen a).0) h r.1.0) r.1.1 (m.0 ∙ ap₂ complete i.0 i.1.0 ∙ sym (k (seen a).0)))
+
+  pub made-shorter : (n most : ℕ) → n < most → (last : Result Y Stop) (parts : Result X Stop) (whole : Result Z Stop) → IfOk last (λ y. length (seen y).1 ≤ n) → IsBeside view seen f parts last → Makes kept completed whole parts → IfOk whole (λ z. length (kept z).1 < most)
+  made-shorter n most k last parts (Err d) h i m = tt
+  made-shorter n most k (Err a) (Ok b) (Ok d) h i m = absurd i
+  made-shorter n most k a (Err b) (Ok d) h i m = absurd m
+  made-shorter n most k (Ok a) (Ok b) (Ok d) h i m = let o = ap length m.1 in let p = ap length i.1.1 in omega (arith, o, p, h, k)

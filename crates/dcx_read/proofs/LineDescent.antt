@@ -15,8 +15,8 @@ use Rattle.dcx_syntax.specs.Statements.{Balanced, nothing, within, Line, Lines, 
 use Rattle.dcx_syntax.specs.View.{chained, then_line, lines_of}
 use Rattle.dcx_read.specs.Moves.{Symbol, expr_s, newline_s, balanced_s, closes_s, line_s, lines_s, dedent_s, lines_join, Tree}
 use Rattle.dcx_read.specs.Steps.{Gives, Progress, Loop, Stops, Front, FrontOf, Refuses}
-use Rattle.dcx_read.specs.Lines.{FrontPlain, LacksPlain, BalancedTo, starts_line, ReadsLine, ReadsLines, ReadsBody, EndsBlock}
-use Rattle.dcx_read.specs.Steps.{Lacks, Closes, IsBeside}
+use Rattle.dcx_read.specs.Lines.{FrontPlain, LacksPlain, BalancedTo, starts_line, ReadsLine, ReadsLines, ReadsBody}
+use Rattle.dcx_read.specs.Steps.{Lacks, Closes, IsBeside, Makes}
 use Rattle.dcx_read.proofs.Progress.{Join, front, begun, goes, stops}
 use Rattle.dcx_read.proofs.Loops.{pushed, loop-stops}
 use Rattle.dcx_read.proofs.Descent.{finish, loop-turn}
@@ -142,7 +142,7 @@ module _ {F U X Y Z : Type 0} (view : X → (F × U) × List Token) (seen : Y �
   abbrev pub made : X → Line × List Token
   made x = (repeats place (name (view x).0.0) (from (view x).0.0) (first (view x).0.1) (rest (view x).0.1), (view x).1)
 
-  pub block-ends : (source : List ℕ) (us inside : List Terminal) → Progress line_s us inside (line_s ∷ lines_s ∷ dedent_s ∷ []) (block_join (repeats place (name f) (from f))) → (body : Result Y Stop) (parts : Result X Stop) (whole : Result Z Stop) → ReadsBody source (λ y. ((first (seen y).0, rest (seen y).0), (seen y).1)) body inside → IsBeside view seen f parts body → EndsBlock kept made whole parts → ReadsLine source kept whole us
+  pub block-ends : (source : List ℕ) (us inside : List Terminal) → Progress line_s us inside (line_s ∷ lines_s ∷ dedent_s ∷ []) (block_join (repeats place (name f) (from f))) → (body : Result Y Stop) (parts : Result X Stop) (whole : Result Z Stop) → ReadsBody source (λ y. ((first (seen y).0, rest (seen y).0), (seen y).1)) body inside → IsBeside view seen f parts body → Makes kept made whole parts → ReadsLine source kept whole us
   block-ends source us inside h (Err a) (Err b) (Err d) r i e = rw (e, i) (r us (repeats place (name f) (from f)) h)
   block-ends source us inside h (Err a) (Ok b) d r i e = absurd i
   block-ends source us inside h (Ok a) (Err b) d r i e = absurd i
@@ -157,7 +157,7 @@ module _ {F U X Y Z : Type 0} (view : X → (F × U) × List Token) (seen : Y �
     ),
   )
 
-  pub block-shorter : (n most : ℕ) → n < most → (body : Result Y Stop) (parts : Result X Stop) (whole : Result Z Stop) → IfOk body (λ y. length (seen y).1 < n) → IsBeside view seen f parts body → EndsBlock kept made whole parts → IfOk whole (λ x. length (kept x).1 < most)
+  pub block-shorter : (n most : ℕ) → n < most → (body : Result Y Stop) (parts : Result X Stop) (whole : Result Z Stop) → IfOk body (λ y. length (seen y).1 < n) → IsBeside view seen f parts body → Makes kept made whole parts → IfOk whole (λ x. length (kept x).1 < most)
   block-shorter n most k body parts (Err d) h i e = tt
   block-shorter n most k (Err a) (Ok b) (Ok d) h i e = absurd i
   block-shorter n most k a (Err b) (Ok d) h i e = absurd e

@@ -1,16 +1,15 @@
 -- What reading the lines of the code answers, as those of `Statements`.
-use Rattle.std.specs.Prelude.{◌≡◌, ◌⊎◌, ℕ, Bool, true, false, List, [], ◌∷◌, map, Result, Ok, Err}
+use Rattle.std.specs.Prelude.{◌≡◌, ◌⊎◌, ℕ, Bool, true, false, List, [], ◌∷◌, Result, Ok, Err}
 use Rattle.dcx_tokens.specs.declared.token.Token.{Token}
 use Rattle.dcx_shape.specs.declared.place.Place.{Place}
 use Rattle.dcx_read.specs.declared.front.Stop.{Stop}
-use Rattle.dcx_read.specs.declared.front.Stop.TheVariants.{Memory}
 use Rattle.dcx_read.specs.declared.role.Role.{Role}
 use Rattle.dcx_read.specs.declared.role.Role.TheVariants as roles
 use Rattle.dcx_syntax.specs.declared.tree.Named.{Named}
 use Rattle.dcx_read.specs.Role.{role_of}
 use Rattle.dcx_syntax.specs.Terminal.{Terminal}
 use Rattle.dcx_read.specs.Terminals.{terminals, spelled}
-use Rattle.dcx_syntax.specs.Statements.{Balanced, nothing, Line, importing, assign, add_to, set_value, evaluate, prints, repeats, Lines, no_lines, lines, trimmed, trimmed_all}
+use Rattle.dcx_syntax.specs.Statements.{Balanced, Line, repeats, Lines, trimmed, trimmed_all}
 use Rattle.dcx_syntax.specs.declared.tree.Module.{Module}
 use Rattle.dcx_syntax.specs.Expressions.{Expr}
 use Rattle.dcx_read.specs.Words.{ModuleAt, is_value_word}
@@ -93,10 +92,3 @@ module_at which place = record { which = which; place = place }
 abbrev pub ReadsBody : {X : Type 0} (source : List ℕ) → (X → (Line × Lines) × List Token) → Result X Stop → List Terminal → Type 0
 ReadsBody source view (Ok x) us = (t : Line) × ((ts : Lines) × ((mid : List Terminal) × ((end : List Terminal) × (((view x).0.0 ≡ trimmed t) × (((view x).0.1 ≡ trimmed_all ts) × (Gives line_s us t mid × (Gives lines_s mid ts end × Gives dedent_s end tt (terminals source (view x).1))))))))
 ReadsBody source view (Err e) us = (from : List Terminal) (make : Line → Lines → Line) → Progress line_s from us (line_s ∷ lines_s ∷ dedent_s ∷ []) (λ ss f. let t : Forest trees (line_s ∷ ss) = (make f.0 f.1.0, f.1.1.1) in t) → Stops line_s source from e
-
--- a whole line is made of what was read, unless memory ran out
-abbrev pub EndsBlock : {X Y : Type 0} → (X → Line × List Token) → (Y → Line × List Token) → (result : Result X Stop) (given : Result Y Stop) → Type 0
-EndsBlock view seen (Ok x) (Ok y) = ((view x).0 ≡ (seen y).0) × ((view x).1 ≡ (seen y).1)
-EndsBlock view seen (Ok x) (Err d) = ⊥
-EndsBlock view seen (Err e) (Ok y) = e ≡ Memory
-EndsBlock view seen (Err e) (Err d) = e ≡ d

@@ -5,11 +5,11 @@ ghost use Rattle.dcx_read.specs.declared.role.Role.TheVariants as roles;
 ghost use Rattle.dcx_syntax.specs.Terminal.{opens, plain};
 ghost use Rattle.dcx_read.specs.Terminals.{terminals};
 ghost use Rattle.dcx_syntax.specs.Terminal as marks_of;
-ghost use Rattle.dcx_syntax.specs.Expressions.{no_trailer, indexed};
-ghost use Rattle.dcx_syntax.specs.View.{args_of, items_of, indices_of, arg_view, index_view, primary_view, step_view, trailer_view, expr_view, factor_view, postfix_view, power_view, sum_view, term_view, optional_view};
-ghost use Rattle.dcx_read.specs.Moves.{expr_s, sum_s, term_s, factor_s, power_s, postfix_s, trailers_s, args_s, arg_s, indices_s, index_s, optional_s, step_s, primary_s, after_square_s, items_s, square_for};
+ghost use Rattle.dcx_syntax.specs.Expressions.{no_trailer, indexed, slice, tuple, list, comprehension};
+ghost use Rattle.dcx_syntax.specs.View.{args_of, items_of, more_items_of, indices_of, arg_view, index_view, primary_view, step_view, trailer_view, expr_view, factor_view, postfix_view, power_view, sum_view, term_view, optional_view};
+ghost use Rattle.dcx_read.specs.Moves.{expr_s, sum_s, term_s, factor_s, power_s, postfix_s, trailers_s, args_s, arg_s, indices_s, index_s, optional_s, step_s, primary_s, after_round_s, after_square_s, items_s, round_goes_on, square_for, square_lists};
 ghost use Rattle.dcx_read.specs.Leaves.{ReadsLeaf, EndsByComma};
-ghost use Rattle.dcx_read.specs.Steps.{Reads, ReadsOne, MakesOne, Front, IsSigns};
+ghost use Rattle.dcx_read.specs.Steps.{Reads, ReadsOne, ReadsPair, Makes, MakesOne, Front, Lacks, IsSigns};
 
 use crate::front::*;
 use crate::made::*;
@@ -314,10 +314,10 @@ fn items<'a>(
     alloc: Global,
     text: &[u8],
     tokens: &'a [Token],
-) -> Result<(Vec<Expr>, bool, &'a [Token]), Stop<'a>>
-    ensures read { Reads items_s text.now (λ x. (items_of (map expr_view x.0.items) x.1, x.2.now)) result (terminals text.now tokens.now) }
-    ensures comma { IfOk result (λ x. EndsByComma x.0.items x.1) }
-    ensures shorter { IfOk result (λ x. length x.2.now ≤ length tokens.now) }
+) -> Result<((Vec<Expr>, bool), &'a [Token]), Stop<'a>>
+    ensures read { Reads items_s text.now (λ x. (items_of (map expr_view x.0.0.items) x.0.1, x.1.now)) result (terminals text.now tokens.now) }
+    ensures comma { IfOk result (λ x. EndsByComma x.0.0.items x.0.1) }
+    ensures shorter { IfOk result (λ x. length x.1.now ≤ length tokens.now) }
 {
     let mut all = Vec::new(alloc);
     let mut rest = tokens;
@@ -325,11 +325,11 @@ fn items<'a>(
         let (item, behind) = expr(alloc, text, rest)?;
         all.push(item)?;
         let Some((_, next)) = eat(behind, Mark::Comma) else {
-            return Ok((all, false, behind));
+            return Ok(((all, false), behind));
         };
         rest = next;
     }
-    Ok((all, true, rest))
+    Ok(((all, true), rest))
 }
 
 #[cycle(expression)]
@@ -341,18 +341,54 @@ fn index<'a>(
     ensures read { Reads index_s text.now (λ x. (index_view x.0, x.1.now)) result (terminals text.now tokens.now) }
     ensures shorter { IfOk result (λ x. length x.1.now < length tokens.now) }
 {
-    if let Some((_, inside)) = eat(tokens, Mark::Colon) {
-        let (end, between) = optional(alloc, text, inside)?;
-        let (by, outside) = step(alloc, text, between)?;
-        return Ok((slice_of(None, end, by), outside));
-    }
+    let Some((_, inside)) = eat(tokens, Mark::Colon) else {
+        return at_or_slice(alloc, text, tokens);
+    };
+    slice_made(beside(None, slice_end(alloc, text, inside)))
+}
+
+/// An index that an expression begins.
+#[cycle(expression)]
+fn at_or_slice<'a>(
+    alloc: Global,
+    text: &[u8],
+    tokens: &'a [Token],
+) -> Result<(Index, &'a [Token]), Stop<'a>>
+    requires begun { Lacks roles.Colon tokens.now }
+    ensures read { Reads index_s text.now (λ x. (index_view x.0, x.1.now)) result (terminals text.now tokens.now) }
+    ensures shorter { IfOk result (λ x. length x.1.now < length tokens.now) }
+{
     let (first, behind) = expr(alloc, text, tokens)?;
     let Some((_, after)) = eat(behind, Mark::Colon) else {
         return Ok((at_of(first), behind));
     };
-    let (stop, middle) = optional(alloc, text, after)?;
-    let (stride, rest) = step(alloc, text, middle)?;
-    Ok((slice_of(Some(first), stop, stride), rest))
+    slice_made(beside(Some(first), slice_end(alloc, text, after)))
+}
+
+/// The end and the step of a slice, behind its first colon.
+#[cycle(expression)]
+fn slice_end<'a>(
+    alloc: Global,
+    text: &[u8],
+    tokens: &'a [Token],
+) -> Result<((Option<Expr>, Step), &'a [Token]), Stop<'a>>
+    ensures read { ReadsPair optional_s step_s text.now (λ x. ((optional_view x.0.0, step_view x.0.1), x.1.now)) result (terminals text.now tokens.now) }
+    ensures shorter { IfOk result (λ x. length x.1.now ≤ length tokens.now) }
+{
+    let (stop, middle) = optional(alloc, text, tokens)?;
+    beside(stop, step(alloc, text, middle))
+}
+
+/// The slice, where its parts were read.
+fn slice_made<'a>(
+    parts: Result<((Option<Expr>, (Option<Expr>, Step)), &'a [Token]), Stop<'a>>,
+) -> Result<(Index, &'a [Token]), Stop<'a>>
+    ensures { Makes (λ x. (index_view x.0, x.1.now)) (λ x. (slice (optional_view x.0.0) (optional_view x.0.1.0) (step_view x.0.1.1), x.1.now)) result parts.entry }
+{
+    match parts {
+        Ok(((start, (stop, by)), rest)) => Ok((slice_of(start, stop, by), rest)),
+        Err(stop) => Err(stop),
+    }
 }
 
 #[cycle(expression)]
@@ -427,11 +463,39 @@ fn round<'a>(
         let only = round_of(alloc, place, first)?;
         return Ok((only, beyond));
     }
-    let after = expect(behind, Mark::Comma)?;
-    let (others, comma, closing) = items(alloc, text, after)?;
-    let rest = expect(closing, Mark::Closes(Bracket::Round))?;
-    let all = tuple_of(alloc, place, first, others, comma)?;
-    Ok((all, rest))
+    tuple_made(alloc, place, beside(first, tuple_end(alloc, text, behind)))
+}
+
+/// The items of a tuple behind the first one, and its end.
+#[cycle(expression)]
+fn tuple_end<'a>(
+    alloc: Global,
+    text: &[u8],
+    tokens: &'a [Token],
+) -> Result<((Vec<Expr>, bool), &'a [Token]), Stop<'a>>
+    requires goes_on { Lacks (roles.Closes brackets.Round) tokens.now }
+    ensures read { Reads after_round_s text.now (λ x. (round_goes_on (items_of (map expr_view x.0.0.items) x.0.1), x.1.now)) result (terminals text.now tokens.now) }
+    ensures shorter { IfOk result (λ x. length x.1.now < length tokens.now) }
+{
+    let after = expect(tokens, Mark::Comma)?;
+    closed(items(alloc, text, after), Mark::Closes(Bracket::Round))
+}
+
+/// The tuple at this place, where its parts were read.
+fn tuple_made<'a>(
+    alloc: Global,
+    place: Place,
+    parts: Result<((Expr, (Vec<Expr>, bool)), &'a [Token]), Stop<'a>>,
+) -> Result<(Primary, &'a [Token]), Stop<'a>>
+    ensures { Makes (λ x. (primary_view x.0, x.1.now)) (λ x. (tuple place (expr_view x.0.0) (items_of (map expr_view x.0.1.0.items) x.0.1.1), x.1.now)) result parts.entry }
+{
+    match parts {
+        Ok(((first, (others, comma)), rest)) => match tuple_of(alloc, place, first, others, comma) {
+            Ok(all) => Ok((all, rest)),
+            Err(_) => Err(Stop::Memory),
+        },
+        Err(stop) => Err(stop),
+    }
 }
 
 /// What a square bracket at this place holds, and the tokens behind its end.
@@ -449,21 +513,69 @@ fn square<'a>(
         return Ok((empty_list_of(place), outside));
     }
     let (first, behind) = expr(alloc, text, tokens)?;
-    if let Some((for_place, word)) = eat(behind, Mark::For) {
-        let (each, from, beyond) = source(alloc, text, for_place, word)?;
-        let comprehension = comprehension_of(alloc, place, first, for_place, each, from)?;
-        return Ok((comprehension, beyond));
+    match eat(behind, Mark::For) {
+        Some((for_place, word)) => {
+            let parts = beside(first, source(alloc, text, for_place, word));
+            comprehension_made(alloc, place, for_place, parts)
+        }
+        None => list_made(alloc, place, beside(first, list_end(alloc, text, behind))),
     }
-    if let Some((_, after)) = eat(behind, Mark::Comma) {
-        let (others, comma, closing) = items(alloc, text, after)?;
-        let rest = expect(closing, Mark::Closes(Bracket::Square))?;
-        let all = list_of(alloc, place, first, others, comma)?;
-        return Ok((all, rest));
+}
+
+/// The items of a list behind the first one, and its end.
+#[cycle(expression)]
+fn list_end<'a>(
+    alloc: Global,
+    text: &[u8],
+    tokens: &'a [Token],
+) -> Result<((Vec<Expr>, bool), &'a [Token]), Stop<'a>>
+    requires lists { Lacks roles.For tokens.now }
+    ensures read { Reads after_square_s text.now (λ x. (square_lists (more_items_of (map expr_view x.0.0.items) x.0.1), x.1.now)) result (terminals text.now tokens.now) }
+    ensures shorter { IfOk result (λ x. length x.1.now < length tokens.now) }
+{
+    if let Some((_, after)) = eat(tokens, Mark::Comma) {
+        return closed(items(alloc, text, after), Mark::Closes(Bracket::Square));
     }
-    let last = expect(behind, Mark::Closes(Bracket::Square))?;
+    let rest = expect(tokens, Mark::Closes(Bracket::Square))?;
     let none = Vec::new(alloc);
-    let single = list_of(alloc, place, first, none, false)?;
-    Ok((single, last))
+    Ok(((none, false), rest))
+}
+
+/// The list at this place, where its parts were read.
+fn list_made<'a>(
+    alloc: Global,
+    place: Place,
+    parts: Result<((Expr, (Vec<Expr>, bool)), &'a [Token]), Stop<'a>>,
+) -> Result<(Primary, &'a [Token]), Stop<'a>>
+    ensures { Makes (λ x. (primary_view x.0, x.1.now)) (λ x. (list place (expr_view x.0.0) (more_items_of (map expr_view x.0.1.0.items) x.0.1.1), x.1.now)) result parts.entry }
+{
+    match parts {
+        Ok(((first, (others, comma)), rest)) => match list_of(alloc, place, first, others, comma) {
+            Ok(all) => Ok((all, rest)),
+            Err(_) => Err(Stop::Memory),
+        },
+        Err(stop) => Err(stop),
+    }
+}
+
+/// The comprehension at this place, where its parts were read.
+fn comprehension_made<'a>(
+    alloc: Global,
+    place: Place,
+    for_place: Place,
+    parts: Result<((Expr, (Named, Expr)), &'a [Token]), Stop<'a>>,
+) -> Result<(Primary, &'a [Token]), Stop<'a>>
+    ensures { Makes (λ x. (primary_view x.0, x.1.now)) (λ x. (comprehension place (expr_view x.0.0) for_place x.0.1.0 (expr_view x.0.1.1), x.1.now)) result parts.entry }
+{
+    match parts {
+        Ok(((first, (each, from)), rest)) => {
+            match comprehension_of(alloc, place, first, for_place, each, from) {
+                Ok(all) => Ok((all, rest)),
+                Err(_) => Err(Stop::Memory),
+            }
+        }
+        Err(stop) => Err(stop),
+    }
 }
 
 /// What stands behind the word `for` of a comprehension: the name, and what it goes over.
@@ -473,13 +585,13 @@ fn source<'a>(
     text: &[u8],
     place: Place,
     tokens: &'a [Token],
-) -> Result<(Named, Expr, &'a [Token]), Stop<'a>>
-    ensures read { Reads after_square_s text.now (λ x. (square_for place x.0 (expr_view x.1), x.2.now)) result (plain (marks_of.for place) ∷ terminals text.now tokens.now) }
-    ensures shorter { IfOk result (λ x. length x.2.now < length tokens.now) }
+) -> Result<((Named, Expr), &'a [Token]), Stop<'a>>
+    ensures read { Reads after_square_s text.now (λ x. (square_for place x.0.0 (expr_view x.0.1), x.1.now)) result (plain (marks_of.for place) ∷ terminals text.now tokens.now) }
+    ensures shorter { IfOk result (λ x. length x.1.now < length tokens.now) }
 {
     let (each, behind) = name(alloc, text, tokens)?;
     let after = expect(behind, Mark::In)?;
     let (from, closing) = expr(alloc, text, after)?;
     let rest = expect(closing, Mark::Closes(Bracket::Square))?;
-    Ok((each, from, rest))
+    Ok(((each, from), rest))
 }

@@ -7,8 +7,8 @@ ghost use Rattle.dcx_syntax.specs.Statements.{importing, repeats};
 ghost use Rattle.dcx_syntax.specs.View.{expr_view, line_view, lines_of};
 ghost use Rattle.dcx_read.specs.Moves.{module_s, alias_s, line_s};
 ghost use Rattle.dcx_read.specs.declared.role.Role.TheVariants as roles;
-ghost use Rattle.dcx_read.specs.Steps.{Reads, Lacks};
-ghost use Rattle.dcx_read.specs.Lines.{module_at, LacksPlain, BalancedTo, ReadsBalanced, ReadsEnded, ReadsLine, ReadsHead, ReadsBody, ReadsLines, EndsBlock};
+ghost use Rattle.dcx_read.specs.Steps.{Reads, Makes, Lacks};
+ghost use Rattle.dcx_read.specs.Lines.{module_at, LacksPlain, BalancedTo, ReadsBalanced, ReadsEnded, ReadsLine, ReadsHead, ReadsBody, ReadsLines};
 
 use crate::expression::expr;
 use crate::front::*;
@@ -229,7 +229,7 @@ fn whole<'a>(
     place: Place,
     parts: Result<((Begun, (Line, Vec<Line>)), &'a [Token]), Stop<'a>>,
 ) -> Result<(Line, &'a [Token]), Stop<'a>>
-    ensures { EndsBlock (λ x. (line_view x.0, x.1.now)) (λ x. (repeats place x.0.0.each (expr_view x.0.0.from) (line_view x.0.1.0) (lines_of (map line_view x.0.1.1.items)), x.1.now)) result parts.entry }
+    ensures { Makes (λ x. (line_view x.0, x.1.now)) (λ x. (repeats place x.0.0.each (expr_view x.0.0.from) (line_view x.0.1.0) (lines_of (map line_view x.0.1.1.items)), x.1.now)) result parts.entry }
 {
     match parts {
         Ok(((begun, (first, others)), rest)) => match for_of(

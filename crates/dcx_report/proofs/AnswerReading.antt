@@ -8,8 +8,8 @@ use Rattle.dcx_frac.specs.Frac.{num_of, den_of}
 use Rattle.dcx_frac.proofs.Parts.{frac_from_parts}
 use Rattle.dcx_tree.specs.declared.constraint.Sense.{Sense}
 use Rattle.dcx_tree.specs.declared.constraint.Sense.TheVariants.{Minimize, Maximize}
-use Rattle.dcx_report.specs.declared.graph.Answer.{Answer}
-use Rattle.dcx_report.specs.declared.graph.Answer.TheVariants.{Optimal, Infeasible, Unbounded}
+use Rattle.dcx_answer.specs.declared.answer.Answer.{Answer}
+use Rattle.dcx_answer.specs.declared.answer.Answer.TheVariants.{Optimal, Infeasible, Unbounded}
 use Rattle.dcx_report.specs.Negated.{negated}
 use Rattle.dcx_report.specs.AnswerText.{user_number, answer_text, var_lines, ray_lines, dual_lines, number_line}
 use Rattle.dcx_report.specs.SameText.{Layout, IsAnswerOf}

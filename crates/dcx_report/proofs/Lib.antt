@@ -3,6 +3,7 @@ pub mod Digits
 pub mod FracText
 pub mod Negation
 pub mod Numbered
+pub mod Pairs
 pub mod OneLine
 pub mod Reading
 pub mod SameReport

@@ -15,10 +15,10 @@ use Rattle.dcx_frac.specs.declared.fraction.Op.{Op}
 use Rattle.dcx_frac.specs.declared.fraction.Op.TheVariants.{Add, Sub, Mul, Div, Lcm}
 use Rattle.dcx_frac.specs.declared.fraction.Passes.{Passes}
 use Rattle.dcx_frac.specs.Text.{frac_text}
-use Rattle.dcx_linear.specs.declared.site.Site.{Site}
-use Rattle.dcx_linear.specs.declared.site.Site.TheVariants.{Node, Row, Map, Pivot, Answer}
-use Rattle.dcx_report.specs.declared.graph.Stop.{Stop}
-use Rattle.dcx_report.specs.declared.graph.Stop.TheVariants.{UnknownParam, MissingParam, ParamShape, ParamSign, TooLarge, ZeroDivisor, Wide, PivotLimit, Memory}
+use Rattle.dcx_answer.specs.declared.site.Site.{Site}
+use Rattle.dcx_answer.specs.declared.site.Site.TheVariants.{Node, Row, Map, Pivot, Answer}
+use Rattle.dcx_answer.specs.declared.stop.Stop.{Stop}
+use Rattle.dcx_answer.specs.declared.stop.Stop.TheVariants.{UnknownParam, MissingParam, ParamShape, ParamSign, TooLarge, ZeroDivisor, Wide, PivotLimit, Memory}
 use Rattle.dcx_report.specs.Pieces.{place_text, sides_text, shape_text, entry_text, op_text, passes_text}
 use Rattle.dcx_report.specs.StopText.{entry_at_text, site_text, stop_name, stop_details}
 use Rattle.dcx_report.specs.SameText.{IsOnOneLine, SaysOneLine}

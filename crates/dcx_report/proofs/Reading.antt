@@ -11,7 +11,7 @@ use Rattle.dcx_shape.specs.Sides.{entries_of}
 use Rattle.dcx_frac.specs.declared.fraction.Frac.{Frac}
 use Rattle.dcx_frac.specs.Text.{frac_text}
 use Rattle.dcx_atom.specs.declared.array.Array.{Array}
-use Rattle.dcx_report.specs.declared.tree.Named.{Named}
+use Rattle.dcx_point.specs.Pairs.{Pairs}
 use Rattle.dcx_report.specs.Pieces.{shape_text, entry_text, array_text}
 use Rattle.dcx_report.specs.AnswerText.{named_line, dual_line, dual_lines, number_line}
 use Rattle.dcx_report.specs.SameText.{variables_of, constraints_of}
@@ -96,23 +96,22 @@ lines_read f R read (x ∷ xs) (y ∷ ys) r s h e =
     ((cc), rest.1)
 
 -- a variable of one name and one shape
-pub record SameVariable (a b : Named) : Type 0 where
-  pub name : a.name ≡ b.name
-  pub shape : a.array.shape ≡ b.array.shape
+pub record SameVariable (a b : List ℕ × Array) : Type 0 where
+  pub name : a.0 ≡ b.0
+  pub shape : a.1.shape ≡ b.1.shape
 
-named_from_parts : (a b : Named) → a.name ≡ b.name → a.array ≡ b.array → a ≡ b
-named_from_parts a b p q = λ i. record { name = p i; array = q i }
-
-named_read : (word : List ℕ) (a b : Named) (r s : List ℕ) → SameVariable a b → named_line word a ++ r ≡ named_line word b ++ s → (a ≡ b) × (r ≡ s)
+named_read : (word : List ℕ) (a b : List ℕ × Array) (r s : List ℕ) → SameVariable a b → named_line word a ++ r ≡ named_line word b ++ s → (a ≡ b) × (r ≡ s)
 unfolding named_line
-named_read word a b r s same e =
-    let parts = line_read (word ++ codes " " ++ a.name ++ codes " ") (word ++ codes " " ++ b.name ++ codes " ") a.array b.array r s (ap (λ n. word ++ codes " " ++ n ++ codes " ") same.name) same.shape e in
-    (named_from_parts a b same.name parts.0, parts.1)
+named_read word (n, a) (m, b) r s same e =
+    let parts = line_read (word ++ codes " " ++ n ++ codes " ") (word ++ codes " " ++ m ++ codes " ") a b r s (ap (λ x. word ++ codes " " ++ x ++ codes " ") same.name) same.shape e in
+    let name : n ≡ m = same.name in
+    let array : a ≡ b = parts.0 in
+    (λ i. (name i, array i), parts.1)
 
-abbrev shown : Named → List ℕ × Shape
-shown n = (n.name, n.array.shape)
+abbrev shown : List ℕ × Array → List ℕ × Shape
+shown p = (p.0, p.1.shape)
 
-same_variables : (xs ys : List Named) → variables_of xs ≡ variables_of ys → AllZip SameVariable xs ys
+same_variables : (xs ys : Pairs) → variables_of xs ≡ variables_of ys → AllZip SameVariable xs ys
 same_variables [] [] e = tt
 same_variables [] (y ∷ ys) e = cc
 same_variables (x ∷ xs) [] e = cc
@@ -122,7 +121,7 @@ same_variables (x ∷ xs) (y ∷ ys) e =
     (record { name = ap (λ p. p.0) head; shape = ap (λ p. p.1) head }, same_variables xs ys tail)
 
 -- the lines of variables under a word, and what stands behind them
-pub points_read : (word : List ℕ) (xs ys : List Named) (r s : List ℕ) → variables_of xs ≡ variables_of ys → flat_map (named_line word) xs ++ r ≡ flat_map (named_line word) ys ++ s → (xs ≡ ys) × (r ≡ s)
+pub points_read : (word : List ℕ) (xs ys : Pairs) (r s : List ℕ) → variables_of xs ≡ variables_of ys → flat_map (named_line word) xs ++ r ≡ flat_map (named_line word) ys ++ s → (xs ≡ ys) × (r ≡ s)
 points_read word xs ys r s same e =
     lines_read (named_line word) SameVariable (λ a b. named_read word a b) xs ys r s (same_variables xs ys same) e
 

@@ -7,9 +7,9 @@ use Rattle.std.specs.List.{AllByRecursion, flat_map, enumerate_from}
 use Rattle.std.specs.declared.option.Option.{Option}
 use Rattle.dcx_shape.specs.declared.place.Place.{Place}
 use Rattle.dcx_tree.specs.declared.constraint.Sense.{Sense}
-use Rattle.dcx_report.specs.declared.graph.Answer.{Answer}
-use Rattle.dcx_report.specs.declared.graph.Answer.TheVariants.{Optimal, Infeasible, Unbounded}
-use Rattle.dcx_report.specs.declared.graph.Stop.{Stop}
+use Rattle.dcx_answer.specs.declared.answer.Answer.{Answer}
+use Rattle.dcx_answer.specs.declared.answer.Answer.TheVariants.{Optimal, Infeasible, Unbounded}
+use Rattle.dcx_answer.specs.declared.stop.Stop.{Stop}
 use Rattle.dcx_report.specs.declared.outcome.Outcome.{Outcome}
 use Rattle.dcx_report.specs.declared.outcome.OutcomeEnd.{OutcomeEnd}
 use Rattle.dcx_report.specs.declared.outcome.OutcomeEnd.TheVariants as the

@@ -4,11 +4,11 @@ use Rattle.std.specs.List.{flat_map, enumerate_from}
 use Rattle.dcx_frac.specs.declared.fraction.Frac.{Frac}
 use Rattle.dcx_frac.specs.Text.{frac_text}
 use Rattle.dcx_atom.specs.declared.array.Array.{Array}
-use Rattle.dcx_report.specs.declared.tree.Named.{Named}
+use Rattle.dcx_point.specs.Pairs.{Pairs}
 use Rattle.dcx_tree.specs.declared.constraint.Sense.{Sense}
 use Rattle.dcx_tree.specs.declared.constraint.Sense.TheVariants.{Minimize, Maximize}
-use Rattle.dcx_report.specs.declared.graph.Answer.{Answer}
-use Rattle.dcx_report.specs.declared.graph.Answer.TheVariants.{Optimal, Infeasible, Unbounded}
+use Rattle.dcx_answer.specs.declared.answer.Answer.{Answer}
+use Rattle.dcx_answer.specs.declared.answer.Answer.TheVariants.{Optimal, Infeasible, Unbounded}
 use Rattle.dcx_report.specs.Negated.{negated}
 use Rattle.dcx_report.specs.Pieces.{array_text}
 
@@ -18,15 +18,15 @@ user_number Minimize number = number
 user_number Maximize number = negated number
 
 -- WORD NAME SHAPE = NUMBER NUMBER ..
-unfoldable pub named_line : List ℕ → Named → List ℕ
-named_line word named = word ++ codes " " ++ named.name ++ codes " " ++ array_text named.array ++ codes "\n"
+unfoldable pub named_line : List ℕ → List ℕ × Array → List ℕ
+named_line word pair = word ++ codes " " ++ pair.0 ++ codes " " ++ array_text pair.1 ++ codes "\n"
 
 -- a line for each variable's value
-unfoldable pub var_lines : List Named → List ℕ
+unfoldable pub var_lines : Pairs → List ℕ
 var_lines point = flat_map (named_line (codes "var")) point
 
 -- a line for each variable's part of the ray
-unfoldable pub ray_lines : List Named → List ℕ
+unfoldable pub ray_lines : Pairs → List ℕ
 ray_lines ray = flat_map (named_line (codes "ray")) ray
 
 -- dual NUMBER SHAPE = NUMBER NUMBER ..

@@ -1,13 +1,10 @@
 pub mod AnswerText
 pub mod CheckText
-pub mod Faults
-pub mod Files
 pub mod Negated
 pub mod NodeStops
 pub mod OutcomeText
 pub mod Pieces
 pub mod RefusalText
-pub mod Refusals
 pub mod ReportText
 pub mod SameText
 pub mod StopText

@@ -1,7 +1,7 @@
 -- Which stops name a node of the problem.
 use Rattle.std.specs.Prelude.{Bool, true, false}
-use Rattle.dcx_linear.specs.declared.site.Site.TheVariants.{Node}
-use Rattle.dcx_report.specs.declared.graph.Stop.TheVariants.{ZeroDivisor, Wide}
+use Rattle.dcx_answer.specs.declared.site.Site.TheVariants.{Node}
+use Rattle.dcx_answer.specs.declared.stop.Stop.TheVariants.{ZeroDivisor, Wide}
 use Rattle.dcx_report.specs.declared.outcome.OutcomeEnd.{OutcomeEnd}
 use Rattle.dcx_report.specs.declared.outcome.OutcomeEnd.TheVariants as the
 

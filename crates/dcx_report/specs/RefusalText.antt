@@ -1,16 +1,16 @@
 -- The line of a refusal.
 use Rattle.std.specs.Prelude.{ℕ, List, [], ◌++◌, codes, decimal}
-use Rattle.dcx_report.specs.declared.refusal.Refusal.{Refusal}
-use Rattle.dcx_report.specs.declared.refusal.RefusalSource.{RefusalSource}
-use Rattle.dcx_report.specs.declared.refusal.RefusalSource.TheVariants.{Script, Settings, Certificate}
-use Rattle.dcx_report.specs.declared.refusal.Carried.{Carried}
-use Rattle.dcx_report.specs.declared.refusal.Carried.TheVariants as carried
+use Rattle.dcx_front.specs.declared.refusal.Refusal.{Refusal}
+use Rattle.dcx_front.specs.declared.refusal.RefusalSource.{RefusalSource}
+use Rattle.dcx_front.specs.declared.refusal.RefusalSource.TheVariants.{Script, Settings, Certificate}
+use Rattle.dcx_front.specs.declared.refusal.Carried.{Carried}
+use Rattle.dcx_front.specs.declared.refusal.Carried.TheVariants as carried
 use Rattle.dcx_arena.specs.declared.fault.Count.{Count}
 use Rattle.dcx_arena.specs.declared.fault.Count.TheVariants.{Nodes, Entries, Items, Steps, Events}
 use Rattle.dcx_rules.specs.declared.fault.Rule.{Rule}
 use Rattle.dcx_rules.specs.declared.fault.Rule.TheVariants.{Composition, Minimize, Maximize, Equal, AtMost}
 use Rattle.dcx_report.specs.Pieces.{place_text, passes_text}
-use Rattle.dcx_report.specs.Refusals.{refusal_name}
+use Rattle.dcx_front.specs.Refusals.{refusal_name}
 
 -- the file that is refused
 unfoldable pub source_text : RefusalSource → List ℕ

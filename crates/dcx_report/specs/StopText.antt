@@ -3,10 +3,10 @@ use Rattle.std.specs.Prelude.{ℕ, List, [], ◌++◌, codes, decimal, None, Som
 use Rattle.std.specs.declared.option.Option.{Option}
 use Rattle.dcx_shape.specs.declared.place.Place.{Place}
 use Rattle.dcx_frac.specs.Text.{frac_text}
-use Rattle.dcx_linear.specs.declared.site.Site.{Site}
-use Rattle.dcx_linear.specs.declared.site.Site.TheVariants.{Node, Row, Map, Pivot, Answer}
-use Rattle.dcx_report.specs.declared.graph.Stop.{Stop}
-use Rattle.dcx_report.specs.declared.graph.Stop.TheVariants.{UnknownParam, MissingParam, ParamShape, ParamSign, TooLarge, ZeroDivisor, Wide, PivotLimit, Memory}
+use Rattle.dcx_answer.specs.declared.site.Site.{Site}
+use Rattle.dcx_answer.specs.declared.site.Site.TheVariants.{Node, Row, Map, Pivot, Answer}
+use Rattle.dcx_answer.specs.declared.stop.Stop.{Stop}
+use Rattle.dcx_answer.specs.declared.stop.Stop.TheVariants.{UnknownParam, MissingParam, ParamShape, ParamSign, TooLarge, ZeroDivisor, Wide, PivotLimit, Memory}
 use Rattle.dcx_report.specs.Pieces.{place_text, shape_text, passes_text}
 
 -- the place of the node and the entry, where the stop names a node

@@ -1,12 +1,13 @@
 //! Appends the lines of an answer.
-ghost use Rattle.std.specs.Prelude.{◌≡◌, ◌++◌, OnOk};
+ghost use Rattle.std.specs.Prelude.{◌≡◌, ◌++◌, Some, None, IfSome, MatchOption, slice_get, OnOk};
 ghost use Rattle.std.specs.List.{flat_map};
 ghost use Rattle.dcx_report.specs.Negated.{negated};
 ghost use Rattle.dcx_report.specs.AnswerText.{user_number, number_line, named_line, var_lines, ray_lines, dual_line, dual_lines, answer_text};
 
 use crate::pieces::{put_array, put_bytes, put_frac, put_number};
-use crate::{Answer, Array, Named, Point, Sense};
+use crate::{Answer, Array, Point, Sense};
 use dcx_frac::Frac;
+use dcx_shape::Name;
 use std::alloc::AllocError;
 
 /// The number with its sign turned.
@@ -45,23 +46,50 @@ fn put_user_line(
 
 /// Appends a line of a variable under a word.
 #[tactic(auto, unfolding(crate::specs::AnswerText::named_line))]
-fn put_named_line(out: &mut Vec<u8>, word: &[u8], named: &Named) -> Result<(), AllocError>
-    ensures { OnOk result (out.new.items ≡ out.old.items ++ named_line word.now named.now) }
+fn put_named_line(
+    out: &mut Vec<u8>,
+    word: &[u8],
+    name: &Name,
+    array: &Array,
+) -> Result<(), AllocError>
+    ensures { OnOk result (out.new.items ≡ out.old.items ++ named_line word.now (name.now, array.now)) }
 {
     put_bytes(out, word)?;
     put_bytes(out, b" ")?;
-    put_bytes(out, named.name.as_slice())?;
+    put_bytes(out, name.as_slice())?;
     put_bytes(out, b" ")?;
-    put_array(out, &named.array)?;
+    put_array(out, array)?;
     put_bytes(out, b"\n")
 }
 
-/// Appends a line of each variable under a word.
-fn put_named_lines(out: &mut Vec<u8>, word: &[u8], items: &[Named]) -> Result<(), AllocError>
-    ensures { OnOk result (out.new.items ≡ out.old.items ++ flat_map (named_line word.now) items.now) }
+/// The name and the array of pair `i`, counted from 0; `None` where there are at most `i` pairs.
+fn pair_at(point: &Point, i: usize) -> Option<(&Name, &Array)>
+    ensures { MatchOption result (slice_get point.now i ≡ None) (λ pair. slice_get point.now i ≡ Some (pair.0.now, pair.1.now)) }
 {
-    for named in items {
-        put_named_line(out, word, named)?;
+    if i >= point.len() {
+        return None;
+    }
+    let name = point.name_at(i)?;
+    let array = point.get(name)?;
+    Some((name, array))
+}
+
+/// Appends the line of pair `i`, where there is one, under a word.
+fn put_pair_line(out: &mut Vec<u8>, word: &[u8], point: &Point, i: usize) -> Result<(), AllocError>
+    ensures { OnOk result (IfSome (slice_get point.now i) (λ pair. out.new.items ≡ out.old.items ++ named_line word.now pair)) }
+{
+    match pair_at(point, i) {
+        Some((name, array)) => put_named_line(out, word, name, array),
+        None => Ok(()),
+    }
+}
+
+/// Appends a line of each variable under a word.
+fn put_named_lines(out: &mut Vec<u8>, word: &[u8], point: &Point) -> Result<(), AllocError>
+    ensures { OnOk result (out.new.items ≡ out.old.items ++ flat_map (named_line word.now) point.now) }
+{
+    'pairs: for i in 0..point.len() {
+        put_pair_line(out, word, point, i)?;
     }
     Ok(())
 }
@@ -71,7 +99,7 @@ fn put_named_lines(out: &mut Vec<u8>, word: &[u8], items: &[Named]) -> Result<()
 fn put_var_lines(out: &mut Vec<u8>, point: &Point) -> Result<(), AllocError>
     ensures { OnOk result (out.new.items ≡ out.old.items ++ var_lines point.now) }
 {
-    put_named_lines(out, b"var", point.as_slice())
+    put_named_lines(out, b"var", point)
 }
 
 /// Appends a line of each variable's part of a ray.
@@ -79,7 +107,7 @@ fn put_var_lines(out: &mut Vec<u8>, point: &Point) -> Result<(), AllocError>
 fn put_ray_lines(out: &mut Vec<u8>, ray: &Point) -> Result<(), AllocError>
     ensures { OnOk result (out.new.items ≡ out.old.items ++ ray_lines ray.now) }
 {
-    put_named_lines(out, b"ray", ray.as_slice())
+    put_named_lines(out, b"ray", ray)
 }
 
 /// Appends the line of a constraint's multipliers under its number.

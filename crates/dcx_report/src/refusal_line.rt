@@ -1,42 +1,10 @@
 //! Appends the line of a refusal.
 ghost use Rattle.std.specs.Prelude.{◌≡◌, ◌++◌, OnOk};
-ghost use Rattle.dcx_report.specs.Refusals.{refusal_name};
 ghost use Rattle.dcx_report.specs.RefusalText.{source_text, count_text, rule_text, carried_text, refusal_text};
 
 use crate::pieces::{put_bytes, put_number, put_passes, put_place};
 use crate::{Carried, Count, Refusal, RefusalSource, Rule};
 use std::alloc::AllocError;
-
-/// The name of the refusal of a number.
-#[tactic(auto, unfolding(crate::specs::Refusals::refusal_name))]
-fn name_of_refusal(number: u8) -> &'static [u8]
-    ensures { result.now ≡ refusal_name number }
-{
-    match number {
-        1 => b"NotText",
-        2 => b"BadChar",
-        3 => b"BadNumber",
-        4 => b"Unclosed",
-        5 => b"Indent",
-        6 => b"Unexpected",
-        7 => b"TooDeep",
-        8 => b"TooLong",
-        9 => b"UnknownName",
-        10 => b"UnknownCall",
-        11 => b"BadArgument",
-        12 => b"NotOffered",
-        13 => b"ShapeClash",
-        14 => b"IndexRange",
-        15 => b"EmptyResult",
-        16 => b"NoProblem",
-        17 => b"TwoProblems",
-        18 => b"TooMany",
-        19 => b"NotDcp",
-        20 => b"PlainWide",
-        29 => b"NotYet",
-        _ => b"",
-    }
-}
 
 /// The word for a file.
 #[tactic(auto, unfolding(crate::specs::RefusalText::source_text))]
@@ -109,7 +77,7 @@ pub(crate) fn put_refusal(out: &mut Vec<u8>, refusal: &Refusal) -> Result<(), Al
     put_bytes(out, b" ")?;
     put_number(out, u64::from(refusal.number))?;
     put_bytes(out, b" ")?;
-    put_bytes(out, name_of_refusal(refusal.number))?;
+    put_bytes(out, refusal.name())?;
     put_bytes(out, b" at ")?;
     put_place(out, refusal.place)?;
     put_carried(out, &refusal.carried)?;

@@ -2,30 +2,21 @@
 //! `ray NAME ARRAY` and `dual ARRAY`.
 use dcx_case_lines::{CaseFault, array, fraction, name, words};
 use dcx_frac::Frac;
-use dcx_report::{Answer, Duals, Named, Point};
+use dcx_report::{Answer, Duals, Point};
 use std::alloc::Global;
-
-/// An array under its name.
-fn named(alloc: Global, text: &str) -> Result<Named, CaseFault> {
-    let (word, rest) = text.split_once(' ').ok_or(CaseFault::Unreadable)?;
-    let array = array(alloc, rest)?;
-    Ok(Named {
-        name: name(alloc, word)?,
-        array,
-    })
-}
 
 /// The arrays under names behind a word.
 fn point(alloc: Global, items: &str, word: &str) -> Result<Point, CaseFault> {
-    let mut point = Vec::new(alloc);
+    let mut point = Point::empty(alloc);
     for item in items.split(';') {
         if let Some((front, rest)) = item.trim().split_once(' ')
             && front == word
         {
-            point.push(named(alloc, rest)?)?;
+            let (text, numbers) = rest.split_once(' ').ok_or(CaseFault::Unreadable)?;
+            point.put(name(alloc, text)?, array(alloc, numbers)?)?;
         }
     }
-    Ok(Point::from_vec(point))
+    Ok(point)
 }
 
 /// The multipliers.

@@ -51,9 +51,22 @@ bent_some g b = by g.fixed g.convex g.concave b
 
 -- ---- findings
 -- what is found of a node, by its curvature
-found : (g : Judgement) (n : Finding) (o : Option Curvature) → option_map (finding g.sign) o ≡ Some n → (n.sign ≡ g.sign) × (o ≡ Some n.curvature)
+record IsFound (g : Judgement) (n : Finding) (o : Option Curvature) : Type 0 where
+  sign : n.sign ≡ g.sign
+  curvature : o ≡ Some n.curvature
+  variable : n.reaches_variable ≡ not g.fixed
+  parameter : n.reaches_parameter ≡ not g.unparametrized
+
+found : (g : Judgement) (n : Finding) (o : Option Curvature) → option_map (finding g) o ≡ Some n → IsFound g n o
 found g n None e = absurd (none-some n e)
-found g n (Some c) e = let f : finding g.sign c ≡ n = same_Some (finding g.sign c) n e in (sym (ap (λ (x : Finding). x.sign) f), ap (λ (x : Finding). Some x.curvature) f)
+found g n (Some c) e =
+    let f : finding g c ≡ n = same_Some (finding g c) n e in
+    record {
+      sign = sym (ap (λ (x : Finding). x.sign) f);
+      curvature = ap (λ (x : Finding). Some x.curvature) f;
+      variable = sym (ap (λ (x : Finding). x.reaches_variable) f);
+      parameter = sym (ap (λ (x : Finding). x.reaches_parameter) f);
+    }
 
 -- the judgement of which it is found
 found_at : (gs : List Judgement) (ns : List Finding) → map Some ns ≡ map finding_of gs → (i : ℕ) (n : Finding) → slice_get ns i ≡ Some n → (g : Judgement) × (slice_get gs i ≡ Some g) × (finding_of g ≡ Some n)
@@ -63,7 +76,7 @@ found_at (g ∷ gs) (m ∷ ns) e zero n at = let here : Some m ≡ finding_of g 
 found_at (g ∷ gs) (m ∷ ns) e (suc i) n at = let rest : map Some ns ≡ map finding_of gs = cc in found_at gs ns rest i n at
 
 -- what is found tells a curvature
-found_some : (g : Judgement) (m : Finding) (o : Option Curvature) → Some m ≡ option_map (finding g.sign) o → IsSome o
+found_some : (g : Judgement) (m : Finding) (o : Option Curvature) → Some m ≡ option_map (finding g) o → IsSome o
 found_some g m None e = absurd (none-some m (sym e))
 found_some g m (Some c) e = refl
 
@@ -81,15 +94,22 @@ module _ (p : Problem) (gs : List Judgement) (are : AreJudgements Plain p gs) wh
   curvature_is i g at = ap curvature_of (are.each i g at)
 
   -- ---- the verdict
-  pub verdict_is : (ns : List Finding) (dpp : Bool) → map Some ns ≡ map finding_of gs → (IsTrue dpp ↔ IsDpp p) → IsVerdictOf p (record { nodes = ns; dpp = dpp })
-  verdict_is ns dpp e d = record {
+  pub verdict_is : (ns : List Finding) (affine : List Judgement) (dpp : Bool) → map Some ns ≡ map finding_of gs → AreJudgements Parametrized p affine → (IsTrue dpp ↔ IsDpp p) → IsVerdictOf p (record { nodes = ns; parametrized = affine; dpp = dpp })
+  verdict_is ns affine dpp e also d = record {
     count = sym (length-map ns Some) ∙ ap length e ∙ length-map gs finding_of ∙ are.count;
     signs = λ i n at.
         let (g, there, is) = found_at gs ns e i n at in
-        (found g n (curvature_of (judgement_of g)) is).0 ∙ ap (λ (j : convex.Judgement). j.sign) (are.each i g there);
+        (found g n (curvature_of (judgement_of g)) is).sign ∙ ap (λ (j : convex.Judgement). j.sign) (are.each i g there);
     curvatures = λ i n at.
         let (g, there, is) = found_at gs ns e i n at in
-        sym (curvature_is i g there) ∙ (found g n (curvature_of (judgement_of g)) is).1;
+        sym (curvature_is i g there) ∙ (found g n (curvature_of (judgement_of g)) is).curvature;
+    variables = λ i n at.
+        let (g, there, is) = found_at gs ns e i n at in
+        (found g n (curvature_of (judgement_of g)) is).variable ∙ ap (λ (j : convex.Judgement). not j.fixed) (are.each i g there);
+    parameters = λ i n at.
+        let (g, there, is) = found_at gs ns e i n at in
+        (found g n (curvature_of (judgement_of g)) is).parameter ∙ ap (λ (j : convex.Judgement). not j.unparametrized) (are.each i g there);
+    parametrized = also;
     dpp = d;
   }
 

@@ -1,7 +1,6 @@
 -- Acceptance by the judgements of the nodes, as the code keeps them.
-use Rattle.std.specs.Prelude.{◌≡◌, ℕ, ◌<◌, Bool, true, false, ◌&&◌, List, map, Option, Some, None, IsSome, option_map, slice_get}
+use Rattle.std.specs.Prelude.{◌≡◌, ℕ, ◌<◌, Bool, true, false, not, ◌&&◌, List, map, Option, Some, None, IsSome, option_map, slice_get}
 use Rattle.std.specs.List.{list_all}
-use Rattle.dcx_atom.specs.declared.flags.Sign.{Sign}
 use Rattle.dcx_convex.specs.Rules.{argument}
 use Rattle.dcx_convex.specs.Problems.{may_be_objective, may_be_sides}
 use Rattle.dcx_tree.specs.declared.constraint.Constraint.{Constraint}
@@ -62,11 +61,11 @@ abbrev pub IsBreach : Problem → List Judgement → Breach → Type 0
 IsBreach p gs b = BreaksFirst p gs b.site b.rule
 
 -- what is found of a node, if it has a curvature
-abbrev pub finding : Sign → Curvature → Finding
-finding sign curvature = record { sign = sign; curvature = curvature }
+abbrev pub finding : Judgement → Curvature → Finding
+finding g curvature = record { sign = g.sign; curvature = curvature; reaches_variable = not g.fixed; reaches_parameter = not g.unparametrized }
 
 abbrev pub finding_of : Judgement → Option Finding
-finding_of g = option_map (finding g.sign) (curvature_of (judgement_of g))
+finding_of g = option_map (finding g) (curvature_of (judgement_of g))
 
 -- node i is the first one without a curvature
 pub record IsLostAt (gs : List Judgement) (i : ℕ) : Type 0 where

@@ -15,7 +15,8 @@ use crate::verdict::{Finding, Verdict};
 use dcx_tree::{NodeId, Problem};
 use std::alloc::Global;
 
-/// The signs and curvatures of the nodes of a problem, and whether it is accepted also where parameters are affine.
+/// The signs and curvatures of the nodes of a problem, what the rules say of each where parameters are affine, and whether
+/// the problem is accepted also then.
 ///
 /// `NotDcp` where the rules of disciplined convex programming don't accept the problem. It names the first node that has
 /// no curvature and whose arguments all have one, by the rule `Composition`; where there is none the objective, by the rule
@@ -37,7 +38,7 @@ pub fn check(alloc: Global, problem: &Problem) -> Result<Verdict, RuleFault>
     }
     let parametrized = judgements(alloc, problem, Rules::Parametrized)?;
     let dpp = first_breach(problem, &parametrized).is_none();
-    Ok(Verdict::of(nodes, dpp))
+    Ok(Verdict::of(nodes, parametrized, dpp))
 }
 
 /// The sign and the curvature of each node; or the first node that has no curvature.
@@ -52,6 +53,8 @@ fn findings(alloc: Global, judgements: &[Judgement]) -> Result<Vec<Finding>, Rul
             Some(curvature) => findings.push(Finding {
                 sign: judgement.sign,
                 curvature,
+                reaches_variable: !judgement.fixed,
+                reaches_parameter: !judgement.unparametrized,
             })?,
             None => {
                 return Err(RuleFault::NotDcp {

@@ -1,7 +1,8 @@
 //! What is found of an accepted problem.
-ghost use Rattle.std.specs.Prelude.{◌≡◌, ◌<◌, Some, length, option_map, slice_get};
+ghost use Rattle.std.specs.Prelude.{◌≡◌, ◌<◌, ◌&&◌, Some, length, option_map, slice_get};
 
 use crate::curvature::Curvature;
+use crate::judgement::Judgement;
 use dcx_atom::Sign;
 use dcx_tree::NodeId;
 use std::marker::Model;
@@ -11,13 +12,16 @@ use std::marker::Model;
 pub struct Finding {
     pub sign: Sign,
     pub curvature: Curvature,
+    pub reaches_variable: bool,
+    pub reaches_parameter: bool,
 }
 
-/// The signs and curvatures of the nodes of an accepted problem, and whether it is accepted also where parameters are
-/// affine.
+/// The signs and curvatures of the nodes of an accepted problem, what the rules say of each node where parameters are
+/// affine, and whether the problem is accepted also then.
 #[derive(Drop)]
 pub struct Verdict {
     nodes: Vec<Finding>,
+    parametrized: Vec<Judgement>,
     dpp: bool,
 }
 
@@ -26,15 +30,19 @@ impl Model for Verdict {
 
     ghost Value = { Findings };
 
-    ghost view = { λ v. record { nodes = v.nodes.items; dpp = v.dpp } };
+    ghost view = { λ v. record { nodes = v.nodes.items; parametrized = v.parametrized.items; dpp = v.dpp } };
 }
 
 impl Verdict {
-    /// The verdict with these findings, node by node. Takes no memory.
-    pub(crate) fn of(nodes: Vec<Finding>, dpp: bool) -> Verdict
-        ensures { result ≡ record { nodes = nodes.items; dpp = dpp } }
+    /// The verdict with these findings and these judgements where parameters are affine, node by node. Takes no memory.
+    pub(crate) fn of(nodes: Vec<Finding>, parametrized: Vec<Judgement>, dpp: bool) -> Verdict
+        ensures { result ≡ record { nodes = nodes.items; parametrized = parametrized.items; dpp = dpp } }
     {
-        Verdict { nodes, dpp }
+        Verdict {
+            nodes,
+            parametrized,
+            dpp,
+        }
     }
 
     /// What is known of the sign of a node's value.
@@ -51,6 +59,48 @@ impl Verdict {
         ensures { option_map (λ n. n.curvature) (slice_get self.now.nodes node.0) ≡ Some result }
     {
         self.nodes[node.0 as usize].curvature
+    }
+
+    /// Whether a node reaches a variable. Takes no memory.
+    pub fn reaches_variable(&self, node: NodeId) -> bool
+        requires { node.0 < length self.now.nodes }
+        ensures { option_map (λ n. n.reaches_variable) (slice_get self.now.nodes node.0) ≡ Some result }
+    {
+        self.nodes[node.0 as usize].reaches_variable
+    }
+
+    /// Whether a node reaches a parameter. Takes no memory.
+    pub fn reaches_parameter(&self, node: NodeId) -> bool
+        requires { node.0 < length self.now.nodes }
+        ensures { option_map (λ n. n.reaches_parameter) (slice_get self.now.nodes node.0) ≡ Some result }
+    {
+        self.nodes[node.0 as usize].reaches_parameter
+    }
+
+    /// Whether a node counts as a number where parameters are affine: it reaches neither a variable nor a parameter. Takes
+    /// no memory.
+    pub fn is_dpp_constant(&self, node: NodeId) -> bool
+        requires { node.0 < length self.now.parametrized }
+        ensures { option_map (λ g. g.fixed && g.unparametrized) (slice_get self.now.parametrized node.0) ≡ Some result }
+    {
+        let judgement = self.parametrized[node.0 as usize];
+        judgement.fixed && judgement.unparametrized
+    }
+
+    /// Whether the rules find a node convex where parameters are affine. Takes no memory.
+    pub fn is_dpp_convex(&self, node: NodeId) -> bool
+        requires { node.0 < length self.now.parametrized }
+        ensures { option_map (λ g. g.convex) (slice_get self.now.parametrized node.0) ≡ Some result }
+    {
+        self.parametrized[node.0 as usize].convex
+    }
+
+    /// Whether the rules find a node concave where parameters are affine. Takes no memory.
+    pub fn is_dpp_concave(&self, node: NodeId) -> bool
+        requires { node.0 < length self.now.parametrized }
+        ensures { option_map (λ g. g.concave) (slice_get self.now.parametrized node.0) ≡ Some result }
+    {
+        self.parametrized[node.0 as usize].concave
     }
 
     /// Whether the problem is accepted also where parameters are affine.

@@ -1,7 +1,7 @@
 //! The program over files in memory.
 ghost use Rattle.std.specs.Prelude.{◌≡◌, ◌<◌};
 
-use dcx_report::{Library, Sink, SteadyLibrary, SteadySink};
+use dcx_host::{Library, Sink, SteadyLibrary, SteadySink};
 use dcx_shape::Bytes;
 use dcx_steps::Steps;
 use dcx_top::run;

@@ -1,7 +1,7 @@
 //! Scripts that are solved, and words of all kinds, each with the bytes and the status that they give.
 
 use crate::running::{files, gives, gives_bytes, status_with, words};
-use dcx_report::{MemoryLibrary, MemorySink};
+use dcx_host::{MemoryLibrary, MemorySink};
 use std::alloc::{AllocError, Global};
 use std::test::Fail;
 

@@ -17,7 +17,7 @@ use Rattle.dcx_tab.specs.Rows.{Row, entry, row_at}
 use Rattle.dcx_tab.specs.Program.{kind_at, entries_at, entries_of, right_side_at, right_of, is_negated_at}
 use Rattle.dcx_tab.proofs.Programs.{has_row, map_at, length_first, at_row, at_objective, at_phase}
 use Rattle.dcx_tab.proofs.RationalRows.{SolvesRational, full, dot_full, dot_front, placed, dot_placed, length_placed, length_added}
-use Rattle.dcx_simplex.specs.Right.{IsAssignment, is_inequality, row_at_columns, cost_at_columns}
+use Rattle.dcx_lp_answer.specs.Right.{IsAssignment, is_inequality, row_at_columns, cost_at_columns}
 use Rattle.dcx_simplex.proofs.Starts.{entry_z, entry_w, entry_right}
 use Rattle.dcx_simplex.proofs.Slacks.{Own, own_of, own_other, own_cost, sign_slack, sign_artificial}
 use Rattle.dcx_simplex.proofs.Owns.{own_low}

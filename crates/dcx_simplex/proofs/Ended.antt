@@ -8,13 +8,13 @@ use Rattle.dcx_simplex.specs.Run.{IsEntering, NoneEnters, NoneLeaves, right_at}
 use Rattle.dcx_simplex.specs.Whole.{objective_row, InSecond, RunEnds}
 use Rattle.dcx_simplex.specs.declared.phase.PhaseEnd.TheVariants as phase
 use Rattle.dcx_simplex.specs.declared.run.LpEnd.TheVariants as lp
-use Rattle.dcx_simplex.specs.declared.answer.LpStatus.TheVariants as status
-use Rattle.dcx_simplex.specs.declared.answer.LpAnswer.{LpAnswer}
+use Rattle.dcx_lp_answer.specs.declared.answer.LpStatus.TheVariants as status
+use Rattle.dcx_lp_answer.specs.declared.answer.LpAnswer.{LpAnswer}
 use Rattle.dcx_simplex.specs.Basis.{IsBasic}
 use Rattle.dcx_simplex.specs.Start.{IsStart}
 use Rattle.dcx_simplex.specs.Reading.{IsReading, IsRayReading}
 use Rattle.dcx_simplex.specs.Readable.{IsReadable}
-use Rattle.dcx_simplex.specs.Right.{IsOptimalAnswer, IsInfeasibleAnswer, IsUnboundedAnswer}
+use Rattle.dcx_lp_answer.specs.Right.{IsOptimalAnswer, IsInfeasibleAnswer, IsUnboundedAnswer}
 use Rattle.dcx_simplex.proofs.Limits.{begun}
 use Rattle.dcx_simplex.proofs.Starts.{starts}
 use Rattle.dcx_simplex.proofs.EndFacts.{IsEnded, ended_first, ended_second, readable, not_basic_of}

@@ -7,7 +7,7 @@ use Rattle.dcx_math.specs.Sums.{rat_at}
 use Rattle.dcx_math.proofs.Sums.{rat_at-get_or}
 use Rattle.dcx_frac.specs.declared.fraction.Frac.{Frac}
 use Rattle.dcx_frac.specs.Frac.{value}
-use Rattle.dcx_simplex.specs.Reading.{numbers}
+use Rattle.dcx_lp_answer.specs.Notes.{numbers}
 
 pub positive_some : (d : ℤ) → pos 0 <ℤ d → d ≢ pos 0
 positive_some d h e = absurd (omega (arith, ints, e))

@@ -1,7 +1,7 @@
 -- At the last tableau: what rows are at the numbers of its columns, and at their changes.
 use Rattle.std.proofs.Common.{◌≡◌, ◌≢◌, ℕ, zero, suc, ◌+◌, ◌<◌, ◌≤◌, List, [], ◌∷◌, length, ℤ, pos, negsuc, ◌<ℤ◌, ◌≤ℤ◌, arith, refl, sym, ap, ap₂, ◌∙◌, subst, ◌⊎◌, inl, inr}
 use Rattle.std.proofs.lemmas.Bool.{cases_lt, cases_eq}
-use Rattle.std.proofs.lemmas.List.{get_or_past, length-map}
+use Rattle.std.proofs.lemmas.List.{get_or_past}
 use Rattle.dcx_math.specs.Rational.{ℚ, whole, ◌+ℚ◌, ◌*ℚ◌, ◌/ℚ◌, neg_ℚ, inverse, ◌≤ℚ◌}
 use Rattle.dcx_math.specs.Sums.{rat_dot, rat_at, rat_sum_below}
 use Rattle.dcx_math.proofs.Points.{wholes}
@@ -9,10 +9,10 @@ use Rattle.dcx_math.proofs.Ring.{ring, reads, /ℚ-is}
 use Rattle.dcx_math.proofs.Orders.{*ℚ-zero, zero-*ℚ, *ℚ_comm, *ℚ_idr, ≤ℚ-from_≡, whole-≤ℤ, neg_ℚ-≤ℚ, neg_ℚ-zero}
 use Rattle.dcx_math.proofs.Products.{/ℚ-*ℚ, /ℚ-≤ℚ, ≤ℚ-/ℚ, whole-<ℤ}
 use Rattle.dcx_math.proofs.Sums.{rat_sum_below-one, rat_sum_below-same, rat_sum_below-zero, rat_sum_below-monotone, rat_at-get_or}
-use Rattle.dcx_math.proofs.Vectors.{rat_dot-rat_sum_below}
 use Rattle.dcx_tab.specs.Rows.{Row, entry, row_at, basic_at}
 use Rattle.dcx_tab.specs.Table.{Table, entry_at}
 use Rattle.dcx_tab.proofs.RationalRows.{SolvesRational, full, dot_full}
+use Rattle.dcx_lp_answer.proofs.RowSums.{dot_sum}
 use Rattle.dcx_simplex.specs.Run.{right_at}
 use Rattle.dcx_simplex.specs.Whole.{objective_row, phase_row}
 use Rattle.dcx_simplex.specs.Basis.{IsBasic, lead_at}
@@ -25,18 +25,8 @@ use Rattle.dcx_simplex.proofs.EndFacts.{IsEnded, readable}
 use Rattle.dcx_simplex.proofs.Sides.{sum_two}
 
 -- ---- rows as sums over columns
-pub rat_at-wholes : (row : Row) (j : ℕ) → rat_at (wholes row) j ≡ whole (entry row j)
-rat_at-wholes [] j = refl
-rat_at-wholes (a ∷ row) zero = refl
-rat_at-wholes (a ∷ row) (suc j) = rat_at-wholes row j
-
 pub rat_at-past : (xs : List ℚ) (j : ℕ) → length xs ≤ j → rat_at xs j ≡ whole (pos 0)
 rat_at-past xs j h = sym (rat_at-get_or xs j) ∙ get_or_past xs j (whole (pos 0)) h
-
-pub dot_sum : (row : Row) (xs : List ℚ) (n : ℕ) → length row ≤ n → rat_dot (wholes row) xs ≡ rat_sum_below n (λ j. whole (entry row j) *ℚ rat_at xs j)
-dot_sum row xs n h =
-    rat_dot-rat_sum_below (wholes row) xs n (omega (arith, h, length-map row whole))
-    ∙ rat_sum_below-same n _ _ (λ j l. ap (λ u. u *ℚ rat_at xs j) (rat_at-wholes row j))
 
 zero_left : (a x : ℚ) → a ≡ whole (pos 0) → a *ℚ x ≡ whole (pos 0)
 zero_left a x e = rw e (zero-*ℚ x)

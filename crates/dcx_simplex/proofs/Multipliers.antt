@@ -12,11 +12,11 @@ use Rattle.dcx_tab.specs.declared.program.Program.{Program}
 use Rattle.dcx_tab.specs.Rows.{Row, entry}
 use Rattle.dcx_tab.specs.Program.{kind_at, entries_at, right_side_at, is_negated_at, is_negated}
 use Rattle.dcx_tab.proofs.Programs.{has_row, map_at}
-use Rattle.dcx_simplex.specs.declared.answer.LpAnswer.{LpAnswer}
-use Rattle.dcx_simplex.specs.declared.answer.LpStatus.{LpStatus}
-use Rattle.dcx_simplex.specs.declared.answer.LpStatus.TheVariants as status
-use Rattle.dcx_simplex.specs.Reading.{reduced_cost_of, factor_of, was_negated, row_factor}
-use Rattle.dcx_simplex.specs.Right.{IsAssignment, is_inequality, turned_if, offset, row_at_columns, form_at, multiplier_at, combined_rows}
+use Rattle.dcx_lp_answer.specs.declared.answer.LpAnswer.{LpAnswer}
+use Rattle.dcx_lp_answer.specs.declared.answer.LpStatus.{LpStatus}
+use Rattle.dcx_lp_answer.specs.declared.answer.LpStatus.TheVariants as status
+use Rattle.dcx_lp_answer.specs.Notes.{reduced_cost_of, factor_of, was_negated, row_factor}
+use Rattle.dcx_lp_answer.specs.Right.{IsAssignment, is_inequality, turned_if, offset, row_at_columns, form_at, multiplier_at, combined_rows}
 use Rattle.dcx_simplex.proofs.Slacks.{Own, sign_slack, sign_artificial}
 use Rattle.dcx_simplex.proofs.Bounds.{own_column, own_column_is, short}
 

@@ -19,8 +19,9 @@ use Rattle.dcx_tab.specs.Program.{IsProgram, kind_at, first_basic_of, first_basi
 use Rattle.dcx_tab.proofs.Programs.{has_row, map_at}
 use Rattle.dcx_simplex.specs.Run.{right_at}
 use Rattle.dcx_simplex.specs.Basis.{IsBasic}
-use Rattle.dcx_simplex.specs.Reading.{numbers, IsColumnNumber, IsColumnChange, IsOwnColumn}
-use Rattle.dcx_simplex.specs.Right.{turned_if}
+use Rattle.dcx_lp_answer.specs.Notes.{numbers}
+use Rattle.dcx_simplex.specs.Reading.{IsColumnNumber, IsColumnChange, IsOwnColumn}
+use Rattle.dcx_lp_answer.specs.Right.{turned_if}
 use Rattle.dcx_simplex.proofs.Fractions.{number-set_same, number-set_other}
 
 -- one more zero

@@ -28,11 +28,12 @@ use Rattle.dcx_simplex.specs.Run.{right_at, IsEntering, NoneEnters, NoneLeaves}
 use Rattle.dcx_simplex.specs.Whole.{objective_row, phase_row}
 use Rattle.dcx_simplex.specs.Basis.{IsBasic, IsIdle, lead_at}
 use Rattle.dcx_simplex.specs.Start.{IsSumRow}
-use Rattle.dcx_simplex.specs.declared.answer.LpAnswer.{LpAnswer}
-use Rattle.dcx_simplex.specs.declared.answer.LpStatus.{LpStatus}
-use Rattle.dcx_simplex.specs.declared.answer.LpStatus.TheVariants as status
-use Rattle.dcx_simplex.specs.Reading.{numbers, IsColumnNumber, IsColumnChange, IsReading, IsRayReading, cost_at, read_row, reduced_cost_of, reduced_cost_at, IsOwnColumn}
-use Rattle.dcx_simplex.specs.Right.{IsSolution, IsAssignment, IsOneSided, HasSigns, is_inequality, offset, row_at_columns, cost_at_columns, combined_rows, multiplier_at, turned_if, IsOptimalAnswer, IsInfeasibleAnswer, IsUnboundedAnswer}
+use Rattle.dcx_lp_answer.specs.declared.answer.LpAnswer.{LpAnswer}
+use Rattle.dcx_lp_answer.specs.declared.answer.LpStatus.{LpStatus}
+use Rattle.dcx_lp_answer.specs.declared.answer.LpStatus.TheVariants as status
+use Rattle.dcx_lp_answer.specs.Notes.{numbers, reduced_cost_of}
+use Rattle.dcx_simplex.specs.Reading.{IsColumnNumber, IsColumnChange, IsReading, IsRayReading, cost_at, read_row, reduced_cost_at, IsOwnColumn}
+use Rattle.dcx_lp_answer.specs.Right.{IsSolution, IsAssignment, IsOneSided, HasSigns, is_inequality, offset, row_at_columns, cost_at_columns, combined_rows, multiplier_at, turned_if, IsOptimalAnswer, IsInfeasibleAnswer, IsUnboundedAnswer}
 use Rattle.dcx_simplex.proofs.Starts.{starts}
 use Rattle.dcx_simplex.proofs.EndFacts.{IsEnded, readable, not_basic_of}
 use Rattle.dcx_simplex.proofs.Cycle.{is_basic}

@@ -8,7 +8,7 @@ use Rattle.dcx_tab.specs.Rows.{entry}
 use Rattle.dcx_tab.specs.Program.{kind_at, told_entry, unknown_entry, entries_at, entries_of, is_negated_at, is_negated, first_basic_at, first_basic_of}
 use Rattle.dcx_tab.proofs.Programs.{has_row, map_at}
 use Rattle.dcx_simplex.specs.Reading.{IsOwnColumn}
-use Rattle.dcx_simplex.specs.Right.{is_slack_of, is_inequality}
+use Rattle.dcx_lp_answer.specs.Right.{is_slack_of, is_inequality}
 use Rattle.dcx_simplex.proofs.ReadLists.{starts_by}
 use Rattle.dcx_simplex.proofs.Owns.{slack_or, own_low}
 use Rattle.dcx_simplex.proofs.Starts.{different, same_test}

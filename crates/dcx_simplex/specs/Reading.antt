@@ -10,31 +10,16 @@ use Rattle.dcx_tab.specs.declared.rows.IntRow.{IntRow}
 use Rattle.dcx_tab.specs.Rows.{basic_at}
 use Rattle.dcx_tab.specs.Table.{Table, entry_at}
 use Rattle.dcx_tab.specs.Program.{kind_at, is_negated}
-use Rattle.dcx_simplex.specs.declared.answer.LpStatus.{LpStatus}
-use Rattle.dcx_simplex.specs.declared.answer.LpStatus.TheVariants as status
-use Rattle.dcx_simplex.specs.declared.answer.RowNote.{RowNote}
-use Rattle.dcx_simplex.specs.declared.answer.LpAnswer.{LpAnswer}
+use Rattle.dcx_lp_answer.specs.declared.answer.LpStatus.{LpStatus}
+use Rattle.dcx_lp_answer.specs.declared.answer.LpStatus.TheVariants as status
+use Rattle.dcx_lp_answer.specs.declared.answer.RowNote.{RowNote}
+use Rattle.dcx_lp_answer.specs.declared.answer.LpAnswer.{LpAnswer}
 use Rattle.dcx_simplex.specs.declared.run.LpEnd.{LpEnd}
 use Rattle.dcx_simplex.specs.declared.run.LpEnd.TheVariants as lp
+use Rattle.dcx_lp_answer.specs.Notes.{numbers, reduced_cost_of, factor_of, was_negated, row_factor}
 use Rattle.dcx_simplex.specs.Run.{right_at}
 use Rattle.dcx_simplex.specs.Basis.{IsBasic, lead_at}
 use Rattle.dcx_simplex.specs.Whole.{objective_row, phase_row}
-
--- ---- the numbers of fractions
-abbrev pub numbers : List Frac → List ℚ
-numbers fs = map value fs
-
-abbrev pub reduced_cost_of : RowNote → ℚ
-reduced_cost_of n = value n.reduced_cost
-
-abbrev pub factor_of : RowNote → ℚ
-factor_of n = value n.factor
-
-abbrev pub was_negated : RowNote → Bool
-was_negated n = n.negated
-
-abbrev pub row_factor : IntRow → ℚ
-row_factor r = value r.factor
 
 -- ---- at a tableau
 -- a basic column's number is its row's right side over its entry, every other column's is 0

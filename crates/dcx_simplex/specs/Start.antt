@@ -5,10 +5,11 @@ use Rattle.dcx_tab.specs.Rows.{entry, Row, Assignment, basic_at, Solves}
 use Rattle.dcx_tab.specs.Table.{Table, IsOf}
 use Rattle.dcx_tab.specs.declared.program.Program.{Program}
 use Rattle.dcx_tab.specs.First.{first_tableau}
-use Rattle.dcx_simplex.specs.Whole.{objective_row, phase_row, RunEnds}
+use Rattle.dcx_simplex.specs.Run.{Leads}
+use Rattle.dcx_simplex.specs.Whole.{objective_row, phase_row, Starts, RunEnds}
 use Rattle.dcx_simplex.specs.declared.run.LpEnd.{LpEnd}
 use Rattle.dcx_simplex.specs.declared.run.LpEnd.TheVariants as lp
-use Rattle.dcx_simplex.specs.Basis.{IsFeasible}
+use Rattle.dcx_simplex.specs.Basis.{IsFeasible, HasSameColumns}
 
 -- the row that says that w is the sum of the artificial columns, and it holds at all solutions
 pub record IsSumRow (equations : List Row) (t : Table) (row : Row) : Type 0 where
@@ -74,3 +75,12 @@ EndsOnce = (equations : List Row) (limit : ℕ) (t u v : Table) (e f : LpEnd) �
 -- at the limit as many pivots are done as it allows
 abbrev pub StopsAtLimit : Type 0
 StopsAtLimit = (limit : ℕ) (t u : Table) (n : ℕ) → RunEnds limit t u (lp.PivotLimit n) → n ≡ limit
+
+-- no set of basic columns comes twice in phase 1 of the run from t, nor in its phase 2
+pub record RepeatsNoBasis (t : Table) : Type 0 where
+  pub first : (limit n m : ℕ) (u v : Table) → Leads (phase_row t) t.columns limit t 0 u n → Leads (phase_row t) t.columns limit u n v m → n < m → ¬ (HasSameColumns u v)
+  pub second : (limit k n m : ℕ) (w u v : Table) → Starts limit t w k → Leads (objective_row w) w.plain limit w k u n → Leads (objective_row w) w.plain limit u n v m → n < m → ¬ (HasSameColumns u v)
+
+-- no run repeats a basis in a phase
+abbrev pub RunsNeverRepeat : Type 0
+RunsNeverRepeat = (equations : List Row) (t : Table) → IsStart equations t → RepeatsNoBasis t

@@ -3,7 +3,7 @@
 //! Each function is a law: its clause is a statement about all tableaus, and the body is empty.
 
 ghost use Rattle.dcx_simplex.specs.Laws.{StaysReady, NeverRises, StaysJustAtZero, NeverRepeats, NeverRepeatsList, MakesFewPivots};
-ghost use Rattle.dcx_simplex.specs.Start.{EndsBelow, EndsOnce, MakesFewInAll, ProgramsStart, StopsAtLimit};
+ghost use Rattle.dcx_simplex.specs.Start.{EndsBelow, EndsOnce, MakesFewInAll, ProgramsStart, RunsNeverRepeat, StopsAtLimit};
 ghost use Rattle.dcx_simplex.specs.Meaning.{FirstIsBounded, OptimalIsLeast, EndsFeasible, OptimalIsAttained, InfeasibleIsRight, UnboundedIsRight};
 
 /// Along a phase right sides stay at least 0.
@@ -89,4 +89,9 @@ pub fn stops_at_limit()
 /// The first tableau of a program is one from which a run begins.
 pub fn programs_start()
     ensures { ProgramsStart }
+{}
+
+/// No run from the start of a program repeats a basis within phase 1, nor within phase 2.
+pub fn runs_never_repeat()
+    ensures { RunsNeverRepeat }
 {}

@@ -9,13 +9,14 @@ ghost use Rattle.dcx_tab.specs.Program.{kind_at, first_basic_of, is_negated};
 ghost use Rattle.dcx_tab.specs.declared.rows.ColumnKind.TheVariants.{Slack};
 ghost use Rattle.dcx_simplex.specs.Basis.{IsBasic, lead_at};
 ghost use Rattle.dcx_simplex.specs.Readable.{IsReadable};
-ghost use Rattle.dcx_simplex.specs.Reading.{numbers, IsColumnNumber, IsColumnChange, IsOwnColumn, reduced_cost_at, reduced_cost_of, factor_of, was_negated, row_factor, read_row, IsReading, IsRayReading, HasNoRay, IsRead};
-ghost use Rattle.dcx_simplex.specs.Right.{turned_if, IsRight};
+ghost use Rattle.dcx_lp_answer.specs.Notes.{numbers, reduced_cost_of, factor_of, was_negated, row_factor};
+ghost use Rattle.dcx_simplex.specs.Reading.{IsColumnNumber, IsColumnChange, IsOwnColumn, reduced_cost_at, read_row, IsReading, IsRayReading, HasNoRay, IsRead};
+ghost use Rattle.dcx_lp_answer.specs.Right.{turned_if, IsRight};
 ghost use Rattle.dcx_simplex.specs.Finished.{IsFinished};
 
-use crate::answer::{LpAnswer, LpStatus, RowNote, RowNotes};
 use crate::run::LpEnd;
 use dcx_frac::{Frac, Fracs};
+use dcx_lp_answer::{LpAnswer, LpStatus, RowNote, RowNotes};
 use dcx_tab::{ColumnKind, IntRow, Program, Tableau};
 use std::alloc::{AllocError, Global};
 

@@ -20,7 +20,7 @@ use Rattle.dcx_tab.specs.declared.rows.ColumnKind.TheVariants.{Unknown, Slack, A
 use Rattle.dcx_tab.specs.Program.{kind_at}
 use Rattle.dcx_std.specs.declared.start.Start.{Start}
 use Rattle.dcx_std.specs.Columns.{unknown_columns, all_unknown_columns, marked_from, has_slack, needs_artificial, slack_columns, artificial_columns, plain_columns_of, columns_of}
-use Rattle.dcx_simplex.specs.Right.{turned_if}
+use Rattle.dcx_lp_answer.specs.Right.{turned_if}
 use Rattle.dcx_std.specs.Solutions.{column_part, unknowns_at}
 
 -- the number of a column where the unknowns and the slacks have these numbers, and the artificials are 0

@@ -10,8 +10,8 @@ use Rattle.dcx_linear.specs.declared.row.UnknownKind.TheVariants.{Free, Nonneg, 
 use Rattle.dcx_tab.specs.declared.rows.ColumnKind.{ColumnKind}
 use Rattle.dcx_tab.specs.declared.rows.ColumnKind.TheVariants.{Unknown, Slack, Artificial}
 use Rattle.dcx_tab.specs.Program.{kind_at}
-use Rattle.dcx_simplex.specs.Right.{is_slack_of}
-use Rattle.dcx_simplex.specs.Right.{is_inequality as has_slack_column}
+use Rattle.dcx_lp_answer.specs.Right.{is_slack_of}
+use Rattle.dcx_lp_answer.specs.Right.{is_inequality as has_slack_column}
 use Rattle.dcx_std.specs.declared.start.Start.{Start}
 use Rattle.dcx_std.specs.Columns.{all_unknown_columns, has_slack, needs_artificial, slack_columns, artificial_columns, plain_columns_of, columns_of}
 use Rattle.dcx_std.proofs.ColumnLaws.{All-both, marked_All, marked_in, marked_true, marked_get, contains_first, contains_second, slack_place}

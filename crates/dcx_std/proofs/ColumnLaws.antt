@@ -14,7 +14,8 @@ use Rattle.dcx_tab.specs.declared.rows.ColumnKind.{ColumnKind}
 use Rattle.dcx_tab.specs.declared.rows.ColumnKind.TheVariants.{Unknown, Slack, Artificial}
 use Rattle.dcx_tab.specs.Program.{kind_at, is_plain, plain_count}
 use Rattle.dcx_std.specs.declared.start.Start.{Start}
-use Rattle.dcx_std.specs.Size.{columns_for, slacks_for}
+use Rattle.dcx_linear.specs.Size.{columns_for}
+use Rattle.dcx_std.specs.Size.{slacks_for}
 use Rattle.dcx_std.specs.Columns.{all_unknown_columns, is_inequality, has_slack, needs_artificial, marked_from, slack_columns, artificial_columns, plain_columns_of, columns_of, start_column}
 
 -- ---- a list of two parts

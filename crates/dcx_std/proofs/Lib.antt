@@ -1,6 +1,5 @@
 -- The lemmas.
 pub mod Multiples
-pub mod Fractions
 pub mod Coefficients
 pub mod Numerators
 pub mod WholeRows

@@ -12,8 +12,8 @@ use Rattle.dcx_frac.specs.declared.fraction.Passes.{Passes}
 use Rattle.dcx_linear.specs.declared.row.Row.{Row}
 use Rattle.dcx_linear.specs.declared.row.UnknownKind.{UnknownKind}
 use Rattle.dcx_linear.specs.declared.row.UnknownKind.TheVariants.{Free, Nonneg, Nonpos}
-use Rattle.dcx_linear.specs.declared.site.Site.{Site}
-use Rattle.dcx_linear.specs.declared.site.Site.TheVariants as sites
+use Rattle.dcx_answer.specs.declared.site.Site.{Site}
+use Rattle.dcx_answer.specs.declared.site.Site.TheVariants as sites
 use Rattle.dcx_linear.specs.declared.stop.CoefStop.{CoefStop}
 use Rattle.dcx_linear.specs.declared.stop.CoefStop.TheVariants as coef
 use Rattle.dcx_linear.specs.Stops.{Gives}
@@ -24,7 +24,8 @@ use Rattle.dcx_tab.specs.declared.rows.IntRow.{IntRow}
 use Rattle.dcx_tab.specs.Rows.{AllSmall}
 use Rattle.dcx_std.specs.declared.whole.WholeRow.{WholeRow}
 use Rattle.dcx_std.specs.declared.start.Start.{Start}
-use Rattle.dcx_std.specs.Size.{columns_for, column_count}
+use Rattle.dcx_linear.specs.Size.{columns_for}
+use Rattle.dcx_std.specs.Size.{column_count}
 use Rattle.dcx_std.specs.WholeRows.{row_numbers, row_made}
 use Rattle.dcx_std.specs.Columns.{start_column, unknown_columns, all_unknown_columns, marked_from, columns_of, number_in}
 use Rattle.dcx_std.specs.IntegerRows.{start_of, IsMadeOf, AreMadeOf, passing_from, stop_at, result_at}

@@ -26,7 +26,7 @@ use Rattle.dcx_tab.specs.Rows.{entry, AllSmall}
 use Rattle.dcx_tab.specs.Program.{IsPhase, plain_count, sum_started, right_of}
 use Rattle.dcx_std.specs.WholeRows.{numerators}
 use Rattle.dcx_std.specs.IntegerRows.{starts_artificial, number_at, added_number, column_sum, phase_of, phase_made}
-use Rattle.dcx_std.proofs.Fractions.{value-whole}
+use Rattle.dcx_lp_answer.proofs.Fractions.{value-whole}
 use Rattle.dcx_std.proofs.Numerators.{formed_numerators, numerators_small, numerators_count, num_of_whole}
 use Rattle.dcx_std.proofs.RowForm.{AllSmall-++, small_ends}
 

@@ -40,7 +40,7 @@ use Rattle.dcx_std.specs.Size.{slacks_for, column_count}
 use Rattle.dcx_std.specs.WholeRows.{coefficient_at, coefficients, opposite, one_frac, cost_numbers, row_numbers, divisor_of, row_made, cost_made}
 use Rattle.dcx_std.specs.Columns.{turned, cost_in, all_unknown_columns, slack_columns, artificial_columns, plain_columns_of, columns_of}
 use Rattle.dcx_std.specs.IntegerRows.{start_of, IsMadeOf, AreMadeOf, IsCostOf, phase_made}
-use Rattle.dcx_std.proofs.Fractions.{value-whole}
+use Rattle.dcx_lp_answer.proofs.Fractions.{value-whole}
 use Rattle.dcx_std.proofs.Numerators.{formed_numerators, num_of_whole}
 use Rattle.dcx_std.proofs.WholeRows.{IsFormedBy, formed_by, whole_small, whole_count, whole_kind, factor_positive, multiple_facts, or_one_some}
 use Rattle.dcx_std.proofs.ColumnLaws.{has_column, plain_length, ordered_columns, slack_bound, slack_once, artificial_bound, artificial_once, artificial_needed, columns_count}

@@ -22,8 +22,8 @@ use Rattle.dcx_tab.specs.declared.rows.ColumnKind.{ColumnKind}
 use Rattle.dcx_tab.specs.declared.rows.ColumnKind.TheVariants.{Unknown, Slack, Artificial}
 use Rattle.dcx_tab.specs.declared.program.Program.{Program}
 use Rattle.dcx_tab.specs.Program.{kind_at, right_side_at, right_of}
-use Rattle.dcx_simplex.specs.Reading.{row_factor}
-use Rattle.dcx_simplex.specs.Right.{turned_if, row_at_columns, cost_at_columns, IsSolution}
+use Rattle.dcx_lp_answer.specs.Notes.{row_factor}
+use Rattle.dcx_lp_answer.specs.Right.{turned_if, row_at_columns, cost_at_columns, IsSolution}
 use Rattle.dcx_std.specs.GivenRows.{GivenRows}
 use Rattle.dcx_std.specs.ScaledProgram.{IsScaledProgram}
 use Rattle.dcx_std.specs.Solutions.{form_number, row_at, linear_program, unknowns_at, HasKinds}

@@ -25,8 +25,8 @@ use Rattle.dcx_tab.specs.declared.rows.ColumnKind.{ColumnKind}
 use Rattle.dcx_tab.specs.declared.rows.ColumnKind.TheVariants.{Unknown, Slack, Artificial}
 use Rattle.dcx_tab.specs.Rows.{entry}
 use Rattle.dcx_tab.specs.Program.{kind_at, told_entry, unknown_entry}
-use Rattle.dcx_simplex.specs.Right.{turned_if}
-use Rattle.dcx_simplex.proofs.Last.{dot_sum}
+use Rattle.dcx_lp_answer.specs.Right.{turned_if}
+use Rattle.dcx_lp_answer.proofs.RowSums.{dot_sum}
 use Rattle.dcx_std.specs.WholeRows.{coefficient_or_zero, coefficient_at}
 use Rattle.dcx_std.specs.Solutions.{column_part, unknowns_at}
 

@@ -9,21 +9,17 @@ use native.Mathlib.Nat.{one-dvd, div-mul_cancel}
 use Prim.Native.Nat.{◌∣◌}
 use Rattle.dcx_math.specs.Rational.{ℚ, whole, ◌*ℚ◌, ◌/ℚ◌, neg_ℚ, ◌<ℚ◌}
 use Rattle.dcx_math.specs.Sums.{rat_scaled}
-use Rattle.dcx_math.specs.Divisors.{gcd_of, divided, IsCoprime}
-use Rattle.dcx_math.specs.LowestTerms.{IsInLowestTerms}
+use Rattle.dcx_math.specs.Divisors.{gcd_of, divided}
 use Rattle.dcx_math.proofs.Orders.{*ℚ_assoc, *ℚ_comm, *ℚ-zero, *ℚ-neg_ℚ, <ℚ-≢}
 use Rattle.dcx_math.proofs.FieldLaws.{whole-*ℤ, whole-neg_ℤ}
 use Rattle.dcx_math.proofs.Products.{/ℚ-*ℚ, *ℚ_cancel, whole-<ℤ}
-use Rattle.dcx_math.proofs.Denominators.{ratio-neg_ℚ}
 use Rattle.dcx_math.proofs.Divisors.{divided_is}
 use Rattle.dcx_math.proofs.Primitive.{gcd_of-dvd}
 use Rattle.dcx_math.proofs.Ratios.{ratio-*ℚ-whole}
 use Rattle.dcx_frac.specs.declared.fraction.Frac.{Frac}
 use Rattle.dcx_frac.specs.Frac.{num_of, den_of, value}
-use Rattle.dcx_frac.specs.Fits.{representable}
 use Rattle.dcx_frac.specs.Results.{product_of}
 use Rattle.dcx_frac.proofs.Results.{product_of_is}
-use Rattle.dcx_frac.proofs.Turns.{neg_size}
 use Rattle.dcx_atom.specs.Formed.{zero_frac, frac_at}
 use Rattle.dcx_atom.proofs.FormedSums.{value-zero_frac}
 use Rattle.dcx_linear.specs.declared.form.FormTerm.{FormTerm}
@@ -36,7 +32,7 @@ use Rattle.dcx_tab.specs.Rows.{entry}
 use Rattle.dcx_std.specs.declared.whole.WholeRow.{WholeRow}
 use Rattle.dcx_std.specs.Multiples.{denominator_of, denominators}
 use Rattle.dcx_std.specs.WholeRows.{coefficient_or_zero, coefficient_at, coefficients, opposite, one_frac, row_numbers, cost_numbers, or_one, divisor_of}
-use Rattle.dcx_std.proofs.Fractions.{value-frac_at, value-whole}
+use Rattle.dcx_lp_answer.proofs.Fractions.{value-negative, value-whole}
 use Rattle.dcx_std.proofs.Numerators.{formed_numerators, num_of_whole}
 use Rattle.dcx_std.proofs.WholeRows.{IsFormedBy, multiple_facts, factor_is, or_one_positive}
 
@@ -64,15 +60,8 @@ whole_times m x h =
     }
 
 -- the number of an opposite
-neg_lowest : (x : Frac) → IsInLowestTerms (neg_ℚ (value x)) (neg_ℤ (num_of x)) (den_of x)
-neg_lowest x = record {
-  positive = x.positive;
-  coprime = subst (λ m. IsCoprime m (unsigned_abs (den_of x))) (sym (neg_size (num_of x))) x.lowest;
-  is = ratio-neg_ℚ (den_of x) x.positive (num_of x);
-}
-
 pub value-opposite : (x : Frac) → value (opposite x) ≡ neg_ℚ (value x)
-value-opposite x = value-frac_at (neg_ℚ (value x)) (representable (neg_ℚ (value x)) (neg_ℤ (num_of x)) (den_of x) (neg_lowest x) (subst (λ n. n < 2 ^ 127) (sym (neg_size (num_of x))) x.num_fits) x.den_fits)
+value-opposite x = value-negative x
 
 whole_opposite : (m : ℕ) (x : Frac) → IsWholeTimes m (value x) → IsWholeTimes m (value (opposite x))
 whole_opposite m x h = record {

@@ -19,14 +19,14 @@ use Rattle.dcx_tab.specs.declared.rows.IntRow.{IntRow}
 use Rattle.dcx_tab.specs.declared.program.Program.{Program}
 use Rattle.dcx_tab.specs.Rows.{entry}
 use Rattle.dcx_tab.specs.Program.{kind_at}
-use Rattle.dcx_simplex.specs.Right.{turned_if}
+use Rattle.dcx_lp_answer.specs.Right.{turned_if}
 use Rattle.dcx_std.specs.declared.whole.WholeRow.{WholeRow}
 use Rattle.dcx_std.specs.GivenRows.{GivenRows}
 use Rattle.dcx_std.specs.WholeRows.{coefficient_at, coefficients, opposite, one_frac, row_numbers, cost_numbers, row_made, IsSparseForm}
 use Rattle.dcx_std.specs.Columns.{turned, number_in, cost_in}
 use Rattle.dcx_std.specs.IntegerRows.{start_of, IsMadeOf, IsMade}
 use Rattle.dcx_std.specs.ScaledProgram.{IsScaledRow, IsScaledCost, IsScaledProgram}
-use Rattle.dcx_std.proofs.Fractions.{value-whole}
+use Rattle.dcx_lp_answer.proofs.Fractions.{value-whole}
 use Rattle.dcx_std.proofs.WholeRows.{IsFormedBy, formed_by, whole_kind, multiple_facts}
 use Rattle.dcx_std.proofs.Scaled.{scaled_numbers, scaled_at, value-opposite, whole_row_numbers, whole_cost_numbers}
 use Rattle.dcx_std.proofs.ColumnKinds.{unknown_below}

@@ -29,9 +29,9 @@ use Rattle.dcx_tab.specs.declared.rows.ColumnKind.TheVariants.{Unknown, Slack, A
 use Rattle.dcx_tab.specs.declared.rows.IntRow.{IntRow}
 use Rattle.dcx_tab.specs.declared.program.Program.{Program}
 use Rattle.dcx_tab.specs.Program.{IsProgramRow, kind_at, is_plain, plain_count, entries_of, right_side_at, right_of, is_negated}
-use Rattle.dcx_simplex.specs.Reading.{row_factor}
-use Rattle.dcx_simplex.specs.Right.{turned_if, row_at_columns, cost_at_columns, form_at, IsSolution}
-use Rattle.dcx_simplex.specs.Right.{is_inequality as has_slack_column}
+use Rattle.dcx_lp_answer.specs.Notes.{row_factor}
+use Rattle.dcx_lp_answer.specs.Right.{turned_if, row_at_columns, cost_at_columns, form_at, IsSolution}
+use Rattle.dcx_lp_answer.specs.Right.{is_inequality as has_slack_column}
 use Rattle.dcx_std.specs.declared.start.Start.{Start}
 use Rattle.dcx_std.specs.WholeRows.{coefficient_at, IsSparseForm}
 use Rattle.dcx_std.specs.Columns.{is_inequality}

@@ -1,7 +1,7 @@
 -- Where the making of a program stops, and what it has made in the end.
 use Rattle.std.proofs.Common.{◌≡◌, ℕ, suc, ◌+◌, List, [], ◌∷◌, ◌++◌, length, map, Result, Ok, Err, Some, refl, sym, ap, ap₂, ◌∙◌, subst, arith, inl, inr}
 use Rattle.dcx_std.specs.GivenRows.{GivenRows}
-use Rattle.dcx_linear.specs.declared.site.Site.TheVariants as sites
+use Rattle.dcx_answer.specs.declared.site.Site.TheVariants as sites
 use Rattle.dcx_linear.specs.declared.stop.CoefStop.{CoefStop}
 use Rattle.dcx_linear.specs.Stops.{Gives}
 use Rattle.dcx_tab.specs.declared.rows.ColumnKind.{ColumnKind}

@@ -20,7 +20,7 @@ use Rattle.dcx_std.specs.declared.whole.WholeRow.{WholeRow}
 use Rattle.dcx_std.specs.Multiples.{denominators, multiple_of}
 use Rattle.dcx_std.specs.WholeRows.{numerators, or_one, divisor_of, lowest_row, whole_row_of}
 use Rattle.dcx_std.proofs.Multiples.{IsMultiple, multiple_of_is}
-use Rattle.dcx_std.proofs.Fractions.{value-quotient, quotient_positive}
+use Rattle.dcx_lp_answer.proofs.Fractions.{value-quotient, quotient_positive}
 use Rattle.dcx_std.proofs.Numerators.{numerators_small, numerators_count}
 
 -- ---- the divisor

@@ -2,11 +2,11 @@
 use Rattle.dcx_frac.specs.Frac.{value}
 use Rattle.dcx_linear.specs.Rows.{IsOptimal, IsInfeasible, IsUnbounded}
 use Rattle.dcx_tab.specs.declared.program.Program.{Program}
-use Rattle.dcx_simplex.specs.declared.answer.LpStatus.{LpStatus}
-use Rattle.dcx_simplex.specs.declared.answer.LpStatus.TheVariants as status
-use Rattle.dcx_simplex.specs.declared.answer.LpAnswer.{LpAnswer}
-use Rattle.dcx_simplex.specs.Reading.{numbers}
-use Rattle.dcx_simplex.specs.Right.{multiplier_at}
+use Rattle.dcx_lp_answer.specs.declared.answer.LpStatus.{LpStatus}
+use Rattle.dcx_lp_answer.specs.declared.answer.LpStatus.TheVariants as status
+use Rattle.dcx_lp_answer.specs.declared.answer.LpAnswer.{LpAnswer}
+use Rattle.dcx_lp_answer.specs.Notes.{numbers}
+use Rattle.dcx_lp_answer.specs.Right.{multiplier_at}
 use Rattle.dcx_std.specs.GivenRows.{GivenRows}
 use Rattle.dcx_std.specs.Solutions.{linear_program, unknowns_at}
 

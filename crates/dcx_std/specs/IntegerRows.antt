@@ -10,8 +10,8 @@ use Rattle.dcx_atom.specs.Formed.{frac_at, and_then, sum_in_order}
 use Rattle.dcx_std.specs.GivenRows.{GivenRows}
 use Rattle.dcx_linear.specs.declared.stop.CoefStop.{CoefStop}
 use Rattle.dcx_linear.specs.declared.stop.CoefStop.TheVariants as coef
-use Rattle.dcx_linear.specs.declared.site.Site.{Site}
-use Rattle.dcx_linear.specs.declared.site.Site.TheVariants as sites
+use Rattle.dcx_answer.specs.declared.site.Site.{Site}
+use Rattle.dcx_answer.specs.declared.site.Site.TheVariants as sites
 use Rattle.dcx_tab.specs.declared.rows.ColumnKind.{ColumnKind}
 use Rattle.dcx_tab.specs.declared.rows.IntRow.{IntRow}
 use Rattle.dcx_tab.specs.declared.rows.CostRow.{CostRow}
@@ -24,7 +24,8 @@ use Rattle.dcx_std.specs.declared.start.Start.{Start}
 use Rattle.dcx_std.specs.WholeRows.{row_made, cost_made, numerators, IsSparseForm}
 use Rattle.dcx_std.specs.declared.stop.RowStop.{RowStop}
 use Rattle.dcx_std.specs.declared.stop.RowStop.TheVariants as stops
-use Rattle.dcx_std.specs.Size.{capped, column_count}
+use Rattle.dcx_linear.specs.Size.{capped}
+use Rattle.dcx_std.specs.Size.{column_count}
 use Rattle.dcx_std.specs.Columns.{turned, number_in, cost_in, start_column, columns_of}
 
 -- ---- rows

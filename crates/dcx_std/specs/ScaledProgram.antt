@@ -12,7 +12,7 @@ use Rattle.dcx_tab.specs.declared.rows.CostRow.{CostRow}
 use Rattle.dcx_tab.specs.declared.program.Program.{Program}
 use Rattle.dcx_tab.specs.Rows.{entry}
 use Rattle.dcx_tab.specs.Program.{kind_at}
-use Rattle.dcx_simplex.specs.Right.{turned_if}
+use Rattle.dcx_lp_answer.specs.Right.{turned_if}
 use Rattle.dcx_std.specs.declared.start.Start.{Start}
 use Rattle.dcx_std.specs.GivenRows.{GivenRows}
 use Rattle.dcx_std.specs.WholeRows.{coefficient_at, IsSparseForm}

@@ -1,26 +1,16 @@
 -- How many rows and columns the integer program of rows has.
-use Rattle.std.specs.Prelude.{ℕ, ◌+◌, min, sum_by, List}
+use Rattle.std.specs.Prelude.{ℕ, ◌+◌, sum_by, List}
 use Rattle.dcx_frac.specs.declared.fraction.Frac.{Frac}
 use Rattle.dcx_linear.specs.declared.row.Row.{Row}
 use Rattle.dcx_linear.specs.declared.row.RowKind.{RowKind}
 use Rattle.dcx_linear.specs.declared.row.RowKind.TheVariants.{AtMost, Equal}
 use Rattle.dcx_linear.specs.declared.row.UnknownKind.{UnknownKind}
-use Rattle.dcx_linear.specs.declared.row.UnknownKind.TheVariants.{Free, Nonneg, Nonpos}
-
--- the columns of an unknown: two where it is free, for what is above and what is below 0
-abbrev pub columns_for : UnknownKind → ℕ
-columns_for Free = 2
-columns_for Nonneg = 1
-columns_for Nonpos = 1
+use Rattle.dcx_linear.specs.Size.{columns_for}
 
 -- the slacks of a row: one where it is an inequality
 abbrev pub slacks_for : RowKind → ℕ
 slacks_for AtMost = 1
 slacks_for Equal = 0
-
--- the number, or 4,294,967,295 where it is more
-abbrev pub capped : ℕ → ℕ
-capped n = min n 4294967295
 
 -- the columns of the unknowns, and the slacks
 abbrev pub column_count : List UnknownKind → List (Row Frac) → ℕ

@@ -12,7 +12,7 @@ use Rattle.dcx_linear.specs.Widths.{form_width, rows_width}
 use Rattle.dcx_tab.specs.declared.rows.ColumnKind.{ColumnKind}
 use Rattle.dcx_tab.specs.declared.rows.ColumnKind.TheVariants.{Unknown, Slack, Artificial}
 use Rattle.dcx_tab.specs.Program.{kind_at}
-use Rattle.dcx_simplex.specs.Right.{turned_if}
+use Rattle.dcx_lp_answer.specs.Right.{turned_if}
 use Rattle.dcx_std.specs.GivenRows.{GivenRows}
 
 -- ---- rows as a linear program

@@ -13,8 +13,9 @@ use crate::rows::{all_starts, cost_row, int_rows};
 use crate::size::check_size;
 use crate::stop::RowStop;
 use crate::whole::{WholeRow, numbers_of_cost, numbers_of_row, whole_row};
+use dcx_answer::Site;
 use dcx_frac::Frac;
-use dcx_linear::{CoefStop, Form, Row, RowKind, Rows, Site};
+use dcx_linear::{CoefStop, Form, Row, RowKind, Rows};
 use dcx_tab::{ColumnKinds, IntRows, Program};
 use std::alloc::Global;
 

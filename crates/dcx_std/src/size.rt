@@ -1,20 +1,11 @@
 //! How many rows and columns the integer program of rows has.
-ghost use Rattle.std.specs.Prelude.{◌≡◌, ◌≤◌, ◌<◌, ◌↔◌, min, sum_by, length, IsOk, IfErr};
-ghost use Rattle.dcx_std.specs.Size.{columns_for, slacks_for, capped, column_count};
+ghost use Rattle.std.specs.Prelude.{◌≡◌, ◌≤◌, ◌↔◌, sum_by, length, IsOk, IfErr};
+ghost use Rattle.dcx_linear.specs.Size.{capped};
+ghost use Rattle.dcx_std.specs.Size.{slacks_for, column_count};
 
 use crate::stop::RowStop;
 use dcx_frac::Frac;
-use dcx_linear::{Row, RowKind, Rows, UnknownKind};
-
-/// The columns of an unknown: two where it is free, for what is above and what is below 0.
-fn width(kind: UnknownKind) -> u32
-    ensures { result ≡ columns_for kind }
-{
-    match kind {
-        UnknownKind::Free => 2,
-        UnknownKind::Nonneg | UnknownKind::Nonpos => 1,
-    }
-}
+use dcx_linear::{Row, RowKind, Rows, capped_length, unknown_columns};
 
 /// The slacks of a row: one where it is an inequality.
 fn slack(kind: RowKind) -> u32
@@ -26,17 +17,6 @@ fn slack(kind: RowKind) -> u32
     }
 }
 
-/// The columns of the unknowns.
-fn unknown_columns(kinds: &[UnknownKind]) -> u32
-    ensures { result ≡ capped (sum_by columns_for kinds.now) }
-{
-    let mut count = 0u32;
-    'kinds: for kind in kinds {
-        count = count.saturating_add(width(*kind));
-    }
-    count
-}
-
 /// The slacks of the rows.
 fn slack_columns(rows: &[Row<Frac>]) -> u32
     ensures { result ≡ capped (sum_by (λ r. slacks_for r.kind) rows.now) }
@@ -46,17 +26,6 @@ fn slack_columns(rows: &[Row<Frac>]) -> u32
         count = count.saturating_add(slack(row.kind));
     }
     count
-}
-
-/// A length, or 4,294,967,295 where it is more.
-fn capped_length(length: usize) -> u32
-    ensures { result ≡ capped length }
-{
-    if length < u32::MAX as usize {
-        length as u32
-    } else {
-        u32::MAX
-    }
 }
 
 /// `TooLarge` exactly where the rows are over 600, or the columns of the unknowns and the slacks over 2,400.

@@ -1,5 +1,5 @@
 //! Why rows have no integer program.
-use dcx_linear::Site;
+use dcx_answer::Site;
 use std::alloc::{AllocError, AllocFailed};
 use thiserror::Error;
 

@@ -3,10 +3,10 @@ use Rattle.std.proofs.Common.{◌≡◌, ℕ, List, refl, sym, subst}
 use Rattle.dcx_frac.specs.declared.fraction.Frac.{Frac}
 use Rattle.dcx_frac.specs.declared.fraction.Passes.{Passes}
 use Rattle.dcx_atom.specs.declared.array.Array.{Array}
-use Rattle.dcx_report.specs.declared.tree.Named.{Named}
-use Rattle.dcx_report.specs.declared.graph.Answer.TheVariants as answer
-use Rattle.dcx_report.specs.declared.graph.Stop.TheVariants as stop
-use Rattle.dcx_linear.specs.declared.site.Site.TheVariants as site
+use Rattle.dcx_point.specs.Pairs.{Pairs}
+use Rattle.dcx_answer.specs.declared.answer.Answer.TheVariants as answer
+use Rattle.dcx_answer.specs.declared.stop.Stop.TheVariants as stop
+use Rattle.dcx_answer.specs.declared.site.Site.TheVariants as site
 use Rattle.dcx_report.specs.declared.outcome.OutcomeEnd.{OutcomeEnd}
 use Rattle.dcx_report.specs.declared.outcome.OutcomeEnd.TheVariants as end
 use Rattle.dcx_plain.specs.declared.script.Script.{Script}
@@ -19,8 +19,8 @@ use Rattle.dcx_top.specs.Outcome.{pivot_limit, IsEndOf, IsOnlyEnd, AreAlike}
 
 -- an end with the solution that it tells
 data Told (s : Script) (e : OutcomeEnd) : Type 0 where
-  optimal : (v : Frac) (x m : List Frac) (point : List Named) (duals : List Array) → e ≡ end.Answer (answer.Optimal v point duals) → IsSolution pivot_limit (program_of s) (solution.Optimal v x m) → Told s e
-  unbounded : (x d : List Frac) (point ray : List Named) (b l : Frac) → e ≡ end.Answer (answer.Unbounded point ray b l) → IsSolution pivot_limit (program_of s) (solution.Unbounded x d b l) → Told s e
+  optimal : (v : Frac) (x m : List Frac) (point : Pairs) (duals : List Array) → e ≡ end.Answer (answer.Optimal v point duals) → IsSolution pivot_limit (program_of s) (solution.Optimal v x m) → Told s e
+  unbounded : (x d : List Frac) (point ray : Pairs) (b l : Frac) → e ≡ end.Answer (answer.Unbounded point ray b l) → IsSolution pivot_limit (program_of s) (solution.Unbounded x d b l) → Told s e
   wide_pivot : (n r c : ℕ) → e ≡ end.Stop (stop.Wide (site.Pivot n r c)) → IsSolution pivot_limit (program_of s) (solution.WidePivot n r c) → Told s e
   wide_multiplier : (i : ℕ) (w : Passes) → e ≡ end.Stop (stop.Wide (site.Answer i w)) → IsSolution pivot_limit (program_of s) (solution.WideMultiplier i w) → Told s e
   at_limit : (n : ℕ) → e ≡ end.Stop (stop.PivotLimit n) → IsSolution pivot_limit (program_of s) (solution.PivotLimit n) → Told s e

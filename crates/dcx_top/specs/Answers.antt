@@ -1,17 +1,17 @@
 -- What a run answers, with the cause of each answer.
 use Rattle.std.specs.Prelude.{◌≡◌, ℕ, ◌⊎◌, List, [], ◌∷◌, Option, None, Some, ⊤}
-use Rattle.dcx_report.specs.Files.{Files, IsTold, Lacks, HasMore}
+use Rattle.dcx_host.specs.Files.{Files, IsTold, Lacks, HasMore}
 use Rattle.dcx_report.specs.declared.run.Run.{Run}
 use Rattle.dcx_report.specs.declared.run.Run.TheVariants.{Usage, Refused, Checked, Solved, ReadFault, Memory}
 use Rattle.dcx_report.specs.declared.run.Word.TheVariants as word_is
 use Rattle.dcx_tree.specs.declared.constraint.Sense.TheVariants as sense_is
 use Rattle.dcx_report.specs.declared.outcome.Outcome.{Outcome}
-use Rattle.dcx_report.specs.declared.refusal.Refusal.{Refusal}
-use Rattle.dcx_report.specs.declared.refusal.Carried.TheVariants as carried_is
+use Rattle.dcx_front.specs.declared.refusal.Refusal.{Refusal}
+use Rattle.dcx_front.specs.declared.refusal.RefusalSource.TheVariants.{Script as OfScript}
 use Rattle.dcx_plain.specs.declared.script.Script.{Script}
 use Rattle.dcx_plain.specs.Grammar.{script_text}
 use Rattle.dcx_plain.specs.Plain.{IsPlain, Spells}
-use Rattle.dcx_check.specs.Checks.{IsRefusedAs}
+use Rattle.dcx_front.specs.Checks.{IsNotYet, IsTooLong as IsRefusedTooLong}
 use Rattle.dcx_top.specs.declared.words.Verb.{Verb}
 use Rattle.dcx_top.specs.declared.words.Verb.TheVariants.{Check, Solve}
 use Rattle.dcx_top.specs.Words.{form_of}
@@ -21,10 +21,6 @@ use Rattle.dcx_top.specs.Outcome.{IsEndOf, IsOnlyEnd}
 -- how many bytes a script has at most
 abbrev pub script_limit : ℕ
 script_limit = 1048576
-
--- the refusal of this number at the script's first byte
-abbrev pub IsRefusedWhole : ℕ → Refusal → Type 0
-IsRefusedWhole number r = IsRefusedAs number (record { line = 1; column = 1 }) carried_is.Nothing r
 
 -- the bytes spell no plain script
 abbrev pub SpellsNone : List ℕ → Type 0
@@ -38,7 +34,7 @@ HasOneEnd s (o ∷ more ∷ os) = ⊥
 
 -- what the bytes of a script give; want of memory is free
 abbrev pub SolvesBytes : List ℕ → Run → Type 0
-SolvesBytes bytes (Refused r) = IsRefusedWhole 29 r × SpellsNone bytes
+SolvesBytes bytes (Refused r) = IsNotYet r × SpellsNone bytes
 SolvesBytes bytes (Checked c) = ⊥
 SolvesBytes bytes (Solved word sense outcomes) = (word ≡ word_is.Solve) × (sense ≡ sense_is.Minimize) × ((s : Script) × Spells bytes s × HasOneEnd s outcomes)
 SolvesBytes bytes Memory = ⊤
@@ -76,7 +72,7 @@ pub record IsReadFault (words : List (List ℕ)) (told : Option Files) (risen : 
 -- Each answer with its cause. `risen` says that the library's count of faults rose in this run. Want of memory alone is free.
 abbrev pub Answers : List (List ℕ) → Option Files → Type 0 → Run → Type 0
 Answers words told risen Usage = form_of words ≡ None
-Answers words told risen (Refused r) = IsRead words told (Refused r) ⊎ (IsRefusedWhole 8 r × IsTooLong words told)
+Answers words told risen (Refused r) = IsRead words told (Refused r) ⊎ (IsRefusedTooLong OfScript r × IsTooLong words told)
 Answers words told risen (Checked c) = IsRead words told (Checked c)
 Answers words told risen (Solved word sense outcomes) = IsRead words told (Solved word sense outcomes)
 Answers words told risen ReadFault = IsReadFault words told risen

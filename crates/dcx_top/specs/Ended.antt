@@ -4,7 +4,7 @@ use Rattle.std.specs.List.{list_any}
 use Rattle.std.specs.declared.option.Option.{Option}
 use Rattle.std.specs.Io.KnownBytes.{Appends}
 use Rattle.dcx_report.specs.ReportText.{text_of}
-use Rattle.dcx_report.specs.declared.graph.Stop.TheVariants.{Memory as StopMemory}
+use Rattle.dcx_answer.specs.declared.stop.Stop.TheVariants.{Memory as StopMemory}
 use Rattle.dcx_report.specs.declared.run.Run.{Run}
 use Rattle.dcx_report.specs.declared.run.Run.TheVariants.{Usage, Refused, Checked, Solved, ReadFault, Memory}
 use Rattle.dcx_report.specs.declared.outcome.Outcome.{Outcome}

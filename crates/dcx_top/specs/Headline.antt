@@ -3,11 +3,11 @@
 use Rattle.std.specs.Prelude.{◌≡◌, ℕ, List, [], ◌∷◌, ◌++◌, map, Option, Some, Ok, ⊤}
 use Rattle.dcx_math.specs.Rational.{ℚ}
 use Rattle.dcx_frac.specs.Frac.{value}
-use Rattle.dcx_report.specs.Files.{Files, IsTold}
+use Rattle.dcx_host.specs.Files.{Files, IsTold}
 use Rattle.dcx_atom.specs.declared.array.Array.{Array}
-use Rattle.dcx_report.specs.declared.tree.Named.{Named}
-use Rattle.dcx_report.specs.declared.graph.Answer.{Answer}
-use Rattle.dcx_report.specs.declared.graph.Answer.TheVariants as answer
+use Rattle.dcx_point.specs.Pairs.{Pairs, names_of}
+use Rattle.dcx_answer.specs.declared.answer.Answer.{Answer}
+use Rattle.dcx_answer.specs.declared.answer.Answer.TheVariants as answer
 use Rattle.dcx_report.specs.declared.outcome.Outcome.{Outcome}
 use Rattle.dcx_report.specs.declared.outcome.OutcomeEnd.{OutcomeEnd}
 use Rattle.dcx_report.specs.declared.outcome.OutcomeEnd.TheVariants as end
@@ -22,10 +22,11 @@ use Rattle.dcx_syntax.specs.declared.tree.Script as reading
 use Rattle.dcx_read.specs.Parses.{IsReading}
 use Rattle.dcx_elab.specs.declared.work.Work.{Work}
 use Rattle.dcx_elab.specs.Meaning.{Elaborates}
-use Rattle.dcx_report.specs.declared.checked.Checked.{Checked}
-use Rattle.dcx_check.specs.Checks.{IsAcceptedWith}
+use Rattle.dcx_front.specs.declared.checked.Checked.{Checked}
+use Rattle.dcx_front.specs.Checks.{IsAcceptedWith}
 use Rattle.dcx_top.specs.declared.words.Verb.TheVariants.{Check, Solve}
 use Rattle.dcx_top.specs.Words.{form_of}
+use Rattle.dcx_top.specs.Outcome.{arrays_of}
 
 -- the numbers of arrays, one after the other
 abbrev pub numbers_of : List Array → List ℚ
@@ -33,8 +34,8 @@ numbers_of [] = []
 numbers_of (a ∷ as') = map value a.entries ++ numbers_of as'
 
 -- the values of the variables, in order of declaration
-abbrev pub values_of : List Named → List ℚ
-values_of point = numbers_of (map (λ n. n.array) point)
+abbrev pub values_of : Pairs → List ℚ
+values_of point = numbers_of (arrays_of point)
 
 -- The answer shows itself: an optimal point with multipliers whose Lagrangian bound is its value, or a feasible point and
 -- a ray of unbounded descent. No plain script is infeasible, since all is 0 at the origin.
@@ -45,8 +46,8 @@ IsRightFor p (answer.Infeasible duals gap) = ⊥
 
 -- an answer gives the script's variables by name, in order, and is right for its program
 abbrev pub NamesAll : Script → Answer → Type 0
-NamesAll s (answer.Optimal v point duals) = map (λ n. n.name) point ≡ s.names
-NamesAll s (answer.Unbounded point ray bound slope) = (map (λ n. n.name) point ≡ s.names) × (map (λ n. n.name) ray ≡ s.names)
+NamesAll s (answer.Optimal v point duals) = names_of point ≡ s.names
+NamesAll s (answer.Unbounded point ray bound slope) = (names_of point ≡ s.names) × (names_of ray ≡ s.names)
 NamesAll s (answer.Infeasible duals gap) = ⊤
 
 abbrev pub IsRightEnd : Script → OutcomeEnd → Type 0

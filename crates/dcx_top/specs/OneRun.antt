@@ -1,23 +1,20 @@
 -- The run of a script that is checked is the only one, and refuses it exactly where it is at fault.
-use Rattle.std.specs.Prelude.{◌≡◌, ◌≢◌, ◌↔◌, ℕ, List, Option, Some, None, Ok, Err, ⊤}
-use Rattle.dcx_tokens.specs.declared.fault.ReadFault.{ReadFault}
-use Rattle.dcx_tokens.specs.declared.fault.ReadFault.TheVariants as reads
-use Rattle.dcx_syntax.specs.declared.tree.Script.{Script}
-use Rattle.dcx_read.specs.Parses.{IsReading}
-use Rattle.dcx_tree.specs.Meaning.{IsAccepted}
-use Rattle.dcx_kinds.specs.declared.fault.ElabFault.{ElabFault}
-use Rattle.dcx_kinds.specs.declared.fault.ElabFault.TheVariants as elabs
-use Rattle.dcx_elab.specs.declared.work.Work.{Work}
-use Rattle.dcx_elab.specs.Meaning.{Elaborates}
-use Rattle.dcx_report.specs.Files.{Files}
+use Rattle.std.specs.Prelude.{◌≡◌, ◌↔◌, ℕ, List, Option, Some, None, ⊤}
+use Rattle.dcx_front.specs.OneAnswer.{IsAtFault, IsWithoutFault}
+use Rattle.dcx_host.specs.Files.{Files}
 use Rattle.dcx_report.specs.declared.run.Run.{Run}
 use Rattle.dcx_report.specs.declared.run.Run.TheVariants.{Refused, Checked, ReadFault as NotHad, Memory}
-use Rattle.dcx_check.specs.OneRun.{AreOneRun}
 use Rattle.dcx_top.specs.declared.words.Verb.TheVariants.{Check}
 use Rattle.dcx_top.specs.Words.{form_of}
 use Rattle.dcx_top.specs.Checking.{ChecksBytes}
 
 -- ---- one run
+-- two runs are one, where neither wants memory
+abbrev pub AreOneRun : Run → Run → Type 0
+AreOneRun Memory other = ⊤
+AreOneRun run Memory = ⊤
+AreOneRun run other = run ≡ other
+
 -- each run that the bytes have is this one
 abbrev pub IsOnlyRun : List ℕ → Run → Type 0
 IsOnlyRun bytes run = (other : Run) → ChecksBytes bytes other → AreOneRun run other
@@ -26,26 +23,7 @@ IsOnlyRun bytes run = (other : Run) → ChecksBytes bytes other → AreOneRun ru
 abbrev pub HasOneRun : Type 0
 HasOneRun = (bytes : List ℕ) (run : Run) → ChecksBytes bytes run → IsOnlyRun bytes run
 
--- ---- at fault, or accepted
--- Why bytes are refused: reading them has a fault; or carrying out the script that they spell has one; or the rules don't
--- accept the problem that this script stands for.
-pub data IsAtFault (bytes : List ℕ) : Type 0 where
-  unreadable : (f : ReadFault) → f ≢ reads.Memory → IsReading bytes (Err f) → IsAtFault bytes
-  fails : (script : Script) → IsReading bytes (Ok script) → (f : ElabFault) → f ≢ elabs.Memory → Elaborates (Err f) script → IsAtFault bytes
-  breaks_rules : (script : Script) → IsReading bytes (Ok script) → (work : Work) → Elaborates (Ok work) script → ¬ IsAccepted work.problem → IsAtFault bytes
-
--- the bytes spell a script, which stands for a problem, and the rules accept it
-pub record IsWithoutFault (bytes : List ℕ) : Type 0 where
-  pub script : Script
-  pub spelled : IsReading bytes (Ok script)
-  pub work : Work
-  pub stands_for : Elaborates (Ok work) script
-  pub accepted : IsAccepted work.problem
-
--- no bytes are both
-abbrev pub HasOneVerdict : Type 0
-HasOneVerdict = (bytes : List ℕ) → IsWithoutFault bytes → ¬ IsAtFault bytes
-
+-- ---- refused, or accepted
 abbrev pub IsRefusal : Run → Type 0
 IsRefusal (Refused r) = ⊤
 IsRefusal run = ⊥

@@ -5,10 +5,10 @@ use Rattle.dcx_shape.specs.declared.shape.Sides.TheVariants as sides
 use Rattle.dcx_frac.specs.declared.fraction.Frac.{Frac}
 use Rattle.dcx_frac.specs.Frac.{value}
 use Rattle.dcx_atom.specs.declared.array.Array.{Array}
-use Rattle.dcx_report.specs.declared.tree.Named.{Named}
-use Rattle.dcx_report.specs.declared.graph.Answer.TheVariants.{Optimal, Unbounded}
-use Rattle.dcx_report.specs.declared.graph.Stop.TheVariants.{Wide, PivotLimit, Memory}
-use Rattle.dcx_linear.specs.declared.site.Site.TheVariants as site
+use Rattle.dcx_point.specs.Pairs.{Pairs, names_of}
+use Rattle.dcx_answer.specs.declared.answer.Answer.TheVariants.{Optimal, Unbounded}
+use Rattle.dcx_answer.specs.declared.stop.Stop.TheVariants.{Wide, PivotLimit, Memory}
+use Rattle.dcx_answer.specs.declared.site.Site.TheVariants as site
 use Rattle.dcx_report.specs.declared.outcome.OutcomeEnd.{OutcomeEnd}
 use Rattle.dcx_report.specs.declared.outcome.OutcomeEnd.TheVariants as end
 use Rattle.dcx_plain.specs.declared.script.Script.{Script}
@@ -32,10 +32,14 @@ AreNumbers (x ∷ xs) (a ∷ as') = IsNumber x a × AreNumbers xs as'
 AreNumbers [] (a ∷ as') = ⊥
 AreNumbers (x ∷ xs) [] = ⊥
 
+-- the arrays of a point, in order
+abbrev pub arrays_of : Pairs → List Array
+arrays_of point = map (λ p. p.1) point
+
 -- the numbers under the names, in order
-pub record IsPointAt (names : List (List ℕ)) (xs : List Frac) (point : List Named) : Type 0 where
-  pub names_are : map (λ n. n.name) point ≡ names
-  pub numbers : AreNumbers xs (map (λ n. n.array) point)
+pub record IsPointAt (names : List (List ℕ)) (xs : List Frac) (point : Pairs) : Type 0 where
+  pub names_are : names_of point ≡ names
+  pub numbers : AreNumbers xs (arrays_of point)
 
 -- The answers and the stops of a plain script's linear program: an optimal answer is a feasible point, with multipliers
 -- whose Lagrangian bound is its value; an unbounded one is a feasible point and a ray of unbounded descent; a wide pivot,

@@ -12,10 +12,10 @@
 //! | no file changes, and no step is counted | `same`, `counted` |
 ghost use Rattle.std.specs.Prelude.{◌≡◌, ◌↔◌, map, string_bytes, None, IfOk};
 ghost use Rattle.std.specs.List.{list_any};
-ghost use Rattle.dcx_report.specs.Faults.{Rose};
+ghost use Rattle.dcx_host.specs.Faults.{Rose};
 ghost use Rattle.dcx_plain.specs.Plain.{IsPlain};
 ghost use Rattle.dcx_top.specs.Words.{form_of};
-ghost use Rattle.dcx_top.specs.Answers.{Answers, IsRefusedWhole, HasOneEnd, SolvesBytes, GivesRun};
+ghost use Rattle.dcx_top.specs.Answers.{Answers, HasOneEnd, SolvesBytes, GivesRun};
 ghost use Rattle.dcx_top.specs.Headline.{AnswersAreRight};
 ghost use Rattle.dcx_top.specs.OneRun.{IsOnlyCheck, IsRightVerdict};
 ghost use Rattle.dcx_top.specs.Ended.{Reports, outcomes_status as outcomes_status_of, status_of, is_stop, wants_memory};
@@ -25,42 +25,17 @@ use crate::ended::Ended;
 use crate::outcome::end_of;
 use crate::words::{Verb, plain_form};
 use crate::write::write_all;
+use dcx_host::{FetchFault, Library, Sink, SinkFault};
 use dcx_plain::{Script, read};
 use dcx_report::{
-    Carried, FetchFault, Library, Outcome, OutcomeEnd, Outcomes, Refusal, RefusalSource, Run,
-    Sense, Sink, SinkFault, Stop, Word, report_text,
+    Outcome, OutcomeEnd, Outcomes, Refusal, RefusalSource, Run, Sense, Stop, Word, report_text,
 };
-use dcx_shape::Place;
 use dcx_steps::Steps;
 use std::alloc::{AllocError, Global};
 use std::sync::ledger::Ledger;
 
 /// How many bytes a script has at most.
 const SCRIPT_LIMIT: usize = 1_048_576;
-
-/// The refusal of the whole script for its length.
-fn too_long() -> Refusal
-    ensures { IsRefusedWhole 8 result }
-{
-    Refusal {
-        source: RefusalSource::Script,
-        number: 8,
-        place: Place { line: 1, column: 1 },
-        carried: Carried::Nothing,
-    }
-}
-
-/// The refusal of the whole script for its form.
-fn not_yet() -> Refusal
-    ensures { IsRefusedWhole 29 result }
-{
-    Refusal {
-        source: RefusalSource::Script,
-        number: 29,
-        place: Place { line: 1, column: 1 },
-        carried: Carried::Nothing,
-    }
-}
 
 /// The one outcome of a plain script.
 fn outcomes(alloc: Global, script: &Script) -> Result<Outcomes, AllocError>
@@ -78,7 +53,7 @@ fn solved(alloc: Global, bytes: &[u8]) -> Run
     ensures { SolvesBytes bytes.now result }
 {
     match read(alloc, bytes) {
-        Ok(None) => Run::Refused(not_yet()),
+        Ok(None) => Run::Refused(Refusal::not_yet()),
         Ok(Some(script)) => match outcomes(alloc, &script) {
             Ok(outcomes) => Run::Solved {
                 word: Word::Solve,
@@ -112,7 +87,7 @@ fn answer<L: Library>(alloc: Global, words: &[String], library: &mut L) -> Run
     };
     match library.fetch(alloc, form.script, SCRIPT_LIMIT) {
         Ok(bytes) => given(alloc, form.verb, bytes.as_slice()),
-        Err(FetchFault::TooLong) => Run::Refused(too_long()),
+        Err(FetchFault::TooLong) => Run::Refused(Refusal::too_long(RefusalSource::Script)),
         Err(FetchFault::Absent) => Run::ReadFault,
         Err(FetchFault::Failed) => Run::ReadFault,
         Err(FetchFault::Memory) => Run::Memory,

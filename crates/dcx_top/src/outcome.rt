@@ -1,6 +1,8 @@
 //! The outcome of a plain script: its linear program is solved, and the solution is put into the user's names.
-ghost use Rattle.std.specs.Prelude.{◌≡◌, length, IfOk};
-ghost use Rattle.dcx_plain.specs.Plain.{IsPlain};
+ghost use Rattle.std.specs.Prelude.{◌≡◌, IsTrue, length, IfOk, OnOk};
+ghost use Rattle.dcx_atom.specs.declared.array.Array.{Array};
+ghost use Rattle.dcx_point.specs.Pairs.{with_array};
+ghost use Rattle.dcx_plain.specs.Plain.{IsPlain, are_distinct};
 ghost use Rattle.dcx_plain.specs.Meaning.{program_of};
 ghost use Rattle.dcx_lp.specs.Solution.{IsSolution};
 ghost use Rattle.dcx_top.specs.Outcome.{pivot_limit, IsNumber, AreNumbers, IsPointAt, IsEndOf, IsOnlyEnd};
@@ -8,7 +10,7 @@ ghost use Rattle.dcx_top.specs.Outcome.{pivot_limit, IsNumber, AreNumbers, IsPoi
 use dcx_frac::{Frac, Fracs};
 use dcx_lp::{Solution, solve};
 use dcx_plain::{Script, Word, linear_program};
-use dcx_report::{Answer, Array, Duals, Named, OutcomeEnd, Point, Site, Stop};
+use dcx_report::{Answer, Array, Duals, OutcomeEnd, Point, Site, Stop};
 use dcx_shape::{Name, Shape};
 use std::alloc::{AllocError, Global};
 
@@ -26,28 +28,34 @@ fn scalar(alloc: Global, number: Frac) -> Result<Array, AllocError>
     })
 }
 
-/// The number under the variable's name.
-fn named(alloc: Global, name: &Word, number: Frac) -> Result<Named, AllocError>
-    ensures name { IfOk result (λ n. n.name ≡ name.now) }
-    ensures number { IfOk result (λ n. IsNumber number n.array) }
+/// The name of a variable.
+fn name_of(alloc: Global, word: &Word) -> Result<Name, AllocError>
+    ensures { IfOk result (λ name. name ≡ word.now) }
 {
-    let bytes = name.bytes().to_vec(alloc)?;
-    Ok(Named {
-        name: Name::from_vec(bytes),
-        array: scalar(alloc, number)?,
-    })
+    Ok(Name::from_vec(word.bytes().to_vec(alloc)?))
+}
+
+/// Puts the number under the variable's name.
+fn put_number(alloc: Global, point: &mut Point, word: &Word, number: Frac) -> Result<(), AllocError>
+    ensures { OnOk result ((array : Array) × IsNumber number array × (point.new ≡ with_array point.old word.now array)) }
+{
+    let name = name_of(alloc, word)?;
+    let array = scalar(alloc, number)?;
+    point.put(name, array)?;
+    Ok(())
 }
 
 /// The numbers under the variables' names, in order of declaration.
 fn point(alloc: Global, names: &[Word], numbers: &[Frac]) -> Result<Point, AllocError>
-    requires { length numbers.now ≡ length names.now }
+    requires distinct { IsTrue (are_distinct names.now) }
+    requires count { length numbers.now ≡ length names.now }
     ensures { IfOk result (IsPointAt names.now numbers.now) }
 {
-    let mut values = Vec::with_capacity(alloc, names.len())?;
+    let mut values = Point::empty(alloc);
     'names: for (column, name) in names.iter().enumerate() {
-        values.push(named(alloc, name, numbers[column])?)?;
+        put_number(alloc, &mut values, name, numbers[column])?;
     }
-    Ok(Point::from_vec(values))
+    Ok(values)
 }
 
 /// The multipliers of the constraints, in order.
@@ -63,7 +71,8 @@ fn duals(alloc: Global, multipliers: &[Frac]) -> Result<Duals, AllocError>
 
 /// The solution in the words of the script.
 fn told(alloc: Global, script: &Script, solution: Solution) -> Result<OutcomeEnd, AllocError>
-    requires { IsSolution pivot_limit (program_of script.now) solution }
+    requires plain { IsPlain script.now }
+    requires right { IsSolution pivot_limit (program_of script.now) solution }
     ensures { IfOk result (IsEndOf script.now) }
 {
     let names = script.names.as_slice();

@@ -1,9 +1,9 @@
 //! A report is written in as many calls as the sink wants.
 ghost use Rattle.std.specs.Prelude.{◌≡◌, ◌≤◌, ℕ, take, length, OnOk, OnErr, IsErrOf};
 ghost use Rattle.std.specs.Io.KnownBytes.{Appends};
-ghost use Rattle.dcx_report.specs.Faults.{Rose};
+ghost use Rattle.dcx_host.specs.Faults.{Rose};
 
-use dcx_report::{Sink, SinkFault};
+use dcx_host::{Sink, SinkFault};
 
 /// Hands the sink the whole rest at each call. After an `Err` a front is written.
 pub fn write_all<K: Sink>(text: &[u8], sink: &mut K) -> Result<(), SinkFault>

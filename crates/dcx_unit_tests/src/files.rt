@@ -1,13 +1,12 @@
 //! Libraries and sinks, in memory and of the host, with calls that fail.
-use dcx_report::{
+use dcx_host::{
     FetchFault, FileLibrary, Library, MemoryLibrary, MemorySink, OutSink, Sink, SinkFault,
-    SteadyLibrary, SteadySink, read_at_most,
+    SteadyLibrary, SteadySink,
 };
 use dcx_shape::Bytes;
 use std::alloc::Global;
 use std::collections::BTreeMap;
 use std::fs;
-use std::io::{self, Read};
 use std::process::Abort;
 use std::test::Fail;
 
@@ -65,6 +64,9 @@ fn files_of_the_host(rt: HostRuntime) -> Result<(), Fail> {
     for (name, most, wanted) in [
         ("/dev/null", 0, Ok("")),
         ("fetched", 3, Ok("abc")),
+        ("fetched", usize::MAX, Ok("abc")),
+        ("fetched", 2, Err(FetchFault::TooLong)),
+        ("fetched", 0, Err(FetchFault::TooLong)),
         ("/dev/zero", 5000, Err(FetchFault::TooLong)),
         (".", 5000, Err(FetchFault::Failed)),
         ("/no/such/file", 5000, Err(FetchFault::Failed)),
@@ -74,45 +76,6 @@ fn files_of_the_host(rt: HostRuntime) -> Result<(), Fail> {
     assert_eq!(rt; library.faults, 3);
     fs::remove_file(&rt, "fetched")?;
     Ok(())
-}
-
-/// Gives its parts one after another, and then ends or fails.
-#[derive(Drop)]
-struct Parts<'a> {
-    parts: &'a [u8],
-    is_broken: bool,
-}
-
-impl Read for Parts<'_> {
-    fn read(&mut self, buf: &mut [u8]) -> io::Result<usize> {
-        match (self.parts.split_first(), buf.first_mut()) {
-            (Some((first, rest)), Some(place)) => {
-                *place = *first;
-                self.parts = rest;
-                Ok(1)
-            }
-            _ if self.is_broken => Err(io::Error::from(io::ErrorKind::Other)),
-            _ => Ok(0),
-        }
-    }
-}
-
-#[test]
-fn a_reader_is_read_to_its_end_or_to_its_limit(rt: HostRuntime) {
-    for (parts, is_broken, most, wanted) in [
-        (b"abc".as_slice(), false, 3, Ok(b"abc".as_slice())),
-        (b"abc", false, 2, Err(FetchFault::TooLong)),
-        (b"", false, 0, Ok(b"")),
-        (b"a", false, 0, Err(FetchFault::TooLong)),
-        (b"abc", false, usize::MAX, Ok(b"abc")),
-        (b"ab", true, 9, Err(FetchFault::Failed)),
-    ] {
-        let mut reader = Parts { parts, is_broken };
-        match read_at_most(rt.alloc(), &mut reader, most) {
-            Ok(bytes) => assert_eq!(rt; Ok(bytes.as_slice()), wanted),
-            Err(fault) => assert_eq!(rt; Err(fault), wanted),
-        }
-    }
 }
 
 /// Any sink takes so many bytes of each piece, or fails.

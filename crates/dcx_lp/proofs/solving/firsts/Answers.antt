@@ -1,6 +1,6 @@
 use Rattle.std.proofs.Common.{length, ap, ◌∙◌, take}
 use Rattle.std.proofs.lemmas.List.{length-take-le}
-use Rattle.dcx_simplex.specs.Reading.{numbers}
+use Rattle.dcx_lp_answer.specs.Notes.{numbers}
 use Rattle.dcx_lp.proofs.Notes.{firsts_are}
 use Rattle.dcx_lp.proofs.solving.firsts.Goals as goal
 

@@ -1,19 +1,19 @@
 -- What each answer of the descent is read from.
-use Rattle.std.proofs.Common.{arith, Ok, IfSome, ◌∙◌, ◌<◌, false, [], ◌∷◌, length, map, refl, sym, ap, subst}
+use Rattle.std.proofs.Common.{arith, Ok, Some, None, IfSome, ◌∙◌, ◌<◌, false, [], ◌∷◌, length, map, refl, sym, ap, subst}
 use Rattle.std.proofs.lemmas.Result.{err_from_is_err_and}
 use Rattle.dcx_syntax.specs.declared.bracket.Bracket.TheVariants.{Round, Square}
 use Rattle.dcx_syntax.specs.Terminal.{opens, plain}
 use Rattle.dcx_read.specs.Terminals.{terminals, named_by}
 use Rattle.dcx_syntax.specs.Terminal as marks_of
-use Rattle.dcx_syntax.specs.Expressions.{expr, compared, no_comparison, sum, added, no_addition, term, scaled, no_scaling, power_of, raised, no_power, exponent, postfix, no_trailer, attribute, call, indexed, no_index, more_indices, by_name, by_place, slice, absent, present, step, list, items_end}
+use Rattle.dcx_syntax.specs.Expressions.{expr, compared, no_comparison, sum, added, no_addition, term, scaled, no_scaling, power_of, raised, no_power, exponent, postfix, no_trailer, attribute, call, no_index, more_indices, by_name, by_place, slice, absent, present, step, tuple, list, comprehension}
 use Rattle.dcx_syntax.specs.View.{args_of, items_of, more_items_of, indices_of, arg_view, index_view, primary_view, step_view, trailer_view, added_view, compared_view, expr_view, factor_view, postfix_view, power_view, raised_view, scaled_view, sum_view, term_view, optional_view}
 use Rattle.dcx_read.specs.Moves.{expr_s, compared_s, sum_s, added_s, term_s, scaled_s, factor_s, power_s, raised_s, exponent_s, postfix_s, trailers_s, args_s, arg_s, indices_s, index_s, after_index_s, optional_s, step_s, primary_s, after_round_s, after_square_s, items_s, name_s, in_s, closes_s, as_index, no_slice, slices, as_round, round_holds, round_closed, round_goes_on, as_square, square_holds, square_lists, square_for, items_behind}
 use Rattle.dcx_read.specs.Steps.{ReadsOne}
-use Rattle.dcx_read.specs.Leaves.{ReadsLeaf}
-use Rattle.dcx_read.proofs.Progress.{goes, stops, gives-is, loop-done}
+use Rattle.dcx_read.specs.Leaves.{ReadsLeaf, EndsByComma}
+use Rattle.dcx_read.proofs.Progress.{goes, turns, stops, gives-is, loop-done}
 use Rattle.dcx_read.proofs.Rules.{expr-rule, sum-rule, term-rule, power-rule, postfix-rule, compared-item, compared-ends, added-item, added-ends, scaled-item, scaled-ends, raised-item, raised-ends, attribute-item, call-item, indexed-item, trailers-end, indices-item, indices-ends, closes_round-gives, closes_round-stops, closes_square-gives, closes_square-stops, in-gives, in-stops, arg-named, arg-place, index-colon, index-rule, after_index-ends, after_index-colon, args-none, optional-none, optional-starts, step-ends, step-colon, round-empty, round-rule, after_round-closes, after_round-stops, after_round-comma, square-empty, square-rule, after_square-closes, after_square-stops, after_square-comma, after_square-for, for-front}
 use Rattle.dcx_read.proofs.Loops.{pushed, none-yet, loop-begin, loop-next, loop-stops, factor-gives, factor-stops, exponent-gives, exponent-stops}
-use Rattle.dcx_read.proofs.Descent.{index-ends, index-shorter, finish, trailer-is, no-primary, front-opens-round, front-opens-square, list-items, trailers-step, indices-begun, indices-pushed, args-begun, args-stop, args-step, args-last-one, args-close, items-begun, items-stop, items-step, items-last-one, items-close}
+use Rattle.dcx_read.proofs.Descent.{index-ends, index-shorter, loosely, closed-reads, closed-shorter, pair-reads, pair-shorter, made-last, made-pair, made-shorter, finish, trailer-is, no-primary, front-opens-round, front-opens-square, list-items, trailers-step, indices-begun, indices-pushed, args-begun, args-stop, args-step, args-last-one, args-close, items-begun, items-stop, items-step, items-last-one, items-close}
 use Rattle.dcx_read.proofs.expression.+expression.Goals as goal
 
 pub expr-returns-in_err-first-clause-read : goal.expr-returns-in_err-first-clause-read
@@ -320,42 +320,43 @@ pub arg-returns-clause-read : goal.arg-returns-clause-read
 arg-returns-clause-read t c =
     finish arg_s expr_s (terminals c.args.text.now c.args.tokens.now) (terminals c.args.text.now c.args.tokens.now) (terminals c.args.text.now c.in_ok-value-2.rest.now) by_place (expr_view c.in_ok-value-2.value) _ (arg-place c.args.text.now c.args.tokens.now c.in_default.ensures.front) c.in_ok-value-2.ensures.read (c.by_place_of.ensures)
 
-pub index-returns-in_err-end-clause-read : goal.index-returns-in_err-end-clause-read
-index-returns-in_err-end-clause-read t c =
-    let p = err_from_is_err_and c.from_residual.result c.from_residual.ensures.1 in
-    rw (p.1, p.2) (stops index_s optional_s (terminals c.args.text.now c.args.tokens.now) (terminals c.args.text.now c.in-Some.inside.now) (step_s ∷ []) _ c.args.text.now c.in_err-end.field-0.0 (index-colon c.args.text.now c.args.tokens.now c.in-Some.inside.now _ c.in-Some.ensures.front) c.in_err-end.ensures.read)
-
-pub index-returns-in_err-by-clause-read : goal.index-returns-in_err-by-clause-read
-index-returns-in_err-by-clause-read t c =
-    let p = err_from_is_err_and c.from_residual-in_err-by.result c.from_residual-in_err-by.ensures.1 in
-    rw (p.1, p.2) (stops index_s step_s (terminals c.args.text.now c.args.tokens.now) (terminals c.args.text.now c.in_ok-end.between.now) ([]) _ c.args.text.now c.in_err-by.field-0.0 (goes index_s optional_s (terminals c.args.text.now c.args.tokens.now) (terminals c.args.text.now c.in-Some.inside.now) (terminals c.args.text.now c.in_ok-end.between.now) (step_s ∷ []) _ (optional_view c.in_ok-end.end) (index-colon c.args.text.now c.args.tokens.now c.in-Some.inside.now _ c.in-Some.ensures.front) c.in_ok-end.ensures.read) c.in_err-by.ensures.read)
-
-pub index-returns-in-Some-clause-read : goal.index-returns-in-Some-clause-read
-index-returns-in-Some-clause-read t c =
-    finish index_s step_s (terminals c.args.text.now c.args.tokens.now) (terminals c.args.text.now c.in_ok-end.between.now) (terminals c.args.text.now c.in_ok-by.outside.now) (λ z. slice absent (optional_view c.in_ok-end.end) z) (step_view c.in_ok-by.by) _ (goes index_s optional_s (terminals c.args.text.now c.args.tokens.now) (terminals c.args.text.now c.in-Some.inside.now) (terminals c.args.text.now c.in_ok-end.between.now) (step_s ∷ []) _ (optional_view c.in_ok-end.end) (index-colon c.args.text.now c.args.tokens.now c.in-Some.inside.now _ c.in-Some.ensures.front) c.in_ok-end.ensures.read) c.in_ok-by.ensures.read (c.slice_of.ensures)
-
-pub index-returns-in_err-first-clause-read : goal.index-returns-in_err-first-clause-read
-index-returns-in_err-first-clause-read t c =
-    let p = err_from_is_err_and c.from_residual-in_err-first.result c.from_residual-in_err-first.ensures.1 in
-    rw (p.1, p.2) (stops index_s expr_s (terminals c.args.text.now c.args.tokens.now) (terminals c.args.text.now c.args.tokens.now) (after_index_s ∷ []) _ c.args.text.now c.in_err-first.field-0.0 (index-rule c.args.text.now c.args.tokens.now c.in_default.ensures.front) c.in_err-first.ensures.read)
-
-pub index-returns-in_default-eat-clause-read : goal.index-returns-in_default-eat-clause-read
-index-returns-in_default-eat-clause-read t c =
-    finish index_s after_index_s (terminals c.args.text.now c.args.tokens.now) (terminals c.args.text.now c.in_ok-first.behind.now) (terminals c.args.text.now c.in_ok-first.behind.now) (λ z. as_index (expr_view c.in_ok-first.first) z) no_slice _ (goes index_s expr_s (terminals c.args.text.now c.args.tokens.now) (terminals c.args.text.now c.args.tokens.now) (terminals c.args.text.now c.in_ok-first.behind.now) (after_index_s ∷ []) _ (expr_view c.in_ok-first.first) (index-rule c.args.text.now c.args.tokens.now c.in_default.ensures.front) c.in_ok-first.ensures.read) (after_index-ends c.args.text.now c.in_ok-first.behind.now c.in_default-eat.ensures.front) (c.at_of.ensures)
-
-pub index-returns-in_err-stop-clause-read : goal.index-returns-in_err-stop-clause-read
-index-returns-in_err-stop-clause-read t c =
-    let p = err_from_is_err_and c.from_residual-in_err-stop.result c.from_residual-in_err-stop.ensures.1 in
-    rw (p.1, p.2) (stops index_s after_index_s (terminals c.args.text.now c.args.tokens.now) (terminals c.args.text.now c.in_ok-first.behind.now) ([]) _ c.args.text.now c.in_err-stop.field-0.0 (goes index_s expr_s (terminals c.args.text.now c.args.tokens.now) (terminals c.args.text.now c.args.tokens.now) (terminals c.args.text.now c.in_ok-first.behind.now) (after_index_s ∷ []) _ (expr_view c.in_ok-first.first) (index-rule c.args.text.now c.args.tokens.now c.in_default.ensures.front) c.in_ok-first.ensures.read) (stops after_index_s optional_s (terminals c.args.text.now c.in_ok-first.behind.now) (terminals c.args.text.now c.in-Some-eat.after.now) (step_s ∷ []) _ c.args.text.now c.in_err-stop.field-0.0 (after_index-colon c.args.text.now c.in_ok-first.behind.now c.in-Some-eat.after.now _ c.in-Some-eat.ensures.front) c.in_err-stop.ensures.read))
-
-pub index-returns-in_err-stride-clause-read : goal.index-returns-in_err-stride-clause-read
-index-returns-in_err-stride-clause-read t c =
-    let p = err_from_is_err_and c.from_residual-in_err-stride.result c.from_residual-in_err-stride.ensures.1 in
-    rw (p.1, p.2) (stops index_s after_index_s (terminals c.args.text.now c.args.tokens.now) (terminals c.args.text.now c.in_ok-first.behind.now) ([]) _ c.args.text.now c.in_err-stride.field-0.0 (goes index_s expr_s (terminals c.args.text.now c.args.tokens.now) (terminals c.args.text.now c.args.tokens.now) (terminals c.args.text.now c.in_ok-first.behind.now) (after_index_s ∷ []) _ (expr_view c.in_ok-first.first) (index-rule c.args.text.now c.args.tokens.now c.in_default.ensures.front) c.in_ok-first.ensures.read) (stops after_index_s step_s (terminals c.args.text.now c.in_ok-first.behind.now) (terminals c.args.text.now c.in_ok-stop.middle.now) ([]) _ c.args.text.now c.in_err-stride.field-0.0 (goes after_index_s optional_s (terminals c.args.text.now c.in_ok-first.behind.now) (terminals c.args.text.now c.in-Some-eat.after.now) (terminals c.args.text.now c.in_ok-stop.middle.now) (step_s ∷ []) _ (optional_view c.in_ok-stop.stop) (after_index-colon c.args.text.now c.in_ok-first.behind.now c.in-Some-eat.after.now _ c.in-Some-eat.ensures.front) c.in_ok-stop.ensures.read) c.in_err-stride.ensures.read))
-
 pub index-returns-clause-read : goal.index-returns-clause-read
 index-returns-clause-read t c =
-    finish index_s after_index_s (terminals c.args.text.now c.args.tokens.now) (terminals c.args.text.now c.in_ok-first.behind.now) (terminals c.args.text.now c.in_ok-stride.rest.now) (λ z. as_index (expr_view c.in_ok-first.first) z) (slices (optional_view c.in_ok-stop.stop) (step_view c.in_ok-stride.stride)) _ (goes index_s expr_s (terminals c.args.text.now c.args.tokens.now) (terminals c.args.text.now c.args.tokens.now) (terminals c.args.text.now c.in_ok-first.behind.now) (after_index_s ∷ []) _ (expr_view c.in_ok-first.first) (index-rule c.args.text.now c.args.tokens.now c.in_default.ensures.front) c.in_ok-first.ensures.read) (finish after_index_s step_s (terminals c.args.text.now c.in_ok-first.behind.now) (terminals c.args.text.now c.in_ok-stop.middle.now) (terminals c.args.text.now c.in_ok-stride.rest.now) (λ z. slices (optional_view c.in_ok-stop.stop) z) (step_view c.in_ok-stride.stride) _ (goes after_index_s optional_s (terminals c.args.text.now c.in_ok-first.behind.now) (terminals c.args.text.now c.in-Some-eat.after.now) (terminals c.args.text.now c.in_ok-stop.middle.now) (step_s ∷ []) _ (optional_view c.in_ok-stop.stop) (after_index-colon c.args.text.now c.in_ok-first.behind.now c.in-Some-eat.after.now _ c.in-Some-eat.ensures.front) c.in_ok-stop.ensures.read) c.in_ok-stride.ensures.read (refl)) (c.slice_of-2.ensures)
+    made-pair index_s (λ x. ((x.0.0, x.0.1), x.1.now)) (λ x. (x.0, x.1.now)) (λ x. (index_view x.0, x.1.now)) (λ f u. slice (optional_view f) (optional_view u.0) (step_view u.1)) None optional_s step_s c.args.text.now (terminals c.args.text.now c.args.tokens.now) (terminals c.args.text.now c.in-Some.inside.now) (slice absent) (λ u. optional_view u.0) (λ u. step_view u.1) (index-colon c.args.text.now c.args.tokens.now c.in-Some.inside.now _ c.in-Some.ensures.front) (λ u. refl) c.slice_end.result c.beside.result c.slice_made.result c.slice_end.ensures.read c.beside.ensures c.slice_made.ensures
+
+pub index-returns-clause-shorter : goal.index-returns-clause-shorter
+index-returns-clause-shorter t c =
+    made-shorter index_s (λ x. ((x.0.0, x.0.1), x.1.now)) (λ x. (x.0, x.1.now)) (λ x. (index_view x.0, x.1.now)) (λ f u. slice (optional_view f) (optional_view u.0) (step_view u.1)) None (length c.in-Some.inside.now) (length c.args.tokens.now) c.in-Some.ensures.shorter c.slice_end.result c.beside.result c.slice_made.result c.slice_end.ensures.shorter c.beside.ensures c.slice_made.ensures
+
+pub at_or_slice-returns-in_err-first-clause-read : goal.at_or_slice-returns-in_err-first-clause-read
+at_or_slice-returns-in_err-first-clause-read t c =
+    let p = err_from_is_err_and c.from_residual.result c.from_residual.ensures.1 in
+    rw (p.1, p.2) (stops index_s expr_s (terminals c.args.text.now c.args.tokens.now) (terminals c.args.text.now c.args.tokens.now) (after_index_s ∷ []) _ c.args.text.now c.in_err-first.field-0.0 (index-rule c.args.text.now c.args.tokens.now c.requires.begun) c.in_err-first.ensures.read)
+
+pub at_or_slice-returns-in_default-clause-read : goal.at_or_slice-returns-in_default-clause-read
+at_or_slice-returns-in_default-clause-read t c =
+    finish index_s after_index_s (terminals c.args.text.now c.args.tokens.now) (terminals c.args.text.now c.in_ok-first.behind.now) (terminals c.args.text.now c.in_ok-first.behind.now) (λ z. as_index (expr_view c.in_ok-first.first) z) no_slice _ (goes index_s expr_s (terminals c.args.text.now c.args.tokens.now) (terminals c.args.text.now c.args.tokens.now) (terminals c.args.text.now c.in_ok-first.behind.now) (after_index_s ∷ []) _ (expr_view c.in_ok-first.first) (index-rule c.args.text.now c.args.tokens.now c.requires.begun) c.in_ok-first.ensures.read) (after_index-ends c.args.text.now c.in_ok-first.behind.now c.in_default.ensures.front) (c.at_of.ensures)
+
+pub at_or_slice-returns-clause-read : goal.at_or_slice-returns-clause-read
+at_or_slice-returns-clause-read t c =
+    made-pair index_s (λ x. ((x.0.0, x.0.1), x.1.now)) (λ x. (x.0, x.1.now)) (λ x. (index_view x.0, x.1.now)) (λ f u. slice (optional_view f) (optional_view u.0) (step_view u.1)) (Some c.in_ok-first.first) optional_s step_s c.args.text.now (terminals c.args.text.now c.args.tokens.now) (terminals c.args.text.now c.in-Some.after.now) (λ a b. as_index (expr_view c.in_ok-first.first) (slices a b)) (λ u. optional_view u.0) (λ u. step_view u.1) (turns index_s after_index_s (terminals c.args.text.now c.args.tokens.now) (terminals c.args.text.now c.in_ok-first.behind.now) (terminals c.args.text.now c.in-Some.after.now) (optional_s ∷ step_s ∷ []) (as_index (expr_view c.in_ok-first.first)) _ (goes index_s expr_s (terminals c.args.text.now c.args.tokens.now) (terminals c.args.text.now c.args.tokens.now) (terminals c.args.text.now c.in_ok-first.behind.now) (after_index_s ∷ []) _ (expr_view c.in_ok-first.first) (index-rule c.args.text.now c.args.tokens.now c.requires.begun) c.in_ok-first.ensures.read) (after_index-colon c.args.text.now c.in_ok-first.behind.now c.in-Some.after.now _ c.in-Some.ensures.front)) (λ u. refl) c.slice_end.result c.beside.result c.slice_made.result c.slice_end.ensures.read c.beside.ensures c.slice_made.ensures
+
+pub at_or_slice-returns-clause-shorter : goal.at_or_slice-returns-clause-shorter
+at_or_slice-returns-clause-shorter t c =
+    made-shorter index_s (λ x. ((x.0.0, x.0.1), x.1.now)) (λ x. (x.0, x.1.now)) (λ x. (index_view x.0, x.1.now)) (λ f u. slice (optional_view f) (optional_view u.0) (step_view u.1)) (Some c.in_ok-first.first) (length c.in-Some.after.now) (length c.args.tokens.now) (let a = c.in-Some.ensures.shorter in let b = c.in_ok-first.ensures.shorter in omega (arith, a, b)) c.slice_end.result c.beside.result c.slice_made.result c.slice_end.ensures.shorter c.beside.ensures c.slice_made.ensures
+
+pub slice_end-returns-in_err-stop-clause-read : goal.slice_end-returns-in_err-stop-clause-read
+slice_end-returns-in_err-stop-clause-read t c =
+    let p = err_from_is_err_and c.from_residual.result c.from_residual.ensures.1 in
+    rw (p.1, p.2) (λ s from join h. stops s optional_s from (terminals c.args.text.now c.args.tokens.now) (step_s ∷ []) join c.args.text.now c.in_err-stop.field-0.0 h c.in_err-stop.ensures.read)
+
+pub slice_end-returns-clause-read : goal.slice_end-returns-clause-read
+slice_end-returns-clause-read t c =
+    pair-reads (λ x. ((x.0.0, x.0.1), x.1.now)) (λ x. (x.0, x.1.now)) c.in_ok-stop.stop optional_s step_s c.args.text.now (terminals c.args.text.now c.args.tokens.now) (terminals c.args.text.now c.in_ok-stop.middle.now) optional_view step_view c.in_ok-stop.ensures.read c.step.result c.beside.result c.step.ensures.read c.beside.ensures
+
+pub slice_end-returns-clause-shorter : goal.slice_end-returns-clause-shorter
+slice_end-returns-clause-shorter t c =
+    pair-shorter (λ x. ((x.0.0, x.0.1), x.1.now)) (λ x. (x.0, x.1.now)) c.in_ok-stop.stop (length c.in_ok-stop.middle.now) (length c.args.tokens.now) c.in_ok-stop.ensures.shorter c.step.result c.beside.result c.step.ensures.shorter c.beside.ensures
 
 pub optional-returns-then-not-starts_expr-clause-read : goal.optional-returns-then-not-starts_expr-clause-read
 optional-returns-then-not-starts_expr-clause-read t c =
@@ -408,24 +409,26 @@ pub round-returns-in-Some-eat-clause-read : goal.round-returns-in-Some-eat-claus
 round-returns-in-Some-eat-clause-read t c =
     finish primary_s after_round_s (opens Round c.args.place ∷ (terminals c.args.text.now c.args.tokens.now)) (terminals c.args.text.now c.in_ok-first.behind.now) (terminals c.args.text.now c.in-Some-eat.beyond.now) (λ z. as_round c.args.place (round_holds (expr_view c.in_ok-first.first) z)) round_closed _ (goes primary_s expr_s (opens Round c.args.place ∷ (terminals c.args.text.now c.args.tokens.now)) (terminals c.args.text.now c.args.tokens.now) (terminals c.args.text.now c.in_ok-first.behind.now) (after_round_s ∷ []) _ (expr_view c.in_ok-first.first) (round-rule c.args.text.now c.args.place c.args.tokens.now c.in_default.ensures.front) c.in_ok-first.ensures.read) (after_round-closes c.args.text.now c.in_ok-first.behind.now c.in-Some-eat.beyond.now (_, c.in-Some-eat.ensures.front)) (c.in_ok-only.ensures)
 
-pub round-returns-in_err-after-clause-read : goal.round-returns-in_err-after-clause-read
-round-returns-in_err-after-clause-read t c =
-    let p = err_from_is_err_and c.from_residual-in_err-after.result c.from_residual-in_err-after.ensures.1 in
-    rw (p.1, p.2) (stops primary_s after_round_s (opens Round c.args.place ∷ (terminals c.args.text.now c.args.tokens.now)) (terminals c.args.text.now c.in_ok-first.behind.now) ([]) _ c.args.text.now c.in_err-after.field-0.0 (goes primary_s expr_s (opens Round c.args.place ∷ (terminals c.args.text.now c.args.tokens.now)) (terminals c.args.text.now c.args.tokens.now) (terminals c.args.text.now c.in_ok-first.behind.now) (after_round_s ∷ []) _ (expr_view c.in_ok-first.first) (round-rule c.args.text.now c.args.place c.args.tokens.now c.in_default.ensures.front) c.in_ok-first.ensures.read) (after_round-stops c.args.text.now c.in_ok-first.behind.now c.in_err-after.field-0.0 c.in_default-eat.ensures.front c.in_err-after.ensures.refused))
-
-pub round-returns-in_err-others-clause-read : goal.round-returns-in_err-others-clause-read
-round-returns-in_err-others-clause-read t c =
-    let p = err_from_is_err_and c.from_residual-in_err-others.result c.from_residual-in_err-others.ensures.1 in
-    rw (p.1, p.2) (stops primary_s after_round_s (opens Round c.args.place ∷ (terminals c.args.text.now c.args.tokens.now)) (terminals c.args.text.now c.in_ok-first.behind.now) ([]) _ c.args.text.now c.in_err-others.field-0.0 (goes primary_s expr_s (opens Round c.args.place ∷ (terminals c.args.text.now c.args.tokens.now)) (terminals c.args.text.now c.args.tokens.now) (terminals c.args.text.now c.in_ok-first.behind.now) (after_round_s ∷ []) _ (expr_view c.in_ok-first.first) (round-rule c.args.text.now c.args.place c.args.tokens.now c.in_default.ensures.front) c.in_ok-first.ensures.read) (stops after_round_s items_s (terminals c.args.text.now c.in_ok-first.behind.now) (terminals c.args.text.now c.in_ok-after.after.now) ((closes_s Round) ∷ []) _ c.args.text.now c.in_err-others.field-0.0 (after_round-comma c.args.text.now c.in_ok-first.behind.now c.in_ok-after.after.now _ c.in_ok-after.ensures.front.1) c.in_err-others.ensures.read))
-
-pub round-returns-in_err-rest-clause-read : goal.round-returns-in_err-rest-clause-read
-round-returns-in_err-rest-clause-read t c =
-    let p = err_from_is_err_and c.from_residual-in_err-rest.result c.from_residual-in_err-rest.ensures.1 in
-    rw (p.1, p.2) (stops primary_s after_round_s (opens Round c.args.place ∷ (terminals c.args.text.now c.args.tokens.now)) (terminals c.args.text.now c.in_ok-first.behind.now) ([]) _ c.args.text.now c.in_err-rest.field-0.0 (goes primary_s expr_s (opens Round c.args.place ∷ (terminals c.args.text.now c.args.tokens.now)) (terminals c.args.text.now c.args.tokens.now) (terminals c.args.text.now c.in_ok-first.behind.now) (after_round_s ∷ []) _ (expr_view c.in_ok-first.first) (round-rule c.args.text.now c.args.place c.args.tokens.now c.in_default.ensures.front) c.in_ok-first.ensures.read) (stops after_round_s (closes_s Round) (terminals c.args.text.now c.in_ok-first.behind.now) (terminals c.args.text.now c.in_ok-others.closing.now) ([]) _ c.args.text.now c.in_err-rest.field-0.0 (goes after_round_s items_s (terminals c.args.text.now c.in_ok-first.behind.now) (terminals c.args.text.now c.in_ok-after.after.now) (terminals c.args.text.now c.in_ok-others.closing.now) ((closes_s Round) ∷ []) _ (items_of (map expr_view c.in_ok-others.others.items) c.in_ok-others.comma) (after_round-comma c.args.text.now c.in_ok-first.behind.now c.in_ok-after.after.now _ c.in_ok-after.ensures.front.1) c.in_ok-others.ensures.read) (closes_round-stops c.args.text.now c.in_ok-others.closing.now c.in_err-rest.field-0.0 c.in_err-rest.ensures.refused)))
-
 pub round-returns-clause-read : goal.round-returns-clause-read
 round-returns-clause-read t c =
-    finish primary_s after_round_s (opens Round c.args.place ∷ (terminals c.args.text.now c.args.tokens.now)) (terminals c.args.text.now c.in_ok-first.behind.now) (terminals c.args.text.now c.in_ok-rest.rest.now) (λ z. as_round c.args.place (round_holds (expr_view c.in_ok-first.first) z)) (round_goes_on (items_of (map expr_view c.in_ok-others.others.items) c.in_ok-others.comma)) _ (goes primary_s expr_s (opens Round c.args.place ∷ (terminals c.args.text.now c.args.tokens.now)) (terminals c.args.text.now c.args.tokens.now) (terminals c.args.text.now c.in_ok-first.behind.now) (after_round_s ∷ []) _ (expr_view c.in_ok-first.first) (round-rule c.args.text.now c.args.place c.args.tokens.now c.in_default.ensures.front) c.in_ok-first.ensures.read) (finish after_round_s (closes_s Round) (terminals c.args.text.now c.in_ok-first.behind.now) (terminals c.args.text.now c.in_ok-others.closing.now) (terminals c.args.text.now c.in_ok-rest.rest.now) (λ z. round_goes_on (items_of (map expr_view c.in_ok-others.others.items) c.in_ok-others.comma)) tt _ (goes after_round_s items_s (terminals c.args.text.now c.in_ok-first.behind.now) (terminals c.args.text.now c.in_ok-after.after.now) (terminals c.args.text.now c.in_ok-others.closing.now) ((closes_s Round) ∷ []) _ (items_of (map expr_view c.in_ok-others.others.items) c.in_ok-others.comma) (after_round-comma c.args.text.now c.in_ok-first.behind.now c.in_ok-after.after.now _ c.in_ok-after.ensures.front.1) c.in_ok-others.ensures.read) (closes_round-gives c.args.text.now c.in_ok-others.closing.now c.in_ok-rest.rest.now c.in_ok-rest.ensures.front) (refl)) (c.in_ok-all.ensures)
+    made-last primary_s (λ x. ((x.0.0, x.0.1), x.1.now)) (λ x. (x.0, x.1.now)) (λ x. (primary_view x.0, x.1.now)) (λ f u. tuple c.args.place (expr_view f) (items_of (map expr_view u.0.items) u.1)) c.in_ok-first.first after_round_s c.args.text.now (opens Round c.args.place ∷ (terminals c.args.text.now c.args.tokens.now)) (terminals c.args.text.now c.in_ok-first.behind.now) (λ z. as_round c.args.place (round_holds (expr_view c.in_ok-first.first) z)) (λ u. round_goes_on (items_of (map expr_view u.0.items) u.1)) (goes primary_s expr_s (opens Round c.args.place ∷ (terminals c.args.text.now c.args.tokens.now)) (terminals c.args.text.now c.args.tokens.now) (terminals c.args.text.now c.in_ok-first.behind.now) (after_round_s ∷ []) _ (expr_view c.in_ok-first.first) (round-rule c.args.text.now c.args.place c.args.tokens.now c.in_default.ensures.front) c.in_ok-first.ensures.read) (λ u. refl) c.tuple_end.result c.beside.result c.tuple_made.result c.tuple_end.ensures.read c.beside.ensures c.tuple_made.ensures
+
+pub round-returns-clause-shorter : goal.round-returns-clause-shorter
+round-returns-clause-shorter t c =
+    made-shorter primary_s (λ x. ((x.0.0, x.0.1), x.1.now)) (λ x. (x.0, x.1.now)) (λ x. (primary_view x.0, x.1.now)) (λ f u. tuple c.args.place (expr_view f) (items_of (map expr_view u.0.items) u.1)) c.in_ok-first.first (length c.in_ok-first.behind.now) (length c.args.tokens.now) c.in_ok-first.ensures.shorter c.tuple_end.result c.beside.result c.tuple_made.result (loosely c.tuple_end.result (λ x. length x.1.now) (length c.in_ok-first.behind.now) c.tuple_end.ensures.shorter) c.beside.ensures c.tuple_made.ensures
+
+pub tuple_end-returns-in_err-after-clause-read : goal.tuple_end-returns-in_err-after-clause-read
+tuple_end-returns-in_err-after-clause-read t c =
+    let p = err_from_is_err_and c.from_residual.result c.from_residual.ensures.1 in
+    rw (p.1, p.2) (after_round-stops c.args.text.now c.args.tokens.now c.in_err-after.field-0.0 c.requires.goes_on c.in_err-after.ensures.refused)
+
+pub tuple_end-returns-clause-read : goal.tuple_end-returns-clause-read
+tuple_end-returns-clause-read t c =
+    closed-reads (λ x. EndsByComma x.0.0.items x.0.1) after_round_s items_s Round (λ x. (x.0, x.1.now)) c.args.text.now (terminals c.args.text.now c.args.tokens.now) (terminals c.args.text.now c.in_ok-after.after.now) round_goes_on (λ u. items_of (map expr_view u.0.items) u.1) (λ u. round_goes_on (items_of (map expr_view u.0.items) u.1)) (after_round-comma c.args.text.now c.args.tokens.now c.in_ok-after.after.now _ c.in_ok-after.ensures.front.1) (λ x e. refl) c.items.result c.closed.result c.items.ensures.read c.items.ensures.comma c.closed.ensures
+
+pub tuple_end-returns-clause-shorter : goal.tuple_end-returns-clause-shorter
+tuple_end-returns-clause-shorter t c =
+    closed-shorter Round (λ x. (x.0, x.1.now)) (length c.in_ok-after.after.now) (length c.args.tokens.now) (let a = c.in_ok-after.ensures.shorter in omega (arith, a)) c.items.result c.closed.result c.items.ensures.shorter c.closed.ensures
 
 pub square-returns-in-Some-clause-read : goal.square-returns-in-Some-clause-read
 square-returns-in-Some-clause-read t c =
@@ -436,37 +439,38 @@ square-returns-in_err-first-clause-read t c =
     let p = err_from_is_err_and c.from_residual.result c.from_residual.ensures.1 in
     rw (p.1, p.2) (stops primary_s expr_s (opens Square c.args.place ∷ (terminals c.args.text.now c.args.tokens.now)) (terminals c.args.text.now c.args.tokens.now) (after_square_s ∷ []) _ c.args.text.now c.in_err-first.field-0.0 (square-rule c.args.text.now c.args.place c.args.tokens.now c.in_default.ensures.front) c.in_err-first.ensures.read)
 
-pub square-returns-in_err-each-clause-read : goal.square-returns-in_err-each-clause-read
-square-returns-in_err-each-clause-read t c =
-    let p = err_from_is_err_and c.from_residual-in_err-each.result c.from_residual-in_err-each.ensures.1 in
-    rw (p.1, p.2) (stops primary_s after_square_s (opens Square c.args.place ∷ (terminals c.args.text.now c.args.tokens.now)) (terminals c.args.text.now c.in_ok-first.behind.now) ([]) _ c.args.text.now c.in_err-each.field-0.0 (goes primary_s expr_s (opens Square c.args.place ∷ (terminals c.args.text.now c.args.tokens.now)) (terminals c.args.text.now c.args.tokens.now) (terminals c.args.text.now c.in_ok-first.behind.now) (after_square_s ∷ []) _ (expr_view c.in_ok-first.first) (square-rule c.args.text.now c.args.place c.args.tokens.now c.in_default.ensures.front) c.in_ok-first.ensures.read) (rw (for-front c.args.text.now c.in_ok-first.behind.now c.in-Some-eat.word.now c.in-Some-eat.for_place c.in-Some-eat.ensures.front) c.in_err-each.ensures.read))
-
 pub square-returns-in-Some-eat-clause-read : goal.square-returns-in-Some-eat-clause-read
 square-returns-in-Some-eat-clause-read t c =
-    finish primary_s after_square_s (opens Square c.args.place ∷ (terminals c.args.text.now c.args.tokens.now)) (terminals c.args.text.now c.in_ok-first.behind.now) (terminals c.args.text.now c.in_ok-each.beyond.now) (λ z. as_square c.args.place (square_holds (expr_view c.in_ok-first.first) z)) (square_for c.in-Some-eat.for_place c.in_ok-each.each (expr_view c.in_ok-each.from)) _ (goes primary_s expr_s (opens Square c.args.place ∷ (terminals c.args.text.now c.args.tokens.now)) (terminals c.args.text.now c.args.tokens.now) (terminals c.args.text.now c.in_ok-first.behind.now) (after_square_s ∷ []) _ (expr_view c.in_ok-first.first) (square-rule c.args.text.now c.args.place c.args.tokens.now c.in_default.ensures.front) c.in_ok-first.ensures.read) (rw (for-front c.args.text.now c.in_ok-first.behind.now c.in-Some-eat.word.now c.in-Some-eat.for_place c.in-Some-eat.ensures.front) c.in_ok-each.ensures.read) (c.in_ok-comprehension.ensures)
+    made-last primary_s (λ x. ((x.0.0, x.0.1), x.1.now)) (λ x. (x.0, x.1.now)) (λ x. (primary_view x.0, x.1.now)) (λ f u. comprehension c.args.place (expr_view f) c.in-Some-eat.for_place u.0 (expr_view u.1)) c.in_ok-first.first after_square_s c.args.text.now (opens Square c.args.place ∷ (terminals c.args.text.now c.args.tokens.now)) (terminals c.args.text.now c.in_ok-first.behind.now) (λ z. as_square c.args.place (square_holds (expr_view c.in_ok-first.first) z)) (λ u. square_for c.in-Some-eat.for_place u.0 (expr_view u.1)) (goes primary_s expr_s (opens Square c.args.place ∷ (terminals c.args.text.now c.args.tokens.now)) (terminals c.args.text.now c.args.tokens.now) (terminals c.args.text.now c.in_ok-first.behind.now) (after_square_s ∷ []) _ (expr_view c.in_ok-first.first) (square-rule c.args.text.now c.args.place c.args.tokens.now c.in_default.ensures.front) c.in_ok-first.ensures.read) (λ u. refl) c.source.result c.beside-parts.result c.comprehension_made.result (rw (for-front c.args.text.now c.in_ok-first.behind.now c.in-Some-eat.word.now c.in-Some-eat.for_place c.in-Some-eat.ensures.front) c.source.ensures.read) c.beside-parts.ensures c.comprehension_made.ensures
 
-pub square-returns-in_err-others-clause-read : goal.square-returns-in_err-others-clause-read
-square-returns-in_err-others-clause-read t c =
-    let p = err_from_is_err_and c.from_residual-in_err-others.result c.from_residual-in_err-others.ensures.1 in
-    rw (p.1, p.2) (stops primary_s after_square_s (opens Square c.args.place ∷ (terminals c.args.text.now c.args.tokens.now)) (terminals c.args.text.now c.in_ok-first.behind.now) ([]) _ c.args.text.now c.in_err-others.field-0.0 (goes primary_s expr_s (opens Square c.args.place ∷ (terminals c.args.text.now c.args.tokens.now)) (terminals c.args.text.now c.args.tokens.now) (terminals c.args.text.now c.in_ok-first.behind.now) (after_square_s ∷ []) _ (expr_view c.in_ok-first.first) (square-rule c.args.text.now c.args.place c.args.tokens.now c.in_default.ensures.front) c.in_ok-first.ensures.read) (stops after_square_s items_s (terminals c.args.text.now c.in_ok-first.behind.now) (terminals c.args.text.now c.in-Some-eat-2.after.now) ((closes_s Square) ∷ []) _ c.args.text.now c.in_err-others.field-0.0 (after_square-comma c.args.text.now c.in_ok-first.behind.now c.in-Some-eat-2.after.now _ c.in-Some-eat-2.ensures.front) c.in_err-others.ensures.read))
+pub square-returns-in-Some-eat-clause-shorter : goal.square-returns-in-Some-eat-clause-shorter
+square-returns-in-Some-eat-clause-shorter t c =
+    made-shorter primary_s (λ x. ((x.0.0, x.0.1), x.1.now)) (λ x. (x.0, x.1.now)) (λ x. (primary_view x.0, x.1.now)) (λ f u. comprehension c.args.place (expr_view f) c.in-Some-eat.for_place u.0 (expr_view u.1)) c.in_ok-first.first (length c.in-Some-eat.word.now) (length c.args.tokens.now) (let a = c.in-Some-eat.ensures.shorter in let b = c.in_ok-first.ensures.shorter in omega (arith, a, b)) c.source.result c.beside-parts.result c.comprehension_made.result (loosely c.source.result (λ x. length x.1.now) (length c.in-Some-eat.word.now) c.source.ensures.shorter) c.beside-parts.ensures c.comprehension_made.ensures
 
-pub square-returns-in_err-rest-clause-read : goal.square-returns-in_err-rest-clause-read
-square-returns-in_err-rest-clause-read t c =
-    let p = err_from_is_err_and c.from_residual-in_err-rest.result c.from_residual-in_err-rest.ensures.1 in
-    rw (p.1, p.2) (stops primary_s after_square_s (opens Square c.args.place ∷ (terminals c.args.text.now c.args.tokens.now)) (terminals c.args.text.now c.in_ok-first.behind.now) ([]) _ c.args.text.now c.in_err-rest.field-0.0 (goes primary_s expr_s (opens Square c.args.place ∷ (terminals c.args.text.now c.args.tokens.now)) (terminals c.args.text.now c.args.tokens.now) (terminals c.args.text.now c.in_ok-first.behind.now) (after_square_s ∷ []) _ (expr_view c.in_ok-first.first) (square-rule c.args.text.now c.args.place c.args.tokens.now c.in_default.ensures.front) c.in_ok-first.ensures.read) (stops after_square_s (closes_s Square) (terminals c.args.text.now c.in_ok-first.behind.now) (terminals c.args.text.now c.in_ok-others.closing.now) ([]) _ c.args.text.now c.in_err-rest.field-0.0 (goes after_square_s items_s (terminals c.args.text.now c.in_ok-first.behind.now) (terminals c.args.text.now c.in-Some-eat-2.after.now) (terminals c.args.text.now c.in_ok-others.closing.now) ((closes_s Square) ∷ []) _ (items_of (map expr_view c.in_ok-others.others.items) c.in_ok-others.comma) (after_square-comma c.args.text.now c.in_ok-first.behind.now c.in-Some-eat-2.after.now _ c.in-Some-eat-2.ensures.front) c.in_ok-others.ensures.read) (closes_square-stops c.args.text.now c.in_ok-others.closing.now c.in_err-rest.field-0.0 c.in_err-rest.ensures.refused)))
+pub square-returns-in-None-clause-read : goal.square-returns-in-None-clause-read
+square-returns-in-None-clause-read t c =
+    made-last primary_s (λ x. ((x.0.0, x.0.1), x.1.now)) (λ x. (x.0, x.1.now)) (λ x. (primary_view x.0, x.1.now)) (λ f u. list c.args.place (expr_view f) (more_items_of (map expr_view u.0.items) u.1)) c.in_ok-first.first after_square_s c.args.text.now (opens Square c.args.place ∷ (terminals c.args.text.now c.args.tokens.now)) (terminals c.args.text.now c.in_ok-first.behind.now) (λ z. as_square c.args.place (square_holds (expr_view c.in_ok-first.first) z)) (λ u. square_lists (more_items_of (map expr_view u.0.items) u.1)) (goes primary_s expr_s (opens Square c.args.place ∷ (terminals c.args.text.now c.args.tokens.now)) (terminals c.args.text.now c.args.tokens.now) (terminals c.args.text.now c.in_ok-first.behind.now) (after_square_s ∷ []) _ (expr_view c.in_ok-first.first) (square-rule c.args.text.now c.args.place c.args.tokens.now c.in_default.ensures.front) c.in_ok-first.ensures.read) (λ u. refl) c.list_end.result c.beside.result c.list_made.result c.list_end.ensures.read c.beside.ensures c.list_made.ensures
 
-pub square-returns-in-Some-eat-2-clause-read : goal.square-returns-in-Some-eat-2-clause-read
-square-returns-in-Some-eat-2-clause-read t c =
-    finish primary_s after_square_s (opens Square c.args.place ∷ (terminals c.args.text.now c.args.tokens.now)) (terminals c.args.text.now c.in_ok-first.behind.now) (terminals c.args.text.now c.in_ok-rest.rest.now) (λ z. as_square c.args.place (square_holds (expr_view c.in_ok-first.first) z)) (square_lists (items_behind (items_of (map expr_view c.in_ok-others.others.items) c.in_ok-others.comma))) _ (goes primary_s expr_s (opens Square c.args.place ∷ (terminals c.args.text.now c.args.tokens.now)) (terminals c.args.text.now c.args.tokens.now) (terminals c.args.text.now c.in_ok-first.behind.now) (after_square_s ∷ []) _ (expr_view c.in_ok-first.first) (square-rule c.args.text.now c.args.place c.args.tokens.now c.in_default.ensures.front) c.in_ok-first.ensures.read) (finish after_square_s (closes_s Square) (terminals c.args.text.now c.in_ok-first.behind.now) (terminals c.args.text.now c.in_ok-others.closing.now) (terminals c.args.text.now c.in_ok-rest.rest.now) (λ z. square_lists (items_behind (items_of (map expr_view c.in_ok-others.others.items) c.in_ok-others.comma))) tt _ (goes after_square_s items_s (terminals c.args.text.now c.in_ok-first.behind.now) (terminals c.args.text.now c.in-Some-eat-2.after.now) (terminals c.args.text.now c.in_ok-others.closing.now) ((closes_s Square) ∷ []) _ (items_of (map expr_view c.in_ok-others.others.items) c.in_ok-others.comma) (after_square-comma c.args.text.now c.in_ok-first.behind.now c.in-Some-eat-2.after.now _ c.in-Some-eat-2.ensures.front) c.in_ok-others.ensures.read) (closes_square-gives c.args.text.now c.in_ok-others.closing.now c.in_ok-rest.rest.now c.in_ok-rest.ensures.front) (refl)) (c.in_ok-all.ensures ∙ ap (list c.args.place (expr_view c.in_ok-first.first)) (sym (list-items expr_view c.in_ok-others.others.items c.in_ok-others.comma c.in_ok-others.ensures.comma)))
+pub square-returns-in-None-clause-shorter : goal.square-returns-in-None-clause-shorter
+square-returns-in-None-clause-shorter t c =
+    made-shorter primary_s (λ x. ((x.0.0, x.0.1), x.1.now)) (λ x. (x.0, x.1.now)) (λ x. (primary_view x.0, x.1.now)) (λ f u. list c.args.place (expr_view f) (more_items_of (map expr_view u.0.items) u.1)) c.in_ok-first.first (length c.in_ok-first.behind.now) (length c.args.tokens.now) c.in_ok-first.ensures.shorter c.list_end.result c.beside.result c.list_made.result (loosely c.list_end.result (λ x. length x.1.now) (length c.in_ok-first.behind.now) c.list_end.ensures.shorter) c.beside.ensures c.list_made.ensures
 
-pub square-returns-in_err-last-clause-read : goal.square-returns-in_err-last-clause-read
-square-returns-in_err-last-clause-read t c =
-    let p = err_from_is_err_and c.from_residual-in_err-last.result c.from_residual-in_err-last.ensures.1 in
-    rw (p.1, p.2) (stops primary_s after_square_s (opens Square c.args.place ∷ (terminals c.args.text.now c.args.tokens.now)) (terminals c.args.text.now c.in_ok-first.behind.now) ([]) _ c.args.text.now c.in_err-last.field-0.0 (goes primary_s expr_s (opens Square c.args.place ∷ (terminals c.args.text.now c.args.tokens.now)) (terminals c.args.text.now c.args.tokens.now) (terminals c.args.text.now c.in_ok-first.behind.now) (after_square_s ∷ []) _ (expr_view c.in_ok-first.first) (square-rule c.args.text.now c.args.place c.args.tokens.now c.in_default.ensures.front) c.in_ok-first.ensures.read) (after_square-stops c.args.text.now c.in_ok-first.behind.now c.in_err-last.field-0.0 c.in_default-eat.ensures.front c.in_default-eat-2.ensures.front c.in_err-last.ensures.refused))
+pub list_end-returns-in-Some-clause-read : goal.list_end-returns-in-Some-clause-read
+list_end-returns-in-Some-clause-read t c =
+    closed-reads (λ x. EndsByComma x.0.0.items x.0.1) after_square_s items_s Square (λ x. (x.0, x.1.now)) c.args.text.now (terminals c.args.text.now c.args.tokens.now) (terminals c.args.text.now c.in-Some.after.now) (λ xs. square_lists (items_behind xs)) (λ u. items_of (map expr_view u.0.items) u.1) (λ u. square_lists (more_items_of (map expr_view u.0.items) u.1)) (after_square-comma c.args.text.now c.args.tokens.now c.in-Some.after.now _ c.in-Some.ensures.front) (λ x e. ap square_lists (list-items expr_view x.0.0.items x.0.1 e)) c.items.result c.closed.result c.items.ensures.read c.items.ensures.comma c.closed.ensures
 
-pub square-returns-clause-read : goal.square-returns-clause-read
-square-returns-clause-read t c =
-    finish primary_s after_square_s (opens Square c.args.place ∷ (terminals c.args.text.now c.args.tokens.now)) (terminals c.args.text.now c.in_ok-first.behind.now) (terminals c.args.text.now c.in_ok-last.last.now) (λ z. as_square c.args.place (square_holds (expr_view c.in_ok-first.first) z)) (square_lists items_end) _ (goes primary_s expr_s (opens Square c.args.place ∷ (terminals c.args.text.now c.args.tokens.now)) (terminals c.args.text.now c.args.tokens.now) (terminals c.args.text.now c.in_ok-first.behind.now) (after_square_s ∷ []) _ (expr_view c.in_ok-first.first) (square-rule c.args.text.now c.args.place c.args.tokens.now c.in_default.ensures.front) c.in_ok-first.ensures.read) (after_square-closes c.args.text.now c.in_ok-first.behind.now c.in_ok-last.last.now c.in_ok-last.ensures.front) (c.in_ok-single.ensures ∙ ap (λ zs. list c.args.place (expr_view c.in_ok-first.first) (more_items_of (map expr_view zs) false)) c.new-none.ensures.items)
+pub list_end-returns-in-Some-clause-shorter : goal.list_end-returns-in-Some-clause-shorter
+list_end-returns-in-Some-clause-shorter t c =
+    closed-shorter Square (λ x. (x.0, x.1.now)) (length c.in-Some.after.now) (length c.args.tokens.now) (let a = c.in-Some.ensures.shorter in omega (arith, a)) c.items.result c.closed.result c.items.ensures.shorter c.closed.ensures
+
+pub list_end-returns-in_err-rest-clause-read : goal.list_end-returns-in_err-rest-clause-read
+list_end-returns-in_err-rest-clause-read t c =
+    let p = err_from_is_err_and c.from_residual.result c.from_residual.ensures.1 in
+    rw (p.1, p.2) (after_square-stops c.args.text.now c.args.tokens.now c.in_err-rest.field-0.0 c.requires.lists c.in_default.ensures.front c.in_err-rest.ensures.refused)
+
+pub list_end-returns-clause-read : goal.list_end-returns-clause-read
+list_end-returns-clause-read t c =
+    gives-is after_square_s (terminals c.args.text.now c.args.tokens.now) (terminals c.args.text.now c.in_ok-rest.rest.now) _ _ (ap (λ zs. square_lists (more_items_of (map expr_view zs) false)) (sym c.new-none.ensures.items)) (after_square-closes c.args.text.now c.args.tokens.now c.in_ok-rest.rest.now c.in_ok-rest.ensures.front)
 
 pub source-returns-in_err-each-clause-read : goal.source-returns-in_err-each-clause-read
 source-returns-in_err-each-clause-read t c =

@@ -42,7 +42,13 @@ abbrev pub decreases-optional : goal.decreases-optional
 decreases-optional l = length l.tokens.now * 12 + 7
 
 abbrev pub decreases-index : goal.decreases-index
-decreases-index l = length l.tokens.now * 12 + 7
+decreases-index l = length l.tokens.now * 12 + 8
+
+abbrev pub decreases-at_or_slice : goal.decreases-at_or_slice
+decreases-at_or_slice l = length l.tokens.now * 12 + 7
+
+abbrev pub decreases-slice_end : goal.decreases-slice_end
+decreases-slice_end l = length l.tokens.now * 12 + 8
 
 abbrev pub decreases-step : goal.decreases-step
 decreases-step l = length l.tokens.now * 12 + 0
@@ -67,6 +73,12 @@ decreases-square l = length l.tokens.now * 12 + 7
 
 abbrev pub decreases-source : goal.decreases-source
 decreases-source l = length l.tokens.now * 12 + 0
+
+abbrev pub decreases-tuple_end : goal.decreases-tuple_end
+decreases-tuple_end l = length l.tokens.now * 12 + 0
+
+abbrev pub decreases-list_end : goal.decreases-list_end
+decreases-list_end l = length l.tokens.now * 12 + 0
 
 abbrev pub invariant-expr-more : goal.invariant-expr-more
 invariant-expr-more l = Loop expr_s compared_s (terminals l.fn.text l.fn.tokens) (terminals l.fn.text l.rest) (λ a. expr (sum_view l.first) (chained (map compared_view l.others.items) a)) × (length l.rest < length l.fn.tokens)

@@ -4,5 +4,5 @@ use Rattle.std.specs.List.{flat_map}
 use Rattle.dcx_report.specs.AnswerText.{named_line}
 use Rattle.dcx_report.proofs.answer_lines.put_named_lines.Given as goal
 
-abbrev pub invariant-loop-named : goal.invariant-loop-named
-invariant-loop-named l = l.out.items ≡ l.fn.out.items ++ flat_map (named_line l.word) (take l.named-index l.items)
+abbrev pub invariant-pairs : goal.invariant-pairs
+invariant-pairs l = l.out.items ≡ l.fn.out.items ++ flat_map (named_line l.word) (take l.i l.point)

@@ -3,7 +3,8 @@ use Rattle.std.proofs.Common.{◌≡◌, ◌<◌, ◌++◌, length, set, take, d
 use Rattle.std.proofs.lemmas.List.{take_at}
 use Rattle.dcx_math.specs.Sums.{rat_at}
 use Rattle.dcx_frac.specs.declared.fraction.Frac.{Frac}
-use Rattle.dcx_simplex.specs.Reading.{numbers, IsColumnChange}
+use Rattle.dcx_lp_answer.specs.Notes.{numbers}
+use Rattle.dcx_simplex.specs.Reading.{IsColumnChange}
 use Rattle.dcx_simplex.proofs.ReadLists.{changes_are}
 use Rattle.dcx_simplex.proofs.read.column_changes.Goals as goal
 

@@ -4,7 +4,8 @@ use Rattle.std.proofs.lemmas.List.{take_at}
 use Rattle.dcx_math.specs.Rational.{whole}
 use Rattle.dcx_math.specs.Sums.{rat_at}
 use Rattle.dcx_frac.specs.declared.fraction.Frac.{Frac}
-use Rattle.dcx_simplex.specs.Reading.{numbers, IsColumnNumber}
+use Rattle.dcx_lp_answer.specs.Notes.{numbers}
+use Rattle.dcx_simplex.specs.Reading.{IsColumnNumber}
 use Rattle.dcx_simplex.proofs.ReadLists.{numbers_are}
 use Rattle.dcx_simplex.proofs.read.column_numbers.Goals as goal
 

@@ -7,8 +7,8 @@ use Rattle.dcx_math.specs.Sums.{rat_at}
 use Rattle.dcx_frac.specs.Frac.{value}
 use Rattle.dcx_tab.specs.Rows.{basic_at}
 use Rattle.dcx_tab.specs.Table.{entry_at}
-use Rattle.dcx_simplex.specs.Reading.{numbers}
-use Rattle.dcx_simplex.specs.Right.{turned_if}
+use Rattle.dcx_lp_answer.specs.Notes.{numbers}
+use Rattle.dcx_lp_answer.specs.Right.{turned_if}
 use Rattle.dcx_simplex.proofs.Fractions.{number-set_same, number-set_other}
 use Rattle.dcx_simplex.proofs.read.put_basic.Goals as goal
 

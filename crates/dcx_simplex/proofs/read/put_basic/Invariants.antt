@@ -4,8 +4,8 @@ use Rattle.dcx_math.specs.Rational.{whole, ◌/ℚ◌}
 use Rattle.dcx_math.specs.Sums.{rat_at}
 use Rattle.dcx_tab.specs.Rows.{basic_at}
 use Rattle.dcx_tab.specs.Table.{entry_at}
-use Rattle.dcx_simplex.specs.Reading.{numbers}
-use Rattle.dcx_simplex.specs.Right.{turned_if}
+use Rattle.dcx_lp_answer.specs.Notes.{numbers}
+use Rattle.dcx_lp_answer.specs.Right.{turned_if}
 use Rattle.dcx_simplex.proofs.read.put_basic.Given as goal
 
 abbrev pub invariant-rows : goal.invariant-rows

@@ -6,8 +6,9 @@ use Rattle.dcx_math.specs.Sums.{rat_at}
 use Rattle.dcx_frac.specs.declared.fraction.Frac.{Frac}
 use Rattle.dcx_tab.specs.Table.{entry_at}
 use Rattle.dcx_tab.specs.Program.{is_negated}
-use Rattle.dcx_simplex.specs.declared.answer.RowNote.{RowNote}
-use Rattle.dcx_simplex.specs.Reading.{numbers, IsColumnNumber, reduced_cost_of, reduced_cost_at, factor_of, was_negated, row_factor, read_row}
+use Rattle.dcx_lp_answer.specs.declared.answer.RowNote.{RowNote}
+use Rattle.dcx_lp_answer.specs.Notes.{numbers, reduced_cost_of, factor_of, was_negated, row_factor}
+use Rattle.dcx_simplex.specs.Reading.{IsColumnNumber, reduced_cost_at, read_row}
 use Rattle.dcx_simplex.proofs.Owns.{own_low, own_unique}
 use Rattle.dcx_simplex.proofs.read.read_costs.Goals as goal
 

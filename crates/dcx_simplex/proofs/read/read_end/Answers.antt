@@ -2,9 +2,9 @@
 use Rattle.std.proofs.Common.{sym, subst}
 use Rattle.std.proofs.lemmas.Result.{IfOk-weaker}
 use Rattle.dcx_simplex.specs.declared.run.LpEnd.TheVariants as lp
-use Rattle.dcx_simplex.specs.declared.answer.LpStatus.TheVariants as status
+use Rattle.dcx_lp_answer.specs.declared.answer.LpStatus.TheVariants as status
 use Rattle.dcx_simplex.specs.Reading.{IsReading, IsRayReading}
-use Rattle.dcx_simplex.specs.Right.{IsRight, IsRightAs}
+use Rattle.dcx_lp_answer.specs.Right.{IsRight, IsRightAs}
 use Rattle.dcx_simplex.specs.Finished.{IsFinished}
 use Rattle.dcx_simplex.proofs.Ended.{shown_optimal, shown_infeasible, shown_unbounded, column_unbounded, new_unbounded, right_optimal, right_infeasible, right_unbounded}
 use Rattle.dcx_simplex.proofs.ReadLists.{if_ok_both}

@@ -6,7 +6,8 @@ use Rattle.dcx_math.specs.Sums.{rat_at}
 use Rattle.dcx_frac.specs.declared.fraction.Frac.{Frac}
 use Rattle.dcx_tab.specs.Table.{entry_at}
 use Rattle.dcx_simplex.specs.Whole.{objective_row}
-use Rattle.dcx_simplex.specs.Reading.{numbers, IsColumnChange}
+use Rattle.dcx_lp_answer.specs.Notes.{numbers}
+use Rattle.dcx_simplex.specs.Reading.{IsColumnChange}
 use Rattle.dcx_simplex.proofs.read.read_ray.Goals as goal
 
 pub returns-clause-ray : goal.returns-clause-ray

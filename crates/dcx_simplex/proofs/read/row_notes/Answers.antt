@@ -7,9 +7,10 @@ use Rattle.dcx_math.specs.Sums.{rat_at}
 use Rattle.dcx_frac.specs.Frac.{value}
 use Rattle.dcx_tab.specs.Table.{entry_at}
 use Rattle.dcx_tab.specs.Program.{is_negated}
-use Rattle.dcx_simplex.specs.declared.answer.RowNote.{RowNote}
-use Rattle.dcx_simplex.specs.Reading.{reduced_cost_of, reduced_cost_at, factor_of, was_negated, row_factor}
-use Rattle.dcx_simplex.specs.Right.{turned_if}
+use Rattle.dcx_lp_answer.specs.declared.answer.RowNote.{RowNote}
+use Rattle.dcx_lp_answer.specs.Notes.{reduced_cost_of, factor_of, was_negated, row_factor}
+use Rattle.dcx_simplex.specs.Reading.{reduced_cost_at}
+use Rattle.dcx_lp_answer.specs.Right.{turned_if}
 use Rattle.dcx_simplex.proofs.ReadLists.{rat_at-more, along_more}
 use Rattle.dcx_simplex.proofs.read.row_notes.Goals as goal
 

@@ -2,7 +2,8 @@
 use Rattle.std.proofs.Common.{◌≡◌, ℕ, ◌<◌, length, map, take, get_or}
 use Rattle.dcx_math.specs.Sums.{rat_at}
 use Rattle.dcx_tab.specs.Program.{is_negated}
-use Rattle.dcx_simplex.specs.Reading.{reduced_cost_of, reduced_cost_at, factor_of, was_negated, row_factor}
+use Rattle.dcx_lp_answer.specs.Notes.{reduced_cost_of, factor_of, was_negated, row_factor}
+use Rattle.dcx_simplex.specs.Reading.{reduced_cost_at}
 use Rattle.dcx_simplex.proofs.read.row_notes.Given as goal
 
 abbrev pub invariant-rows : goal.invariant-rows

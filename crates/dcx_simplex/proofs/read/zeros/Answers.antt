@@ -4,7 +4,7 @@ use Rattle.dcx_math.specs.Rational.{whole}
 use Rattle.dcx_math.specs.Sums.{rat_at}
 use Rattle.dcx_frac.specs.declared.fraction.Frac.{Frac}
 use Rattle.std.proofs.lemmas.List.{length-append}
-use Rattle.dcx_simplex.specs.Reading.{numbers}
+use Rattle.dcx_lp_answer.specs.Notes.{numbers}
 use Rattle.dcx_simplex.proofs.ReadLists.{zeros_more}
 use Rattle.dcx_simplex.proofs.read.zeros.Goals as goal
 

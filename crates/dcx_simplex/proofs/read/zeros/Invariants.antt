@@ -2,7 +2,7 @@
 use Rattle.std.proofs.Common.{◌≡◌, ℕ, pos, length}
 use Rattle.dcx_math.specs.Rational.{whole}
 use Rattle.dcx_math.specs.Sums.{rat_at}
-use Rattle.dcx_simplex.specs.Reading.{numbers}
+use Rattle.dcx_lp_answer.specs.Notes.{numbers}
 use Rattle.dcx_simplex.proofs.read.zeros.Given as goal
 
 abbrev pub invariant-columns : goal.invariant-columns

@@ -4,7 +4,7 @@ use Rattle.dcx_math.specs.Rational.{whole}
 use Rattle.dcx_frac.proofs.Representable.{representable_quotient}
 use Rattle.dcx_atom.specs.Formed.{frac_at}
 use Rattle.dcx_atom.proofs.FormedSums.{frac_at-value}
-use Rattle.dcx_std.proofs.Fractions.{over_one}
+use Rattle.dcx_lp_answer.proofs.Fractions.{over_one}
 use Rattle.dcx_std.proofs.phase.integer.Goals as goal
 
 pub unreachable-requires : goal.unreachable-requires

@@ -1,5 +1,6 @@
 use Rattle.std.proofs.Common.{◌≡◌, take, sum_by}
-use Rattle.dcx_std.specs.Size.{slacks_for, capped}
+use Rattle.dcx_linear.specs.Size.{capped}
+use Rattle.dcx_std.specs.Size.{slacks_for}
 use Rattle.dcx_std.proofs.size.slack_columns.Given as goal
 
 -- the slacks of the rows so far

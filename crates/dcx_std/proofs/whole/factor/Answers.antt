@@ -3,7 +3,7 @@ use Rattle.dcx_frac.proofs.Representable.{representable_quotient}
 use Rattle.dcx_tab.proofs.LineSteps.{positive-small}
 use Rattle.dcx_atom.specs.Formed.{frac_at}
 use Rattle.dcx_atom.proofs.FormedSums.{frac_at-value}
-use Rattle.dcx_std.proofs.Fractions.{not_zero}
+use Rattle.dcx_lp_answer.proofs.Fractions.{not_zero}
 use Rattle.dcx_std.proofs.whole.factor.Goals as goal
 
 pub unreachable-requires : goal.unreachable-requires

@@ -4,5 +4,6 @@ use Rattle.dcx_top.proofs.outcome.point.Goals as goal
 
 pub names-preserved : goal.names-preserved
 names-preserved c =
-    point_more c.args.names.now c.args.numbers.now c.names.values.items c.push.new.self.items c.names.column c.index-names-column.result c.index-numbers-column.result c.in_ok-named.field-0
-    (omega arith) c.requires c.index-names-column.is c.index-numbers-column.is c.in_ok-push.ensures.items c.names.invariant c.in_ok-named.ensures.name c.in_ok-named.ensures.number
+    let put = c.in_ok-put_number.ensures in
+    point_more c.args.names.now c.args.numbers.now c.names.values c.put_number.new.point c.names.column c.index-names-column.result c.index-numbers-column.result put.0
+    c.requires.distinct (omega arith) c.requires.count c.index-names-column.is c.index-numbers-column.is c.names.invariant put.1 put.2

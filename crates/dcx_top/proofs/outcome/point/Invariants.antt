@@ -4,4 +4,4 @@ use Rattle.dcx_top.proofs.outcome.point.Given as goal
 
 -- the point of the names so far
 abbrev pub invariant-names : goal.invariant-names
-invariant-names l = IsPointAt (take l.column l.names) (take l.column l.numbers) l.values.items
+invariant-names l = IsPointAt (take l.column l.names) (take l.column l.numbers) l.values

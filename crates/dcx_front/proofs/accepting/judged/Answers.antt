@@ -1,0 +1,6 @@
+-- What the rules accept is judged.
+use Rattle.std.proofs.Common.{refl}
+use Rattle.dcx_front.proofs.accepting.judged.Goals as goal
+
+pub returns-in-Ok : goal.returns-in-Ok
+returns-in-Ok c = (refl, record { accepted = c.in-Ok.ensures.accepted; convex = c.in-Ok.ensures.convex; verdict = c.in-Ok.ensures.verdict; truth = c.in-Ok.ensures.truth })

@@ -1,0 +1,5 @@
+use Rattle.dcx_front.proofs.OneVerdict as holds
+use Rattle.dcx_front.proofs.laws.one_verdict.Goals as goal
+
+pub returns : goal.returns
+returns c = holds.apart

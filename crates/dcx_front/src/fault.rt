@@ -1,0 +1,11 @@
+//! Why bytes give no accepted problem.
+use crate::Refusal;
+
+/// Why bytes give no accepted problem.
+#[derive(Clone, Copy, Debug, PartialEq, Eq)]
+pub enum FrontFault {
+    /// They are refused.
+    Refused(Refusal),
+    /// Memory ran out.
+    Memory,
+}

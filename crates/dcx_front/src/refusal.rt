@@ -1,0 +1,121 @@
+//! Why a file is refused.
+ghost use Rattle.std.specs.Prelude.{◌≡◌, IsTrue};
+ghost use Rattle.dcx_front.specs.Refusals.{is_refusal, refusal_name};
+ghost use Rattle.dcx_front.specs.Checks.{IsRefusedAs, IsTooLong, IsNotYet};
+
+use dcx_arena::Count;
+use dcx_frac::Passes;
+use dcx_rules::Rule;
+use dcx_shape::Place;
+
+/// Which file is refused.
+#[derive(Clone, Copy, Debug, PartialEq, Eq)]
+pub enum RefusalSource {
+    /// The script.
+    Script,
+    /// The file of settings.
+    Settings,
+    /// The file of certificates.
+    Certificate,
+}
+
+/// What a refusal says beside its number and place.
+#[derive(Clone, Copy, Debug, PartialEq, Eq)]
+pub enum Carried {
+    /// Nothing.
+    Nothing,
+    /// How far a count came that has a limit.
+    Count {
+        /// What was counted.
+        what: Count,
+        /// The count that passed the limit.
+        count: u32,
+    },
+    /// The rule that the problem breaks.
+    Rule(Rule),
+    /// The operation on plain numbers that passes 128 bits.
+    Passes(Passes),
+}
+
+/// Why a file is refused, and where.
+#[derive(Clone, Copy, Debug, PartialEq, Eq)]
+pub struct Refusal {
+    /// The file.
+    pub source: RefusalSource,
+    /// The number of the refusal.
+    pub number: u8,
+    /// The place in the file.
+    pub place: Place,
+    /// What it says beside that.
+    pub carried: Carried,
+    ghost listed: { IsTrue (is_refusal number carried) },
+}
+
+/// The name of the refusal of a number.
+#[tactic(auto, unfolding(crate::specs::Refusals::refusal_name))]
+fn name_of(number: u8) -> &'static [u8]
+    ensures { result.now ≡ refusal_name number }
+{
+    match number {
+        1 => b"NotText",
+        2 => b"BadChar",
+        3 => b"BadNumber",
+        4 => b"Unclosed",
+        5 => b"Indent",
+        6 => b"Unexpected",
+        7 => b"TooDeep",
+        8 => b"TooLong",
+        9 => b"UnknownName",
+        10 => b"UnknownCall",
+        11 => b"BadArgument",
+        12 => b"NotOffered",
+        13 => b"ShapeClash",
+        14 => b"IndexRange",
+        15 => b"EmptyResult",
+        16 => b"NoProblem",
+        17 => b"TwoProblems",
+        18 => b"TooMany",
+        19 => b"NotDcp",
+        20 => b"PlainWide",
+        29 => b"NotYet",
+        _ => b"",
+    }
+}
+
+impl Refusal {
+    /// The refusal of a file with this number, at this place, which says this.
+    pub(crate) fn of(source: RefusalSource, number: u8, place: Place, carried: Carried) -> Refusal
+        requires { IsTrue (is_refusal number carried) }
+        ensures { IsRefusedAs source number place carried result }
+    {
+        Refusal {
+            source,
+            number,
+            place,
+            carried,
+        }
+    }
+
+    /// The refusal of a whole file for its length.
+    pub fn too_long(source: RefusalSource) -> Refusal
+        ensures { IsTooLong source result }
+    {
+        let place = Place { line: 1, column: 1 };
+        Refusal::of(source, 8, place, Carried::Nothing)
+    }
+
+    /// The refusal of a whole script for its form.
+    pub fn not_yet() -> Refusal
+        ensures { IsNotYet result }
+    {
+        let place = Place { line: 1, column: 1 };
+        Refusal::of(RefusalSource::Script, 29, place, Carried::Nothing)
+    }
+
+    /// The name of the refusal.
+    pub fn name(&self) -> &'static [u8]
+        ensures { result.now ≡ refusal_name self.now.number }
+    {
+        name_of(self.number)
+    }
+}

@@ -1,0 +1,20 @@
+//! Where files come from and where bytes go: libraries and sinks, in memory and of the host.
+//!
+//! | what must hold | where |
+//! |---|---|
+//! | a fetch gives the bytes that the name has, and no more than were asked for; each fault has its cause | `Library` |
+//! | a write appends a front of the piece and says how much, or nothing | `Sink` |
+//! | a fault of reading or writing is counted in the call that answers it | `Library`, `Sink`, `Rose` of `specs/Faults.antt` |
+//! | a library and a sink in memory tell what they hold, and fail exactly at the calls that are listed, or never | `MemoryLibrary`, `MemorySink`, `SteadyLibrary`, `SteadySink` |
+//! | the files and the standard output of the host tell nothing | `FileLibrary`, `OutSink` |
+#![tactic(auto)]
+
+mod library;
+mod memory;
+mod real;
+mod sink;
+
+pub use library::{FetchFault, Library};
+pub use memory::{MemoryLibrary, MemorySink, SteadyLibrary, SteadySink};
+pub use real::{FileLibrary, OutSink};
+pub use sink::{Sink, SinkFault};

@@ -1,0 +1,110 @@
+//! The files of the host as a library, and a writer of the host as a sink. What they hold is not told.
+ghost use Rattle.std.specs.Prelude.{◌≡◌, ◌<◌, ◌≤◌, length, IfOk, IfSome, IsErrOf, None};
+
+use crate::{FetchFault, Library, Sink, SinkFault};
+use dcx_shape::Bytes;
+use std::alloc::Global;
+use std::fs;
+use std::io::{Read, Write};
+use std::rt::Files;
+
+/// The files of the host, by their paths. A file that is missing, or no file, is `Failed`.
+#[derive(Drop)]
+pub struct FileLibrary<'a, R: Files> {
+    rt: &'a R,
+    /// How many fetches have answered an `Err`.
+    pub faults: u64,
+}
+
+impl<'a, R: Files> FileLibrary<'a, R> {
+    /// The files of the host, with no fault counted yet.
+    pub fn new(rt: &'a R) -> Self
+        ensures { result.faults ≡ 0 }
+    {
+        FileLibrary { rt, faults: 0 }
+    }
+}
+
+// How many bytes one read asks for at most.
+const BUFFER: usize = 4096;
+
+// All that the reader has left, if that is not more than `most` bytes. At most one byte more is read.
+fn read_at_most<F: Read>(alloc: Global, file: &mut F, most: usize) -> Result<Bytes, FetchFault>
+    ensures size { IfOk result (λ bytes. length bytes ≤ most) }
+    ensures whole { IfOk result (λ bytes. IfSome (F.remaining file.old) (λ all. bytes ≡ all)) }
+    ensures too_long { IsErrOf result FetchFault.TooLong → IfSome (F.remaining file.old) (λ all. most < length all) }
+    ensures present { IsErrOf result FetchFault.Absent → ⊥ }
+{
+    let mut buffer = [0u8; BUFFER];
+    let mut bytes = Vec::new(alloc);
+    'reads: while bytes.len() <= most {
+        let room = (most - bytes.len()).min(BUFFER - 1) + 1;
+        let Ok(count) = file.read(&mut buffer[..room]) else {
+            return Err(FetchFault::Failed);
+        };
+        if count == 0 {
+            return Ok(Bytes::from_vec(bytes));
+        }
+        bytes.extend_from_slice(&buffer[..count])?;
+    }
+    Err(FetchFault::TooLong)
+}
+
+fn read_file<R: Files>(rt: &R, alloc: Global, name: &str, most: usize) -> Result<Bytes, FetchFault>
+    ensures size { IfOk result (λ bytes. length bytes ≤ most) }
+    ensures present { IsErrOf result FetchFault.Absent → ⊥ }
+{
+    match fs::open(rt, name) {
+        Ok(mut file) => read_at_most(alloc, &mut file, most),
+        Err(_) => Err(FetchFault::Failed),
+    }
+}
+
+impl<'a, R: Files> Library for FileLibrary<'a, R> {
+    ghost told = { λ _. None };
+
+    ghost faults = { λ s. s.faults };
+
+    fn fetch(&mut self, alloc: Global, name: &str, most: usize) -> Result<Bytes, FetchFault> {
+        let result = read_file(self.rt, alloc, name, most);
+        if result.is_err() {
+            self.faults = self.faults.saturating_add(1);
+        }
+        result
+    }
+}
+
+/// A writer as a sink, such as standard output.
+#[derive(Drop)]
+pub struct OutSink<W: Write> {
+    /// Where the bytes go.
+    pub writer: W,
+    /// How many writes have answered an `Err`.
+    pub faults: u64,
+}
+
+impl<W: Write> OutSink<W> {
+    /// The writer as a sink, with no fault counted yet.
+    pub fn new(writer: W) -> Self
+        ensures writer { result.writer ≡ writer }
+        ensures faults { result.faults ≡ 0 }
+    {
+        OutSink { writer, faults: 0 }
+    }
+}
+
+impl<W: Write> Sink for OutSink<W> {
+    ghost written = { λ s. W.contents s.writer };
+
+    ghost faults = { λ s. s.faults };
+
+    fn write(&mut self, piece: &[u8]) -> Result<usize, SinkFault> {
+        match self.writer.write(piece) {
+            Ok(count) if count > 0 || piece.is_empty() => Ok(count),
+            _ => {
+                self.faults = self.faults.saturating_add(1);
+                Err(SinkFault::Failed)
+            }
+        }
+    }
+}

@@ -1,0 +1,58 @@
+-- Whole numbers, quotients of whole numbers, and negatives as fractions.
+use Rattle.std.proofs.Common.{◌≡◌, ◌≢◌, ◌<◌, ◌^◌, ℤ, pos, sym, ap, ◌∙◌, subst, unsigned_abs, lit<, arith}
+use Rattle.std.specs.Prelude.{◌<ℤ◌, neg_ℤ}
+use Rattle.std.proofs.lemmas.Int.{ints}
+use Rattle.dcx_math.specs.Rational.{ℚ, whole, ◌/ℚ◌, neg_ℚ, ◌<ℚ◌}
+use Rattle.dcx_math.specs.Divisors.{IsCoprime}
+use Rattle.dcx_math.specs.LowestTerms.{IsInLowestTerms}
+use Rattle.dcx_math.proofs.Denominators.{ratio-neg_ℚ}
+use Rattle.dcx_math.proofs.Orders.{*ℚ_idr, <ℚ-≢}
+use Rattle.dcx_math.proofs.Products.{*ℚ-positive, inverse-positive, whole-<ℤ, zero-<ℚ-one, /ℚ-unique}
+use Rattle.dcx_math.proofs.Ring.{/ℚ-is}
+use Rattle.dcx_frac.specs.declared.fraction.Frac.{Frac}
+use Rattle.dcx_frac.specs.Frac.{num_of, den_of, value}
+use Rattle.dcx_frac.specs.Fits.{IsRepresentable, representable}
+use Rattle.dcx_frac.specs.Results.{frac_of}
+use Rattle.dcx_frac.proofs.Results.{value-frac_of}
+use Rattle.dcx_frac.proofs.Representable.{representable_quotient}
+use Rattle.dcx_frac.proofs.Turns.{neg_size}
+use Rattle.dcx_atom.specs.Formed.{frac_at}
+use Rattle.dcx_atom.proofs.FormedSums.{frac_at-value}
+
+-- a number that is representable is that of its fraction
+pub value-frac_at : (x : ℚ) → IsRepresentable x → value (frac_at x) ≡ x
+value-frac_at x h = ap (λ y. value (frac_at y)) (sym (value-frac_of x h)) ∙ ap value (frac_at-value (frac_of x h)) ∙ value-frac_of x h
+
+negative_lowest : (x : Frac) → IsInLowestTerms (neg_ℚ (value x)) (neg_ℤ (num_of x)) (den_of x)
+negative_lowest x = record {
+  positive = x.positive;
+  coprime = subst (λ m. IsCoprime m (unsigned_abs (den_of x))) (sym (neg_size (num_of x))) x.lowest;
+  is = ratio-neg_ℚ (den_of x) x.positive (num_of x);
+}
+
+-- the negative of a fraction is one
+pub value-negative : (x : Frac) → value (frac_at (neg_ℚ (value x))) ≡ neg_ℚ (value x)
+value-negative x = value-frac_at (neg_ℚ (value x)) (representable (neg_ℚ (value x)) (neg_ℤ (num_of x)) (den_of x) (negative_lowest x) (subst (λ n. n < 2 ^ 127) (sym (neg_size (num_of x))) x.num_fits) x.den_fits)
+
+pub over_one : (x : ℚ) → x /ℚ whole (pos 1) ≡ x
+over_one x = /ℚ-unique x (whole (pos 1)) x (λ z. <ℚ-≢ zero-<ℚ-one (sym z)) (*ℚ_idr x)
+
+pub not_zero : (z : ℤ) → pos 0 <ℤ z → z ≢ pos 0
+not_zero z h = λ e. absurd (omega (arith, ints, h, e))
+
+one_positive : pos 0 <ℤ pos 1
+one_positive = omega (arith, ints)
+
+-- a small whole number is representable
+pub whole_fits : (z : ℤ) → unsigned_abs z < 2 ^ 127 → IsRepresentable (whole z)
+whole_fits z h = subst IsRepresentable (over_one (whole z)) (representable_quotient z (pos 1) h (lit< tt) (not_zero (pos 1) one_positive))
+
+pub value-whole : (z : ℤ) → unsigned_abs z < 2 ^ 127 → value (frac_at (whole z)) ≡ whole z
+value-whole z h = value-frac_at (whole z) (whole_fits z h)
+
+-- the quotient of small positive numbers is positive
+pub value-quotient : (m d : ℤ) → pos 0 <ℤ d → unsigned_abs m < 2 ^ 127 → unsigned_abs d < 2 ^ 127 → value (frac_at (whole m /ℚ whole d)) ≡ whole m /ℚ whole d
+value-quotient m d p h k = value-frac_at (whole m /ℚ whole d) (representable_quotient m d h k (not_zero d p))
+
+pub quotient_positive : (m d : ℤ) → pos 0 <ℤ m → pos 0 <ℤ d → whole (pos 0) <ℚ whole m /ℚ whole d
+quotient_positive m d p q = subst (λ x. whole (pos 0) <ℚ x) (sym (/ℚ-is (whole m) (whole d))) (*ℚ-positive (whole-<ℤ (pos 0) m p) (inverse-positive (whole-<ℤ (pos 0) d q)))

@@ -1,7 +1,0 @@
-use Rattle.std.proofs.Common.{◌≡◌, take, sum_by}
-use Rattle.dcx_std.specs.Size.{columns_for, capped}
-use Rattle.dcx_std.proofs.size.unknown_columns.Given as goal
-
--- the columns of the kinds so far
-abbrev pub invariant-kinds : goal.invariant-kinds
-invariant-kinds l = l.count ≡ capped (sum_by columns_for (take l.kind-index l.kinds))

@@ -1,0 +1,5 @@
+-- What the contracts of this crate cite.
+pub mod Own
+pub mod Unknowns
+pub mod Layout
+pub mod Laws
