@@ -52,14 +52,14 @@ impl Display for Filled<'_> {
     }
 }
 
-/// The text of a value: the array, or the first entry that stops it.
-pub fn value_text(alloc: Global, value: Result<Array, ValueStop>) -> Result<String, CaseFault> {
+/// Writes a value: the array, or the first entry that stops it.
+pub fn put_value(out: &mut String, value: &Result<Array, ValueStop>) -> Result<(), CaseFault> {
     match value {
-        Ok(array) => Ok(format!(in alloc; "{}", Filled(&array))?),
+        Ok(array) => Ok(write!(out, "{}", Filled(array))?),
         Err(ValueStop::Memory) => Err(CaseFault::Memory),
-        Err(ValueStop::ZeroDivisor { entry }) => Ok(format!(in alloc; "divisor {entry} is 0")?),
+        Err(ValueStop::ZeroDivisor { entry }) => Ok(write!(out, "divisor {entry} is 0")?),
         Err(ValueStop::Passes { entry, passes }) => {
-            Ok(format!(in alloc; "entry {entry}: {}", Passing(passes))?)
+            Ok(write!(out, "entry {entry}: {}", Passing(*passes))?)
         }
     }
 }

@@ -11,10 +11,10 @@ mod running;
 mod sizes;
 mod word;
 
-pub use arrays::{Filled, array, numbers, value_text};
+pub use arrays::{Filled, array, numbers, put_value};
 pub use fault::CaseFault;
 pub use fractions::{Number, Numbers, Passing};
 pub use named::{point, setting};
 pub use running::{Cases, Tally};
 pub use sizes::{Size, shape};
-pub use word::{count, fraction, name, words};
+pub use word::{count, fraction, name, put_between, words};

@@ -8,8 +8,8 @@ use std::{fs, io};
 
 /// What the cases of a file ask.
 pub trait Cases {
-    /// What comes of a case, as a line wants it. `Unreadable` where the parts aren't such a case.
-    fn answer(&self, alloc: Global, parts: &[&str]) -> Result<String, CaseFault>;
+    /// Writes what comes of a case, as a line wants it. `Unreadable` where the parts aren't such a case.
+    fn answer(&self, alloc: Global, parts: &[&str], out: &mut String) -> Result<(), CaseFault>;
 }
 
 /// How many cases were run, and how many of them gave something else than they want.
@@ -39,10 +39,15 @@ fn parts(alloc: Global, asked: &str) -> Result<Vec<&str>, AllocError> {
     Ok(parts)
 }
 
-/// What comes of what a line asks.
-fn came<C: Cases>(alloc: Global, cases: &C, line: &str) -> Result<String, CaseFault> {
+/// Writes what comes of what a line asks.
+fn answer<C: Cases>(
+    alloc: Global,
+    cases: &C,
+    line: &str,
+    out: &mut String,
+) -> Result<(), CaseFault> {
     let parts = parts(alloc, line)?;
-    cases.answer(alloc, &parts)
+    cases.answer(alloc, &parts, out)
 }
 
 /// Prints a line that gives something else, with what came. Whether it does.
@@ -52,10 +57,11 @@ fn differs<C: Cases>(
     line: &str,
     wanted: &str,
 ) -> io::Result<bool> {
-    match came(rt.alloc(), cases, line) {
-        Ok(text) if text.as_str() == wanted => Ok(false),
-        Ok(text) => {
-            println!(rt; "{}=> {wanted}\n  but: {text}", line)?;
+    let mut came = String::new(rt.alloc());
+    match answer(rt.alloc(), cases, line, &mut came) {
+        Ok(()) if came.as_str() == wanted => Ok(false),
+        Ok(()) => {
+            println!(rt; "{}=> {wanted}\n  but: {came}", line)?;
             Ok(true)
         }
         Err(fault) => {

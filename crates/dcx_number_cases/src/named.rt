@@ -11,18 +11,10 @@ use std::alloc::{AllocError, Global};
 pub(crate) struct Puts;
 
 impl Cases for Puts {
-    fn answer(&self, alloc: Global, parts: &[&str]) -> Result<String, CaseFault> {
+    fn answer(&self, alloc: Global, parts: &[&str], out: &mut String) -> Result<(), CaseFault> {
         match *parts {
-            ["point", puts, words] => {
-                let mut point = Point::empty(alloc);
-                put_all(alloc, &mut point, puts)?;
-                Ok(told(alloc, &point, words)?)
-            }
-            ["setting", puts, words] => {
-                let mut setting = Setting::empty(alloc);
-                put_all(alloc, &mut setting, puts)?;
-                Ok(told(alloc, &setting, words)?)
-            }
+            ["point", puts, words] => told(alloc, &mut Point::empty(alloc), puts, words, out),
+            ["setting", puts, words] => told(alloc, &mut Setting::empty(alloc), puts, words, out),
             _ => Err(CaseFault::Unreadable),
         }
     }
@@ -100,37 +92,42 @@ fn put_all<N: Named>(alloc: Global, named: &mut N, puts: &str) -> Result<(), Cas
     Ok(())
 }
 
-/// The names in order, and then whether there is one more.
-fn names_text<N: Named>(alloc: Global, named: &N) -> Result<String, AllocError> {
-    let mut text = String::new(alloc);
+/// Writes the names in order, and then whether there is one more.
+fn put_names<N: Named>(out: &mut String, named: &N) -> Result<(), AllocError> {
     for i in 0..named.count() {
         if let Some(name) = named.nth(i) {
             let letters = str::from_utf8(name.as_slice()).unwrap_or("no text");
-            text.push_str(&format!(in alloc; " {letters}")?)?;
+            write!(out, " {letters}")?;
         }
     }
     if named.nth(named.count()).is_some() {
-        text.push_str(" and more")?;
+        out.push_str(" and more")
+    } else {
+        Ok(())
     }
-    Ok(text)
 }
 
-/// What is found under each of some names.
-fn found_text<N: Named>(alloc: Global, named: &N, words: &str) -> Result<String, AllocError> {
-    let mut text = String::new(alloc);
+/// Writes what is found under a name.
+fn put_found<N: Named>(out: &mut String, named: &N, name: &Name) -> Result<(), AllocError> {
+    match named.found(name) {
+        Some(array) => write!(out, " {}", Numbers(array.entries.as_slice())),
+        None => out.push_str(" none"),
+    }
+}
+
+fn told<N: Named>(
+    alloc: Global,
+    named: &mut N,
+    puts: &str,
+    words: &str,
+    out: &mut String,
+) -> Result<(), CaseFault> {
+    put_all(alloc, named, puts)?;
+    write!(out, "{};", named.count())?;
+    put_names(out, named)?;
+    out.push_str(";")?;
     for word in words.split_whitespace() {
-        match named.found(&name_of(alloc, word)?) {
-            Some(array) => {
-                text.push_str(&format!(in alloc; " {}", Numbers(array.entries.as_slice()))?)?
-            }
-            None => text.push_str(" none")?,
-        }
+        put_found(out, named, &name_of(alloc, word)?)?;
     }
-    Ok(text)
-}
-
-fn told<N: Named>(alloc: Global, named: &N, words: &str) -> Result<String, AllocError> {
-    let names = names_text(alloc, named)?;
-    let found = found_text(alloc, named, words)?;
-    format!(in alloc; "{};{names};{found}", named.count())
+    Ok(())
 }

@@ -3,13 +3,13 @@ ghost use Rattle.std.specs.Prelude.{IfOk};
 ghost use Rattle.std.specs.List.{All};
 ghost use Rattle.dcx_shape.specs.Index.{HasStep};
 
-use crate::plain::faulted;
+use crate::plain::{put_fault, put_made};
 use crate::shapes::slice;
 use dcx_affine::Index;
-use dcx_array::{index, pick};
+use dcx_array::{ArrayFault, index, pick};
 use dcx_atom::Array;
-use dcx_case_lines::{CaseFault, Cases, Filled, Size, array};
-use dcx_shape::{Pick, Shape, index_map};
+use dcx_case_lines::{CaseFault, Cases, Size, array};
+use dcx_shape::{Pick, Places, Shape, ShapeFault, index_map};
 use std::alloc::{AllocError, Global};
 
 /// `places | SHAPE | PICK | .. => SHAPE at PLACES`, and `entries | ARRAY | PICK | .. => ARRAY, SHAPE to SHAPE at PLACES` for the
@@ -17,13 +17,20 @@ use std::alloc::{AllocError, Global};
 pub(crate) struct Picks;
 
 impl Cases for Picks {
-    fn answer(&self, alloc: Global, parts: &[&str]) -> Result<String, CaseFault> {
+    fn answer(&self, alloc: Global, parts: &[&str], out: &mut String) -> Result<(), CaseFault> {
         match *parts {
-            [verb, text] => told(alloc, verb, text, &[]),
-            [verb, text, a] => told(alloc, verb, text, &[pick_of(a)?]),
-            [verb, text, a, b] => told(alloc, verb, text, &[pick_of(a)?, pick_of(b)?]),
-            [verb, text, a, b, c] => {
-                told(alloc, verb, text, &[pick_of(a)?, pick_of(b)?, pick_of(c)?])
+            [verb, text, ref texts @ ..] => {
+                let from = array(alloc, text)?;
+                match *texts {
+                    [] => told(alloc, verb, &from, &[], out),
+                    [a] => told(alloc, verb, &from, &[pick_of(a)?], out),
+                    [a, b] => told(alloc, verb, &from, &[pick_of(a)?, pick_of(b)?], out),
+                    [a, b, c] => {
+                        let picks = [pick_of(a)?, pick_of(b)?, pick_of(c)?];
+                        told(alloc, verb, &from, &picks, out)
+                    }
+                    _ => Err(CaseFault::Unreadable),
+                }
             }
             _ => Err(CaseFault::Unreadable),
         }
@@ -44,55 +51,59 @@ fn pick_of(text: &str) -> Result<Pick, CaseFault>
     Ok(Pick::Range(slice))
 }
 
-fn told(alloc: Global, verb: &str, text: &str, picks: &[Pick]) -> Result<String, CaseFault>
+fn told(
+    alloc: Global,
+    verb: &str,
+    from: &Array,
+    picks: &[Pick],
+    out: &mut String,
+) -> Result<(), CaseFault>
     requires { All HasStep picks.now }
 {
-    let from = array(alloc, text)?;
     match verb {
-        "places" => Ok(places_told(alloc, from.shape, picks)?),
-        "entries" => Ok(entries_told(alloc, &from, picks)?),
+        "places" => Ok(put_map(out, &index_map(alloc, from.shape, picks))?),
+        "entries" => {
+            put_picked(out, &pick(alloc, from, picks))?;
+            put_index(out, &index(alloc, from.shape, picks))
+        }
         _ => Err(CaseFault::Unreadable),
     }
 }
 
-/// Places, each behind a blank.
-fn places_text(alloc: Global, places: &[u32]) -> Result<String, AllocError> {
-    let mut text = String::from_str(alloc, " at")?;
+/// Writes places, each behind a blank.
+fn put_places(out: &mut String, places: &[u32]) -> Result<(), AllocError> {
+    out.push_str(" at")?;
     for place in places {
-        text.push_str(&format!(in alloc; " {place}")?)?;
+        write!(out, " {place}")?;
     }
-    Ok(text)
+    Ok(())
 }
 
-fn places_told(alloc: Global, from: Shape, picks: &[Pick]) -> Result<String, AllocError>
-    requires { All HasStep picks.now }
-{
-    match index_map(alloc, from, picks) {
+fn put_map(
+    out: &mut String,
+    found: &Result<(Shape, Places), ShapeFault>,
+) -> Result<(), AllocError> {
+    match found {
         Ok((to, places)) => {
-            let at = places_text(alloc, places.as_slice())?;
-            format!(in alloc; "{}{at}", Size(to.sides()))
+            write!(out, "{}", Size(to.sides()))?;
+            put_places(out, places.as_slice())
         }
-        Err(fault) => format!(in alloc; "{fault}"),
+        Err(fault) => write!(out, "{fault}"),
     }
 }
 
-/// The call of some picks: its shapes and its places.
-fn call_text(alloc: Global, call: &Index) -> Result<String, AllocError> {
-    let (from, to) = (Size(call.from.sides()), Size(call.to.sides()));
-    let at = places_text(alloc, call.places.as_slice())?;
-    format!(in alloc; "{from} to {to}{at}")
+fn put_picked(out: &mut String, picked: &Result<Array, ArrayFault>) -> Result<(), CaseFault> {
+    put_made(out, picked)?;
+    Ok(out.push_str(", ")?)
 }
 
-fn entries_told(alloc: Global, from: &Array, picks: &[Pick]) -> Result<String, AllocError>
-    requires { All HasStep picks.now }
-{
-    let mut text = match pick(alloc, from, picks) {
-        Ok(picked) => format!(in alloc; "{}, ", Filled(&picked))?,
-        Err(fault) => format!(in alloc; "{}, ", faulted(alloc, fault)?)?,
-    };
-    text.push_str(&match index(alloc, from.shape, picks) {
-        Ok(call) => call_text(alloc, &call)?,
-        Err(fault) => faulted(alloc, fault)?,
-    })?;
-    Ok(text)
+/// Writes the call of some picks: its shapes and its places.
+fn put_index(out: &mut String, found: &Result<Index, ArrayFault>) -> Result<(), CaseFault> {
+    match found {
+        Ok(call) => {
+            write!(out, "{} to {}", Size(call.from.sides()), Size(call.to.sides()))?;
+            Ok(put_places(out, call.places.as_slice())?)
+        }
+        Err(fault) => put_fault(out, fault),
+    }
 }

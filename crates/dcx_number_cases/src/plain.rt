@@ -5,30 +5,32 @@ use dcx_array::{
 };
 use dcx_atom::Array;
 use dcx_case_lines::{CaseFault, Cases, Filled, Passing, Size, array, count, fraction};
-use std::alloc::{AllocError, Global};
+use std::alloc::Global;
 
 /// `ARRAY | + | ARRAY => ARRAY`, and the same with `-`, `*`, `/` and `@`; `negate | ARRAY`, `transpose | ARRAY`,
 /// `whole | ARRAY`; `constant | SHAPE NUMBER`, `identity | N`, `number | NUMBER`.
 pub(crate) struct Arrays;
 
 impl Cases for Arrays {
-    fn answer(&self, alloc: Global, parts: &[&str]) -> Result<String, CaseFault> {
+    fn answer(&self, alloc: Global, parts: &[&str], out: &mut String) -> Result<(), CaseFault> {
         match *parts {
-            [left, sign, right] => {
-                let made = operated(alloc, &array(alloc, left)?, sign, &array(alloc, right)?)?;
-                Ok(made_text(alloc, made)?)
-            }
-            ["negate", text] => Ok(made_text(alloc, Ok(negate(array(alloc, text)?)))?),
-            ["transpose", text] => { Ok(made_text(alloc, transpose(alloc, &array(alloc, text)?))?) }
-            ["whole", text] => Ok(whole_text(alloc, as_whole(&array(alloc, text)?))?),
-            ["constant", text] => constant_told(alloc, text),
-            ["identity", text] => identity_told(alloc, text),
-            ["number", text] => {
-                let made = number(alloc, fraction(text)?)?;
-                Ok(made_text(alloc, Ok(made))?)
-            }
+            ["identity", text] => put_made(out, &identity(alloc, count(text)?)),
+            ["number", text] => put_array(out, &number(alloc, fraction(text)?)?),
+            ["constant", text] => constant_told(alloc, text, out),
+            [verb, text] => array_told(alloc, verb, array(alloc, text)?, out),
+            [left, sign, right] => operated(alloc, &array(alloc, left)?, sign, right, out),
             _ => Err(CaseFault::Unreadable),
         }
+    }
+}
+
+/// What is asked of one array.
+fn array_told(alloc: Global, verb: &str, array: Array, out: &mut String) -> Result<(), CaseFault> {
+    match verb {
+        "negate" => put_array(out, &negate(array)),
+        "transpose" => put_made(out, &transpose(alloc, &array)),
+        "whole" => put_whole(out, as_whole(&array)),
+        _ => Err(CaseFault::Unreadable),
     }
 }
 
@@ -37,48 +39,50 @@ fn operated(
     alloc: Global,
     a: &Array,
     sign: &str,
-    b: &Array,
-) -> Result<Result<Array, ArrayFault>, CaseFault> {
+    text: &str,
+    out: &mut String,
+) -> Result<(), CaseFault> {
+    let b = array(alloc, text)?;
     match sign {
-        "+" => Ok(add(alloc, a, b)),
-        "-" => Ok(subtract(alloc, a, b)),
-        "*" => Ok(multiply(alloc, a, b)),
-        "/" => Ok(divide(alloc, a, b)),
-        "@" => Ok(matmul(alloc, a, b)),
+        "+" => put_made(out, &add(alloc, a, &b)),
+        "-" => put_made(out, &subtract(alloc, a, &b)),
+        "*" => put_made(out, &multiply(alloc, a, &b)),
+        "/" => put_made(out, &divide(alloc, a, &b)),
+        "@" => put_made(out, &matmul(alloc, a, &b)),
         _ => Err(CaseFault::Unreadable),
     }
 }
 
-/// Why there is no array.
-pub(crate) fn faulted(alloc: Global, fault: ArrayFault) -> Result<String, AllocError> {
+/// Writes why there is no array.
+pub(crate) fn put_fault(out: &mut String, fault: &ArrayFault) -> Result<(), CaseFault> {
     match fault {
-        ArrayFault::TooMany { count } => format!(in alloc; "{count} entries"),
-        ArrayFault::Wide(passes) => format!(in alloc; "{}", Passing(passes)),
-        _ => format!(in alloc; "{fault}"),
+        ArrayFault::TooMany { count } => Ok(write!(out, "{count} entries")?),
+        ArrayFault::Wide(passes) => Ok(write!(out, "{}", Passing(*passes))?),
+        _ => Ok(write!(out, "{fault}")?),
     }
 }
 
-/// An array, or why there is none.
-fn made_text(alloc: Global, made: Result<Array, ArrayFault>) -> Result<String, AllocError> {
+fn put_array(out: &mut String, array: &Array) -> Result<(), CaseFault> {
+    Ok(write!(out, "{}", Filled(array))?)
+}
+
+/// Writes an array, or why there is none.
+pub(crate) fn put_made(out: &mut String, made: &Result<Array, ArrayFault>) -> Result<(), CaseFault> {
     match made {
-        Ok(array) => format!(in alloc; "{}", Filled(&array)),
-        Err(fault) => faulted(alloc, fault),
+        Ok(array) => put_array(out, array),
+        Err(fault) => put_fault(out, fault),
     }
 }
 
-fn whole_text(alloc: Global, number: Option<i128>) -> Result<String, AllocError> {
+fn put_whole(out: &mut String, number: Option<i128>) -> Result<(), CaseFault> {
     match number {
-        Some(number) => format!(in alloc; "{number}"),
-        None => String::from_str(alloc, "none"),
+        Some(number) => Ok(write!(out, "{number}")?),
+        None => Ok(out.push_str("none")?),
     }
 }
 
-fn constant_told(alloc: Global, text: &str) -> Result<String, CaseFault> {
+fn constant_told(alloc: Global, text: &str, out: &mut String) -> Result<(), CaseFault> {
     let (size, word) = text.split_once(' ').ok_or(CaseFault::Unreadable)?;
     let sides = size.parse::<Size>()?.0;
-    Ok(made_text(alloc, constant(alloc, sides, fraction(word)?))?)
-}
-
-fn identity_told(alloc: Global, text: &str) -> Result<String, CaseFault> {
-    Ok(made_text(alloc, identity(alloc, count(text)?))?)
+    put_made(out, &constant(alloc, sides, fraction(word)?))
 }

@@ -4,29 +4,33 @@ use dcx_case_lines::{CaseFault, Cases, Size, count, shape, words};
 use dcx_shape::{
     Places, Shape, ShapeFault, Slice, broadcast, matmul_shape, reshape_map, slice_places,
 };
-use std::alloc::{AllocError, Global};
+use std::alloc::Global;
 
 /// `shape (2,3)`; `(2,3) with (3)` for the shape of both; `(2,3) @ (3)` for a product; `common (2) () ..`; `slice 5 1:4:1`
 /// for the places of a slice; `reshape (2,3) (3,2) columns`.
 pub(crate) struct Shapes;
 
 impl Cases for Shapes {
-    fn answer(&self, alloc: Global, parts: &[&str]) -> Result<String, CaseFault> {
-        let text = match *parts {
-            [text] => text,
-            _ => return Err(CaseFault::Unreadable),
-        };
-        match *words(alloc, text)? {
-            ["shape", size] => shape_told(alloc, size.parse::<Size>()?),
-            [a, "with", b] => Ok(sides(alloc, broadcast(shape(a)?, shape(b)?))?),
-            [a, "@", b] => Ok(sides(alloc, matmul_shape(shape(a)?, shape(b)?))?),
-            ["common", ref sizes @ ..] => {
-                Ok(sides(alloc, common_shape(&shapes_of(alloc, sizes)?))?)
+    fn answer(&self, alloc: Global, parts: &[&str], out: &mut String) -> Result<(), CaseFault> {
+        match *parts {
+            [text] => {
+                let words = words(alloc, text)?;
+                told(alloc, &words, out)
             }
-            ["slice", size, text] => sliced(alloc, size, slice(text)?),
-            ["reshape", from, to, order] => reshaped(alloc, shape(from)?, shape(to)?, order),
             _ => Err(CaseFault::Unreadable),
         }
+    }
+}
+
+fn told(alloc: Global, words: &[&str], out: &mut String) -> Result<(), CaseFault> {
+    match *words {
+        ["common", ref sizes @ ..] => put_sides(out, common_shape(&shapes_of(alloc, sizes)?)),
+        ["shape", size] => put_shape(out, size.parse::<Size>()?),
+        ["slice", size, text] => sliced(alloc, count(size)?, slice(text)?, out),
+        ["reshape", from, to, order] => reshaped(alloc, shape(from)?, shape(to)?, order, out),
+        [a, "with", b] => put_sides(out, broadcast(shape(a)?, shape(b)?)),
+        [a, "@", b] => put_sides(out, matmul_shape(shape(a)?, shape(b)?)),
+        _ => Err(CaseFault::Unreadable),
     }
 }
 
@@ -39,23 +43,23 @@ fn shapes_of(alloc: Global, sizes: &[&str]) -> Result<Vec<Shape>, CaseFault> {
     Ok(shapes)
 }
 
-/// The sides of a shape, where there is one.
-fn sides(alloc: Global, shape: Option<Shape>) -> Result<String, AllocError> {
+/// Writes the sides of a shape, where there is one.
+fn put_sides(out: &mut String, shape: Option<Shape>) -> Result<(), CaseFault> {
     match shape {
-        Some(shape) => format!(in alloc; "{}", Size(shape.sides())),
-        None => String::from_str(alloc, "none"),
+        Some(shape) => Ok(write!(out, "{}", Size(shape.sides()))?),
+        None => Ok(out.push_str("none")?),
     }
 }
 
-/// The shape with some sides, and its rank, rows, columns and size.
-fn shape_told(alloc: Global, size: Size) -> Result<String, CaseFault> {
+/// Writes the shape with some sides, and its rank, rows, columns and size.
+fn put_shape(out: &mut String, size: Size) -> Result<(), CaseFault> {
     match allowed_shape(size.0) {
         Ok(shape) => {
             let (rank, rows, cols) = (shape.rank(), shape.rows(), shape.cols());
             let size = Size(shape.sides());
-            Ok(format!(in alloc; "{size} {rank} {rows} {cols} {}", shape.size())?)
+            Ok(write!(out, "{size} {rank} {rows} {cols} {}", shape.size())?)
         }
-        Err(_) => Ok(String::from_str(alloc, "none")?),
+        Err(_) => Ok(out.push_str("none")?),
     }
 }
 
@@ -81,33 +85,37 @@ pub(crate) fn slice(text: &str) -> Result<Slice, CaseFault> {
     })
 }
 
-/// Places, or why there are none.
-fn places_text(alloc: Global, found: Result<Places, ShapeFault>) -> Result<String, AllocError> {
+/// Writes places, or why there are none.
+fn put_places(out: &mut String, found: &Result<Places, ShapeFault>) -> Result<(), CaseFault> {
     match found {
         Ok(places) => {
-            let mut text = String::from_str(alloc, "at")?;
+            out.push_str("at")?;
             for place in places.as_slice() {
-                text.push_str(&format!(in alloc; " {place}")?)?;
+                write!(out, " {place}")?;
             }
-            Ok(text)
+            Ok(())
         }
-        Err(fault) => format!(in alloc; "{fault}"),
+        Err(fault) => Ok(write!(out, "{fault}")?),
     }
 }
 
-fn sliced(alloc: Global, size: &str, slice: Slice) -> Result<String, CaseFault> {
-    let size = count(size)?;
+fn sliced(alloc: Global, size: u32, slice: Slice, out: &mut String) -> Result<(), CaseFault> {
     if slice.step == 0 {
         return Err(CaseFault::Unreadable);
     }
-    Ok(places_text(alloc, slice_places(alloc, size, slice))?)
+    put_places(out, &slice_places(alloc, size, slice))
 }
 
-fn reshaped(alloc: Global, from: Shape, to: Shape, order: &str) -> Result<String, CaseFault> {
-    let by_columns = match order {
-        "columns" => true,
-        "rows" => false,
-        _ => return Err(CaseFault::Unreadable),
-    };
-    Ok(places_text(alloc, reshape_map(alloc, from, to, by_columns))?)
+fn reshaped(
+    alloc: Global,
+    from: Shape,
+    to: Shape,
+    order: &str,
+    out: &mut String,
+) -> Result<(), CaseFault> {
+    match order {
+        "columns" => put_places(out, &reshape_map(alloc, from, to, true)),
+        "rows" => put_places(out, &reshape_map(alloc, from, to, false)),
+        _ => Err(CaseFault::Unreadable),
+    }
 }

@@ -1,8 +1,7 @@
-//! What no line of a file can say: traits called through their bounds at types of their own, a counter of steps, readers
-//! and writers that fail, and files of the host.
+//! What no line of a file can say: traits called through their bounds at types of their own, a counter of steps, libraries
+//! and sinks that fail, files of the host, and the solutions of plain linear programs.
 //!
-//! The other cases are lines of `dcx_number_cases`, `dcx_call_cases`, `dcx_tree_cases`, `dcx_program_cases` and
-//! `dcx_token_cases`.
+//! The other cases are lines of the crates whose names end with `_cases`.
 #![tactic(auto)]
 
 #[cfg(test)]
