@@ -101,7 +101,12 @@ fn put_picked(out: &mut String, picked: &Result<Array, ArrayFault>) -> Result<()
 fn put_index(out: &mut String, found: &Result<Index, ArrayFault>) -> Result<(), CaseFault> {
     match found {
         Ok(call) => {
-            write!(out, "{} to {}", Size(call.from.sides()), Size(call.to.sides()))?;
+            write!(
+                out,
+                "{} to {}",
+                Size(call.from.sides()),
+                Size(call.to.sides())
+            )?;
             Ok(put_places(out, call.places.as_slice())?)
         }
         Err(fault) => put_fault(out, fault),

@@ -67,7 +67,10 @@ fn put_array(out: &mut String, array: &Array) -> Result<(), CaseFault> {
 }
 
 /// Writes an array, or why there is none.
-pub(crate) fn put_made(out: &mut String, made: &Result<Array, ArrayFault>) -> Result<(), CaseFault> {
+pub(crate) fn put_made(
+    out: &mut String,
+    made: &Result<Array, ArrayFault>,
+) -> Result<(), CaseFault> {
     match made {
         Ok(array) => put_array(out, array),
         Err(fault) => put_fault(out, fault),
