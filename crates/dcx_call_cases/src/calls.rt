@@ -11,48 +11,68 @@ use dcx_fold::{CumMax, MaxOf, MinOf, Norm1, NormInf, SumLargest, SumSmallest};
 use dcx_shape::{Places, Shape};
 use std::alloc::Global;
 
-/// Along which side.
-fn axis(words: &[&str]) -> Result<Axis, CaseFault> {
+/// Along which side; `None` where words don't say.
+fn axis(words: &[&str]) -> Option<Axis> {
     match *words {
-        [] => Ok(Axis::All),
-        ["0"] => Ok(Axis::Zero),
-        ["1"] => Ok(Axis::One),
-        _ => Err(CaseFault::Unreadable),
+        [] => Some(Axis::All),
+        ["0"] => Some(Axis::Zero),
+        ["1"] => Some(Axis::One),
+        _ => None,
     }
 }
 
-/// The number that a call takes.
-fn only(words: &[&str]) -> Result<u32, CaseFault> {
+/// The only number of words.
+fn only(words: &[&str]) -> Option<u32> {
     match *words {
-        [word] => count(word),
-        _ => Err(CaseFault::Unreadable),
+        [word] => count(word).ok(),
+        _ => None,
     }
 }
 
-/// The nonlinear call of a word, `None` where there is none.
-fn atom_of(word: &str, rest: &[&str]) -> Result<Option<AtomCall>, CaseFault> {
-    Ok(Some(match word {
-        "abs" => AtomCall::Abs(Abs),
-        "pos" => AtomCall::Pos(Pos),
-        "neg" => AtomCall::Neg(Neg),
-        "maximum" => AtomCall::Maximum(Maximum { count: only(rest)? }),
-        "minimum" => AtomCall::Minimum(Minimum { count: only(rest)? }),
-        "max" => AtomCall::MaxOf(MaxOf { axis: axis(rest)? }),
-        "min" => AtomCall::MinOf(MinOf { axis: axis(rest)? }),
-        "norm1" => AtomCall::Norm1(Norm1 { axis: axis(rest)? }),
-        "norm_inf" => AtomCall::NormInf(NormInf { axis: axis(rest)? }),
-        "sum_largest" => AtomCall::SumLargest(SumLargest { k: only(rest)? }),
-        "sum_smallest" => AtomCall::SumSmallest(SumSmallest { k: only(rest)? }),
-        "cummax" => AtomCall::CumMax(CumMax),
-        _ => return Ok(None),
-    }))
+/// The call of so many, or of the so many greatest or least entries; `None` where words don't say one.
+fn counting_atom(word: &str, rest: &[&str]) -> Option<AtomCall> {
+    let count = only(rest)?;
+    match word {
+        "maximum" => Some(AtomCall::Maximum(Maximum { count })),
+        "minimum" => Some(AtomCall::Minimum(Minimum { count })),
+        "sum_largest" => Some(AtomCall::SumLargest(SumLargest { k: count })),
+        "sum_smallest" => Some(AtomCall::SumSmallest(SumSmallest { k: count })),
+        _ => None,
+    }
 }
 
-/// The nonlinear call of a text, as `max 0` along the rows and `max` of all entries.
+/// The call along an axis; `None` where words don't say one.
+fn folding_atom(word: &str, rest: &[&str]) -> Option<AtomCall> {
+    let axis = axis(rest)?;
+    match word {
+        "max" => Some(AtomCall::MaxOf(MaxOf { axis })),
+        "min" => Some(AtomCall::MinOf(MinOf { axis })),
+        "norm1" => Some(AtomCall::Norm1(Norm1 { axis })),
+        "norm_inf" => Some(AtomCall::NormInf(NormInf { axis })),
+        _ => None,
+    }
+}
+
+/// The nonlinear call of words, as `max 0` along the rows and `max` of all entries; `None` where there is none.
+fn atom_of(words: &[&str]) -> Option<AtomCall> {
+    match *words {
+        ["abs"] => Some(AtomCall::Abs(Abs)),
+        ["pos"] => Some(AtomCall::Pos(Pos)),
+        ["neg"] => Some(AtomCall::Neg(Neg)),
+        ["cummax"] => Some(AtomCall::CumMax(CumMax)),
+        [word, ref rest @ ..] => match folding_atom(word, rest) {
+            Some(atom) => Some(atom),
+            None => counting_atom(word, rest),
+        },
+        [] => None,
+    }
+}
+
+/// The nonlinear call of a text.
 pub(crate) fn atom(alloc: Global, text: &str) -> Result<AtomCall, CaseFault> {
-    match *words(alloc, text)? {
-        [word, ref rest @ ..] => atom_of(word, rest)?.ok_or(CaseFault::Unreadable),
-        [] => Err(CaseFault::Unreadable),
+    match atom_of(&words(alloc, text)?) {
+        Some(atom) => Ok(atom),
+        None => Err(CaseFault::Unreadable),
     }
 }
 
@@ -66,56 +86,62 @@ fn only_entry(alloc: Global) -> Result<Index, CaseFault> {
     })
 }
 
-/// The same entries in another shape, row by row or column by column.
-fn reshape(rest: &[&str]) -> Result<Reshape, CaseFault> {
-    match *rest {
-        [to, "columns"] => Ok(Reshape {
-            to: shape(to)?,
-            by_columns: true,
+/// The same entries in another shape, row by row or column by column; `None` where words don't say one.
+fn reshape(words: &[&str]) -> Option<Reshape> {
+    let (to, by_columns) = match *words {
+        [to, "columns"] => (to, true),
+        [to, "rows"] => (to, false),
+        _ => return None,
+    };
+    let to = shape(to).ok()?;
+    Some(Reshape { to, by_columns })
+}
+
+/// The array broadcast to a shape; `None` where words don't say one.
+fn promote(words: &[&str]) -> Option<Promote> {
+    match *words {
+        [to] => Some(Promote {
+            to: shape(to).ok()?,
         }),
-        [to, "rows"] => Ok(Reshape {
-            to: shape(to)?,
-            by_columns: false,
-        }),
-        _ => Err(CaseFault::Unreadable),
+        _ => None,
     }
 }
 
-/// The array broadcast to a shape.
-fn promote(rest: &[&str]) -> Result<Promote, CaseFault> {
-    match *rest {
-        [to] => Ok(Promote { to: shape(to)? }),
-        _ => Err(CaseFault::Unreadable),
+/// The call along an axis, or into another shape.
+fn shaping(word: &str, rest: &[&str]) -> Option<LinearCall> {
+    match word {
+        "sum" => Some(LinearCall::Sum(Sum { axis: axis(rest)? })),
+        "mean" => Some(LinearCall::Mean(Mean { axis: axis(rest)? })),
+        "cumsum" => Some(LinearCall::CumSum(CumSum { axis: axis(rest)? })),
+        "reshape" => Some(LinearCall::Reshape(reshape(rest)?)),
+        "promote" => Some(LinearCall::Promote(promote(rest)?)),
+        _ => None,
     }
 }
 
-/// The linear call of a word.
-fn linear_of(alloc: Global, word: &str, rest: &[&str]) -> Result<LinearCall, CaseFault> {
-    Ok(match word {
-        "+" => LinearCall::Plus(Plus),
-        "-" => LinearCall::Minus(Minus),
-        "sum" => LinearCall::Sum(Sum { axis: axis(rest)? }),
-        "mean" => LinearCall::Mean(Mean { axis: axis(rest)? }),
-        "cumsum" => LinearCall::CumSum(CumSum { axis: axis(rest)? }),
-        "diff" => LinearCall::Diff(Diff),
-        "trace" => LinearCall::Trace(Trace),
-        "diag" => LinearCall::Diag(Diag),
-        "entry" => LinearCall::Index(only_entry(alloc)?),
-        "reshape" => LinearCall::Reshape(reshape(rest)?),
-        "transpose" => LinearCall::Transpose(Transpose),
-        "hstack" => LinearCall::HStack(HStack),
-        "vstack" => LinearCall::VStack(VStack),
-        "promote" => LinearCall::Promote(promote(rest)?),
-        _ => return Err(CaseFault::Unreadable),
-    })
+/// The linear call of words.
+fn linear_of(alloc: Global, words: &[&str]) -> Result<LinearCall, CaseFault> {
+    match *words {
+        ["+"] => Ok(LinearCall::Plus(Plus)),
+        ["-"] => Ok(LinearCall::Minus(Minus)),
+        ["diff"] => Ok(LinearCall::Diff(Diff)),
+        ["trace"] => Ok(LinearCall::Trace(Trace)),
+        ["diag"] => Ok(LinearCall::Diag(Diag)),
+        ["entry"] => Ok(LinearCall::Index(only_entry(alloc)?)),
+        ["transpose"] => Ok(LinearCall::Transpose(Transpose)),
+        ["hstack"] => Ok(LinearCall::HStack(HStack)),
+        ["vstack"] => Ok(LinearCall::VStack(VStack)),
+        [word, ref rest @ ..] => match shaping(word, rest) {
+            Some(call) => Ok(call),
+            None => Err(CaseFault::Unreadable),
+        },
+        [] => Err(CaseFault::Unreadable),
+    }
 }
 
 /// The linear call of a text.
 pub(crate) fn linear(alloc: Global, text: &str) -> Result<LinearCall, CaseFault> {
-    match *words(alloc, text)? {
-        [word, ref rest @ ..] => linear_of(alloc, word, rest),
-        [] => Err(CaseFault::Unreadable),
-    }
+    linear_of(alloc, &words(alloc, text)?)
 }
 
 /// The product or the quotient of a word, `None` where there is none.
@@ -150,46 +176,53 @@ pub(crate) fn whole(word: &str) -> Result<Whole, CaseFault> {
     }
 }
 
-/// A scalar variable or parameter, `None` where the words say neither.
-fn leaf_of(alloc: Global, words: &[&str]) -> Result<Option<Call>, CaseFault> {
+/// A scalar variable.
+fn variable(alloc: Global, text: &str, kind: &str, entries: &str) -> Result<Call, CaseFault> {
+    let (attribute, whole) = (attribute(kind)?, whole(entries)?);
+    Ok(Call::Variable(Variable {
+        name: name(alloc, text)?,
+        shape: Shape::scalar(),
+        attribute,
+        whole,
+    }))
+}
+
+/// A scalar parameter.
+fn parameter(alloc: Global, text: &str, kind: &str) -> Result<Call, CaseFault> {
+    let attribute = attribute(kind)?;
+    Ok(Call::Parameter(Parameter {
+        name: name(alloc, text)?,
+        shape: Shape::scalar(),
+        attribute,
+    }))
+}
+
+/// The call of words that is no leaf.
+fn inner_of(alloc: Global, words: &[&str]) -> Result<Call, CaseFault> {
     match *words {
-        ["variable", text, kind, entries] => Ok(Some(Call::Variable(Variable {
-            name: name(alloc, text)?,
-            shape: Shape::scalar(),
-            attribute: attribute(kind)?,
-            whole: whole(entries)?,
-        }))),
-        ["parameter", text, kind] => Ok(Some(Call::Parameter(Parameter {
-            name: name(alloc, text)?,
-            shape: Shape::scalar(),
-            attribute: attribute(kind)?,
-        }))),
-        _ => Ok(None),
+        ["*"] => Ok(Call::Pairing(Pairing::Times)),
+        ["@"] => Ok(Call::Pairing(Pairing::MatTimes)),
+        ["/"] => Ok(Call::Pairing(Pairing::Over)),
+        _ => match atom_of(words) {
+            Some(atom) => Ok(Call::Atom(atom)),
+            None => Ok(Call::Linear(linear_of(alloc, words)?)),
+        },
     }
 }
 
-/// The call of a word that is no leaf.
-fn inner_of(alloc: Global, words: &[&str]) -> Result<Call, CaseFault> {
-    let Some((word, rest)) = words.split_first() else {
-        return Err(CaseFault::Unreadable);
-    };
-    if let Some(pairing) = pairing(*word) {
-        return Ok(Call::Pairing(pairing));
-    }
-    match atom_of(*word, rest)? {
-        Some(atom) => Ok(Call::Atom(atom)),
-        None => Ok(Call::Linear(linear_of(alloc, *word, rest)?)),
+/// The call of words.
+fn call_of(alloc: Global, words: &[&str]) -> Result<Call, CaseFault> {
+    match *words {
+        ["variable", text, kind, entries] => variable(alloc, text, kind, entries),
+        ["parameter", text, kind] => parameter(alloc, text, kind),
+        _ => inner_of(alloc, words),
     }
 }
 
 /// Any call of a text: a leaf, as `variable x free real`, `parameter p nonneg` or `constant (2) 1 0`, or another.
 pub(crate) fn call(alloc: Global, text: &str) -> Result<Call, CaseFault> {
-    if let Some(numbers) = text.strip_prefix("constant ") {
-        return Ok(Call::Constant(array(alloc, numbers)?));
-    }
-    let words = words(alloc, text)?;
-    match leaf_of(alloc, &words)? {
-        Some(leaf) => Ok(leaf),
-        None => inner_of(alloc, &words),
+    match text.strip_prefix("constant ") {
+        Some(numbers) => Ok(Call::Constant(array(alloc, numbers)?)),
+        None => call_of(alloc, &words(alloc, text)?),
     }
 }

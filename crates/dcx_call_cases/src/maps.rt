@@ -1,10 +1,10 @@
 //! The entries of which linear calls form theirs, and the pairs of products and quotients.
 use crate::calls::{linear, pairing};
-use crate::rows::coefficient;
+use crate::rows::put_coefficient;
 use crate::told::shapes;
-use dcx_affine::{Pair, Pairing};
-use dcx_atom::{LinearOp, Triple};
-use dcx_case_lines::{CaseFault, Cases};
+use dcx_affine::{EntryPairs, Pair, Pairing};
+use dcx_atom::{EntryTerms, LinearOp, Triple};
+use dcx_case_lines::{CaseFault, Cases, put_between};
 use dcx_shape::Shape;
 use std::alloc::{AllocError, Global};
 
@@ -13,72 +13,77 @@ use std::alloc::{AllocError, Global};
 pub(crate) struct Maps;
 
 impl Cases for Maps {
-    fn answer(&self, alloc: Global, parts: &[&str]) -> Result<String, CaseFault> {
-        let Some((first, args)) = parts.split_first() else {
-            return Err(CaseFault::Unreadable);
-        };
-        let shapes = shapes(alloc, args)?;
-        match pairing(*first) {
-            Some(pairing) => pairs(alloc, pairing, &shapes),
-            None => Ok(map(alloc, &linear(alloc, *first)?, &shapes)?),
+    fn answer(&self, alloc: Global, parts: &[&str], out: &mut String) -> Result<(), CaseFault> {
+        match *parts {
+            [first, ref args @ ..] => {
+                let shapes = shapes(alloc, args)?;
+                match pairing(first) {
+                    Some(pairing) => put_pairs(alloc, pairing, &shapes, out),
+                    None => put_map(alloc, &linear(alloc, first)?, &shapes, out),
+                }
+            }
+            [] => Err(CaseFault::Unreadable),
         }
     }
 }
 
-fn form(alloc: Global, terms: &[Triple]) -> Result<String, AllocError> {
-    let mut text = String::new(alloc);
+fn put_form(out: &mut String, terms: &[Triple]) -> Result<(), AllocError> {
     for (k, term) in terms.iter().enumerate() {
-        if k > 0 {
-            text.push_str(" ")?;
-        }
-        let front = coefficient(alloc, term.coefficient)?;
-        text.push_str(&format!(in alloc; "{front}x{}.{}", term.argument, term.entry)?)?;
+        put_between(out, k, " ")?;
+        put_coefficient(out, term.coefficient)?;
+        write!(out, "x{}.{}", term.argument, term.entry)?;
     }
-    Ok(text)
+    Ok(())
 }
 
-/// The forms of any linear call.
-fn map<L: LinearOp>(alloc: Global, op: &L, args: &[Shape]) -> Result<String, AllocError> {
-    if op.shape(args).is_none() {
-        return String::from_str(alloc, "none");
+fn put_forms(out: &mut String, forms: &[EntryTerms]) -> Result<(), AllocError> {
+    for (k, form) in forms.iter().enumerate() {
+        put_between(out, k, "; ")?;
+        put_form(out, form.as_slice())?;
     }
-    let terms = op.map(alloc, args)?;
-    let mut text = String::new(alloc);
-    for (k, of_entry) in terms.as_slice().iter().enumerate() {
-        if k > 0 {
-            text.push_str("; ")?;
-        }
-        text.push_str(&form(alloc, of_entry.as_slice())?)?;
-    }
-    Ok(text)
+    Ok(())
 }
 
-fn products(alloc: Global, pairs: &[Pair]) -> Result<String, AllocError> {
-    let mut text = String::new(alloc);
+/// Writes the forms of any linear call.
+fn put_map<L: LinearOp>(
+    alloc: Global,
+    op: &L,
+    args: &[Shape],
+    out: &mut String,
+) -> Result<(), CaseFault> {
+    match op.shape(args) {
+        Some(_) => Ok(put_forms(out, op.map(alloc, args)?.as_slice())?),
+        None => Ok(out.push_str("none")?),
+    }
+}
+
+fn put_products(out: &mut String, pairs: &[Pair]) -> Result<(), AllocError> {
     for (k, pair) in pairs.iter().enumerate() {
-        if k > 0 {
-            text.push_str(" ")?;
-        }
-        text.push_str(&format!(in alloc; "{}:{}", pair.left, pair.right)?)?;
+        put_between(out, k, " ")?;
+        write!(out, "{}:{}", pair.left, pair.right)?;
     }
-    Ok(text)
+    Ok(())
 }
 
-fn pairs(alloc: Global, pairing: Pairing, args: &[Shape]) -> Result<String, CaseFault> {
-    let (a, b) = match *args {
-        [a, b] => (a, b),
-        _ => return Err(CaseFault::Unreadable),
-    };
-    if pairing.shape(a, b).is_none() {
-        return Ok(String::from_str(alloc, "none")?);
+fn put_all_products(out: &mut String, entries: &[EntryPairs]) -> Result<(), AllocError> {
+    for (k, pairs) in entries.iter().enumerate() {
+        put_between(out, k, "; ")?;
+        put_products(out, pairs.as_slice())?;
     }
-    let pairs = pairing.pairs(alloc, a, b)?;
-    let mut text = String::new(alloc);
-    for (k, of_entry) in pairs.as_slice().iter().enumerate() {
-        if k > 0 {
-            text.push_str("; ")?;
-        }
-        text.push_str(&products(alloc, of_entry.as_slice())?)?;
+    Ok(())
+}
+
+fn put_pairs(
+    alloc: Global,
+    pairing: Pairing,
+    args: &[Shape],
+    out: &mut String,
+) -> Result<(), CaseFault> {
+    match *args {
+        [a, b] => match pairing.shape(a, b) {
+            Some(_) => Ok(put_all_products(out, pairing.pairs(alloc, a, b)?.as_slice())?),
+            None => Ok(out.push_str("none")?),
+        },
+        _ => Err(CaseFault::Unreadable),
     }
-    Ok(text)
 }

@@ -1,8 +1,8 @@
 //! The rows and unknowns that stand for nonlinear calls.
 use crate::calls::atom;
 use crate::told::shapes;
-use dcx_atom::{Atom, AuxKind, AuxTerm, Graph, GraphRow, GraphTerm, Operand};
-use dcx_case_lines::{CaseFault, Cases, Number};
+use dcx_atom::{Atom, AuxKind, AuxTerm, Graph, GraphRow, Operand};
+use dcx_case_lines::{CaseFault, Cases, Number, put_between};
 use dcx_frac::Frac;
 use dcx_shape::Shape;
 use std::alloc::{AllocError, Global};
@@ -13,97 +13,92 @@ use std::alloc::{AllocError, Global};
 pub(crate) struct Rows;
 
 impl Cases for Rows {
-    fn answer(&self, alloc: Global, parts: &[&str]) -> Result<String, CaseFault> {
-        let Some((first, args)) = parts.split_first() else {
-            return Err(CaseFault::Unreadable);
-        };
-        let shapes = shapes(alloc, args)?;
-        match first.split_once(' ') {
-            Some(("rows", text)) => {
-                let graph = graph(alloc, &atom(alloc, text)?, &shapes)?;
-                Ok(rows_text(alloc, graph.rows.as_slice())?)
+    fn answer(&self, alloc: Global, parts: &[&str], out: &mut String) -> Result<(), CaseFault> {
+        match *parts {
+            [first, ref args @ ..] => {
+                let shapes = shapes(alloc, args)?;
+                told(alloc, first, &shapes, out)
             }
-            Some(("unknowns", text)) => {
-                let graph = graph(alloc, &atom(alloc, text)?, &shapes)?;
-                Ok(unknowns(alloc, &graph)?)
-            }
-            _ => Err(CaseFault::Unreadable),
+            [] => Err(CaseFault::Unreadable),
         }
+    }
+}
+
+fn told(alloc: Global, first: &str, shapes: &[Shape], out: &mut String) -> Result<(), CaseFault> {
+    match first.split_once(' ') {
+        Some(("rows", text)) => put_rows(out, &graph(alloc, &atom(alloc, text)?, shapes)?),
+        Some(("unknowns", text)) => put_unknowns(out, &graph(alloc, &atom(alloc, text)?, shapes)?),
+        _ => Err(CaseFault::Unreadable),
     }
 }
 
 /// The rows of any nonlinear call.
 fn graph<A: Atom>(alloc: Global, atom: &A, args: &[Shape]) -> Result<Graph, CaseFault> {
-    if atom.shape(args).is_none() {
-        return Err(CaseFault::Unreadable);
+    match atom.shape(args) {
+        Some(_) => Ok(atom.graph(alloc, args)?),
+        None => Err(CaseFault::Unreadable),
     }
-    Ok(atom.graph(alloc, args)?)
 }
 
-/// A coefficient before what it is of: `+`, `-`, or the number and `*`.
-pub(crate) fn coefficient(alloc: Global, number: Frac) -> Result<String, AllocError> {
+/// Writes a coefficient before what it is of: `+`, `-`, or the number and `*`.
+pub(crate) fn put_coefficient(out: &mut String, number: Frac) -> Result<(), AllocError> {
     match (number.num(), number.den()) {
-        (1, 1) => String::from_str(alloc, "+"),
-        (-1, 1) => String::from_str(alloc, "-"),
-        _ => format!(in alloc; "{}*", Number(number)),
+        (1, 1) => out.push_str("+"),
+        (-1, 1) => out.push_str("-"),
+        _ => write!(out, "{}*", Number(number)),
     }
 }
 
-fn term(alloc: Global, term: &GraphTerm) -> Result<String, AllocError> {
-    let front = coefficient(alloc, term.coefficient)?;
-    match term.operand {
-        Operand::Argument { argument, entry } => { format!(in alloc; "{front}x{argument}.{entry}") }
-        Operand::Aux(unknown) => format!(in alloc; "{front}t{unknown}"),
+fn put_operand(out: &mut String, operand: Operand) -> Result<(), AllocError> {
+    match operand {
+        Operand::Argument { argument, entry } => write!(out, "x{argument}.{entry}"),
+        Operand::Aux(unknown) => write!(out, "t{unknown}"),
     }
 }
 
-fn row(alloc: Global, row: &GraphRow) -> Result<String, AllocError> {
-    let mut text = format!(in alloc; "{}:", row.entry)?;
-    for of_row in row.terms.as_slice() {
-        text.push_str(" ")?;
-        text.push_str(&term(alloc, of_row)?)?;
+fn put_row(out: &mut String, row: &GraphRow) -> Result<(), AllocError> {
+    write!(out, "{}:", row.entry)?;
+    for term in row.terms.as_slice() {
+        out.push_str(" ")?;
+        put_coefficient(out, term.coefficient)?;
+        put_operand(out, term.operand)?;
     }
-    Ok(text)
+    Ok(())
 }
 
-fn rows_text(alloc: Global, rows: &[GraphRow]) -> Result<String, AllocError> {
-    let mut text = String::new(alloc);
-    for (k, one) in rows.iter().enumerate() {
-        if k > 0 {
-            text.push_str("; ")?;
-        }
-        text.push_str(&row(alloc, one)?)?;
+fn put_rows(out: &mut String, graph: &Graph) -> Result<(), CaseFault> {
+    for (k, row) in graph.rows.as_slice().iter().enumerate() {
+        put_between(out, k, "; ")?;
+        put_row(out, row)?;
     }
-    Ok(text)
+    Ok(())
 }
 
-fn kinds(alloc: Global, kinds: &[AuxKind]) -> Result<String, AllocError> {
-    let mut text = String::new(alloc);
+fn put_kinds(out: &mut String, kinds: &[AuxKind]) -> Result<(), AllocError> {
     for (k, kind) in kinds.iter().enumerate() {
-        if k > 0 {
-            text.push_str(" ")?;
+        put_between(out, k, " ")?;
+        match kind {
+            AuxKind::Free => out.push_str("free")?,
+            AuxKind::Nonneg => out.push_str("nonneg")?,
         }
-        text.push_str(match kind {
-            AuxKind::Free => "free",
-            AuxKind::Nonneg => "nonneg",
-        })?;
     }
-    Ok(text)
+    Ok(())
 }
 
-fn form(alloc: Global, terms: &[AuxTerm]) -> Result<String, AllocError> {
-    let mut text = String::from_str(alloc, ";")?;
+fn put_form(out: &mut String, terms: &[AuxTerm]) -> Result<(), AllocError> {
+    out.push_str(";")?;
     for term in terms {
-        let front = coefficient(alloc, term.coefficient)?;
-        text.push_str(&format!(in alloc; " {front}t{}", term.aux)?)?;
+        out.push_str(" ")?;
+        put_coefficient(out, term.coefficient)?;
+        write!(out, "t{}", term.aux)?;
     }
-    Ok(text)
+    Ok(())
 }
 
-fn unknowns(alloc: Global, graph: &Graph) -> Result<String, AllocError> {
-    let mut text = kinds(alloc, graph.aux.as_slice())?;
+fn put_unknowns(out: &mut String, graph: &Graph) -> Result<(), CaseFault> {
+    put_kinds(out, graph.aux.as_slice())?;
     for result in graph.results.as_slice() {
-        text.push_str(&form(alloc, result.as_slice())?)?;
+        put_form(out, result.as_slice())?;
     }
-    Ok(text)
+    Ok(())
 }

@@ -12,21 +12,29 @@ use std::alloc::Global;
 pub(crate) struct Slopes;
 
 impl Cases for Slopes {
-    fn answer(&self, alloc: Global, parts: &[&str]) -> Result<String, CaseFault> {
+    fn answer(&self, alloc: Global, parts: &[&str], out: &mut String) -> Result<(), CaseFault> {
         match *parts {
             [text, ref args @ .., coefficients, weights] => {
                 let shapes = shapes(alloc, args)?;
-                let coefficients = numbers(alloc, coefficients)?;
-                let weights = numbers(alloc, weights)?;
-                let atom = atom(alloc, text)?;
-                told(
-                    alloc,
-                    slopes_of(alloc, &atom, &shapes, &coefficients, &weights)?,
-                )
+                let slopes = formed(alloc, text, &shapes, coefficients, weights)?;
+                put_slopes(out, &slopes)
             }
             _ => Err(CaseFault::Unreadable),
         }
     }
+}
+
+/// The slopes of a call, whose coefficients and weights are written.
+fn formed(
+    alloc: Global,
+    text: &str,
+    shapes: &[Shape],
+    of_coefficients: &str,
+    of_weights: &str,
+) -> Result<Result<Fracs, SlopeStop>, CaseFault> {
+    let coefficients = numbers(alloc, of_coefficients)?;
+    let weights = numbers(alloc, of_weights)?;
+    slopes_of(alloc, &atom(alloc, text)?, shapes, &coefficients, &weights)
 }
 
 /// The slopes of any call, where there is a coefficient for each result entry and a weight for each row.
@@ -51,21 +59,22 @@ fn slopes_of<A: Atom>(
     Ok(atom.slopes(alloc, args, coefficients, weights))
 }
 
-fn told(alloc: Global, slopes: Result<Fracs, SlopeStop>) -> Result<String, CaseFault> {
+fn put_slopes(out: &mut String, slopes: &Result<Fracs, SlopeStop>) -> Result<(), CaseFault> {
     match slopes {
-        Ok(slopes) => Ok(format!(in alloc; "{}", Numbers(slopes.as_slice()))?),
+        Ok(slopes) => Ok(write!(out, "{}", Numbers(slopes.as_slice()))?),
         Err(
             SlopeStop::Refused {
                 entry,
                 stated,
                 found,
             },
-        ) => Ok(format!(in alloc;
+        ) => Ok(write!(
+            out,
             "entry {entry}: {} against {}",
-            Number(stated),
-            Number(found)
+            Number(*stated),
+            Number(*found)
         )?),
-        Err(SlopeStop::Passes(passes)) => Ok(format!(in alloc; "{}", Passing(passes))?),
+        Err(SlopeStop::Passes(passes)) => Ok(write!(out, "{}", Passing(*passes))?),
         Err(SlopeStop::Memory) => Err(CaseFault::Memory),
     }
 }

@@ -10,16 +10,16 @@ use std::alloc::Global;
 pub(crate) struct Told;
 
 impl Cases for Told {
-    fn answer(&self, alloc: Global, parts: &[&str]) -> Result<String, CaseFault> {
-        let Some((first, args)) = parts.split_first() else {
-            return Err(CaseFault::Unreadable);
-        };
-        match first.split_once(' ') {
-            Some(("shape", text)) => shape_told(alloc, &call(alloc, text)?, args),
-            Some(("sign", text)) => sign_told(alloc, &call(alloc, text)?, args),
-            Some(("trend", text)) => trend_told(alloc, text, args),
-            Some(("bend", text)) => bend_told(alloc, &atom(alloc, text)?),
-            _ => Err(CaseFault::Unreadable),
+    fn answer(&self, alloc: Global, parts: &[&str], out: &mut String) -> Result<(), CaseFault> {
+        match *parts {
+            [first, ref args @ ..] => match first.split_once(' ') {
+                Some(("shape", text)) => put_shape(out, &shapes(alloc, args)?, call(alloc, text)?),
+                Some(("sign", text)) => put_sign(out, &signs(alloc, args)?, call(alloc, text)?),
+                Some(("trend", rest)) => trend_told(alloc, rest, &signs(alloc, args)?, out),
+                Some(("bend", text)) => put_bend(out, &atom(alloc, text)?),
+                _ => Err(CaseFault::Unreadable),
+            },
+            [] => Err(CaseFault::Unreadable),
         }
     }
 }
@@ -33,10 +33,10 @@ pub(crate) fn shapes(alloc: Global, args: &[&str]) -> Result<Vec<Shape>, CaseFau
     Ok(shapes)
 }
 
-fn shape_told(alloc: Global, call: &Call, args: &[&str]) -> Result<String, CaseFault> {
-    match call.shape(&shapes(alloc, args)?) {
-        Some(shape) => Ok(format!(in alloc; "{}", Size(shape.sides()))?),
-        None => Ok(String::from_str(alloc, "none")?),
+fn put_shape(out: &mut String, shapes: &[Shape], call: Call) -> Result<(), CaseFault> {
+    match call.shape(shapes) {
+        Some(shape) => Ok(write!(out, "{}", Size(shape.sides()))?),
+        None => Ok(out.push_str("none")?),
     }
 }
 
@@ -61,24 +61,37 @@ fn signs(alloc: Global, args: &[&str]) -> Result<Vec<Sign>, CaseFault> {
     Ok(signs)
 }
 
-fn sign_told(alloc: Global, call: &Call, args: &[&str]) -> Result<String, CaseFault> {
-    let sign = call.sign(&signs(alloc, args)?);
-    let word = match (sign.nonneg, sign.nonpos) {
+fn sign_word(sign: Sign) -> &'static str {
+    match (sign.nonneg, sign.nonpos) {
         (true, false) => "nonneg",
         (false, true) => "nonpos",
         (true, true) => "zero",
         (false, false) => "unknown",
-    };
-    Ok(String::from_str(alloc, word)?)
+    }
 }
 
-fn trend_told(alloc: Global, text: &str, args: &[&str]) -> Result<String, CaseFault> {
-    let Some((argument, text)) = text.split_once(' ') else {
-        return Err(CaseFault::Unreadable);
-    };
-    let call = call(alloc, text)?;
-    let trend = call.trend(count(argument)? as usize, &signs(alloc, args)?);
-    Ok(String::from_str(alloc, trend_word(trend))?)
+fn put_sign(out: &mut String, signs: &[Sign], call: Call) -> Result<(), CaseFault> {
+    Ok(out.push_str(sign_word(call.sign(signs)))?)
+}
+
+fn trend_told(
+    alloc: Global,
+    text: &str,
+    signs: &[Sign],
+    out: &mut String,
+) -> Result<(), CaseFault> {
+    let (argument, text) = text.split_once(' ').ok_or(CaseFault::Unreadable)?;
+    let argument = count(argument)?;
+    put_trend(out, call(alloc, text)?, argument as usize, signs)
+}
+
+fn put_trend(
+    out: &mut String,
+    call: Call,
+    argument: usize,
+    signs: &[Sign],
+) -> Result<(), CaseFault> {
+    Ok(out.push_str(trend_word(call.trend(argument, signs)))?)
 }
 
 fn trend_word(trend: Trend) -> &'static str {
@@ -90,11 +103,10 @@ fn trend_word(trend: Trend) -> &'static str {
     }
 }
 
-/// The bend of any nonlinear call.
-fn bend_told<A: Atom>(alloc: Global, atom: &A) -> Result<String, CaseFault> {
-    let word = match atom.bend() {
-        Bend::Convex => "convex",
-        Bend::Concave => "concave",
-    };
-    Ok(String::from_str(alloc, word)?)
+/// Writes the bend of any nonlinear call.
+fn put_bend<A: Atom>(out: &mut String, atom: &A) -> Result<(), CaseFault> {
+    match atom.bend() {
+        Bend::Convex => Ok(out.push_str("convex")?),
+        Bend::Concave => Ok(out.push_str("concave")?),
+    }
 }

@@ -3,9 +3,9 @@ ghost use Rattle.std.specs.Prelude.{◌≡◌, IfOk, map};
 ghost use Rattle.dcx_atom.specs.Arrays.{sides_list, array_sides};
 
 use crate::calls::call;
-use dcx_atom::Array;
+use dcx_atom::{Array, ValueStop};
 use dcx_call::Call;
-use dcx_case_lines::{CaseFault, Cases, array, value_text};
+use dcx_case_lines::{CaseFault, Cases, array, put_value};
 use dcx_point::{Point, Setting};
 use dcx_shape::Shape;
 use std::alloc::{AllocError, Global};
@@ -14,10 +14,13 @@ use std::alloc::{AllocError, Global};
 pub(crate) struct Values;
 
 impl Cases for Values {
-    fn answer(&self, alloc: Global, parts: &[&str]) -> Result<String, CaseFault> {
-        match parts.split_first() {
-            Some((first, rest)) => value(alloc, &call(alloc, *first)?, &arrays(alloc, rest)?),
-            None => Err(CaseFault::Unreadable),
+    fn answer(&self, alloc: Global, parts: &[&str], out: &mut String) -> Result<(), CaseFault> {
+        match *parts {
+            [first, ref texts @ ..] => {
+                let args = arrays(alloc, texts)?;
+                called(alloc, first, &args, out)
+            }
+            [] => Err(CaseFault::Unreadable),
         }
     }
 }
@@ -44,11 +47,40 @@ fn shapes_of(alloc: Global, args: &[Array]) -> Result<Vec<Shape>, AllocError>
     shapes(alloc, args)
 }
 
-fn value(alloc: Global, call: &Call, args: &[Array]) -> Result<String, CaseFault> {
+/// What a call of arrays gives.
+fn called(alloc: Global, text: &str, args: &[Array], out: &mut String) -> Result<(), CaseFault> {
     let shapes = shapes_of(alloc, args)?;
-    let (point, setting) = (Point::empty(alloc), Setting::empty(alloc));
-    if call.shape(&shapes).is_none() || !call.is_given(&point, &setting) {
-        return Ok(String::from_str(alloc, "none")?);
+    put_called(alloc, &call(alloc, text)?, args, &shapes, out)
+}
+
+/// Writes what a call gives where nothing is under a name.
+fn put_called(
+    alloc: Global,
+    call: &Call,
+    args: &[Array],
+    shapes: &[Shape],
+    out: &mut String,
+) -> Result<(), CaseFault>
+    requires { sides_list shapes.now ≡ array_sides args.now }
+{
+    match formed(alloc, call, args, shapes) {
+        Some(value) => put_value(out, &value),
+        None => Ok(out.push_str("none")?),
     }
-    value_text(alloc, call.value(alloc, &point, &setting, args))
+}
+
+/// The value of a call, where it has a shape and takes no leaf.
+fn formed(
+    alloc: Global,
+    call: &Call,
+    args: &[Array],
+    shapes: &[Shape],
+) -> Option<Result<Array, ValueStop>>
+    requires { sides_list shapes.now ≡ array_sides args.now }
+{
+    let (point, setting) = (Point::empty(alloc), Setting::empty(alloc));
+    if call.shape(shapes).is_none() || !call.is_given(&point, &setting) {
+        return None;
+    }
+    Some(call.value(alloc, &point, &setting, args))
 }

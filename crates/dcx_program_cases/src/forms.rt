@@ -1,19 +1,23 @@
 //! Forms in unknowns, over plain numbers and over affine ones.
-use crate::numbers::stop_text;
-use dcx_case_lines::{CaseFault, Cases, Number, count, fraction};
+use crate::numbers::{put_number, put_stop};
+use dcx_case_lines::{CaseFault, Cases, count, fraction};
 use dcx_frac::Frac;
 use dcx_linear::{Coef, CoefStop, Form, FormTerm, ParamForm};
-use std::alloc::{AllocError, Global};
+use std::alloc::Global;
 
 /// `plain | 1 3*2 2*0 | + | 1/2 -2*0` for the sum of two forms, where `3*2` is three times unknown 2, and `plain | 1 3*2 | / | 1/2`
 /// for a copy of a quotient; the same with `affine`.
 pub(crate) struct Forms;
 
 impl Cases for Forms {
-    fn answer(&self, alloc: Global, parts: &[&str]) -> Result<String, CaseFault> {
+    fn answer(&self, alloc: Global, parts: &[&str], out: &mut String) -> Result<(), CaseFault> {
         match *parts {
-            ["plain", left, sign, right] => formed::<Frac>(alloc, left, sign, right),
-            ["affine", left, sign, right] => formed::<ParamForm>(alloc, left, sign, right),
+            ["plain", left, sign, right] => {
+                formed(alloc, &form::<Frac>(alloc, left)?, sign, right, out)
+            }
+            ["affine", left, sign, right] => {
+                formed(alloc, &form::<ParamForm>(alloc, left)?, sign, right, out)
+            }
             _ => Err(CaseFault::Unreadable),
         }
     }
@@ -22,24 +26,31 @@ impl Cases for Forms {
 /// What any forms give.
 fn formed<C: Coef>(
     alloc: Global,
-    left: &str,
+    left: &Form<C>,
     sign: &str,
     right: &str,
-) -> Result<String, CaseFault> {
-    let form = form::<C>(alloc, left)?;
+    out: &mut String,
+) -> Result<(), CaseFault> {
     match sign {
-        "+" => told(alloc, form.add(alloc, &self::form::<C>(alloc, right)?)),
-        "/" => {
-            let by = fraction(right)?;
-            if by.is_zero() {
-                return Err(CaseFault::Unreadable);
-            }
-            match form.divide(alloc, &by) {
-                Ok(quotient) => told(alloc, Ok(quotient.copy(alloc)?)),
-                Err(stop) => told::<C>(alloc, Err(stop)),
-            }
-        }
+        "+" => put_formed(out, &left.add(alloc, &form::<C>(alloc, right)?)),
+        "/" => divided(alloc, left, fraction(right)?, out),
         _ => Err(CaseFault::Unreadable),
+    }
+}
+
+/// What a copy of a quotient is.
+fn divided<C: Coef>(
+    alloc: Global,
+    form: &Form<C>,
+    by: Frac,
+    out: &mut String,
+) -> Result<(), CaseFault> {
+    if by.is_zero() {
+        return Err(CaseFault::Unreadable);
+    }
+    match form.divide(alloc, &by) {
+        Ok(quotient) => put_form(out, &quotient.copy(alloc)?),
+        Err(stop) => put_stop(out, stop),
     }
 }
 
@@ -66,27 +77,26 @@ fn form<C: Coef>(alloc: Global, text: &str) -> Result<Form<C>, CaseFault> {
     Ok(form)
 }
 
-/// A coefficient that is a number.
-fn coefficient<C: Coef>(alloc: Global, coefficient: &C) -> Result<String, AllocError> {
-    match coefficient.as_number() {
-        Some(number) => format!(in alloc; "{}", Number(number)),
-        None => String::from_str(alloc, "no number"),
-    }
+fn put_term<C: Coef>(out: &mut String, term: &FormTerm<C>) -> Result<(), CaseFault> {
+    out.push_str(" ")?;
+    put_number(out, &term.coefficient)?;
+    Ok(write!(out, "*{}", term.unknown)?)
 }
 
-fn term<C: Coef>(alloc: Global, term: &FormTerm<C>) -> Result<String, AllocError> {
-    let front = coefficient(alloc, &term.coefficient)?;
-    format!(in alloc; " {front}*{}", term.unknown)
+fn put_form<C: Coef>(out: &mut String, form: &Form<C>) -> Result<(), CaseFault> {
+    put_number(out, &form.constant)?;
+    for term in form.terms.as_slice() {
+        put_term(out, term)?;
+    }
+    Ok(())
 }
 
-fn told<C: Coef>(alloc: Global, formed: Result<Form<C>, CoefStop>) -> Result<String, CaseFault> {
-    let form = match formed {
-        Ok(form) => form,
-        Err(stop) => return Ok(stop_text(alloc, stop)?),
-    };
-    let mut text = coefficient(alloc, &form.constant)?;
-    for one in form.terms.as_slice() {
-        text.push_str(&term(alloc, one)?)?;
+fn put_formed<C: Coef>(
+    out: &mut String,
+    formed: &Result<Form<C>, CoefStop>,
+) -> Result<(), CaseFault> {
+    match formed {
+        Ok(form) => put_form(out, form),
+        Err(stop) => put_stop(out, *stop),
     }
-    Ok(text)
 }

@@ -14,69 +14,79 @@ use std::alloc::{AllocError, Global};
 pub(crate) struct Coefficients;
 
 impl Cases for Coefficients {
-    fn answer(&self, alloc: Global, parts: &[&str]) -> Result<String, CaseFault> {
+    fn answer(&self, alloc: Global, parts: &[&str], out: &mut String) -> Result<(), CaseFault> {
         match *parts {
-            ["plain", text] => coefficient::<Frac>(alloc, text),
-            ["affine", text] => coefficient::<ParamForm>(alloc, text),
-            ["copy", text] => {
-                let form = affine(alloc, text)?;
-                told(alloc, Ok(form.copy(alloc)?))
-            }
-            [left, "+", right] => match left.strip_prefix("p at ") {
-                Some(word) => shifted_told(alloc, fraction(right)?, fraction(word)?),
-                None => {
-                    let form = affine(alloc, left)?;
-                    told(alloc, form.add(alloc, &affine(alloc, right)?))
-                }
+            ["plain", text] => coefficient_told::<Frac>(alloc, &words(alloc, text)?, out),
+            ["affine", text] => coefficient_told::<ParamForm>(alloc, &words(alloc, text)?, out),
+            ["copy", text] => put_affine(out, &affine(alloc, text)?.copy(alloc)?),
+            [left, sign, right] => match left.strip_prefix("p at ") {
+                Some(word) => put_shifted(alloc, fraction(right)?, fraction(word)?, out),
+                None => affine_told(alloc, &affine(alloc, left)?, sign, right, out),
             },
-            [left, "*", word] => {
-                told(alloc, affine(alloc, left)?.scale(alloc, &fraction(word)?))
-            }
             _ => Err(CaseFault::Unreadable),
         }
     }
 }
 
-/// Why there is no coefficient.
-pub(crate) fn stop_text(alloc: Global, stop: CoefStop) -> Result<String, AllocError> {
+/// Writes why there is no coefficient.
+pub(crate) fn put_stop(out: &mut String, stop: CoefStop) -> Result<(), CaseFault> {
     match stop {
-        CoefStop::Passes(passes) => format!(in alloc; "{}", Passing(passes)),
-        CoefStop::Memory => Err(AllocError),
+        CoefStop::Passes(passes) => Ok(write!(out, "{}", Passing(passes))?),
+        CoefStop::Memory => Err(CaseFault::Memory),
     }
 }
 
-/// The number that any coefficient is, or that it isn't formed.
-fn number_text<C: Coef>(alloc: Global, formed: Result<C, CoefStop>) -> Result<String, AllocError> {
+/// Writes the number that any coefficient is.
+pub(crate) fn put_number<C: Coef>(out: &mut String, coefficient: &C) -> Result<(), CaseFault> {
+    match coefficient.as_number() {
+        Some(number) => Ok(write!(out, "{}", Number(number))?),
+        None => Ok(out.push_str("no number")?),
+    }
+}
+
+/// Writes the number that any coefficient is, or that it isn't formed.
+fn put_coefficient<C: Coef>(
+    out: &mut String,
+    formed: &Result<C, CoefStop>,
+) -> Result<(), CaseFault> {
     match formed {
-        Ok(coefficient) => match coefficient.as_number() {
-            Some(number) => format!(in alloc; "{}", Number(number)),
-            None => String::from_str(alloc, "no number"),
-        },
-        Err(stop) => stop_text(alloc, stop),
+        Ok(coefficient) => put_number(out, coefficient),
+        Err(stop) => put_stop(out, *stop),
+    }
+}
+
+/// What an operation on a coefficient gives.
+fn operated<C: Coef>(
+    alloc: Global,
+    left: &C,
+    sign: &str,
+    right: Frac,
+    out: &mut String,
+) -> Result<(), CaseFault> {
+    match sign {
+        "+" => put_coefficient(out, &left.add(alloc, &C::number(alloc, right))),
+        "*" => put_coefficient(out, &left.scale(alloc, &right)),
+        "/" if !right.is_zero() => put_coefficient(out, &left.divide(alloc, &right)),
+        _ => Err(CaseFault::Unreadable),
     }
 }
 
 /// Numbers go into any coefficients and come out again.
-fn coefficient<C: Coef>(alloc: Global, text: &str) -> Result<String, CaseFault> {
-    let formed = match *words(alloc, text)? {
-        ["zero"] => Ok(C::zero(alloc)),
-        ["copy", word] => Ok(C::number(alloc, fraction(word)?).copy(alloc)?),
-        [word] => Ok(C::number(alloc, fraction(word)?)),
-        [left, "+", right] => {
-            let other = C::number(alloc, fraction(right)?);
-            C::number(alloc, fraction(left)?).add(alloc, &other)
+fn coefficient_told<C: Coef>(
+    alloc: Global,
+    words: &[&str],
+    out: &mut String,
+) -> Result<(), CaseFault> {
+    match *words {
+        ["zero"] => put_number(out, &C::zero(alloc)),
+        ["copy", word] => put_number(out, &C::number(alloc, fraction(word)?).copy(alloc)?),
+        [word] => put_number(out, &C::number(alloc, fraction(word)?)),
+        [left, sign, right] => {
+            let right = fraction(right)?;
+            operated(alloc, &C::number(alloc, fraction(left)?), sign, right, out)
         }
-        [left, "*", right] => C::number(alloc, fraction(left)?).scale(alloc, &fraction(right)?),
-        [left, "/", right] => {
-            let by = fraction(right)?;
-            if by.is_zero() {
-                return Err(CaseFault::Unreadable);
-            }
-            C::number(alloc, fraction(left)?).divide(alloc, &by)
-        }
-        _ => return Err(CaseFault::Unreadable),
-    };
-    Ok(number_text(alloc, formed)?)
+        _ => Err(CaseFault::Unreadable),
+    }
 }
 
 /// A multiple of the parameter `p` or `q`, as `2*p`.
@@ -104,22 +114,39 @@ fn affine(alloc: Global, text: &str) -> Result<ParamForm, CaseFault> {
     Ok(form)
 }
 
-/// An affine number with its terms, each by the position and the entry of its parameter, and whether it is a number.
-fn told(alloc: Global, formed: Result<ParamForm, CoefStop>) -> Result<String, CaseFault> {
-    let form = match formed {
-        Ok(form) => form,
-        Err(stop) => return Ok(stop_text(alloc, stop)?),
-    };
-    let mut text = format!(in alloc; "{}", Number(form.constant))?;
+/// Writes an affine number with its terms, each by the position and the entry of its parameter, and whether it is a number.
+fn put_affine(out: &mut String, form: &ParamForm) -> Result<(), CaseFault> {
+    write!(out, "{}", Number(form.constant))?;
     for term in form.terms.as_slice() {
         let coefficient = Number(term.coefficient);
-        let (position, entry) = (term.position, term.entry);
-        text.push_str(&format!(in alloc; " {coefficient}*{position}.{entry}")?)?;
+        write!(out, " {coefficient}*{}.{}", term.position, term.entry)?;
     }
-    if form.as_number().is_some() {
-        text.push_str(", a number")?;
+    match form.as_number() {
+        Some(_) => Ok(out.push_str(", a number")?),
+        None => Ok(()),
     }
-    Ok(text)
+}
+
+fn put_formed(out: &mut String, formed: &Result<ParamForm, CoefStop>) -> Result<(), CaseFault> {
+    match formed {
+        Ok(form) => put_affine(out, form),
+        Err(stop) => put_stop(out, *stop),
+    }
+}
+
+/// What an operation on an affine number gives.
+fn affine_told(
+    alloc: Global,
+    left: &ParamForm,
+    sign: &str,
+    right: &str,
+    out: &mut String,
+) -> Result<(), CaseFault> {
+    match sign {
+        "+" => put_formed(out, &left.add(alloc, &affine(alloc, right)?)),
+        "*" => put_formed(out, &left.scale(alloc, &fraction(right)?)),
+        _ => Err(CaseFault::Unreadable),
+    }
 }
 
 fn scalar(alloc: Global, entry: Frac) -> Result<Array, AllocError>
@@ -148,9 +175,14 @@ fn shifted(
     Ok(form.at(&setting).ok())
 }
 
-fn shifted_told(alloc: Global, constant: Frac, number: Frac) -> Result<String, CaseFault> {
+fn put_shifted(
+    alloc: Global,
+    constant: Frac,
+    number: Frac,
+    out: &mut String,
+) -> Result<(), CaseFault> {
     match shifted(alloc, name(alloc, "p")?, constant, number)? {
-        Some(sum) => Ok(format!(in alloc; "{}", Number(sum))?),
-        None => Ok(String::from_str(alloc, "passes")?),
+        Some(sum) => Ok(write!(out, "{}", Number(sum))?),
+        None => Ok(out.push_str("passes")?),
     }
 }

@@ -5,18 +5,31 @@ use dcx_frac::Frac;
 use dcx_report::{Answer, Duals, Point};
 use std::alloc::Global;
 
+/// Puts an array under its name, `x () 3`.
+fn put_array(alloc: Global, point: &mut Point, text: &str) -> Result<(), CaseFault> {
+    let (word, numbers) = text.split_once(' ').ok_or(CaseFault::Unreadable)?;
+    let array = array(alloc, numbers)?;
+    Ok(point.put(name(alloc, word)?, array)?)
+}
+
+/// Puts the arrays under names behind a word.
+fn put_arrays(alloc: Global, point: &mut Point, items: &str, word: &str) -> Result<(), CaseFault> {
+    for item in items.split(';') {
+        match item.trim().split_once(' ') {
+            Some((front, rest)) if front == word => put_array(alloc, point, rest)?,
+            _ => {}
+        }
+    }
+    Ok(())
+}
+
 /// The arrays under names behind a word.
 fn point(alloc: Global, items: &str, word: &str) -> Result<Point, CaseFault> {
     let mut point = Point::empty(alloc);
-    for item in items.split(';') {
-        if let Some((front, rest)) = item.trim().split_once(' ')
-            && front == word
-        {
-            let (text, numbers) = rest.split_once(' ').ok_or(CaseFault::Unreadable)?;
-            point.put(name(alloc, text)?, array(alloc, numbers)?)?;
-        }
+    match put_arrays(alloc, &mut point, items, word) {
+        Ok(()) => Ok(point),
+        Err(fault) => Err(fault),
     }
-    Ok(point)
 }
 
 /// The multipliers.
@@ -56,10 +69,9 @@ fn unbounded(alloc: Global, bound: Frac, slope: Frac, items: &str) -> Result<Ans
     })
 }
 
-/// The answer of a text.
-pub(crate) fn answer(alloc: Global, text: &str) -> Result<Answer, CaseFault> {
-    let (first, items) = text.split_once(';').unwrap_or((text, ""));
-    match *words(alloc, first)? {
+/// The answer whose end is written in words.
+fn ended(alloc: Global, words: &[&str], items: &str) -> Result<Answer, CaseFault> {
+    match *words {
         ["optimal", value] => optimal(alloc, fraction(value)?, items),
         ["infeasible", gap] => infeasible(alloc, fraction(gap)?, items),
         ["unbounded", bound, slope] => {
@@ -67,4 +79,10 @@ pub(crate) fn answer(alloc: Global, text: &str) -> Result<Answer, CaseFault> {
         }
         _ => Err(CaseFault::Unreadable),
     }
+}
+
+/// The answer of a text.
+pub(crate) fn answer(alloc: Global, text: &str) -> Result<Answer, CaseFault> {
+    let (first, items) = text.split_once(';').unwrap_or((text, ""));
+    ended(alloc, &words(alloc, first)?, items)
 }

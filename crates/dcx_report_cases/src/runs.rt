@@ -2,7 +2,7 @@
 use crate::answers::answer;
 use crate::refusals::{place, refusal};
 use crate::stops::{stop, stop_at};
-use dcx_case_lines::{CaseFault, Cases, words};
+use dcx_case_lines::{CaseFault, Cases, put_between, words};
 use dcx_report::{Outcome, OutcomeEnd, Outcomes, Run, Sense, Word, report_text};
 use std::alloc::Global;
 
@@ -10,55 +10,61 @@ use std::alloc::Global;
 pub(crate) struct Reports;
 
 impl Cases for Reports {
-    fn answer(&self, alloc: Global, parts: &[&str]) -> Result<String, CaseFault> {
-        let Some((first, rest)) = parts.split_first() else {
-            return Err(CaseFault::Unreadable);
-        };
-        match *words(alloc, first)? {
-            ["usage"] => told(alloc, &Run::Usage),
-            ["fault"] => told(alloc, &Run::ReadFault),
-            ["memory"] => told(alloc, &Run::Memory),
-            ["refused", ref words @ ..] => told(alloc, &Run::Refused(refusal(words)?)),
-            ["solve", sense] => solved_told(alloc, Word::Solve, sense, rest),
-            ["setting", sense] => solved_told(alloc, Word::Setting, sense, rest),
-            _ => Err(CaseFault::Unreadable),
+    fn answer(&self, alloc: Global, parts: &[&str], out: &mut String) -> Result<(), CaseFault> {
+        match *parts {
+            [first, ref rest @ ..] => {
+                let words = words(alloc, first)?;
+                told(alloc, &words, rest, out)
+            }
+            [] => Err(CaseFault::Unreadable),
         }
     }
 }
 
-/// The report of a run, each line of which ends with ` /`.
-fn told(alloc: Global, run: &Run) -> Result<String, CaseFault> {
-    let report = report_text(alloc, run)?;
-    let Ok(text) = str::from_utf8(report.as_slice()) else {
-        return Err(CaseFault::Unreadable);
-    };
-    let mut shown = String::new(alloc);
-    for (k, line) in text.split('\n').enumerate() {
-        if k > 0 {
-            shown.push_str(" /")?;
-        }
-        if k > 0 && !line.is_empty() {
-            shown.push_str(" ")?;
-        }
-        shown.push_str(line)?;
+fn told(alloc: Global, words: &[&str], rest: &[&str], out: &mut String) -> Result<(), CaseFault> {
+    match *words {
+        ["usage"] => put_report(alloc, &Run::Usage, out),
+        ["fault"] => put_report(alloc, &Run::ReadFault, out),
+        ["memory"] => put_report(alloc, &Run::Memory, out),
+        ["refused", ref words @ ..] => put_report(alloc, &Run::Refused(refusal(words)?), out),
+        ["solve", sense] => solved_told(alloc, Word::Solve, sense, rest, out),
+        ["setting", sense] => solved_told(alloc, Word::Setting, sense, rest, out),
+        _ => Err(CaseFault::Unreadable),
     }
-    Ok(shown)
+}
+
+/// Writes lines, with ` /` for each line end.
+fn put_lines(out: &mut String, text: &str) -> Result<(), CaseFault> {
+    for (k, line) in text.split('\n').enumerate() {
+        put_between(out, k, " /")?;
+        if !line.is_empty() {
+            put_between(out, k, " ")?;
+        }
+        out.push_str(line)?;
+    }
+    Ok(())
+}
+
+/// Writes the report of a run.
+fn put_report(alloc: Global, run: &Run, out: &mut String) -> Result<(), CaseFault> {
+    match str::from_utf8(report_text(alloc, run)?.as_slice()) {
+        Ok(text) => put_lines(out, text),
+        Err(_) => Err(CaseFault::Unreadable),
+    }
 }
 
 /// The outcome of a stop.
-fn stopped(alloc: Global, text: &str) -> Result<Outcome, CaseFault> {
-    let words = words(alloc, text)?;
+fn stopped(alloc: Global, words: &[&str]) -> Result<Outcome, CaseFault> {
     match *words {
         ["at", line, column, ref rest @ ..] => {
             let place = Some(place(line, column)?);
-            let stop = stop_at(rest)?;
             Ok(Outcome {
-                end: OutcomeEnd::Stop(stop),
+                end: OutcomeEnd::Stop(stop_at(rest)?),
                 place,
             })
         }
         _ => Ok(Outcome {
-            end: OutcomeEnd::Stop(stop(alloc, &words)?),
+            end: OutcomeEnd::Stop(stop(alloc, words)?),
             place: None,
         }),
     }
@@ -67,7 +73,7 @@ fn stopped(alloc: Global, text: &str) -> Result<Outcome, CaseFault> {
 /// How a setting ends.
 fn outcome_of(alloc: Global, text: &str) -> Result<Outcome, CaseFault> {
     match text.strip_prefix("stop ") {
-        Some(rest) => stopped(alloc, rest),
+        Some(rest) => stopped(alloc, &words(alloc, rest)?),
         None => Ok(Outcome {
             end: OutcomeEnd::Answer(answer(alloc, text)?),
             place: None,
@@ -88,16 +94,21 @@ fn solved_told(
     word: Word,
     sense: &str,
     texts: &[&str],
-) -> Result<String, CaseFault> {
+    out: &mut String,
+) -> Result<(), CaseFault> {
     let sense = match sense {
         "minimize" => Sense::Minimize,
         "maximize" => Sense::Maximize,
         _ => return Err(CaseFault::Unreadable),
     };
-    let run = Run::Solved {
-        word,
-        sense,
-        outcomes: outcomes_of(alloc, texts)?,
-    };
-    told(alloc, &run)
+    let outcomes = outcomes_of(alloc, texts)?;
+    put_report(
+        alloc,
+        &Run::Solved {
+            word,
+            sense,
+            outcomes,
+        },
+        out,
+    )
 }

@@ -1,8 +1,10 @@
 //! Tokens of texts.
-use crate::faults::{fault_text, place_text};
+use crate::faults::{put_fault, put_place};
 use crate::spelling::bytes_of;
-use dcx_case_lines::{CaseFault, Cases, Number};
-use dcx_tokens::{ReadFault, Token, TokenKind, Tokens, end_place, lexed, read_text, tokens};
+use dcx_case_lines::{CaseFault, Cases, Number, put_between};
+use dcx_tokens::{
+    Lexed, ReadFault, Token, TokenKind, Tokens, end_place, lexed, read_text, tokens,
+};
 use std::alloc::{AllocError, Global};
 
 /// `bytes | BYTES` for whether bytes are a text; `fault | TEXT`, `first | TEXT` for the first token, `layout | TEXT` for how many line
@@ -11,78 +13,82 @@ use std::alloc::{AllocError, Global};
 pub(crate) struct Lists;
 
 impl Cases for Lists {
-    fn answer(&self, alloc: Global, parts: &[&str]) -> Result<String, CaseFault> {
-        let (verb, written) = match *parts {
-            [verb, written] => (verb, written),
-            _ => return Err(CaseFault::Unreadable),
-        };
-        let bytes = bytes_of(alloc, written)?;
-        if verb == "bytes" {
-            return bytes_told(alloc, &bytes);
-        }
-        match str::from_utf8(&bytes) {
-            Ok(text) if text.len() <= 1_000_000 => told(alloc, verb, text),
+    fn answer(&self, alloc: Global, parts: &[&str], out: &mut String) -> Result<(), CaseFault> {
+        match *parts {
+            [verb, written] => {
+                let bytes = bytes_of(alloc, written)?;
+                told(alloc, verb, &bytes, out)
+            }
             _ => Err(CaseFault::Unreadable),
         }
     }
 }
 
-fn bytes_told(alloc: Global, bytes: &[u8]) -> Result<String, CaseFault> {
-    match read_text(bytes) {
-        Ok(_) => Ok(String::from_str(alloc, "text")?),
-        Err(fault) => fault_text(alloc, fault),
+fn told(alloc: Global, verb: &str, bytes: &[u8], out: &mut String) -> Result<(), CaseFault> {
+    if verb == "bytes" {
+        return match read_text(bytes) {
+            Ok(_) => Ok(out.push_str("text")?),
+            Err(fault) => put_fault(out, fault),
+        };
+    }
+    match str::from_utf8(bytes) {
+        Ok(text) => text_told(alloc, verb, text, out),
+        Err(_) => Err(CaseFault::Unreadable),
     }
 }
 
-/// What is asked of a text that is not too long.
-fn told(alloc: Global, verb: &str, text: &str) -> Result<String, CaseFault> {
+/// What is asked of a text, which is not to be too long.
+fn text_told(alloc: Global, verb: &str, text: &str, out: &mut String) -> Result<(), CaseFault> {
     if text.len() > 1_000_000 {
         return Err(CaseFault::Unreadable);
     }
     match verb {
-        "end" => Ok(place_text(alloc, end_place(text))?),
-        "kept" => kept_told(alloc, text),
-        "fault" => fault_told(alloc, tokens(alloc, text)),
-        _ => match tokens(alloc, text) {
-            Ok(tokens) => list_told(alloc, verb, tokens.as_slice()),
-            Err(fault) => fault_text(alloc, fault),
-        },
+        "end" => Ok(put_place(out, end_place(text))?),
+        "kept" => put_kept(out, &lexed(alloc, text)?),
+        "fault" => put_read(out, &tokens(alloc, text)),
+        _ => list_told(verb, &tokens(alloc, text), out),
     }
 }
 
-fn kept_told(alloc: Global, text: &str) -> Result<String, CaseFault> {
-    if text.len() > 1_000_000 {
-        return Err(CaseFault::Unreadable);
-    }
-    let lexed = lexed(alloc, text)?;
-    let count = lexed.tokens.as_slice().len();
+fn put_kept(out: &mut String, lexed: &Lexed) -> Result<(), CaseFault> {
+    write!(out, "{}", lexed.tokens.as_slice().len())?;
     match lexed.fault {
-        Some(fault) => Ok(format!(in alloc; "{count}, {}", fault_text(alloc, fault)?)?),
-        None => Ok(format!(in alloc; "{count}")?),
+        Some(fault) => {
+            out.push_str(", ")?;
+            put_fault(out, fault)
+        }
+        None => Ok(()),
     }
 }
 
-fn fault_told(alloc: Global, read: Result<Tokens, ReadFault>) -> Result<String, CaseFault> {
+fn put_read(out: &mut String, read: &Result<Tokens, ReadFault>) -> Result<(), CaseFault> {
     match read {
-        Ok(_) => Ok(String::from_str(alloc, "none")?),
-        Err(fault) => fault_text(alloc, fault),
+        Ok(_) => Ok(out.push_str("none")?),
+        Err(fault) => put_fault(out, *fault),
     }
 }
 
 /// What is asked of tokens.
-fn list_told(alloc: Global, verb: &str, tokens: &[Token]) -> Result<String, CaseFault> {
-    match (verb, tokens.first()) {
-        ("first", Some(token)) => Ok(kind_text(alloc, token.kind)?),
-        ("layout", _) => {
-            let lines = count(tokens, TokenKind::Newline);
-            let (indents, dedents) = (
-                count(tokens, TokenKind::Indent),
-                count(tokens, TokenKind::Dedent),
-            );
-            Ok(format!(in alloc; "{lines} {indents} {dedents}")?)
-        }
-        ("tokens", _) => Ok(tokens_text(alloc, tokens)?),
-        _ => Err(CaseFault::Unreadable),
+fn list_told(
+    verb: &str,
+    read: &Result<Tokens, ReadFault>,
+    out: &mut String,
+) -> Result<(), CaseFault> {
+    match read {
+        Ok(tokens) => match verb {
+            "first" => put_first(out, tokens.as_slice()),
+            "layout" => Ok(put_layout(out, tokens.as_slice())?),
+            "tokens" => Ok(put_tokens(out, tokens.as_slice())?),
+            _ => Err(CaseFault::Unreadable),
+        },
+        Err(fault) => put_fault(out, *fault),
+    }
+}
+
+fn put_first(out: &mut String, tokens: &[Token]) -> Result<(), CaseFault> {
+    match tokens.first() {
+        Some(token) => Ok(put_kind(out, token.kind)?),
+        None => Err(CaseFault::Unreadable),
     }
 }
 
@@ -91,31 +97,33 @@ fn count(tokens: &[Token], kind: TokenKind) -> usize {
     tokens.iter().filter(|token| token.kind == kind).count()
 }
 
-fn kind_text(alloc: Global, kind: TokenKind) -> Result<String, AllocError> {
+fn put_layout(out: &mut String, tokens: &[Token]) -> Result<(), AllocError> {
+    let lines = count(tokens, TokenKind::Newline);
+    let indents = count(tokens, TokenKind::Indent);
+    let dedents = count(tokens, TokenKind::Dedent);
+    write!(out, "{lines} {indents} {dedents}")
+}
+
+fn put_kind(out: &mut String, kind: TokenKind) -> Result<(), AllocError> {
     match kind {
-        TokenKind::Number(number) => format!(in alloc; "number {}", Number(number)),
-        TokenKind::Keyword(keyword) => format!(in alloc; "keyword {keyword:?}"),
-        TokenKind::Sign(symbol) => format!(in alloc; "sign {symbol:?}"),
-        TokenKind::Name => String::from_str(alloc, "name"),
-        TokenKind::Text => String::from_str(alloc, "text"),
-        TokenKind::Newline => String::from_str(alloc, "newline"),
-        TokenKind::Indent => String::from_str(alloc, "indent"),
-        TokenKind::Dedent => String::from_str(alloc, "dedent"),
+        TokenKind::Number(number) => write!(out, "number {}", Number(number)),
+        TokenKind::Keyword(keyword) => write!(out, "keyword {keyword:?}"),
+        TokenKind::Sign(symbol) => write!(out, "sign {symbol:?}"),
+        TokenKind::Name => out.push_str("name"),
+        TokenKind::Text => out.push_str("text"),
+        TokenKind::Newline => out.push_str("newline"),
+        TokenKind::Indent => out.push_str("indent"),
+        TokenKind::Dedent => out.push_str("dedent"),
     }
 }
 
 /// Tokens, each with where its bytes begin and end, and with its place.
-fn tokens_text(alloc: Global, tokens: &[Token]) -> Result<String, AllocError> {
-    let mut text = String::new(alloc);
+fn put_tokens(out: &mut String, tokens: &[Token]) -> Result<(), AllocError> {
     for (k, token) in tokens.iter().enumerate() {
-        if k > 0 {
-            text.push_str("; ")?;
-        }
-        let (kind, place) = (
-            kind_text(alloc, token.kind)?,
-            place_text(alloc, token.place)?,
-        );
-        text.push_str(&format!(in alloc; "{kind} {}..{} {place}", token.start, token.end)?)?;
+        put_between(out, k, "; ")?;
+        put_kind(out, token.kind)?;
+        write!(out, " {}..{} ", token.start, token.end)?;
+        put_place(out, token.place)?;
     }
-    Ok(text)
+    Ok(())
 }

@@ -10,16 +10,16 @@ use std::alloc::Global;
 
 /// A call: a sum, a negation, a product, a matrix product, a quotient, two arrays side by side, the largest entry, or a leaf.
 fn call(alloc: Global, word: &str) -> Result<Call, CaseFault> {
-    Ok(match word {
-        "+" => Call::Linear(LinearCall::Plus(Plus)),
-        "-" => Call::Linear(LinearCall::Minus(Minus)),
-        "*" => Call::Pairing(Pairing::Times),
-        "@" => Call::Pairing(Pairing::MatTimes),
-        "/" => Call::Pairing(Pairing::Over),
-        "beside" => Call::Linear(LinearCall::HStack(HStack)),
-        "largest" => Call::Atom(AtomCall::SumLargest(SumLargest { k: 1 })),
-        _ => leaf(alloc, word)?,
-    })
+    match word {
+        "+" => Ok(Call::Linear(LinearCall::Plus(Plus))),
+        "-" => Ok(Call::Linear(LinearCall::Minus(Minus))),
+        "*" => Ok(Call::Pairing(Pairing::Times)),
+        "@" => Ok(Call::Pairing(Pairing::MatTimes)),
+        "/" => Ok(Call::Pairing(Pairing::Over)),
+        "beside" => Ok(Call::Linear(LinearCall::HStack(HStack))),
+        "largest" => Ok(Call::Atom(AtomCall::SumLargest(SumLargest { k: 1 }))),
+        _ => leaf(alloc, word),
+    }
 }
 
 /// What calls are pushed into.
@@ -67,7 +67,7 @@ impl Pushed for dcx_tree::Tree {
 }
 
 /// The counts that words spell.
-pub(crate) fn counts(alloc: Global, words: &[&str]) -> Result<Vec<u32>, CaseFault> {
+fn counts(alloc: Global, words: &[&str]) -> Result<Vec<u32>, CaseFault> {
     let mut counts = Vec::new(alloc);
     for word in words {
         counts.push(count(*word)?)?;
@@ -98,21 +98,43 @@ fn push_floors<T: Pushed>(tree: &mut T, floors: u32, line: u32) -> Result<NodeId
     Ok(top)
 }
 
+/// Pushes what words say.
+fn push_words<T: Pushed>(
+    alloc: Global,
+    tree: &mut T,
+    words: &[&str],
+) -> Result<Result<NodeId, TreeFault>, CaseFault> {
+    match *words {
+        [line, "below", most] => push_constants(alloc, tree, count(most)?, count(line)?),
+        [line, "floors", floors] => Ok(push_floors(tree, count(floors)?, count(line)?)),
+        [line, word, ref args @ ..] => {
+            let args = counts(alloc, args)?;
+            push_made(tree, call(alloc, word)?, &args, line)
+        }
+        _ => Err(CaseFault::Unreadable),
+    }
+}
+
+/// Pushes a call at a line.
+fn push_made<T: Pushed>(
+    tree: &mut T,
+    call: Call,
+    args: &[u32],
+    line: &str,
+) -> Result<Result<NodeId, TreeFault>, CaseFault> {
+    match count(line) {
+        Ok(line) => Ok(tree.push_call(call, args, line)),
+        Err(fault) => Err(fault),
+    }
+}
+
 /// Pushes what an item says, and gives what the last push gives: `3 + 0 1`, `3 below 20000` or `3 floors 200`.
 pub(crate) fn push_item<T: Pushed>(
     alloc: Global,
     tree: &mut T,
     item: &str,
 ) -> Result<Result<NodeId, TreeFault>, CaseFault> {
-    match *words(alloc, item)? {
-        [line, "below", most] => push_constants(alloc, tree, count(most)?, count(line)?),
-        [line, "floors", floors] => Ok(push_floors(tree, count(floors)?, count(line)?)),
-        [line, word, ref args @ ..] => {
-            let args = counts(alloc, args)?;
-            Ok(tree.push_call(call(alloc, word)?, &args, count(line)?))
-        }
-        _ => Err(CaseFault::Unreadable),
-    }
+    push_words(alloc, tree, &words(alloc, item)?)
 }
 
 /// Pushes what a text says, item by item. `Unreadable` where a push gives no node.

@@ -8,9 +8,10 @@ use std::alloc::{AllocError, Global};
 
 /// The free variable of this name, a vector of so many entries.
 pub(crate) fn variable(alloc: Global, text: &str, size: u32) -> Result<Variable, CaseFault> {
+    let shape = Shape::vector(size).ok_or(CaseFault::Unreadable)?;
     Ok(Variable {
         name: name(alloc, text)?,
-        shape: Shape::vector(size).ok_or(CaseFault::Unreadable)?,
+        shape,
         attribute: Attribute::Free,
         whole: Whole::Not,
     })

@@ -22,21 +22,35 @@ use std::alloc::{AllocError, Global};
 pub(crate) struct Problems;
 
 impl Cases for Problems {
-    fn answer(&self, alloc: Global, parts: &[&str]) -> Result<String, CaseFault> {
+    fn answer(&self, alloc: Global, parts: &[&str], out: &mut String) -> Result<(), CaseFault> {
         match *parts {
             [first, items, constraints] => {
                 let words = words(alloc, first)?;
-                let mut tree = Tree::new(alloc);
-                push_all(alloc, &mut tree, items)?;
                 let roots = roots(alloc, &words, constraints)?;
-                let problem = problem_of(alloc, &tree, &roots)?;
-                match *words {
-                    ["nodes", ..] => Ok(nodes_text(alloc, &problem.tree)?),
-                    _ => kept_text(alloc, &problem),
-                }
+                told(alloc, &mut Tree::new(alloc), &roots, &words, items, out)
             }
             _ => Err(CaseFault::Unreadable),
         }
+    }
+}
+
+/// Pushes items, and writes what is asked of the problem of some roots.
+fn told(
+    alloc: Global,
+    tree: &mut Tree,
+    roots: &Roots,
+    words: &[&str],
+    items: &str,
+    out: &mut String,
+) -> Result<(), CaseFault> {
+    push_all(alloc, tree, items)?;
+    put_problem(out, &problem_of(alloc, tree, roots)?, words)
+}
+
+fn put_problem(out: &mut String, problem: &Problem, words: &[&str]) -> Result<(), CaseFault> {
+    match *words {
+        ["nodes", ..] => Ok(put_nodes(out, &problem.tree)?),
+        _ => put_kept(out, problem),
     }
 }
 
@@ -48,50 +62,66 @@ fn line(word: &str) -> Result<Place, CaseFault> {
     })
 }
 
+/// The kind of a demand.
+fn kind(sign: &str) -> Result<Kind, CaseFault> {
+    match sign {
+        "<=" => Ok(Kind::AtMost),
+        "==" => Ok(Kind::Equal),
+        _ => Err(CaseFault::Unreadable),
+    }
+}
+
 /// A demand on two nodes of two entries.
-fn constraint(alloc: Global, text: &str) -> Result<Constraint, CaseFault> {
-    let (at, left, sign, right) = match *words(alloc, text)? {
-        [at, left, sign, right] => (at, left, sign, right),
-        _ => return Err(CaseFault::Unreadable),
-    };
-    Ok(Constraint {
-        kind: match sign {
-            "<=" => Kind::AtMost,
-            "==" => Kind::Equal,
-            _ => return Err(CaseFault::Unreadable),
-        },
-        left: NodeId(count(left)?),
-        right: NodeId(count(right)?),
-        shape: Shape::vector(2).ok_or(CaseFault::Unreadable)?,
-        place: line(at)?,
-    })
+fn constraint(words: &[&str]) -> Result<Constraint, CaseFault> {
+    match *words {
+        [at, left, sign, right] => Ok(Constraint {
+            kind: kind(sign)?,
+            left: NodeId(count(left)?),
+            right: NodeId(count(right)?),
+            shape: Shape::vector(2).ok_or(CaseFault::Unreadable)?,
+            place: line(at)?,
+        }),
+        _ => Err(CaseFault::Unreadable),
+    }
 }
 
 fn constraints(alloc: Global, text: &str) -> Result<Vec<Constraint>, CaseFault> {
     let mut constraints = Vec::new(alloc);
     for item in text.split(';') {
-        constraints.push(constraint(alloc, item)?)?;
+        constraints.push(constraint(&words(alloc, item)?)?)?;
     }
     Ok(constraints)
 }
 
-/// What is to be small or great, where it stands, and what is demanded.
+fn sense(word: &str) -> Result<Sense, CaseFault> {
+    match word {
+        "minimize" => Ok(Sense::Minimize),
+        "maximize" => Ok(Sense::Maximize),
+        _ => Err(CaseFault::Unreadable),
+    }
+}
+
+/// The roots of a problem with `x` and `p`, by the line, the sense and the node of its objective.
 fn roots(alloc: Global, words: &[&str], demands: &str) -> Result<Roots, CaseFault> {
-    let (at, sense, node) = match *words {
-        [_, at, "minimize", node] => (at, Sense::Minimize, node),
-        [_, at, "maximize", node] => (at, Sense::Maximize, node),
-        _ => return Err(CaseFault::Unreadable),
-    };
-    let variables = vec![in alloc; variable(alloc, "x", 2)?]?;
-    let parameters = vec![in alloc; parameter(alloc, "p")?]?;
-    Ok(Roots {
-        sense,
-        objective: NodeId(count(node)?),
-        objective_place: line(at)?,
-        constraints: Constraints::from_vec(constraints(alloc, demands)?),
-        variables: Variables::from_vec(variables),
-        parameters: Parameters::from_vec(parameters),
-    })
+    match *words {
+        [_, at, word, node] => {
+            let (place, sense, objective) = (line(at)?, sense(word)?, NodeId(count(node)?));
+            let constraints = Constraints::from_vec(constraints(alloc, demands)?);
+            Ok(Roots {
+                sense,
+                objective,
+                objective_place: place,
+                constraints,
+                variables: Variables::from_vec(variables(alloc)?),
+                parameters: Parameters::from_vec(vec![in alloc; parameter(alloc, "p")?]?),
+            })
+        }
+        _ => Err(CaseFault::Unreadable),
+    }
+}
+
+fn variables(alloc: Global) -> Result<Vec<Variable>, CaseFault> {
+    Ok(vec![in alloc; variable(alloc, "x", 2)?]?)
 }
 
 /// The problem of these roots. `Unreadable` where they are no roots of the tree, or where what is declared isn't one
@@ -233,10 +263,10 @@ fn is_same_parameter(a: &Parameter, b: &Parameter) -> bool
         && a.attribute == b.attribute
 }
 
-/// A node with the line of its call and its first two arguments.
-fn node_text(alloc: Global, tree: &Tree, node: u32) -> Result<String, AllocError> {
+/// Writes a node with the line of its call and its first arguments.
+fn put_node(out: &mut String, tree: &Tree, node: u32) -> Result<(), AllocError> {
     if node >= tree.nodes() {
-        return String::from_str(alloc, "none");
+        return out.push_str("none");
     }
     let id = NodeId(node);
     let word = match tree.call(id) {
@@ -245,63 +275,67 @@ fn node_text(alloc: Global, tree: &Tree, node: u32) -> Result<String, AllocError
         _ => "call",
     };
     let (line, size) = (tree.place(id).line, tree.shape(id).size());
-    let mut text = format!(in alloc; "{line} {word} ({size})")?;
+    write!(out, "{line} {word} ({size})")?;
     for i in 0..4 {
         if let Some(arg) = tree.arg(id, i) {
-            text.push_str(&format!(in alloc; " {}", arg.0)?)?;
+            write!(out, " {}", arg.0)?;
         }
     }
-    Ok(text)
+    Ok(())
 }
 
-/// The nodes of a tree, and what stands behind the last.
-pub(crate) fn nodes_text(alloc: Global, tree: &Tree) -> Result<String, AllocError> {
-    let mut text = String::new(alloc);
+/// Writes the nodes of a tree, and what stands behind the last.
+fn put_nodes(out: &mut String, tree: &Tree) -> Result<(), AllocError> {
     for node in 0..tree.nodes() {
-        text.push_str(&node_text(alloc, tree, node)?)?;
-        text.push_str("; ")?;
+        put_node(out, tree, node)?;
+        out.push_str("; ")?;
     }
-    text.push_str(&node_text(alloc, tree, tree.nodes())?)?;
-    Ok(text)
+    put_node(out, tree, tree.nodes())
 }
 
-/// A constraint, as it is written.
-fn constraint_text(alloc: Global, constraint: &Constraint) -> Result<String, AllocError> {
+/// Writes a constraint, as it is written.
+fn put_constraint(out: &mut String, constraint: &Constraint) -> Result<(), AllocError> {
     let sign = match constraint.kind {
         Kind::AtMost => "<=",
         Kind::Equal => "==",
     };
     let (left, right) = (constraint.left.0, constraint.right.0);
-    format!(in alloc; "; {} {left} {sign} {right}", constraint.place.line)
+    write!(out, "; {} {left} {sign} {right}", constraint.place.line)
 }
 
-/// The objective, the constraints, and the names of the variables and of the parameters.
-fn kept_text(alloc: Global, problem: &Problem) -> Result<String, CaseFault> {
+/// Writes the objective, the constraints, and the names of the variables and of the parameters.
+fn put_kept(out: &mut String, problem: &Problem) -> Result<(), CaseFault> {
     let sense = match problem.sense {
         Sense::Minimize => "minimize",
         Sense::Maximize => "maximize",
     };
-    let line = problem.objective_place.line;
-    let mut text = format!(in alloc; "{line} {sense} {}", problem.objective.0)?;
+    write!(
+        out,
+        "{} {sense} {}",
+        problem.objective_place.line, problem.objective.0
+    )?;
     for constraint in problem.constraints.as_slice() {
-        text.push_str(&constraint_text(alloc, constraint)?)?;
+        put_constraint(out, constraint)?;
     }
-    text.push_str("; variables")?;
-    for variable in problem.variables.as_slice() {
-        push_name(&mut text, &variable.name)?;
-    }
-    text.push_str("; parameters")?;
-    for parameter in problem.parameters.as_slice() {
-        push_name(&mut text, &parameter.name)?;
-    }
-    Ok(text)
+    put_names(out, problem)
 }
 
-/// A name behind a blank.
-fn push_name(text: &mut String, name: &Name) -> Result<(), CaseFault> {
-    text.push_str(" ")?;
+fn put_names(out: &mut String, problem: &Problem) -> Result<(), CaseFault> {
+    out.push_str("; variables")?;
+    for variable in problem.variables.as_slice() {
+        put_name(out, &variable.name)?;
+    }
+    out.push_str("; parameters")?;
+    for parameter in problem.parameters.as_slice() {
+        put_name(out, &parameter.name)?;
+    }
+    Ok(())
+}
+
+/// Writes a name behind a blank.
+fn put_name(out: &mut String, name: &Name) -> Result<(), CaseFault> {
     match str::from_utf8(name.as_slice()) {
-        Ok(word) => Ok(text.push_str(word)?),
+        Ok(word) => Ok(write!(out, " {word}")?),
         Err(_) => Err(CaseFault::Unreadable),
     }
 }

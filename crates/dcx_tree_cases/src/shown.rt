@@ -2,76 +2,73 @@
 use dcx_arena::{Count, NodeId, Operator, Tree, TreeFault};
 use std::alloc::{AllocError, Global};
 
-/// What a push gives: the node, or why there is none.
-pub(crate) fn pushed_text(
-    alloc: Global,
+/// Writes what a push gives: the node, or why there is none.
+pub(crate) fn put_pushed(
+    out: &mut String,
     pushed: Result<NodeId, TreeFault>,
-) -> Result<String, AllocError> {
+) -> Result<(), AllocError> {
     match pushed {
-        Ok(node) => format!(in alloc; "{}", node.0),
-        Err(TreeFault::Clash) => String::from_str(alloc, "clash"),
-        Err(TreeFault::Memory) => String::from_str(alloc, "memory"),
+        Ok(node) => write!(out, "{}", node.0),
+        Err(TreeFault::Clash) => out.push_str("clash"),
+        Err(TreeFault::Memory) => out.push_str("memory"),
         Err(TreeFault::TooMany { what, count }) => {
             let word = match what {
                 Count::Nodes => "nodes",
                 Count::Entries => "entries",
                 _ => "others",
             };
-            format!(in alloc; "{count} {word}")
+            write!(out, "{count} {word}")
         }
     }
 }
 
-/// Nodes, each behind a blank.
-pub(crate) fn ids_text(alloc: Global, ids: &[NodeId]) -> Result<String, AllocError> {
-    let mut text = String::new(alloc);
+/// Writes nodes, each behind a blank.
+pub(crate) fn put_ids(out: &mut String, ids: &[NodeId]) -> Result<(), AllocError> {
     for id in ids {
-        text.push_str(&format!(in alloc; " {}", id.0)?)?;
+        write!(out, " {}", id.0)?;
     }
-    Ok(text)
+    Ok(())
 }
 
-/// A node of any tree with its arguments, read one by one; `none` where the tree hasn't so many.
-pub(crate) fn node_text<C: Operator>(
-    alloc: Global,
+/// Writes a node of any tree with its arguments, read one by one; `none` where the tree hasn't so many.
+pub(crate) fn put_node<C: Operator>(
+    out: &mut String,
     tree: &Tree<C>,
     node: u32,
-) -> Result<String, AllocError> {
+) -> Result<(), AllocError> {
     if node >= tree.nodes() {
-        return String::from_str(alloc, "none");
+        return out.push_str("none");
     }
     let id = NodeId(node);
-    let (line, size) = (tree.place(id).line, tree.shape(id).size());
-    let mut text = format!(in alloc; "{line} ({size})")?;
+    write!(out, "{} ({})", tree.place(id).line, tree.shape(id).size())?;
     for i in 0..4 {
         if let Some(arg) = tree.arg(id, i) {
-            text.push_str(&format!(in alloc; " {}", arg.0)?)?;
+            write!(out, " {}", arg.0)?;
         }
     }
-    Ok(text)
+    Ok(())
 }
 
-/// The nodes of any tree, and what stands behind the last.
-pub(crate) fn nodes_text<C: Operator>(alloc: Global, tree: &Tree<C>) -> Result<String, AllocError> {
-    let mut text = String::new(alloc);
+/// Writes the nodes of any tree, and what stands behind the last.
+pub(crate) fn put_nodes<C: Operator>(out: &mut String, tree: &Tree<C>) -> Result<(), AllocError> {
     for node in 0..tree.nodes() {
-        text.push_str(&node_text(alloc, tree, node)?)?;
-        text.push_str("; ")?;
+        put_node(out, tree, node)?;
+        out.push_str("; ")?;
     }
-    text.push_str(&node_text(alloc, tree, tree.nodes())?)?;
-    Ok(text)
+    put_node(out, tree, tree.nodes())
 }
 
-/// The arguments of a node of any tree, as a list of their own; `none` where the tree hasn't so many nodes.
-pub(crate) fn args_text<C: Operator>(
+/// Writes the arguments of a node of any tree, as a list of their own; `none` where the tree hasn't so many nodes.
+pub(crate) fn put_args<C: Operator>(
     alloc: Global,
     tree: &Tree<C>,
     node: u32,
-) -> Result<String, AllocError> {
+    out: &mut String,
+) -> Result<(), AllocError> {
     if node >= tree.nodes() {
-        return String::from_str(alloc, "none");
+        return out.push_str("none");
     }
     let id = NodeId(node);
-    let args = tree.args(alloc, id)?;
-    format!(in alloc; "{} of{}", tree.arg_count(id), ids_text(alloc, &args)?)
+    write!(out, "{} of", tree.arg_count(id))?;
+    put_ids(out, &tree.args(alloc, id)?)
 }

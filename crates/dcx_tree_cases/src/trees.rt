@@ -1,11 +1,11 @@
 //! Pushes into a tree, its nodes, and its parts.
 ghost use Rattle.std.specs.Prelude.{◌<◌, IfOk};
 
-use crate::items::{counts, push_all, push_item};
-use crate::shown::{args_text, ids_text, node_text, nodes_text, pushed_text};
+use crate::items::{push_all, push_item};
+use crate::shown::{put_args, put_ids, put_node, put_nodes, put_pushed};
 use dcx_arena::{NodeId, Operator, Tree};
 use dcx_call::Call;
-use dcx_case_lines::{CaseFault, Cases, count, words};
+use dcx_case_lines::{CaseFault, Cases, count, put_between, words};
 use std::alloc::{AllocError, Global};
 
 /// `pushed | ITEMS` for what each push gives, `nodes | ITEMS` for the nodes, `node K | ITEMS` and `args K | ITEMS` for one,
@@ -13,58 +13,79 @@ use std::alloc::{AllocError, Global};
 pub(crate) struct Trees;
 
 impl Cases for Trees {
-    fn answer(&self, alloc: Global, parts: &[&str]) -> Result<String, CaseFault> {
+    fn answer(&self, alloc: Global, parts: &[&str], out: &mut String) -> Result<(), CaseFault> {
         match *parts {
-            ["pushed", items] => pushed(alloc, items),
+            ["pushed", items] => put_all_pushed(alloc, &mut Tree::new(alloc), items, out),
             [first, items] => {
                 let mut tree = Tree::new(alloc);
-                push_all(alloc, &mut tree, items)?;
-                asked(alloc, &tree, first)
+                told(alloc, &mut tree, first, items, out)
             }
             _ => Err(CaseFault::Unreadable),
         }
     }
 }
 
-fn pushed(alloc: Global, items: &str) -> Result<String, CaseFault> {
-    let mut tree: Tree<Call> = Tree::new(alloc);
-    let mut text = String::new(alloc);
+fn put_all_pushed(
+    alloc: Global,
+    tree: &mut Tree<Call>,
+    items: &str,
+    out: &mut String,
+) -> Result<(), CaseFault> {
     for (k, item) in items.split(';').enumerate() {
-        if k > 0 {
-            text.push_str("; ")?;
-        }
-        let given = push_item(alloc, &mut tree, item)?;
-        text.push_str(&pushed_text(alloc, given)?)?;
+        put_between(out, k, "; ")?;
+        put_pushed(out, push_item(alloc, tree, item)?)?;
     }
-    Ok(text)
+    Ok(())
 }
 
-fn asked(alloc: Global, tree: &Tree<Call>, first: &str) -> Result<String, CaseFault> {
-    match *words(alloc, first)? {
-        ["nodes"] => Ok(nodes_text(alloc, tree)?),
-        ["node", node] => Ok(node_text(alloc, tree, count(node)?)?),
-        ["args", node] => Ok(args_text(alloc, tree, count(node)?)?),
-        ["part", ref roots @ ..] => part_text(alloc, tree, roots),
-        ["ends", ref roots @ ..] => ends_text(alloc, tree, roots),
+fn told(
+    alloc: Global,
+    tree: &mut Tree<Call>,
+    first: &str,
+    items: &str,
+    out: &mut String,
+) -> Result<(), CaseFault> {
+    push_all(alloc, tree, items)?;
+    asked(alloc, tree, &words(alloc, first)?, out)
+}
+
+/// What is asked of a tree.
+fn asked(
+    alloc: Global,
+    tree: &Tree<Call>,
+    words: &[&str],
+    out: &mut String,
+) -> Result<(), CaseFault> {
+    match *words {
+        ["nodes"] => Ok(put_nodes(out, tree)?),
+        ["node", node] => Ok(put_node(out, tree, count(node)?)?),
+        ["args", node] => Ok(put_args(alloc, tree, count(node)?, out)?),
+        ["part", ref roots @ ..] => {
+            let roots = ids(alloc, roots)?;
+            put_part(out, &gathered(tree, alloc, &roots)?)
+        }
+        ["ends", ref roots @ ..] => {
+            let roots = ids(alloc, roots)?;
+            put_ends(out, &gathered(tree, alloc, &roots)?)
+        }
         _ => Err(CaseFault::Unreadable),
     }
 }
 
-fn part_text(alloc: Global, tree: &Tree<Call>, roots: &[&str]) -> Result<String, CaseFault> {
-    let (part, _) = gathered(tree, alloc, &ids(alloc, roots)?)?;
-    Ok(nodes_text(alloc, &part)?)
+fn put_part(out: &mut String, part: &(Tree<Call>, Vec<NodeId>)) -> Result<(), CaseFault> {
+    Ok(put_nodes(out, &part.0)?)
 }
 
-fn ends_text(alloc: Global, tree: &Tree<Call>, roots: &[&str]) -> Result<String, CaseFault> {
-    let (part, ends) = gathered(tree, alloc, &ids(alloc, roots)?)?;
-    Ok(format!(in alloc; "{} nodes, ends{}", part.nodes(), ids_text(alloc, &ends)?)?)
+fn put_ends(out: &mut String, part: &(Tree<Call>, Vec<NodeId>)) -> Result<(), CaseFault> {
+    write!(out, "{} nodes, ends", part.0.nodes())?;
+    Ok(put_ids(out, &part.1)?)
 }
 
 /// The nodes of words.
 fn ids(alloc: Global, words: &[&str]) -> Result<Vec<NodeId>, CaseFault> {
     let mut ids = Vec::new(alloc);
-    for number in counts(alloc, words)? {
-        ids.push(NodeId(number))?;
+    for word in words {
+        ids.push(NodeId(count(*word)?))?;
     }
     Ok(ids)
 }

@@ -1,8 +1,8 @@
 //! Values of nodes at a point and a setting.
-use crate::items::{counts, push_all};
+use crate::items::push_all;
 use dcx_arena::NodeId;
 use dcx_atom::{Array, ValueStop};
-use dcx_case_lines::{CaseFault, Cases, point, setting, value_text, words};
+use dcx_case_lines::{CaseFault, Cases, count, point, put_between, put_value, setting};
 use dcx_point::{Point, Setting};
 use dcx_tree::Tree;
 use std::alloc::Global;
@@ -11,39 +11,58 @@ use std::alloc::Global;
 pub(crate) struct Values;
 
 impl Cases for Values {
-    fn answer(&self, alloc: Global, parts: &[&str]) -> Result<String, CaseFault> {
+    fn answer(&self, alloc: Global, parts: &[&str], out: &mut String) -> Result<(), CaseFault> {
         match *parts {
             [nodes, items, of_point, of_setting] => {
-                let mut tree = Tree::new(alloc);
-                push_all(alloc, &mut tree, items)?;
                 let point = point(alloc, of_point)?;
-                let setting = setting(alloc, of_setting)?;
-                values_text(alloc, &tree, nodes, &point, &setting)
+                told(alloc, nodes, items, &point, of_setting, out)
             }
             _ => Err(CaseFault::Unreadable),
         }
     }
 }
 
-fn values_text(
+fn told(
     alloc: Global,
-    tree: &Tree,
     nodes: &str,
+    items: &str,
     point: &Point,
-    setting: &Setting,
-) -> Result<String, CaseFault> {
-    let words = words(alloc, nodes)?;
-    let mut text = String::new(alloc);
-    for (k, node) in counts(alloc, &words)?.iter().enumerate() {
-        if k > 0 {
-            text.push_str("; ")?;
-        }
-        match value_of(alloc, tree, *node, point, setting) {
-            Some(value) => text.push_str(&value_text(alloc, value)?)?,
-            None => text.push_str("not given")?,
-        }
+    of_setting: &str,
+    out: &mut String,
+) -> Result<(), CaseFault> {
+    let setting = setting(alloc, of_setting)?;
+    values_told(
+        alloc,
+        &mut Tree::new(alloc),
+        nodes,
+        items,
+        (point, &setting),
+        out,
+    )
+}
+
+/// Pushes items, and writes values of nodes.
+fn values_told(
+    alloc: Global,
+    tree: &mut Tree,
+    nodes: &str,
+    items: &str,
+    at: (&Point, &Setting),
+    out: &mut String,
+) -> Result<(), CaseFault> {
+    push_all(alloc, tree, items)?;
+    for (k, node) in nodes.split_whitespace().enumerate() {
+        put_between(out, k, "; ")?;
+        put_given(out, &value_of(alloc, tree, count(node)?, at.0, at.1))?;
     }
-    Ok(text)
+    Ok(())
+}
+
+fn put_given(out: &mut String, value: &Option<Result<Array, ValueStop>>) -> Result<(), CaseFault> {
+    match value {
+        Some(value) => put_value(out, value),
+        None => Ok(out.push_str("not given")?),
+    }
 }
 
 /// The value of a node, where the tree has it and all leaves are given.

@@ -2,7 +2,7 @@
 ghost use Rattle.std.specs.Prelude.{IfOk};
 ghost use Rattle.dcx_math.specs.Rational.{Fits};
 
-use crate::read::{fault_text, number};
+use crate::read::{number, put_fault};
 use dcx_case_lines::{CaseFault, Cases, count, name, words};
 use dcx_kinds::{ElabFault, Value, whole_number};
 use dcx_shape::{Name, Place};
@@ -20,16 +20,16 @@ use std::alloc::{AllocError, Global};
 pub(crate) struct Arguments;
 
 impl Cases for Arguments {
-    fn answer(&self, alloc: Global, parts: &[&str]) -> Result<String, CaseFault> {
+    fn answer(&self, alloc: Global, parts: &[&str], out: &mut String) -> Result<(), CaseFault> {
         match *parts {
-            ["named", word] => Ok(named_text(alloc, &name(alloc, word)?)?),
-            ["range", text] => range_told(alloc, text),
-            ["through", word] => through_told(alloc, Ok(number(alloc, word)?)),
+            ["named", word] => put_named(out, &name(alloc, word)?),
+            ["range", text] => range_told(alloc, &words(alloc, text)?, out),
+            ["through", word] => through_told(alloc, Ok(number(alloc, word)?), out),
             [first, ref given @ ..] => match first.strip_prefix("call ") {
-                Some(word) => call_told(alloc, function(alloc, word)?, given),
+                Some(word) => call_told(alloc, function(alloc, word)?, given, out),
                 None => Err(CaseFault::Unreadable),
             },
-            _ => Err(CaseFault::Unreadable),
+            [] => Err(CaseFault::Unreadable),
         }
     }
 }
@@ -51,16 +51,16 @@ fn function(alloc: Global, word: &str) -> Result<Function, CaseFault> {
     }
 }
 
-fn named_text(alloc: Global, name: &Name) -> Result<String, AllocError> {
-    let first = function_text(alloc, function_named(Module::Cvxpy, name))?;
-    let second = function_text(alloc, function_named(Module::Numpy, name))?;
-    format!(in alloc; "{first}, {second}")
+fn put_named(out: &mut String, name: &Name) -> Result<(), CaseFault> {
+    put_function(out, function_named(Module::Cvxpy, name))?;
+    out.push_str(", ")?;
+    put_function(out, function_named(Module::Numpy, name))
 }
 
-fn function_text(alloc: Global, function: Option<Function>) -> Result<String, AllocError> {
+fn put_function(out: &mut String, function: Option<Function>) -> Result<(), CaseFault> {
     match function {
-        Some(function) => format!(in alloc; "{function:?}"),
-        None => String::from_str(alloc, "none"),
+        Some(function) => Ok(write!(out, "{function:?}")?),
+        None => Ok(out.push_str("none")?),
     }
 }
 
@@ -114,53 +114,83 @@ fn given<'a>(
     Ok(given)
 }
 
-/// The words of arguments, in quotes.
-fn words_text(alloc: Global, arguments: &[Argument]) -> Result<String, AllocError> {
-    let mut text = String::from_str(alloc, "takes")?;
+/// Writes the words of arguments, in quotes.
+fn put_words(out: &mut String, arguments: &[Argument]) -> Result<(), CaseFault> {
+    out.push_str("takes")?;
     for argument in arguments {
-        text.push_str(&format!(in alloc; " '{}'", argument.word)?)?;
+        write!(out, " '{}'", argument.word)?;
     }
-    Ok(text)
+    Ok(())
 }
 
-fn bound_text(alloc: Global, bound: Result<Bound, ElabFault>) -> Result<String, AllocError> {
+fn put_bound(out: &mut String, bound: &Result<Bound, ElabFault>) -> Result<(), CaseFault> {
     match bound {
-        Ok(bound) => words_text(alloc, bound.arguments()),
-        Err(fault) => fault_text(alloc, fault),
+        Ok(bound) => put_words(out, bound.arguments()),
+        Err(fault) => put_fault(out, *fault),
     }
 }
 
-fn call_told(alloc: Global, function: Function, texts: &[&str]) -> Result<String, CaseFault> {
-    let tree = Tree::new(alloc);
+fn call_told(
+    alloc: Global,
+    function: Function,
+    texts: &[&str],
+    out: &mut String,
+) -> Result<(), CaseFault> {
     let names = names(alloc, texts)?;
     let given = given(alloc, texts, &names)?;
-    let bound = arguments(alloc, &tree, at(0), row_of(function), given);
-    Ok(bound_text(alloc, bound)?)
+    put_taken(alloc, function, given, out)
 }
 
-/// The numbers that are gone through.
-fn items_text(alloc: Global, through: &Through) -> Result<String, AllocError> {
-    let mut text = format!(in alloc; "{}:", through.count())?;
+/// Writes what a call takes.
+fn put_taken(
+    alloc: Global,
+    function: Function,
+    given: Vec<Given<'_>>,
+    out: &mut String,
+) -> Result<(), CaseFault> {
+    let tree = Tree::new(alloc);
+    put_bound(
+        out,
+        &arguments(alloc, &tree, at(0), row_of(function), given),
+    )
+}
+
+/// Writes a number that is gone through.
+fn put_item(out: &mut String, value: &Value) -> Result<(), CaseFault> {
+    match whole_number(value) {
+        Some(number) => Ok(write!(out, " {number}")?),
+        None => Ok(out.push_str(" no number")?),
+    }
+}
+
+/// Writes the numbers that are gone through.
+fn put_items(alloc: Global, through: &Through, out: &mut String) -> Result<(), CaseFault> {
+    write!(out, "{}:", through.count())?;
     for k in 0..through.count() {
-        match whole_number(&through.item(alloc, k)?) {
-            Some(number) => text.push_str(&format!(in alloc; " {number}")?)?,
-            None => text.push_str(" no number")?,
-        }
+        put_item(out, &through.item(alloc, k)?)?;
     }
-    Ok(text)
+    Ok(())
 }
 
-fn through_text(alloc: Global, through: Result<Through, ElabFault>) -> Result<String, AllocError> {
+fn put_through(
+    alloc: Global,
+    through: &Result<Through, ElabFault>,
+    out: &mut String,
+) -> Result<(), CaseFault> {
     match through {
-        Ok(through) => items_text(alloc, &through),
-        Err(_) => String::from_str(alloc, "refused"),
+        Ok(through) => put_items(alloc, through, out),
+        Err(_) => Ok(out.push_str("refused")?),
     }
 }
 
-fn through_told(alloc: Global, value: Result<Value, ElabFault>) -> Result<String, CaseFault> {
+fn through_told(
+    alloc: Global,
+    value: Result<Value, ElabFault>,
+    out: &mut String,
+) -> Result<(), CaseFault> {
     match value {
-        Ok(value) => Ok(through_text(alloc, items_through(at(1), value))?),
-        Err(_) => Ok(String::from_str(alloc, "refused")?),
+        Ok(value) => put_through(alloc, &items_through(at(1), value), out),
+        Err(_) => Ok(out.push_str("refused")?),
     }
 }
 
@@ -174,11 +204,11 @@ fn whole(word: &str) -> Result<i128, CaseFault>
     }
 }
 
-fn range_told(alloc: Global, text: &str) -> Result<String, CaseFault> {
-    match *words(alloc, text)? {
+fn range_told(alloc: Global, words: &[&str], out: &mut String) -> Result<(), CaseFault> {
+    match *words {
         [first, stop, step] => {
-            let (first, stop) = (whole(first)?, whole(stop)?);
-            through_told(alloc, range_from(alloc, at(1), first, stop, whole(step)?))
+            let (first, stop, step) = (whole(first)?, whole(stop)?, whole(step)?);
+            through_told(alloc, range_from(alloc, at(1), first, stop, step), out)
         }
         _ => Err(CaseFault::Unreadable),
     }

@@ -4,7 +4,7 @@ use dcx_case_lines::{CaseFault, count, fraction};
 use dcx_kinds::{ElabFault, Items, Value};
 use dcx_shape::Place;
 use dcx_signature::number_value;
-use std::alloc::{AllocError, Global};
+use std::alloc::Global;
 use std::rc::Rc;
 
 /// Where everything stands.
@@ -117,28 +117,30 @@ pub(crate) fn value(alloc: Global, text: &str) -> Result<Value, CaseFault> {
     }
 }
 
-/// A fault, and where it is.
-pub(crate) fn fault_text(alloc: Global, fault: ElabFault) -> Result<String, AllocError> {
+/// Writes a word before a place.
+fn put_at(out: &mut String, word: &str, place: Place) -> Result<(), CaseFault> {
+    Ok(write!(out, "{word} at {}:{}", place.line, place.column)?)
+}
+
+/// Writes a fault, and where it is.
+pub(crate) fn put_fault(out: &mut String, fault: ElabFault) -> Result<(), CaseFault> {
     match fault {
         ElabFault::TooMany { place, what, count } => {
-            let word = match what {
-                Count::Entries => "entries",
-                _ => "others",
-            };
-            format!(in alloc; "{count} {word} at {}:{}", place.line, place.column)
+            write!(out, "{count} ")?;
+            put_at(
+                out,
+                if what == Count::Entries {
+                    "entries"
+                } else {
+                    "others"
+                },
+                place,
+            )
         }
-        ElabFault::BadArgument(place) => {
-            format!(in alloc; "BadArgument at {}:{}", place.line, place.column)
-        }
-        ElabFault::NotOffered(place) => {
-            format!(in alloc; "NotOffered at {}:{}", place.line, place.column)
-        }
-        ElabFault::ShapeClash(place) => {
-            format!(in alloc; "ShapeClash at {}:{}", place.line, place.column)
-        }
-        ElabFault::EmptyResult(place) => {
-            format!(in alloc; "EmptyResult at {}:{}", place.line, place.column)
-        }
-        _ => format!(in alloc; "{fault}"),
+        ElabFault::BadArgument(place) => put_at(out, "BadArgument", place),
+        ElabFault::NotOffered(place) => put_at(out, "NotOffered", place),
+        ElabFault::ShapeClash(place) => put_at(out, "ShapeClash", place),
+        ElabFault::EmptyResult(place) => put_at(out, "EmptyResult", place),
+        _ => Ok(write!(out, "{fault}")?),
     }
 }
