@@ -1,0 +1,80 @@
+//! The slopes that coefficients of the results and weights of the rows give.
+use crate::calls::atom;
+use crate::told::shapes;
+use dcx_atom::{Atom, SlopeStop};
+use dcx_case_lines::{CaseFault, Cases, Number, Numbers, Passing, numbers};
+use dcx_frac::{Frac, Fracs};
+use dcx_shape::Shape;
+use std::alloc::Global;
+
+/// `CALL | SHAPE | .. | COEFFICIENTS | WEIGHTS => SLOPES`: the slopes by entry of the arguments, the first condition that the
+/// weights break, as `entry 0: 4 against 3`, or the operation that passes.
+pub(crate) struct Slopes;
+
+impl Cases for Slopes {
+    fn answer(&self, alloc: Global, parts: &[&str], out: &mut String) -> Result<(), CaseFault> {
+        match *parts {
+            [text, ref args @ .., coefficients, weights] => {
+                let shapes = shapes(alloc, args)?;
+                let slopes = formed(alloc, text, &shapes, coefficients, weights)?;
+                put_slopes(out, &slopes)
+            }
+            _ => Err(CaseFault::Unreadable),
+        }
+    }
+}
+
+/// The slopes of a call, whose coefficients and weights are written.
+fn formed(
+    alloc: Global,
+    text: &str,
+    shapes: &[Shape],
+    of_coefficients: &str,
+    of_weights: &str,
+) -> Result<Result<Fracs, SlopeStop>, CaseFault> {
+    let coefficients = numbers(alloc, of_coefficients)?;
+    let weights = numbers(alloc, of_weights)?;
+    slopes_of(alloc, &atom(alloc, text)?, shapes, &coefficients, &weights)
+}
+
+/// The slopes of any call, where there is a coefficient for each result entry and a weight for each row.
+fn slopes_of<A: Atom>(
+    alloc: Global,
+    atom: &A,
+    args: &[Shape],
+    coefficients: &[Frac],
+    weights: &[Frac],
+) -> Result<Result<Fracs, SlopeStop>, CaseFault> {
+    let Some(shape) = atom.shape(args) else {
+        return Err(CaseFault::Unreadable);
+    };
+    let graph = atom.graph(alloc, args)?;
+    let rows = graph.rows.as_slice();
+    if coefficients.len() != shape.size() as usize {
+        return Err(CaseFault::Unreadable);
+    }
+    if weights.len() != rows.len() {
+        return Err(CaseFault::Unreadable);
+    }
+    Ok(atom.slopes(alloc, args, coefficients, weights))
+}
+
+fn put_slopes(out: &mut String, slopes: &Result<Fracs, SlopeStop>) -> Result<(), CaseFault> {
+    match slopes {
+        Ok(slopes) => Ok(write!(out, "{}", Numbers(slopes.as_slice()))?),
+        Err(
+            SlopeStop::Refused {
+                entry,
+                stated,
+                found,
+            },
+        ) => Ok(write!(
+            out,
+            "entry {entry}: {} against {}",
+            Number(*stated),
+            Number(*found)
+        )?),
+        Err(SlopeStop::Passes(passes)) => Ok(write!(out, "{}", Passing(*passes))?),
+        Err(SlopeStop::Memory) => Err(CaseFault::Memory),
+    }
+}

@@ -1,0 +1,65 @@
+//! Arrays as they are written: the shape, and then the entries row by row.
+use crate::fault::CaseFault;
+use crate::fractions::{Numbers, Passing};
+use crate::sizes::{Size, shape};
+use crate::word::fraction;
+use dcx_atom::{Array, ValueStop};
+use dcx_frac::{Frac, Fracs};
+use dcx_shape::Shape;
+use std::alloc::{AllocError, Global};
+use std::fmt::{self, Display};
+
+/// The fractions that stand in a text. `Unreadable` where a word is none.
+pub fn numbers(alloc: Global, text: &str) -> Result<Vec<Frac>, CaseFault> {
+    let mut numbers = Vec::new(alloc);
+    for word in text.split_whitespace() {
+        numbers.push(fraction(word)?)?;
+    }
+    Ok(numbers)
+}
+
+/// As many numbers as a shape has entries, which begin anew where they end.
+fn filling(alloc: Global, shape: Shape, numbers: &[Frac]) -> Result<Vec<Frac>, AllocError> {
+    let mut entries = Vec::new(alloc);
+    for number in numbers.iter().cycle().take(shape.size() as usize) {
+        entries.push(*number)?;
+    }
+    Ok(entries)
+}
+
+/// The array that a text says; where it has fewer numbers than entries they begin anew. `Unreadable` where it says none.
+pub fn array(alloc: Global, text: &str) -> Result<Array, CaseFault> {
+    let (size, rest) = text.split_once(' ').unwrap_or((text, "0"));
+    let shape = shape(size)?;
+    let entries = filling(alloc, shape, &numbers(alloc, rest)?)?;
+    if entries.len() != shape.size() as usize {
+        return Err(CaseFault::Unreadable);
+    }
+    Ok(Array {
+        shape,
+        entries: Fracs::from_vec(entries),
+    })
+}
+
+/// An array.
+#[derive(Clone, Copy)]
+pub struct Filled<'a>(pub &'a Array);
+
+impl Display for Filled<'_> {
+    fn fmt<W: fmt::Write>(&self, f: &mut fmt::Formatter<W>) -> fmt::Result {
+        let size = Size(self.0.shape.sides());
+        write!(f, "{size} {}", Numbers(self.0.entries.as_slice()))
+    }
+}
+
+/// Writes a value: the array, or the first entry that stops it.
+pub fn put_value(out: &mut String, value: &Result<Array, ValueStop>) -> Result<(), CaseFault> {
+    match value {
+        Ok(array) => Ok(write!(out, "{}", Filled(array))?),
+        Err(ValueStop::Memory) => Err(CaseFault::Memory),
+        Err(ValueStop::ZeroDivisor { entry }) => Ok(write!(out, "divisor {entry} is 0")?),
+        Err(ValueStop::Passes { entry, passes }) => {
+            Ok(write!(out, "entry {entry}: {}", Passing(*passes))?)
+        }
+    }
+}

@@ -1,0 +1,65 @@
+//! Refusals as they are written: the number, the line and the column, and what is carried.
+use crate::stops::passes;
+use dcx_case_lines::{CaseFault, count};
+use dcx_report::{Carried, Count, Refusal, RefusalSource, Rule};
+use dcx_shape::Place;
+
+/// The rule of a word.
+fn rule(word: &str) -> Result<Rule, CaseFault> {
+    match word {
+        "composition" => Ok(Rule::Composition),
+        "at_most" => Ok(Rule::AtMost),
+        "minimize" => Ok(Rule::Minimize),
+        _ => Err(CaseFault::Unreadable),
+    }
+}
+
+/// The refusal of this number that carries nothing.
+fn bare(number: &str, place: Place) -> Result<Refusal, CaseFault> {
+    match number.parse::<u8>() {
+        Ok(number) if 0 < number && number < 18 => Ok(Refusal {
+            source: RefusalSource::Script,
+            number,
+            place,
+            carried: Carried::Nothing,
+        }),
+        _ => Err(CaseFault::Unreadable),
+    }
+}
+
+/// The place of two words.
+pub(crate) fn place(line: &str, column: &str) -> Result<Place, CaseFault> {
+    Ok(Place {
+        line: count(line)?,
+        column: count(column)?,
+    })
+}
+
+/// The refusal of a script.
+pub(crate) fn refusal(words: &[&str]) -> Result<Refusal, CaseFault> {
+    match *words {
+        [number, line, column] => bare(number, place(line, column)?),
+        ["18", line, column, "items", items] => Ok(Refusal {
+            source: RefusalSource::Script,
+            number: 18,
+            place: place(line, column)?,
+            carried: Carried::Count {
+                what: Count::Items,
+                count: count(items)?,
+            },
+        }),
+        ["19", line, column, word] => Ok(Refusal {
+            source: RefusalSource::Script,
+            number: 19,
+            place: place(line, column)?,
+            carried: Carried::Rule(rule(word)?),
+        }),
+        ["20", line, column, left, sign, right] => Ok(Refusal {
+            source: RefusalSource::Script,
+            number: 20,
+            place: place(line, column)?,
+            carried: Carried::Passes(passes(left, sign, right)?),
+        }),
+        _ => Err(CaseFault::Unreadable),
+    }
+}

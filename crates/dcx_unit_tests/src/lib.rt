@@ -1,0 +1,14 @@
+//! What no line of a file can say: traits called through their bounds at types of their own, a counter of steps, libraries
+//! and sinks that fail, files of the host, and the solutions of plain linear programs.
+//!
+//! The other cases are lines of the crates whose names end with `_cases`.
+#![tactic(auto)]
+
+#[cfg(test)]
+mod counting;
+#[cfg(test)]
+mod files;
+#[cfg(test)]
+mod laws;
+#[cfg(test)]
+mod solving;
