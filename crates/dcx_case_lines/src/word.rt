@@ -34,5 +34,9 @@ pub fn name(alloc: Global, word: &str) -> Result<Name, AllocError>
 
 /// Writes what stands between two items before item `k`: nothing before the first one.
 pub fn put_between(out: &mut String, k: usize, between: &str) -> Result<(), AllocError> {
-    if k == 0 { Ok(()) } else { out.push_str(between) }
+    if k == 0 {
+        Ok(())
+    } else {
+        out.push_str(between)
+    }
 }

@@ -2,9 +2,7 @@
 use crate::faults::{put_fault, put_place};
 use crate::spelling::bytes_of;
 use dcx_case_lines::{CaseFault, Cases, Number, put_between};
-use dcx_tokens::{
-    Lexed, ReadFault, Token, TokenKind, Tokens, end_place, lexed, read_text, tokens,
-};
+use dcx_tokens::{Lexed, ReadFault, Token, TokenKind, Tokens, end_place, lexed, read_text, tokens};
 use std::alloc::{AllocError, Global};
 
 /// `bytes | BYTES` for whether bytes are a text; `fault | TEXT`, `first | TEXT` for the first token, `layout | TEXT` for how many line
