@@ -1,6 +1,6 @@
 //! Arguments of calls, the names of calls, and ranges.
 ghost use Rattle.std.specs.Prelude.{IfOk};
-ghost use Rattle.dcx_math.specs.Rational.{Fits};
+ghost use Rattle.dcx_frac.specs.Fits.{Fits};
 
 use crate::read::{number, put_fault};
 use dcx_case_lines::{CaseFault, Cases, count, name, words};
