@@ -1,0 +1,6 @@
+-- Lemmas of this crate.
+pub mod AtomEntries
+pub mod Each
+pub mod Folds
+pub mod OwnRows
+pub mod Places

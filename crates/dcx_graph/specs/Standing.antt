@@ -1,0 +1,44 @@
+-- The forms that stand for nodes while a problem is reduced, and those of the arguments of a node.
+use Rattle.std.specs.Prelude.{◌≡◌, ℕ, ◌+◌, ◌<◌, ◌^◌, List, [], length, map, slice_index_or}
+use Rattle.dcx_frac.specs.declared.fraction.Frac.{Frac}
+use Rattle.dcx_atom.specs.declared.graph.Operand.{Operand}
+use Rattle.dcx_atom.specs.declared.graph.Operand.TheVariants.{Argument, Aux}
+use Rattle.dcx_atom.specs.Formed.{zero_frac}
+use Rattle.dcx_arena.specs.Nodes.{positions}
+use Rattle.dcx_linear.specs.declared.form.Form.{Form}
+use Rattle.dcx_linear.specs.Forms.{is_constant}
+use Rattle.dcx_graph.specs.Entries.{entry_forms}
+use Rattle.dcx_graph.specs.declared.standing.Standing.{Standing}
+use Rattle.dcx_graph.specs.declared.standing.Standing.TheVariants.{Numbers, Forms}
+use Rattle.dcx_graph.specs.declared.arguments.Arguments.{Arguments}
+
+-- a number is a form without unknowns
+abbrev pub forms_of : {C : Type 0} → (Frac → C) → Standing C → List (Form C)
+forms_of of_number (Numbers x) = map (λ n. is_constant (of_number n)) x.entries
+forms_of of_number (Forms es) = entry_forms es
+
+-- the form of an entry, and 0 past the end
+abbrev pub entry_of : {C : Type 0} → (Frac → C) → Standing C → ℕ → Form C
+entry_of of_number s e = slice_index_or (forms_of of_number s) e (is_constant (of_number zero_frac))
+
+-- the forms of all nodes so far
+abbrev pub all_forms : {C : Type 0} → (Frac → C) → List (Standing C) → List (List (Form C))
+all_forms of_number standing = map (forms_of of_number) standing
+
+-- the form of entry e of argument k, where the nodes so far and the positions of the arguments are these
+abbrev pub args_among : {C : Type 0} → (Frac → C) → List (List (Form C)) → List ℕ → ℕ → ℕ → Form C
+args_among of_number forms args k e = slice_index_or (slice_index_or forms (slice_index_or args k 0) []) e (is_constant (of_number zero_frac))
+
+abbrev pub args_of : {C : Type 0} → (Frac → C) → Arguments C → ℕ → ℕ → Form C
+args_of of_number a k e = args_among of_number (all_forms of_number a.standing.now) (positions a.ids.now) k e
+
+-- there is such an argument, and it has such an entry
+pub record HasEntry {C : Type 0} (of_number : Frac → C) (a : Arguments C) (k e : ℕ) : Type 0 where
+  pub argument : k < length a.ids.now
+  pub node : slice_index_or (positions a.ids.now) k 0 < length a.standing.now
+  pub entry : e < length (slice_index_or (all_forms of_number a.standing.now) (slice_index_or (positions a.ids.now) k 0) [])
+
+-- an operand is an entry that is there, or an auxiliary unknown of those from `first` on
+abbrev pub IsOperand : {C : Type 0} → (Frac → C) → Arguments C → ℕ → Operand → Type 0
+IsOperand of_number a first (Argument k e) = HasEntry of_number a k e
+IsOperand of_number a first (Aux k) = first + k < 2 ^ 32
