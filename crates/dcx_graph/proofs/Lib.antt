@@ -3,4 +3,5 @@ pub mod AtomEntries
 pub mod Each
 pub mod Folds
 pub mod OwnRows
+pub mod PairEntries
 pub mod Places

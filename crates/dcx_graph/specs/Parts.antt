@@ -16,7 +16,10 @@ use Rattle.dcx_affine.specs.declared.pairing.Pair.{Pair}
 use Rattle.dcx_linear.specs.declared.change.Change.{Change}
 use Rattle.dcx_linear.specs.declared.change.Change.TheVariants.{Scale, Divide}
 use Rattle.dcx_linear.specs.declared.form.Form.{Form}
+use Rattle.dcx_linear.specs.Changes.{zero_test}
 use Rattle.dcx_linear.specs.Forms.{is_constant}
+use Rattle.dcx_graph.specs.declared.scaling.Scaling.{Scaling}
+use Rattle.dcx_graph.specs.declared.scaling.Scaling.TheVariants.{LeftNumber, RightNumber, LeftAffine, RightAffine, Divisor}
 
 -- ---- forms
 -- 0 as a form
@@ -53,3 +56,27 @@ operand_form of_number args first (Aux k) = unknown_form of_number (first + k)
 -- a row of a graph
 abbrev pub row_part : {C : Type 0} → (Frac → C) → Arguments C → ℕ → RowTerm → Change × Form C
 row_part of_number args first t = (Scale (frac_at t.coefficient), operand_form of_number args first t.operand)
+
+-- ---- pairs of products and quotients
+-- the number that a form is whose constant is one and that has no unknowns
+abbrev pub number_in : {C : Type 0} → (C → Option Frac) → Form C → Frac
+number_in number_of f = unwrap_or (number_of f.constant) zero_frac
+
+-- a pair whose left or right side is a number, times which the other side is taken
+abbrev pub left_scaled : {C : Type 0} → (C → Option Frac) → Arguments C → Pair → Change × Form C
+left_scaled number_of args x = (Scale (number_in number_of (args 0 x.left)), args 1 x.right)
+
+abbrev pub right_scaled : {C : Type 0} → (C → Option Frac) → Arguments C → Pair → Change × Form C
+right_scaled number_of args x = (Scale (number_in number_of (args 1 x.right)), args 0 x.left)
+
+-- a pair whose right side is a number that divides
+abbrev pub divided : {C : Type 0} → (C → Option Frac) → Arguments C → Pair → Change × Form C
+divided number_of args x = (Divide (number_in number_of (args 1 x.right)), args 0 x.left)
+
+-- that number is 0
+abbrev pub has_zero_divisor : {C : Type 0} → (C → Option Frac) → Scaling → Arguments C → Pair → Bool
+has_zero_divisor number_of LeftNumber args x = false
+has_zero_divisor number_of RightNumber args x = false
+has_zero_divisor number_of LeftAffine args x = false
+has_zero_divisor number_of RightAffine args x = false
+has_zero_divisor number_of Divisor args x = zero_test (number_in number_of (args 1 x.right))

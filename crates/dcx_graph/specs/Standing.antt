@@ -1,5 +1,5 @@
 -- The forms that stand for nodes while a problem is reduced, and those of the arguments of a node.
-use Rattle.std.specs.Prelude.{◌≡◌, ℕ, ◌+◌, ◌<◌, ◌^◌, List, [], length, map, slice_index_or}
+use Rattle.std.specs.Prelude.{◌≡◌, ℕ, ◌+◌, ◌<◌, ◌^◌, List, [], length, map, Option, slice_index_or}
 use Rattle.dcx_frac.specs.declared.fraction.Frac.{Frac}
 use Rattle.dcx_atom.specs.declared.graph.Operand.{Operand}
 use Rattle.dcx_atom.specs.declared.graph.Operand.TheVariants.{Argument, Aux}
@@ -7,6 +7,10 @@ use Rattle.dcx_atom.specs.Formed.{zero_frac}
 use Rattle.dcx_arena.specs.Nodes.{positions}
 use Rattle.dcx_linear.specs.declared.form.Form.{Form}
 use Rattle.dcx_linear.specs.Forms.{is_constant}
+use Rattle.dcx_linear.specs.Multiples.{HasNumbers}
+use Rattle.dcx_affine.specs.declared.pairing.Pair.{Pair}
+use Rattle.dcx_graph.specs.declared.scaling.Scaling.{Scaling}
+use Rattle.dcx_graph.specs.declared.scaling.Scaling.TheVariants.{LeftNumber, RightNumber, LeftAffine, RightAffine, Divisor}
 use Rattle.dcx_graph.specs.Entries.{entry_forms}
 use Rattle.dcx_graph.specs.declared.standing.Standing.{Standing}
 use Rattle.dcx_graph.specs.declared.standing.Standing.TheVariants.{Numbers, Forms}
@@ -42,3 +46,17 @@ pub record HasEntry {C : Type 0} (of_number : Frac → C) (a : Arguments C) (k e
 abbrev pub IsOperand : {C : Type 0} → (Frac → C) → Arguments C → ℕ → Operand → Type 0
 IsOperand of_number a first (Argument k e) = HasEntry of_number a k e
 IsOperand of_number a first (Aux k) = first + k < 2 ^ 32
+
+-- the form that an affine number is multiplied by has numbers
+abbrev pub HasNumbersFor : {C : Type 0} → (C → Option Frac) → Scaling → (ℕ → ℕ → Form C) → Pair → Type 0
+HasNumbersFor number_of LeftNumber args x = Unit {0}
+HasNumbersFor number_of RightNumber args x = Unit {0}
+HasNumbersFor number_of LeftAffine args x = HasNumbers number_of (args 1 x.right)
+HasNumbersFor number_of RightAffine args x = HasNumbers number_of (args 0 x.left)
+HasNumbersFor number_of Divisor args x = Unit {0}
+
+-- both sides of a pair are there
+pub record IsPairOf {C : Type 0} (number_of : C → Option Frac) (of_number : Frac → C) (scaling : Scaling) (a : Arguments C) (x : Pair) : Type 0 where
+  pub left : HasEntry of_number a 0 x.left
+  pub right : HasEntry of_number a 1 x.right
+  pub numbers : HasNumbersFor number_of scaling (args_of of_number a) x

@@ -18,7 +18,7 @@ use dcx_linear::{Accumulator, Change, Coef, CoefStop, Form};
 use std::alloc::Global;
 
 /// Adds an entry of an argument, multiplied or divided.
-fn add_entry<C: Coef>(
+pub(crate) fn add_entry<C: Coef>(
     alloc: Global,
     sum: &mut Accumulator<C>,
     args: &Arguments<C>,
