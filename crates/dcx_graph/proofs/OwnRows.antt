@@ -7,7 +7,7 @@ use Rattle.std.proofs.lemmas.Bool.{eq-eqb, ne_eqb}
 use Rattle.dcx_atom.specs.declared.graph.GraphRow.{GraphRow}
 use Rattle.dcx_atom.specs.Arrays.{list_below}
 use Rattle.dcx_atom.proofs.BoundRows.{list_below-first}
-use Rattle.dcx_atom.specs.Rows.{Row, RowTerm}
+use Rattle.dcx_atom.specs.Rows.{Row}
 use Rattle.dcx_atom.specs.Graph.{row_term, PlacedRow, placed_row, rows_below}
 
 -- these rows, placed at entry j

@@ -5,6 +5,8 @@ use Rattle.dcx_frac.specs.declared.fraction.Frac.{Frac}
 use Rattle.dcx_frac.specs.declared.fraction.Passes.{Passes}
 use Rattle.dcx_linear.specs.declared.change.Change.{Change}
 use Rattle.dcx_linear.specs.declared.form.Form.{Form}
+use Rattle.dcx_point.specs.Pairs.{Pairs}
+use Rattle.dcx_linear.specs.Forms.{is_constant}
 use Rattle.dcx_linear.specs.Parts.{Follows, sums_parts}
 use Rattle.dcx_graph.specs.declared.entries.EntryForms.{EntryForms}
 use Rattle.dcx_atom.specs.declared.stops.ValueStop.{ValueStop}
@@ -22,6 +24,10 @@ alone f = record { form = f; rows = [] }
 -- the forms of entries
 abbrev pub entry_forms : {C : Type 0} → List (EntryForms C) → List (Form C)
 entry_forms es = map (λ e. e.form) es
+
+-- entry j of a parameter, given by its position and its name: the number, or the entry itself where parameters are affine
+abbrev pub ParameterEntry : {C : Type 0} → (ℕ → List ℕ → ℕ → Pairs → C → Type 0) → ℕ → List ℕ → Pairs → ℕ → Result (EntryForms C) ValueStop → Type 0
+ParameterEntry {C} gives position name setting j r = (c : C) × gives position name j setting c × (r ≡ Ok (alone (is_constant c)))
 
 module _ {C : Type 0} (of_number : Frac → C) (number_of : C → Option Frac) (Sums : C → C → Result C Passes → Type 0) (Changes : Change → C → Result C Passes → Type 0) where
   -- an entry of a linear call, which is the sum of these parts

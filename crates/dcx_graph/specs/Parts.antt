@@ -1,17 +1,13 @@
 -- What the form of a node's entry is the sum of: parts in the order of the tables of calls. A part is a form that is multiplied or
 -- divided by a fraction, or a form of numbers times which an affine number is taken.
-use Rattle.std.specs.Prelude.{◌≡◌, ℕ, ◌+◌, Bool, false, List, [], ◌∷◌, map, Option, Some, None, Result, unwrap_or, pos}
-use Rattle.dcx_math.specs.Rational.{whole, rat_eq}
+use Rattle.std.specs.Prelude.{ℕ, ◌+◌, Bool, false, [], ◌∷◌, Option, Some, None, unwrap_or, pos}
+use Rattle.dcx_math.specs.Rational.{whole}
 use Rattle.dcx_frac.specs.declared.fraction.Frac.{Frac}
-use Rattle.dcx_frac.specs.declared.fraction.Passes.{Passes}
-use Rattle.dcx_frac.specs.Frac.{value}
 use Rattle.dcx_atom.specs.declared.graph.Operand.{Operand}
 use Rattle.dcx_atom.specs.declared.graph.Operand.TheVariants.{Argument, Aux}
 use Rattle.dcx_atom.specs.Formed.{zero_frac, frac_at}
 use Rattle.dcx_atom.specs.Rows.{RowTerm, FormTerm}
 use Rattle.dcx_atom.specs.Linear.{LinearTerm}
-use Rattle.dcx_affine.specs.declared.pairing.Pairing.{Pairing}
-use Rattle.dcx_affine.specs.declared.pairing.Pairing.TheVariants.{Times, MatTimes, Over}
 use Rattle.dcx_affine.specs.declared.pairing.Pair.{Pair}
 use Rattle.dcx_linear.specs.declared.change.Change.{Change}
 use Rattle.dcx_linear.specs.declared.change.Change.TheVariants.{Scale, Divide}

@@ -15,6 +15,7 @@
 //! | an entry of a product or a quotient is the sum of its pairs | `pair_entries` |
 //! | a divisor of 0 stops an entry before anything of it is formed | `pair_entries` |
 //! | an entry of a variable is its unknown, or 0 where it has none | `variable_entries` |
+//! | an entry of a parameter is the setting's number, or the entry itself where parameters are affine | `parameter_entries` |
 //! | what stops is the first operation that passes 128 bits, entry by entry, with its entry | `linear_entries`, `atom_entries`, `pair_entries`, `specs/Forming.antt` |
 #![tactic(auto)]
 
@@ -23,6 +24,7 @@ mod atom;
 mod entries;
 mod linear;
 mod pairs;
+mod parameter;
 mod scaling;
 mod standing;
 mod stop;
@@ -34,6 +36,7 @@ pub use atom::atom_entries;
 pub use entries::{EntryForms, EntryList, FormList};
 pub use linear::linear_entries;
 pub use pairs::pair_entries;
+pub use parameter::parameter_entries;
 pub use scaling::Scaling;
 pub use standing::Standing;
 pub use variable::variable_entries;

@@ -5,7 +5,7 @@ use Rattle.dcx_graph.specs.Forming.{FormsEach, OnStop}
 use Rattle.dcx_graph.specs.Standing.{args_of}
 use Rattle.dcx_graph.proofs.AtomEntries.{AtomGives, atom_more, atom_stops}
 use Rattle.dcx_graph.proofs.Each.{at_index, each_none}
-use Rattle.dcx_graph.proofs.OwnRows.{AreLeft, own_count, own_then_left, own_count_le, all_left}
+use Rattle.dcx_graph.proofs.OwnRows.{AreLeft, own_then_left, own_count_le, all_left}
 use Rattle.dcx_graph.proofs.Places.{RowIsThere, AuxFits}
 use Rattle.dcx_graph.proofs.atom.atom_entries.Goals as goal
 

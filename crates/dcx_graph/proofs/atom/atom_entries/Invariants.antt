@@ -1,5 +1,5 @@
 -- The entries so far are formed, and the rows of those that come are left.
-use Rattle.std.proofs.Common.{◌≡◌, ℕ, List, Ok, map}
+use Rattle.std.proofs.Common.{◌≡◌, List, Ok, map}
 use Rattle.std.specs.List.{All}
 use Rattle.dcx_shape.specs.declared.shape.Sides.{Sides}
 use Rattle.dcx_atom.specs.Graph.{IsGraphOf}

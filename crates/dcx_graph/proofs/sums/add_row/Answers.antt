@@ -1,4 +1,4 @@
-use Rattle.std.proofs.Common.{Err, map, sym, subst, arith, ◌^◌, ◌+◌, ◌<◌}
+use Rattle.std.proofs.Common.{Err, map, sym, subst, arith}
 use Rattle.std.proofs.lemmas.Result.{err_from_is_err_and}
 use Rattle.dcx_linear.specs.Stops.{OnPass-weaker}
 use Rattle.dcx_linear.specs.Parts.{adds_parts}
