@@ -23,7 +23,7 @@ get_more (z ∷ zs) x y (suc j) e = by (get_more zs x y j e)
     by (inr h) = inr (ap suc h.0, h.1)
 
 -- what stands before the end of a list
-some_before : {A : Type 0} (xs : List A) (j : ℕ) → j < length xs → (x : A) × (slice_get xs j ≡ Some x)
+pub some_before : {A : Type 0} (xs : List A) (j : ℕ) → j < length xs → (x : A) × (slice_get xs j ≡ Some x)
 some_before xs j lt = by (slice_get_cases xs j).1
   where
     by : ((x : _) × (j < length xs) × (slice_get xs j ≡ Some x) × (get_or xs j x ≡ x)) ⊎ ((length xs ≤ j) × (slice_get xs j ≡ None)) → (x : _) × (slice_get xs j ≡ Some x)

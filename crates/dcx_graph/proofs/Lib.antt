@@ -2,6 +2,7 @@
 pub mod AtomEntries
 pub mod Each
 pub mod Folds
+pub mod OneAnswer
 pub mod OwnRows
 pub mod PairEntries
 pub mod Places

@@ -16,12 +16,14 @@
 //! | a divisor of 0 stops an entry before anything of it is formed | `pair_entries` |
 //! | an entry of a variable is its unknown, or 0 where it has none | `variable_entries` |
 //! | an entry of a parameter is the setting's number, or the entry itself where parameters are affine | `parameter_entries` |
+//! | the entries of a linear call, an atom, a product or a quotient have one answer | `laws` |
 //! | what stops is the first operation that passes 128 bits, entry by entry, with its entry | `linear_entries`, `atom_entries`, `pair_entries`, `specs/Forming.antt` |
 #![tactic(auto)]
 
 mod arguments;
 mod atom;
 mod entries;
+pub mod laws;
 mod linear;
 mod pairs;
 mod parameter;
