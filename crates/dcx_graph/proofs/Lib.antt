@@ -1,6 +1,7 @@
 -- Lemmas of this crate.
 pub mod AtomEntries
 pub mod Each
+pub mod EntryValues
 pub mod Folds
 pub mod OneAnswer
 pub mod OwnRows

@@ -1,15 +1,20 @@
-//! Laws of entries: each is formed in one way. Each function is a law: its clause is a statement about all of them, and the body
-//! is empty.
-ghost use Rattle.std.specs.Prelude.{◌≡◌, ℕ, List, [], Result, slice_index_or};
+//! Laws of entries: each is formed in one way, and is what its call says. Each function is a law: its clause is a statement
+//! about all of them, and the body is empty.
+ghost use Rattle.std.specs.Prelude.{◌≡◌, ℕ, List, map, Result, Ok};
 ghost use Rattle.dcx_frac.specs.declared.fraction.Passes.{Passes};
 ghost use Rattle.dcx_atom.specs.declared.stops.ValueStop.{ValueStop};
+ghost use Rattle.dcx_atom.specs.declared.terms.Triple.{Triple};
+ghost use Rattle.dcx_atom.specs.Linear.{linear_term, terms_at};
 ghost use Rattle.dcx_affine.specs.declared.pairing.Pair.{Pair};
 ghost use Rattle.dcx_linear.specs.declared.change.Change.{Change};
 ghost use Rattle.dcx_linear.specs.declared.form.Form.{Form};
+ghost use Rattle.dcx_linear.specs.FormTerms.{Unknowns};
+ghost use Rattle.dcx_linear.specs.Forms.{linear_value};
+ghost use Rattle.dcx_linear.specs.Parameters.{Parameters};
 ghost use Rattle.dcx_graph.specs.declared.entries.EntryForms.{EntryForms};
 ghost use Rattle.dcx_graph.specs.declared.scaling.Scaling.{Scaling};
 ghost use Rattle.dcx_graph.specs.Forming.{FormsEach, AtEntry};
-ghost use Rattle.dcx_graph.specs.Parts.{Arguments};
+ghost use Rattle.dcx_graph.specs.Parts.{Arguments, term_part};
 ghost use Rattle.dcx_graph.specs.Entries.{LinearEntry, AtomEntry, PairEntry};
 
 use dcx_linear::Coef;
@@ -28,4 +33,9 @@ pub fn one_list_of_atom_entries<C: Coef>()
 /// a divisor of 0.
 pub fn one_list_of_pair_entries<C: Coef>()
     ensures { (scaling : Scaling) (args : Arguments C) (pairs : ℕ → List Pair) (n : ℕ) (r s : Result (List (EntryForms C)) ValueStop) → FormsEach (λ j. PairEntry C.of_number C.number_of C.sum_gives C.change_gives scaling args (pairs j) j) n r → FormsEach (λ j. PairEntry C.of_number C.number_of C.sum_gives C.change_gives scaling args (pairs j) j) n s → r ≡ s }
+{}
+
+/// The form of an entry of a linear call is the sum of its terms over the forms of the arguments, at all unknowns and parameters.
+pub fn linear_entries_are_sums<C: Coef>()
+    ensures { (args : Arguments C) (terms : List Triple) (e : EntryForms C) (x : Unknowns) (p : Parameters) → LinearEntry C.of_number C.number_of C.sum_gives C.change_gives (map (term_part args) (map linear_term terms)) (Ok e) → linear_value C.value_at e.form x p ≡ terms_at (map linear_term terms) (λ k j. linear_value C.value_at (args k j) x p) }
 {}
