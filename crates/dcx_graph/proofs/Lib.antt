@@ -1,0 +1,9 @@
+-- Lemmas of this crate.
+pub mod AtomEntries
+pub mod Each
+pub mod EntryValues
+pub mod Folds
+pub mod OneAnswer
+pub mod OwnRows
+pub mod PairEntries
+pub mod Places

@@ -1,0 +1,6 @@
+-- What the contracts of this crate cite.
+pub mod Forming
+pub mod Entries
+pub mod Standing
+pub mod Parts
+pub mod Sums
