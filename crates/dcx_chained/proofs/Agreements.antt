@@ -1,9 +1,9 @@
 -- A pivot has one answer.
-use Rattle.std.proofs.Common.{◌≡◌, ◌≢◌, ℕ, ◌<◌, ◌⊎◌, inl, inr, List, [], ◌∷◌, Option, Some, None, refl, sym, ap, ap₂, ◌∙◌, subst, arith}
+use Rattle.std.proofs.Common.{◌≡◌, ℕ, ◌<◌, ◌⊎◌, inl, inr, List, [], ◌∷◌, Option, Some, None, refl, sym, ap, ap₂, ◌∙◌, subst, arith}
 use Rattle.dcx_tab.specs.declared.tableau.WideAt.{WideAt}
 use Rattle.dcx_tab.specs.Rows.{Row, row_at}
-use Rattle.dcx_tab.specs.Pivot.{turned, IsBefore, IsFirstWideAt, IsFirstWide, AllFormed}
-use Rattle.dcx_tab.specs.Table.{Table, after_pivot}
+use Rattle.dcx_tab.specs.Pivot.{turned, IsBefore, IsFirstWideAt}
+use Rattle.dcx_tab.specs.Table.{Table}
 use Rattle.dcx_tab.proofs.Wide.{none_wide}
 use Rattle.dcx_chained.specs.Agreement.{Answers, AnswersAll}
 

@@ -17,6 +17,10 @@ module _ (m : Matrix) (column : ℕ) (w : Walk) (e : Entry) (is : w.numbers ≡ 
   pub met_there : entry (row_of m e.at) column ≢ pos 0
   met_there z = next.some (sym next.here ∙ sym (row_reads e.at met_below) ∙ z)
 
+  -- it is what the walk came to
+  pub met_is : entry (row_of m e.at) column ≡ e.value
+  met_is = row_reads e.at met_below ∙ next.here
+
   -- and the rows before it have none
   pub none_met : (i : ℕ) → w.from ≤ i → i < e.at → entry (row_of m i) column ≡ pos 0
   none_met i le lt = row_reads i (let b = met_below in omega (arith, b, lt)) ∙ next.zeros i le lt

@@ -3,20 +3,28 @@ ghost use Rattle.std.specs.Prelude.{◌≡◌, ◌≢◌, ℕ, ◌<◌, ◌≤�
 ghost use Rattle.dcx_tab.specs.Rows.{entry, AllSmall};
 ghost use Rattle.dcx_tab.specs.Pivot.{turned, eliminated, IsRowFormed};
 ghost use Rattle.dcx_links.specs.Matrix.{row_of};
+ghost use Rattle.dcx_chained.specs.NewRow.{Clears};
 
-use crate::factors::factors_at;
+use crate::factors::factors_of;
 use crate::mix::{divisor_of, mix, put_row};
 use dcx_links::{Entry, Links};
 use dcx_tab::Factors;
 
-/// Clears row `i` at the column of a pivot at row `r`.
-fn clear_row(links: &mut Links, i: u32, r: u32, column: u32, entries: &mut [Entry])
+/// Clears row `i` at the column of a pivot at row `r`, by these factors.
+fn clear_row(
+    links: &mut Links,
+    i: u32,
+    r: u32,
+    column: u32,
+    factors: Factors,
+    entries: &mut [Entry],
+)
     requires row { i < links.old.height }
     requires pivot_row { r < links.old.height }
     requires column { column < links.old.width }
     requires some { entry (row_of links.old r) column ≢ pos 0 }
     requires met { entry (row_of links.old i) column ≢ pos 0 }
-    requires small { (k : ℕ) → k < links.old.height → AllSmall (row_of links.old k) }
+    requires factors { Clears column (row_of links.old r) (row_of links.old i) factors.row factors.by }
     requires room { links.old.width ≤ length entries.old }
     requires formed { IsRowFormed column (turned column (row_of links.old r)) (row_of links.old i) }
     ensures row { row_of links.new i ≡ eliminated column (turned column (row_of links.old r)) (row_of links.old i) }
@@ -24,27 +32,27 @@ fn clear_row(links: &mut Links, i: u32, r: u32, column: u32, entries: &mut [Entr
     ensures height { links.new.height ≡ links.old.height }
     ensures width { links.new.width ≡ links.old.width }
 {
-    let factors = factors_at(links, i, r, column);
     let count = mix(links, i, r, factors, entries);
     let divisor = divisor_of(entries, count);
     put_row(links, i, entries, count, divisor);
 }
 
-/// The first row other than row `r` with a number other than 0 in a column.
-fn other_row(links: &Links, r: u32, column: u32) -> Option<u32>
+/// The first number of a column in a row other than row `r`.
+fn other_row(links: &Links, r: u32, column: u32) -> Option<Entry>
     requires { column < links.now.width }
-    ensures below { IfSome result (λ i. i < links.now.height) }
-    ensures other { IfSome result (λ i. i ≢ r) }
-    ensures met { IfSome result (λ i. entry (row_of links.now i) column ≢ pos 0) }
+    ensures below { IfSome result (λ e. e.at < links.now.height) }
+    ensures other { IfSome result (λ e. e.at ≢ r) }
+    ensures met { IfSome result (λ e. entry (row_of links.now e.at) column ≡ e.value) }
+    ensures some { IfSome result (λ e. e.value ≢ pos 0) }
     ensures none { IfNone result ((i : ℕ) → i < links.now.height → i ≢ r → entry (row_of links.now i) column ≡ pos 0) }
 {
     let mut walk = links.column(column);
     let first = walk.next()?;
     if first.at != r {
-        return Some(first.at);
+        return Some(first);
     }
     let second = walk.next()?;
-    Some(second.at)
+    Some(second)
 }
 
 /// Clears all rows but row `r` at the column of a pivot at row `r`.
@@ -60,8 +68,10 @@ pub(crate) fn clear_rows(links: &mut Links, r: u32, column: u32, entries: &mut [
     ensures height { links.new.height ≡ links.old.height }
     ensures width { links.new.width ≡ links.old.width }
 {
-    'rows: while let Some(i) = other_row(links, r, column) {
-        clear_row(links, i, r, column, entries);
+    let pivot = links.get(r, column);
+    'rows: while let Some(met) = other_row(links, r, column) {
+        let factors = factors_of(pivot, met.value);
+        clear_row(links, met.at, r, column, factors, entries);
     }
 }
 

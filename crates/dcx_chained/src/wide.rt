@@ -3,9 +3,10 @@ ghost use Rattle.std.specs.Prelude.{◌≡◌, ◌≢◌, ℕ, ◌<◌, pos, IfS
 ghost use Rattle.dcx_tab.specs.Rows.{entry, AllSmall};
 ghost use Rattle.dcx_tab.specs.Pivot.{turned, IsFormed, IsFormedAt, IsRowFormed, IsFirstWideAt, AllFormedAt};
 ghost use Rattle.dcx_links.specs.Matrix.{row_of};
+ghost use Rattle.dcx_chained.specs.NewRow.{Clears};
 ghost use Rattle.dcx_chained.specs.Rows.{rows_of};
 
-use crate::factors::factors_at;
+use crate::factors::factors_of;
 use dcx_links::Links;
 use dcx_tab::{Factors, WideAt, formed};
 
@@ -27,13 +28,11 @@ fn first_unformed(links: &Links, i: u32, r: u32, factors: Factors) -> Option<u32
     None
 }
 
-/// The first column at which a pivot at row `r` is wide in row `i`, which has a number other than 0 at the pivot's column.
-fn wide_in_row(links: &Links, i: u32, r: u32, column: u32) -> Option<u32>
+/// The first column at which a pivot at row `r` is wide in row `i`, which it clears by these factors.
+fn wide_in_row(links: &Links, i: u32, r: u32, column: u32, factors: Factors) -> Option<u32>
     requires row { i < links.now.height }
     requires pivot_row { r < links.now.height }
-    requires column { column < links.now.width }
-    requires some { entry (row_of links.now r) column ≢ pos 0 }
-    requires small { (k : ℕ) → k < links.now.height → AllSmall (row_of links.now k) }
+    requires factors { Clears column (row_of links.now r) (row_of links.now i) factors.row factors.by }
     ensures below { IfSome result (λ j. j < links.now.width) }
     ensures other { IfSome result (λ j. i ≢ r) }
     ensures wide { IfSome result (λ j. ¬ (IsFormedAt column (turned column (row_of links.now r)) (row_of links.now i) j)) }
@@ -43,7 +42,6 @@ fn wide_in_row(links: &Links, i: u32, r: u32, column: u32) -> Option<u32>
     if i == r {
         return None;
     }
-    let factors = factors_at(links, i, r, column);
     first_unformed(links, i, r, factors)
 }
 
@@ -56,9 +54,11 @@ pub(crate) fn first_wide(links: &Links, r: u32, column: u32) -> Option<WideAt>
     ensures found { IfSome result (λ at. IsFirstWideAt (turned column (row_of links.now r)) r column (rows_of links.now) at.row at.column) }
     ensures none { IfNone result (AllFormedAt (turned column (row_of links.now r)) r column (rows_of links.now)) }
 {
+    let pivot = links.get(r, column);
     let mut walk = links.column(column);
     'rows: while let Some(met) = walk.next() {
-        if let Some(j) = wide_in_row(links, met.at, r, column) {
+        let factors = factors_of(pivot, met.value);
+        if let Some(j) = wide_in_row(links, met.at, r, column, factors) {
             return Some(WideAt {
                 row: met.at,
                 column: j,

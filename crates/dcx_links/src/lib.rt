@@ -4,9 +4,10 @@
 //! one in the chain of free cells. `specs/Matrix.antt` says what callers see, `specs/Cells.antt` how the cells lie in memory,
 //! and `specs/Lines.antt` what a chain is.
 //!
-//! A place is looked for from the cell where the last number of its row, or of its column, was written, if that cell still
-//! stands before it, and else from the head. So numbers that are written by rising rows and columns find their places in one
-//! pass down each chain. Where the search begins decides nothing but the time.
+//! A number is put at its place from the cell where the last number of its row, or of its column, was written, if that cell
+//! still stands before it, and else from the head. So numbers that are written by rising rows and columns find their places in
+//! one pass down each chain. A number is read from the cell before the place that was read last, if that stands in its row and
+//! before it, so that a row read by rising columns is passed once. Where a search begins decides nothing but the time.
 #![tactic(auto)]
 
 pub mod laws;

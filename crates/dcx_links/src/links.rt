@@ -10,15 +10,18 @@ use crate::store::{NONE, Store};
 use crate::walk::{ColumnWalk, RowWalk};
 use crate::write::{Near, put};
 use std::alloc::{AllocError, Global};
+use std::cell::Cell;
 use std::marker::Model;
 
-/// The number at a place, looked for from a cell, if that stands before it in its row, and else from the head.
-fn number_near(store: &Store, row: u32, column: u32, near: u32) -> i128
+/// The number at a place, looked for from the cell that was seen last, if that stands before it in its row, and else from the
+/// head. The cell before the place is then the one that was seen last.
+fn number_near(store: &Store, row: u32, column: u32, seen: &Cell<u32>) -> i128
     requires sound { IsSound store.now }
     requires row { row < length store.now.row_heads.items }
     ensures { result ≡ number_in store.now row column }
 {
-    let spot = row_spot(&store.cells, &store.row_heads, row, column, near);
+    let spot = row_spot(&store.cells, &store.row_heads, row, column, seen.get());
+    seen.set(spot.from.unwrap_or(NONE));
     if spot.link == NONE {
         return 0;
     }
@@ -32,6 +35,7 @@ pub struct Links {
     store: Store,
     near_rows: Vec<u32>,
     near_columns: Vec<u32>,
+    seen: Cell<u32>,
 }
 
 impl Model for Links {
@@ -62,6 +66,7 @@ impl Links {
             store,
             near_rows,
             near_columns,
+            seen: Cell::new(NONE),
         })
     }
 
@@ -71,8 +76,7 @@ impl Links {
         requires column { column < self.now.width }
         ensures { result ≡ number_at self.now row column }
     {
-        let near = self.near_rows[row as usize];
-        number_near(&self.store, row, column, near)
+        number_near(&self.store, row, column, &self.seen)
     }
 
     /// Puts a number at a place. At 0 the cell of the place is free again, and another number takes a cell, which is always there.

@@ -7,14 +7,14 @@ use Rattle.dcx_chained.proofs.Rewritten.{cleared_is}
 use Rattle.dcx_chained.proofs.clear.clear_row.Goals as goal
 
 pub mix-count-requires-clause-formed : goal.mix-count-requires-clause-formed
-mix-count-requires-clause-formed c = λ k lt. let l = length-row_of c.args.links.now c.args.i in c.factors_at-factors.ensures.only k (c.requires.formed c.requires.met k (omega (arith, lt, l)))
+mix-count-requires-clause-formed c = λ k lt. let l = length-row_of c.args.links.now c.args.i in c.requires.factors.only k (c.requires.formed c.requires.met k (omega (arith, lt, l)))
 
 pub divisor_of-divisor-requires-clause-small : goal.divisor_of-divisor-requires-clause-small
 divisor_of-divisor-requires-clause-small c = λ k lt.
     let mixed = c.mix-count.ensures.mixed in
     let l = length-row_of c.args.links.now c.args.i in
     let w = mixed.within k lt in
-    subst (λ z. unsigned_abs z < 2 ^ 127) (sym (mixed.value k lt)) (c.factors_at-factors.ensures.only (column_at c.mix-count.new.to k) (c.requires.formed c.requires.met (column_at c.mix-count.new.to k) (omega (arith, w, l)))).difference
+    subst (λ z. unsigned_abs z < 2 ^ 127) (sym (mixed.value k lt)) (c.requires.factors.only (column_at c.mix-count.new.to k) (c.requires.formed c.requires.met (column_at c.mix-count.new.to k) (omega (arith, w, l)))).difference
 
 pub put_row-requires-clause-within : goal.put_row-requires-clause-within
 put_row-requires-clause-within c = c.mix-count.ensures.mixed.within
@@ -26,8 +26,8 @@ pub returns-clause-row : goal.returns-clause-row
 returns-clause-row c =
     let m = c.args.links.now in
     let p = c.put_row.ensures in
-    cleared_is m c.put_row.new.links c.args.i c.args.r c.factors_at-factors.result.row c.factors_at-factors.result.by c.mix-count.new.to c.mix-count.result c.mix-count.ensures.mixed p.width
-    (λ j none. p.same c.args.i j (λ _. none)) c.args.column c.requires.some c.requires.met c.factors_at-factors.ensures
+    cleared_is m c.put_row.new.links c.args.i c.args.r c.args.factors.row c.args.factors.by c.mix-count.new.to c.mix-count.result c.mix-count.ensures.mixed p.width
+    (λ j none. p.same c.args.i j (λ _. none)) c.args.column c.requires.some c.requires.met c.requires.factors
     (λ k lt. (let f : SFits w128 c.divisor_of-divisor.result = search rules in (simp to_z-of_z at (p.there k lt))) ∙ c.divisor_of-divisor.ensures.divides k lt)
 
 pub returns-clause-same : goal.returns-clause-same

@@ -1,5 +1,6 @@
 -- One more row is cleared.
-use Rattle.std.proofs.Common.{arith, ◌≡◌, ◌≢◌, ℕ, ◌<◌, length, pos, refl, sym, ap, ◌∙◌, subst, inl, inr}
+use Rattle.std.proofs.Common.{rules, arith, ◌≡◌, ◌≢◌, ℕ, ◌<◌, ◌^◌, length, pos, unsigned_abs, refl, sym, ap, ◌∙◌, subst, inl, inr, to_z-of_z, SFits}
+use Rattle.std.specs.Int.{w128}
 use Rattle.std.proofs.lemmas.Bool.{cases_eq}
 use Rattle.dcx_tab.specs.Rows.{Row, entry, AllSmall}
 use Rattle.dcx_tab.specs.Pivot.{turned, eliminated, IsRowFormed}
@@ -30,18 +31,44 @@ pub clear_row-requires-clause-some : goal.clear_row-requires-clause-some
 clear_row-requires-clause-some c = subst (λ (w : Row). entry w c.args.column ≢ pos 0) (sym c.rows.invariant.pivot) c.requires.some
 
 pub clear_row-requires-clause-met : goal.clear_row-requires-clause-met
-clear_row-requires-clause-met c = c.in-Some.ensures.met
+clear_row-requires-clause-met c = λ z. c.in-Some.ensures.some (sym c.in-Some.ensures.met ∙ z)
 
-pub clear_row-requires-clause-small : goal.clear_row-requires-clause-small
-clear_row-requires-clause-small c = λ k lt.
+pub factors_of-factors-requires-clause-some : goal.factors_of-factors-requires-clause-some
+factors_of-factors-requires-clause-some c =
+    let m = c.args.links.now in
+    let f : SFits w128 c.get-pivot.result = search rules in
+    let e : entry (row_of m c.args.r) c.args.column ≡ c.get-pivot.result = entry-row_of m c.args.r c.args.column c.requires.column ∙ sym c.get-pivot.ensures in
+    simp to_z-of_z (subst (λ z. z ≢ pos 0) e c.requires.some)
+
+pub factors_of-factors-requires-clause-small_pivot : goal.factors_of-factors-requires-clause-small_pivot
+factors_of-factors-requires-clause-small_pivot c =
+    let m = c.args.links.now in
+    let f : SFits w128 c.get-pivot.result = search rules in
+    let e : entry (row_of m c.args.r) c.args.column ≡ c.get-pivot.result = entry-row_of m c.args.r c.args.column c.requires.column ∙ sym c.get-pivot.ensures in
+    simp to_z-of_z (subst (λ z. unsigned_abs z < 2 ^ 127) e (c.requires.small c.args.r c.requires.pivot_row c.args.column))
+
+pub factors_of-factors-requires-clause-small : goal.factors_of-factors-requires-clause-small
+factors_of-factors-requires-clause-small c =
     let m = c.args.links.now in
     let v = c.rows.invariant in
+    let n = c.in-Some.ensures in
+    let i = c.in-Some.met.at in
     let h = v.height in
-    let k_in : k < m.height = omega (arith, lt, h) in
-    elim (cases_eq k c.args.r) [
-      | inl e ↦ subst AllSmall (sym (ap (λ n. row_of c.rows.links n) e ∙ v.pivot)) (c.requires.small c.args.r c.requires.pivot_row)
-      | inr d ↦ small_row c.args.column (turned c.args.column (row_of m c.args.r)) (row_of m k) (row_of c.rows.links k) (v.rows k k_in d) (as_long m k c.args.r c.args.column c.requires.some) (c.requires.small k k_in) (c.requires.formed k k_in d)
-    ]
+    let b = n.below in
+    let i_in : i < m.height = omega (arith, b, h) in
+    let f : SFits w128 c.in-Some.met.value = search rules in
+    let small : AllSmall (row_of c.rows.links i) = small_row c.args.column (turned c.args.column (row_of m c.args.r)) (row_of m i) (row_of c.rows.links i) (v.rows i i_in n.other) (as_long m i c.args.r c.args.column c.requires.some) (c.requires.small i i_in) (c.requires.formed i i_in n.other) in
+    simp to_z-of_z (subst (λ z. unsigned_abs z < 2 ^ 127) n.met (small c.args.column))
+
+pub clear_row-requires-clause-factors : goal.clear_row-requires-clause-factors
+clear_row-requires-clause-factors c =
+    let m = c.args.links.now in
+    let v = c.rows.invariant in
+    let n = c.in-Some.ensures in
+    let f : SFits w128 c.get-pivot.result = search rules in
+    let g : SFits w128 c.in-Some.met.value = search rules in
+    let p : entry (row_of c.rows.links c.args.r) c.args.column ≡ c.get-pivot.result = ap (λ (w : Row). entry w c.args.column) v.pivot ∙ entry-row_of m c.args.r c.args.column c.requires.column ∙ sym c.get-pivot.ensures in
+    (simp to_z-of_z at c.factors_of-factors.ensures) c.args.column (row_of c.rows.links c.args.r) (row_of c.rows.links c.in-Some.met.at) p n.met
 
 pub clear_row-requires-clause-room : goal.clear_row-requires-clause-room
 clear_row-requires-clause-room c = let w = c.rows.invariant.width in let h = c.requires.room in let l = c.rows.auto.entries in omega (arith, w, h, l)
@@ -50,13 +77,13 @@ pub clear_row-requires-clause-formed : goal.clear_row-requires-clause-formed
 clear_row-requires-clause-formed c =
     let m = c.args.links.now in
     let v = c.rows.invariant in
-    let i = c.in-Some.i in
+    let i = c.in-Some.met.at in
     let n = c.in-Some.ensures in
     let h = v.height in
     let b = n.below in
     let i_in : i < m.height = omega (arith, b, h) in
     let by = turned c.args.column (row_of m c.args.r) in
-    let was = was_row c.args.column by (row_of m i) (row_of c.rows.links i) (v.rows i i_in n.other) (as_long m i c.args.r c.args.column c.requires.some) (turned-positive c.args.column (row_of m c.args.r) c.requires.some) n.met in
+    let was = was_row c.args.column by (row_of m i) (row_of c.rows.links i) (v.rows i i_in n.other) (as_long m i c.args.r c.args.column c.requires.some) (turned-positive c.args.column (row_of m c.args.r) c.requires.some) (λ z. n.some (sym n.met ∙ z)) in
     subst (λ (w : Row). IsRowFormed c.args.column (turned c.args.column w) (row_of c.rows.links i)) (sym v.pivot) (subst (IsRowFormed c.args.column by) (sym was) (c.requires.formed i i_in n.other))
 
 pub rows-smaller : goal.rows-smaller
@@ -65,7 +92,7 @@ rows-smaller c =
     let now = c.rows.links in
     let next = c.clear_row.new.links in
     let v = c.rows.invariant in
-    let i = c.in-Some.i in
+    let i = c.in-Some.met.at in
     let n = c.in-Some.ensures in
     let cl = c.clear_row.ensures in
     let w = v.width in
@@ -74,8 +101,8 @@ rows-smaller c =
     let in_next : column < next.width = let h = cl.width in omega (arith, in_column, h) in
     let some : entry (row_of now c.args.r) column ≢ pos 0 = subst (λ (x : Row). entry x column ≢ pos 0) (sym v.pivot) c.requires.some in
     let zero : number_at next i column ≡ pos 0 = sym (entry-row_of next i column in_next) ∙ ap (λ (x : Row). entry x column) cl.row
-    ∙ eliminated_there column (turned column (row_of now c.args.r)) (row_of now i) (as_long now i c.args.r column some) (turned-positive column (row_of now c.args.r) some) n.met in
-    let met : number_at now i column ≢ pos 0 = λ z. n.met (entry-row_of now i column in_column ∙ z) in
+    ∙ eliminated_there column (turned column (row_of now c.args.r)) (row_of now i) (as_long now i c.args.r column some) (turned-positive column (row_of now c.args.r) some) (λ z. n.some (sym n.met ∙ z)) in
+    let met : number_at now i column ≢ pos 0 = λ z. n.some (sym n.met ∙ entry-row_of now i column in_column ∙ z) in
     subst (λ k. some_count (listed k (λ q. number_at next q column)) < some_count (listed now.height (λ q. number_at now q column))) (sym cl.height)
     (some_count-less now.height (λ q. number_at now q column) (λ q. number_at next q column) i n.below met zero (λ q lt other. number_of_row next now q q column in_next in_column (cl.same q other)))
 
@@ -85,7 +112,7 @@ rows-preserved c =
     let now = c.rows.links in
     let next = c.clear_row.new.links in
     let v = c.rows.invariant in
-    let i = c.in-Some.i in
+    let i = c.in-Some.met.at in
     let n = c.in-Some.ensures in
     let cl = c.clear_row.ensures in
     let h = v.height in
@@ -93,7 +120,7 @@ rows-preserved c =
     let i_in : i < m.height = omega (arith, b, h) in
     let column = c.args.column in
     let by = turned column (row_of m c.args.r) in
-    let was = was_row column by (row_of m i) (row_of now i) (v.rows i i_in n.other) (as_long m i c.args.r column c.requires.some) (turned-positive column (row_of m c.args.r) c.requires.some) n.met in
+    let was = was_row column by (row_of m i) (row_of now i) (v.rows i i_in n.other) (as_long m i c.args.r column c.requires.some) (turned-positive column (row_of m c.args.r) c.requires.some) (λ z. n.some (sym n.met ∙ z)) in
     let cleared : row_of next i ≡ eliminated column by (row_of m i) = cl.row ∙ ap (λ (w : Row). eliminated column (turned column w) (row_of now i)) v.pivot ∙ ap (eliminated column by) was in
     record {
       height = cl.height ∙ v.height;

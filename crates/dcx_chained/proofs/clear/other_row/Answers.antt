@@ -2,7 +2,7 @@
 use Rattle.std.proofs.Common.{arith, ap, ◌∙◌, inl, inr}
 use Rattle.std.proofs.lemmas.Bool.{cases_lt}
 use Rattle.dcx_links.specs.Walks.{Walk}
-use Rattle.dcx_chained.proofs.Columns.{met_below, met_there, none_met, none_over}
+use Rattle.dcx_chained.proofs.Columns.{met_below, met_is, none_met, none_over}
 use Rattle.dcx_chained.proofs.Formed.{if_none}
 use Rattle.dcx_chained.proofs.clear.other_row.Goals as goal
 
@@ -17,7 +17,10 @@ pub returns-then-first-r-clause-below : goal.returns-then-first-r-clause-below
 returns-then-first-r-clause-below c = met_below c.args.links.now c.args.column c.column-walk.result c.in_ok-first.first (ap (λ (x : Walk). x.numbers) c.column-walk.ensures) c.requires c.in_ok-first.ensures.steps.0
 
 pub returns-then-first-r-clause-met : goal.returns-then-first-r-clause-met
-returns-then-first-r-clause-met c = met_there c.args.links.now c.args.column c.column-walk.result c.in_ok-first.first (ap (λ (x : Walk). x.numbers) c.column-walk.ensures) c.requires c.in_ok-first.ensures.steps.0
+returns-then-first-r-clause-met c = met_is c.args.links.now c.args.column c.column-walk.result c.in_ok-first.first (ap (λ (x : Walk). x.numbers) c.column-walk.ensures) c.requires c.in_ok-first.ensures.steps.0
+
+pub returns-then-first-r-clause-some : goal.returns-then-first-r-clause-some
+returns-then-first-r-clause-some c = c.in_ok-first.ensures.steps.0.some
 
 pub returns-in_err-second-clause-none : goal.returns-in_err-second-clause-none
 returns-in_err-second-clause-none c = if_none c.from_residual-in_err-second.result (λ i lt other.
@@ -45,4 +48,7 @@ returns-clause-other c = λ e.
     omega (arith, from, b, r, e)
 
 pub returns-clause-met : goal.returns-clause-met
-returns-clause-met c = met_there c.args.links.now c.args.column c.next.new.self c.in_ok-second.second (ap (λ (x : Walk). x.numbers) c.in_ok-first.ensures.steps.1 ∙ ap (λ (x : Walk). x.numbers) c.column-walk.ensures) c.requires c.in_ok-second.ensures.steps.0
+returns-clause-met c = met_is c.args.links.now c.args.column c.next.new.self c.in_ok-second.second (ap (λ (x : Walk). x.numbers) c.in_ok-first.ensures.steps.1 ∙ ap (λ (x : Walk). x.numbers) c.column-walk.ensures) c.requires c.in_ok-second.ensures.steps.0
+
+pub returns-clause-some : goal.returns-clause-some
+returns-clause-some c = c.in_ok-second.ensures.steps.0.some

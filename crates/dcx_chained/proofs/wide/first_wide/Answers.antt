@@ -1,11 +1,13 @@
 -- The walk comes to the next row that the pivot's column meets.
-use Rattle.std.proofs.Common.{arith, ◌≡◌, ◌≢◌, ◌+◌, length, sym, ap, ◌∙◌, subst, inl, inr}
+use Rattle.std.proofs.Common.{rules, arith, ◌≡◌, ◌≢◌, ◌+◌, ◌<◌, ◌^◌, length, pos, unsigned_abs, sym, ap, ◌∙◌, subst, inl, inr, to_z-of_z, SFits}
+use Rattle.std.specs.Int.{w128}
 use Rattle.std.proofs.lemmas.Bool.{cases_eq, cases_lt}
+use Rattle.dcx_tab.specs.Rows.{entry}
 use Rattle.dcx_tab.specs.Pivot.{turned, IsRowFormed}
 use Rattle.dcx_links.specs.Matrix.{row_of}
 use Rattle.dcx_links.specs.Walks.{Walk}
-use Rattle.dcx_chained.proofs.RowReads.{length-column_of}
-use Rattle.dcx_chained.proofs.Columns.{met_there, none_met, none_over}
+use Rattle.dcx_chained.proofs.RowReads.{length-column_of, entry-row_of}
+use Rattle.dcx_chained.proofs.Columns.{met_below, met_there, met_is, none_met, none_over}
 use Rattle.dcx_chained.proofs.Pivoted.{first_wide_at, all_rows_formed}
 use Rattle.dcx_chained.proofs.wide.first_wide.Goals as goal
 
@@ -22,6 +24,41 @@ rows-smaller c =
     let l = ap (λ (w : Walk). length w.numbers) s.1 in
     let f = ap (λ (w : Walk). w.from) s.1 in
     omega (arith, a, b, l, f)
+
+pub factors_of-factors-requires-clause-some : goal.factors_of-factors-requires-clause-some
+factors_of-factors-requires-clause-some c =
+    let m = c.args.links.now in
+    let f : SFits w128 c.get-pivot.result = search rules in
+    let e : entry (row_of m c.args.r) c.args.column ≡ c.get-pivot.result = entry-row_of m c.args.r c.args.column c.requires.column ∙ sym c.get-pivot.ensures in
+    simp to_z-of_z (subst (λ z. z ≢ pos 0) e c.requires.some)
+
+pub factors_of-factors-requires-clause-small_pivot : goal.factors_of-factors-requires-clause-small_pivot
+factors_of-factors-requires-clause-small_pivot c =
+    let m = c.args.links.now in
+    let f : SFits w128 c.get-pivot.result = search rules in
+    let e : entry (row_of m c.args.r) c.args.column ≡ c.get-pivot.result = entry-row_of m c.args.r c.args.column c.requires.column ∙ sym c.get-pivot.ensures in
+    simp to_z-of_z (subst (λ z. unsigned_abs z < 2 ^ 127) e (c.requires.small c.args.r c.requires.pivot_row c.args.column))
+
+pub factors_of-factors-requires-clause-small : goal.factors_of-factors-requires-clause-small
+factors_of-factors-requires-clause-small c =
+    let m = c.args.links.now in
+    let v = c.rows.invariant in
+    let s = c.in-Some.ensures.steps in
+    let f : SFits w128 c.in-Some.met.value = search rules in
+    let below = met_below m c.args.column c.rows.walk c.in-Some.met v.numbers c.requires.column s.0 in
+    let e = met_is m c.args.column c.rows.walk c.in-Some.met v.numbers c.requires.column s.0 in
+    simp to_z-of_z (subst (λ z. unsigned_abs z < 2 ^ 127) e (c.requires.small c.in-Some.met.at below c.args.column))
+
+pub wide_in_row-requires-clause-factors : goal.wide_in_row-requires-clause-factors
+wide_in_row-requires-clause-factors c =
+    let m = c.args.links.now in
+    let v = c.rows.invariant in
+    let s = c.in-Some.ensures.steps in
+    let f : SFits w128 c.get-pivot.result = search rules in
+    let g : SFits w128 c.in-Some.met.value = search rules in
+    let p : entry (row_of m c.args.r) c.args.column ≡ c.get-pivot.result = entry-row_of m c.args.r c.args.column c.requires.column ∙ sym c.get-pivot.ensures in
+    let a = met_is m c.args.column c.rows.walk c.in-Some.met v.numbers c.requires.column s.0 in
+    (simp to_z-of_z at c.factors_of-factors.ensures) c.args.column (row_of m c.args.r) (row_of m c.in-Some.met.at) p a
 
 pub wide_in_row-requires-clause-row : goal.wide_in_row-requires-clause-row
 wide_in_row-requires-clause-row c =
