@@ -1,0 +1,64 @@
+//! Runs over both tableaus, compared.
+ghost use Rattle.std.specs.Prelude.{◌≡◌, ◌<◌, length};
+
+use crate::told::tell;
+use anyhow::Result;
+use dcx_chained::Chained;
+use dcx_simplex::{LpEnd, solve};
+use dcx_tab::{Dense, Program, Tableau};
+
+/// Whether both tableaus have the same row `i`.
+fn is_same_row<T: Tableau, U: Tableau>(one: &T, other: &U, i: u32) -> bool
+    requires row { i < length (T.table one.now).rows }
+    requires other_row { i < length (U.table other.now).rows }
+    requires columns { (T.table one.now).columns ≡ (U.table other.now).columns }
+{
+    for j in 0..one.columns() + 3 {
+        if one.entry(i, j) != other.entry(i, j) {
+            return false;
+        }
+    }
+    true
+}
+
+/// Whether both tableaus are of one size and have the same basis and entries.
+fn is_same<T: Tableau, U: Tableau>(one: &T, other: &U) -> bool {
+    let rows = one.rows();
+    if rows != other.rows() || one.columns() != other.columns() || one.plain() != other.plain() {
+        return false;
+    }
+    for i in 0..rows {
+        if one.basis(i) != other.basis(i) {
+            return false;
+        }
+    }
+    for i in 0..rows + 2 {
+        if !is_same_row(one, other, i) {
+            return false;
+        }
+    }
+    true
+}
+
+/// Runs the program over both tableaus under each limit of pivots, and tells the first limit under which the runs differ, or
+/// how the runs end where the limit isn't met.
+pub(crate) fn compare(
+    rt: &(impl Print + AllocGlobal),
+    name: &str,
+    program: &Program,
+) -> Result<()> {
+    for limit in 0..1000u64 {
+        let mut dense = Dense::build(rt.alloc(), program)?;
+        let mut linked = Chained::build(rt.alloc(), program)?;
+        let end = solve(&mut dense, limit);
+        if solve(&mut linked, limit) != end || !is_same(&dense, &linked) {
+            println!(rt; "{name}: differs under the limit {limit}")?;
+            return Ok(());
+        }
+        if !matches!(end, LpEnd::PivotLimit { .. }) {
+            return tell(rt, name, &linked, end);
+        }
+    }
+    println!(rt; "{name}: more than 999 pivots")?;
+    Ok(())
+}
