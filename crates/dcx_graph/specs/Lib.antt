@@ -1,6 +1,0 @@
--- What the contracts of this crate cite.
-pub mod Forming
-pub mod Entries
-pub mod Standing
-pub mod Parts
-pub mod Sums
