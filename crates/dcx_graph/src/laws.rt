@@ -1,0 +1,14 @@
+//! Laws of the program of a problem. Each function is a law: its clause is a statement about all of them, and the body is empty.
+ghost use Rattle.std.specs.Prelude.{◌≡◌, ℕ, Result};
+ghost use Rattle.dcx_frac.specs.declared.fraction.Passes.{Passes};
+ghost use Rattle.dcx_convex.specs.Rules.{Rules};
+ghost use Rattle.dcx_tree.specs.declared.problem.Problem.{Problem};
+ghost use Rattle.dcx_entries.specs.Nodes.{Table};
+ghost use Rattle.dcx_graph.specs.Program.{Program, GivesProgram};
+
+use dcx_linear::Coef;
+
+/// A problem whose nodes are formed has one program, or one operation that passes first, at one row.
+pub fn one_program<C: Coef>()
+    ensures { (rules : Rules) (p : Problem) (table : Table C) (r s : Result (Program C) (ℕ × Passes)) → GivesProgram C.of_number C.number_of C.sum_gives C.change_gives rules p table r → GivesProgram C.of_number C.number_of C.sum_gives C.change_gives rules p table s → r ≡ s }
+{}
