@@ -73,6 +73,16 @@ graph_origin r = origins.Graph r.node r.entry r.row
 abbrev pub origins_of : {C : Type 0} → List ConstraintEntry → List (FormedRow C) → List Origin
 origins_of xs graph = map entry_origin xs ++ map graph_origin graph
 
+-- ---- forms
+-- the form of entry e of node a, and 0 past its end
+abbrev pub form_at : {C : Type 0} → (Frac → C) → List (List (Form C)) → ℕ → ℕ → Form C
+form_at of_number forms a e = slice_index_or (slice_index_or forms a []) e (zero_form of_number)
+
+-- what is to be small, where the form of the objective is f: what is to be large is scaled by -1
+abbrev pub Least : {C : Type 0} → (C → Option Frac) → (Change → C → Result C Passes → Type 0) → Sense → Form C → Result (Form C) Passes → Type 0
+Least number_of Changes Minimize f r = r ≡ Ok f
+Least number_of Changes Maximize f r = change_gives_linear number_of Changes (Scale minus_one) f r
+
 -- ---- rows
 -- the row of a graph
 abbrev pub graph_row : {C : Type 0} → FormedRow C → Row C
@@ -89,13 +99,9 @@ OfKind kind F (Ok r) = (r.kind ≡ kind) × F (Ok r.form)
 OfKind kind F (Err passes) = F (Err passes)
 
 module _ {C : Type 0} (of_number : Frac → C) (number_of : C → Option Frac) (Sums : C → C → Result C Passes → Type 0) (Changes : Change → C → Result C Passes → Type 0) where
-  -- the form of entry e of node a, and 0 past its end
-  abbrev pub form_at : List (List (Form C)) → ℕ → ℕ → Form C
-  form_at forms a e = slice_index_or (slice_index_or forms a []) e (zero_form of_number)
-
   -- what forming the row of an entry of a constraint answers: left minus right, which is scaled by -1 and added
   abbrev pub EntryRow : List (List (Form C)) → ConstraintEntry → Result (Row C) Passes → Type 0
-  EntryRow forms x r = OfKind x.kind (adds_part number_of Sums Changes (form_at forms x.left.0 x.entry) (Scale minus_one) (form_at forms x.right.0 x.entry)) r
+  EntryRow forms x r = OfKind x.kind (adds_part number_of Sums Changes (form_at of_number forms x.left.0 x.entry) (Scale minus_one) (form_at of_number forms x.right.0 x.entry)) r
 
   -- the same of row n, which is that of one of these entries
   abbrev pub RowOf : List (List (Form C)) → List ConstraintEntry → ℕ → Result (Row C) (ℕ × Passes) → Type 0
@@ -105,13 +111,9 @@ module _ {C : Type 0} (of_number : Frac → C) (number_of : C → Option Frac) (
   abbrev pub EntryRows : List (List (Form C)) → List ConstraintEntry → Result (List (Row C)) (ℕ × Passes) → Type 0
   EntryRows forms xs r = FormsEach (RowOf forms xs) (length xs) r
 
-  -- what is to be small, where the form of the objective is f: what is to be large is scaled by -1
-  abbrev pub Least : Sense → Form C → Result (Form C) Passes → Type 0
-  Least Minimize f r = r ≡ Ok f
-  Least Maximize f r = change_gives_linear number_of Changes (Scale minus_one) f r
-
+  -- what is to be small
   abbrev pub Objective : Problem → List (List (Form C)) → Result (Form C) Passes → Type 0
-  Objective p forms r = Least p.sense (form_at forms p.objective.0 0) r
+  Objective p forms r = Least number_of Changes p.sense (form_at of_number forms p.objective.0 0) r
 
   -- ---- where the forms of the nodes, the rows of their graphs and the kinds of the unknowns are these
   module _ (p : Problem) (forms : List (List (Form C))) (graph : List (FormedRow C)) where

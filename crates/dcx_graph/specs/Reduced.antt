@@ -1,19 +1,13 @@
 -- A reduced program as contracts see it.
 use Rattle.std.specs.Prelude.{◌≡◌, ◌<◌, ◌^◌, Bool, List, length}
 use Rattle.dcx_linear.specs.declared.row.Row.{Row}
-use Rattle.dcx_linear.specs.declared.rows.Rows.{Rows}
 use Rattle.dcx_graph.specs.declared.origin.Origin.{Origin}
 use Rattle.dcx_graph.specs.Program.{Program}
 
--- the rows, where they come from, and whether the values of the parameters were put in
+-- the program, and whether the values of the parameters were put in
 pub record Reduction (C : Type 0) : Type 0 where
-  pub rows : Rows C
-  pub origins : List Origin
+  pub program : Program C
   pub from_map : Bool
-
--- the program
-abbrev pub program_in : {C : Type 0} → Reduction C → Program C
-program_in q = record { rows = q.rows.rows; objective = q.rows.objective; kinds = q.rows.kinds; origins = q.origins }
 
 -- each row has one origin, and a number of 32 bits
 pub record HasOrigins {C : Type 0} (rows : List (Row C)) (origins : List Origin) : Type 0 where

@@ -1,6 +1,5 @@
 //! A program with affine coefficients, at a setting.
 ghost use Rattle.std.specs.Prelude.{◌≡◌, true, IfOk};
-ghost use Rattle.dcx_graph.specs.Reduced.{program_in};
 ghost use Rattle.dcx_graph.specs.Stops.{TellsBy};
 ghost use Rattle.dcx_graph.specs.Fixing.{IsListedProgram, FixGives};
 
@@ -22,8 +21,8 @@ pub fn fix(
     reduced: &Reduced<ParamForm>,
     setting: &Setting,
 ) -> Result<Reduced<Frac>, ReduceStop>
-    requires { IsListedProgram setting.now (program_in reduced.now) }
-    ensures program { TellsBy Site.Map result program_in (FixGives setting.now (program_in reduced.now)) }
+    requires { IsListedProgram setting.now reduced.now.program }
+    ensures program { TellsBy Site.Map result (λ q. q.program) (FixGives setting.now reduced.now.program) }
     ensures from_map { IfOk result (λ q. q.from_map ≡ true) }
 {
     let origins = Vec::from_slice(alloc, reduced.origins())?;

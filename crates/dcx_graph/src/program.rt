@@ -10,7 +10,7 @@ ghost use Rattle.dcx_unknowns.specs.Layout.{constraint_rows, unknown_kinds};
 ghost use Rattle.dcx_entries.specs.Standing.{all_forms};
 ghost use Rattle.dcx_entries.specs.Kept.{IsKept};
 ghost use Rattle.dcx_graph.specs.Program.{graph_row, GivesProgramWith, GivesProgram};
-ghost use Rattle.dcx_graph.specs.Reduced.{HasOrigins, program_in};
+ghost use Rattle.dcx_graph.specs.Reduced.{HasOrigins};
 ghost use Rattle.dcx_graph.specs.Stops.{TellsBy};
 
 use crate::constraint::constraint_entries;
@@ -66,7 +66,7 @@ fn finished<C: Coef>(
     requires origins { HasOrigins (asked.rows.items ++ map graph_row graph.items) asked.origins.items }
     requires rows { rows_width (asked.rows.items ++ map graph_row graph.items) ≤ length kinds }
     requires objective { form_width asked.objective ≤ length kinds }
-    ensures program { TellsBy Site.Row result program_in (λ r. r ≡ Ok (record { rows = asked.rows.items ++ map graph_row graph.items; objective = asked.objective; kinds = kinds; origins = asked.origins.items })) }
+    ensures program { TellsBy Site.Row result (λ q. q.program) (λ r. r ≡ Ok (record { rows = asked.rows.items ++ map graph_row graph.items; objective = asked.objective; kinds = kinds; origins = asked.origins.items })) }
     ensures from_map { IfOk result (λ q. q.from_map ≡ false) }
 {
     let Asked {
@@ -97,7 +97,7 @@ pub(crate) fn program<C: Coef>(
     requires few { sum_by constraint_rows problem.now.constraints + length formed.rows < 2 ^ 32 }
     requires roots { All (λ a. All (λ f. form_width f ≤ length kinds) (slice_index_or (all_forms C.of_number formed.standing) a [])) (roots_of problem.now.objective problem.now.constraints) }
     requires rows { All (λ r. form_width r.form ≤ length kinds) formed.rows }
-    ensures program { (rules : Rules) (setting : Pairs) (kept : IsKept C.of_number C.number_of C.sum_gives C.change_gives C.parameter_gives rules problem.now setting formed) → kinds ≡ unknown_kinds rules problem.now → TellsBy Site.Row result program_in (GivesProgram C.of_number C.number_of C.sum_gives C.change_gives rules problem.now kept.table) }
+    ensures program { (rules : Rules) (setting : Pairs) (kept : IsKept C.of_number C.number_of C.sum_gives C.change_gives C.parameter_gives rules problem.now setting formed) → kinds ≡ unknown_kinds rules problem.now → TellsBy Site.Row result (λ q. q.program) (GivesProgram C.of_number C.number_of C.sum_gives C.change_gives rules problem.now kept.table) }
     ensures from_map { IfOk result (λ q. q.from_map ≡ false) }
 {
     let Formed { standing, rows } = formed;

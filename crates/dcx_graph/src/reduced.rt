@@ -19,7 +19,7 @@ impl<C: Coef> Model for Reduced<C> {
 
     ghost Value = { Reduction C };
 
-    ghost view = { λ x. record { rows = x.rows; origins = x.origins.items; from_map = x.from_map } };
+    ghost view = { λ x. record { program = record { rows = x.rows.rows; objective = x.rows.objective; kinds = x.rows.kinds; origins = x.origins.items }; from_map = x.from_map } };
 
     ghost invariant = { λ x. HasOrigins x.rows.rows x.origins.items };
 }
@@ -28,7 +28,7 @@ impl<C: Coef> Reduced<C> {
     /// The program of these rows and origins. Takes no memory.
     pub(crate) fn new(rows: Rows<C>, origins: Vec<Origin>, from_map: bool) -> Reduced<C>
         requires { HasOrigins rows.rows origins.items }
-        ensures { result ≡ record { rows = rows; origins = origins.items; from_map = from_map } }
+        ensures { result ≡ record { program = record { rows = rows.rows; objective = rows.objective; kinds = rows.kinds; origins = origins.items }; from_map = from_map } }
     {
         Reduced {
             rows,
@@ -39,23 +39,25 @@ impl<C: Coef> Reduced<C> {
 
     /// The rows. Takes no memory.
     pub fn rows(&self) -> &Rows<C>
-        ensures { result.now ≡ self.now.rows }
+        ensures rows { result.now.rows ≡ self.now.program.rows }
+        ensures objective { result.now.objective ≡ self.now.program.objective }
+        ensures kinds { result.now.kinds ≡ self.now.program.kinds }
     {
         &self.rows
     }
 
     /// Where a row comes from. Takes no memory.
     pub fn origin(&self, row: u32) -> Origin
-        requires { row < length self.now.rows.rows }
-        ensures { slice_get self.now.origins row ≡ Some result }
+        requires { row < length self.now.program.rows }
+        ensures { slice_get self.now.program.origins row ≡ Some result }
     {
         self.origins[row as usize]
     }
 
     /// Where the rows come from, in order.
     pub(crate) fn origins(&self) -> &[Origin]
-        ensures items { result.now ≡ self.now.origins }
-        ensures kept { HasOrigins self.now.rows.rows self.now.origins }
+        ensures items { result.now ≡ self.now.program.origins }
+        ensures kept { HasOrigins self.now.program.rows self.now.program.origins }
     {
         self.origins.as_slice()
     }

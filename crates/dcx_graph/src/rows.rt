@@ -72,7 +72,7 @@ pub(crate) fn objective<C: Coef>(
     standing: &[Standing<C>],
     number: u32,
 ) -> Result<Form<C>, ReduceStop>
-    ensures { Tells Site.Row result (AtRow number (Objective C.of_number C.number_of C.change_gives problem.now (all_forms C.of_number standing.now))) }
+    ensures { Tells Site.Row result (AtRow number (Objective C.of_number C.number_of C.sum_gives C.change_gives problem.now (all_forms C.of_number standing.now))) }
 {
     let entry = node_entry(standing, problem.objective, 0);
     match least(alloc, problem.sense, &entry) {
