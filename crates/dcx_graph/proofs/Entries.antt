@@ -3,6 +3,7 @@ use Rattle.std.proofs.Common.{◌≡◌, ℕ, zero, suc, ◌+◌, List, [], ◌�
 use Rattle.std.specs.Prelude.{sum_by}
 use Rattle.std.specs.List.{All}
 use Rattle.std.proofs.lemmas.Option.{slice_get_within, get_or_from_slice_get}
+use Rattle.std.proofs.lemmas.List.Sums.{sum_by-cons}
 use Rattle.std.proofs.lemmas.List.Elements.{All-nil, All-head, All-tail, All-append, All-push}
 use Rattle.dcx_atom.specs.Arrays.{list_below}
 use Rattle.dcx_atom.proofs.BoundRows.{length-list_below}
@@ -22,6 +23,7 @@ entries-length k [] = refl
 entries-length k (c ∷ cs) =
     length-append (entries_in k c) (entries_from (suc k) cs)
     ∙ ap₂ ◌+◌ (length-list_below (constraint_rows c) (λ e. record { constraint = k; entry = e; kind = row_kind c.kind; left = c.left; right = c.right })) (entries-length (suc k) cs)
+    ∙ sym (sum_by-cons constraint_rows c cs)
 
 -- ---- what holds of the sides of constraints, holds of those of their entries
 module _ (P : ℕ → Type 0) where

@@ -1,5 +1,5 @@
 -- The program depends on the forms of the objective and of the sides of constraints alone.
-use Rattle.std.proofs.Common.{◌≡◌, ◌⊎◌, ℕ, ◌+◌, ◌<◌, List, [], ◌∷◌, ◌++◌, length, map, Option, Some, Result, Ok, Err, slice_get, slice_index_or, inl, inr, refl, sym, ap, subst}
+use Rattle.std.proofs.Common.{◌≡◌, ◌⊎◌, ℕ, ◌+◌, ◌<◌, List, [], ◌∷◌, ◌++◌, length, map, Option, Some, Result, Ok, Err, slice_get, slice_index_or, inl, inr, refl, sym, ap, ◌∙◌, subst}
 use Rattle.std.specs.List.{All}
 use Rattle.std.proofs.lemmas.List.Elements.{All-head, All-tail}
 use Rattle.dcx_frac.specs.declared.fraction.Frac.{Frac}
@@ -15,9 +15,17 @@ use Rattle.dcx_linear.specs.Parts.{adds_part}
 use Rattle.dcx_entries.specs.declared.formed.FormedRow.{FormedRow}
 use Rattle.dcx_entries.specs.Forming.{FormsEach}
 use Rattle.dcx_entries.specs.Parts.{zero_form}
+use Rattle.dcx_entries.specs.declared.formed.Formed.{Formed}
+use Rattle.dcx_entries.specs.declared.standing.Standing.{Standing}
+use Rattle.dcx_entries.specs.Nodes.{table_forms}
+use Rattle.dcx_entries.specs.Standing.{all_forms}
+use Rattle.dcx_entries.specs.Kept.{IsKept, graph_rows}
+use Rattle.dcx_point.specs.Pairs.{Pairs}
+use Rattle.dcx_convex.specs.Rules.{Rules}
+use Rattle.dcx_unknowns.specs.Layout.{unknown_kinds}
 use Rattle.dcx_graph.specs.declared.constraint.ConstraintEntry.{ConstraintEntry}
 use Rattle.dcx_graph.specs.declared.origin.Origin.{Origin}
-use Rattle.dcx_graph.specs.Program.{Program, minus_one, constraint_entries, origins_of, graph_row, AtRow, OfKind, form_at, Least, EntryRow, RowOf, EntryRows, Objective, IsProgramWith, IsRowStopWith, GivesProgramWith}
+use Rattle.dcx_graph.specs.Program.{Program, minus_one, constraint_entries, origins_of, graph_row, AtRow, OfKind, form_at, Least, EntryRow, RowOf, EntryRows, Objective, IsProgramWith, IsRowStopWith, GivesProgramWith, GivesProgram}
 use Rattle.dcx_graph.proofs.Entries.{all_at, HasBoth, entries_have}
 
 -- each answer of forming carries over
@@ -91,3 +99,15 @@ module _ {C : Type 0} (of_number : Frac → C) (number_of : C → Option Frac) (
         kinds_are = refl;
         origins_are = subst (λ ys. origins ≡ origins_of ys graph) all come;
       }
+
+  -- ---- what is kept of the nodes
+  module _ (Reads : ℕ → List ℕ → ℕ → Pairs → C → Type 0) (rules : Rules) (setting : Pairs) (formed : Formed C) (kept : IsKept of_number number_of Sums Changes Reads rules p setting formed)
+      (standing : List (Standing C)) (graph : List (FormedRow C)) (kinds : List UnknownKind) (stand : standing ≡ formed.standing) (rows : graph ≡ formed.rows) (known : kinds ≡ unknown_kinds rules p) where
+    kept_agree : All (Agree (all_forms of_number standing) (table_forms kept.table)) (roots_of p.objective p.constraints)
+    kept_agree = subst (λ ss. All (Agree (all_forms of_number ss) (table_forms kept.table)) (roots_of p.objective p.constraints)) (sym stand) kept.roots
+
+    -- its program is that of the nodes by the rules
+    pub kept_program : (r : Result (Program C) (ℕ × Passes)) → GivesProgramWith of_number number_of Sums Changes p (all_forms of_number standing) graph kinds r → GivesProgram of_number number_of Sums Changes rules p kept.table r
+    kept_program r h =
+        subst (λ ks. GivesProgramWith of_number number_of Sums Changes p (table_forms kept.table) (graph_rows of_number kept.table) ks r) known
+        (subst (λ rs. GivesProgramWith of_number number_of Sums Changes p (table_forms kept.table) rs kinds r) (rows ∙ kept.rows) (program_carried (all_forms of_number standing) (table_forms kept.table) kept_agree graph kinds r h))

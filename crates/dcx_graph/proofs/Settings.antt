@@ -6,6 +6,10 @@ use Rattle.dcx_point.specs.Pairs.{Pairs}
 use Rattle.dcx_linear.specs.declared.param_form.ParamForm.{ParamForm}
 use Rattle.dcx_linear.specs.declared.form.Form.{Form}
 use Rattle.dcx_linear.specs.declared.row.Row.{Row}
+use Rattle.dcx_linear.specs.declared.row.UnknownKind.{UnknownKind}
+use Rattle.dcx_linear.specs.declared.map_stop.MapStop.{MapStop}
+use Rattle.dcx_linear.specs.declared.map_stop.MapStop.TheVariants as stops
+use Rattle.dcx_linear.specs.MapStops.{OnRow}
 use Rattle.dcx_linear.specs.FormsAt.{with_form, at_row, form_on_row, then_row, rows_at, form_at, ProgramOf, program_gives}
 
 -- the operation passes at the row of the form
@@ -42,3 +46,12 @@ module _ (setting : Pairs) where
   pub program-stop : (q : ProgramOf ParamForm) (s : ℕ × Passes) → program_gives setting q (Err s) → s.0 ≤ length q.0
   program-stop q s (inl h) = let b = rows_at-stop 0 q.0 s h in omega (arith, b)
   program-stop q s (inr h) = let b = on_row-stop (length q.0) (form_at setting q.1) s h.1 in omega (arith, b)
+
+  -- what passes is told with its row
+  pub told-stop : (q : ProgramOf ParamForm) (stop : MapStop) (row : ℕ) (passes : Passes) → stop ≡ stops.Passes row passes → OnRow stop (λ s. program_gives setting q (Err s)) → program_gives setting q (Err (row, passes))
+  told-stop q stop row passes e h = subst (λ t. OnRow t (λ s. program_gives setting q (Err s))) e h
+
+  -- the same of a program with the same parts
+  pub same_parts : (rows others : List (Row ParamForm)) (f g : Form ParamForm) (kinds more : List UnknownKind) → rows ≡ others → f ≡ g → kinds ≡ more → (r : Result (ProgramOf Frac) (ℕ × Passes)) → program_gives setting (rows, f, kinds) r → program_gives setting (others, g, more) r
+  same_parts rows others f g kinds more a b d r h =
+      subst (λ ks. program_gives setting (others, g, ks) r) d (subst (λ x. program_gives setting (others, x, kinds) r) b (subst (λ rs. program_gives setting (rs, f, kinds) r) a h))
