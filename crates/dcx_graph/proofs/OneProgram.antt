@@ -1,5 +1,5 @@
 -- A problem whose nodes are formed has one program, or one first operation that passes.
-use Rattle.std.proofs.Common.{◌≡◌, ◌⊎◌, ℕ, ◌+◌, List, [], ◌∷◌, ◌++◌, length, map, Option, Some, Result, Ok, Err, slice_get, inl, inr, refl, sym, ap, ap₂, ◌∙◌, subst}
+use Rattle.std.proofs.Common.{◌≡◌, ℕ, ◌+◌, List, [], ◌∷◌, ◌++◌, length, map, Option, Result, Ok, Err, inl, inr, refl, sym, ap, ap₂, ◌∙◌, subst}
 use Rattle.dcx_frac.specs.declared.fraction.Frac.{Frac}
 use Rattle.dcx_frac.specs.declared.fraction.Passes.{Passes}
 use Rattle.dcx_tree.specs.declared.problem.Problem.{Problem}
@@ -18,10 +18,10 @@ use Rattle.dcx_entries.specs.declared.formed.FormedRow.{FormedRow}
 use Rattle.dcx_entries.proofs.OneAnswer.{one_each}
 use Rattle.dcx_graph.specs.declared.constraint.ConstraintEntry.{ConstraintEntry}
 use Rattle.dcx_graph.specs.declared.origin.Origin.{Origin}
-use Rattle.dcx_graph.specs.Program.{Program, minus_one, constraint_entries, graph_row, AtRow, OfKind, form_at, Least, EntryRow, RowOf, EntryRows, Objective, IsProgramWith, GivesProgramWith}
+use Rattle.dcx_graph.specs.Program.{Program, minus_one, constraint_entries, graph_row, AtRow, OfKind, form_at, Least, EntryRow, RowOf, EntryRows, Objective, GivesProgramWith}
 
 -- programs with the same parts
-same_program : {C : Type 0} (q r : Program C) → q.rows ≡ r.rows → q.objective ≡ r.objective → q.kinds ≡ r.kinds → q.origins ≡ r.origins → q ≡ r
+pub same_program : {C : Type 0} (q r : Program C) → q.rows ≡ r.rows → q.objective ≡ r.objective → q.kinds ≡ r.kinds → q.origins ≡ r.origins → q ≡ r
 same_program {C} q r rows objective kinds origins =
     ap₂ (λ (x : List (Row C)) (f : Form C). record { rows = x; objective = f; kinds = q.kinds; origins = q.origins }) rows objective
     ∙ ap₂ (λ (k : List UnknownKind) (o : List Origin). record { rows = r.rows; objective = r.objective; kinds = k; origins = o }) kinds origins

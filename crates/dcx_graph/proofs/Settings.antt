@@ -1,5 +1,5 @@
 -- Which row stops a program at a setting, and how many rows there are.
-use Rattle.std.proofs.Common.{◌≡◌, ◌⊎◌, ℕ, suc, ◌+◌, ◌<◌, ◌≤◌, ◌^◌, List, [], ◌∷◌, length, Result, Ok, Err, inl, inr, refl, sym, ap, ◌∙◌, subst, arith}
+use Rattle.std.proofs.Common.{◌≡◌, ℕ, suc, ◌+◌, ◌<◌, ◌≤◌, List, [], ◌∷◌, length, Result, Ok, Err, inl, inr, refl, sym, ap, ap₂, ◌∙◌, subst, arith}
 use Rattle.dcx_frac.specs.declared.fraction.Frac.{Frac}
 use Rattle.dcx_frac.specs.declared.fraction.Passes.{Passes}
 use Rattle.dcx_point.specs.Pairs.{Pairs}
@@ -10,6 +10,9 @@ use Rattle.dcx_linear.specs.declared.row.UnknownKind.{UnknownKind}
 use Rattle.dcx_linear.specs.declared.map_stop.MapStop.{MapStop}
 use Rattle.dcx_linear.specs.declared.map_stop.MapStop.TheVariants as stops
 use Rattle.dcx_linear.specs.MapStops.{OnRow}
+use Rattle.dcx_graph.specs.Program.{Program}
+use Rattle.dcx_graph.specs.Fixing.{linear_in, FixGives}
+use Rattle.dcx_graph.proofs.OneProgram.{same_program}
 use Rattle.dcx_linear.specs.FormsAt.{with_form, at_row, form_on_row, then_row, rows_at, form_at, ProgramOf, program_gives}
 
 -- the operation passes at the row of the form
@@ -55,3 +58,30 @@ module _ (setting : Pairs) where
   pub same_parts : (rows others : List (Row ParamForm)) (f g : Form ParamForm) (kinds more : List UnknownKind) → rows ≡ others → f ≡ g → kinds ≡ more → (r : Result (ProgramOf Frac) (ℕ × Passes)) → program_gives setting (rows, f, kinds) r → program_gives setting (others, g, more) r
   same_parts rows others f g kinds more a b d r h =
       subst (λ ks. program_gives setting (others, g, ks) r) d (subst (λ x. program_gives setting (others, x, kinds) r) b (subst (λ rs. program_gives setting (rs, f, kinds) r) a h))
+
+  same_linear : (a b : ProgramOf Frac) → a.0 ≡ b.0 → a.1 ≡ b.1 → a.2 ≡ b.2 → a ≡ b
+  same_linear a b rows objective kinds = ap₂ (λ (rs : List (Row Frac)) (f : Form Frac). (rs, f, a.2)) rows objective ∙ ap (λ (ks : List UnknownKind). (b.0, b.1, ks)) kinds
+
+  -- there is one answer at a setting
+  pub one_at_setting : (q : ProgramOf ParamForm) (r s : Result (ProgramOf Frac) (ℕ × Passes)) → program_gives setting q r → program_gives setting q s → r ≡ s
+  one_at_setting q (Ok a) (Ok b) h k =
+      let rows : a.0 ≡ b.0 = let x = h.0 in let y = k.0 in cc in
+      let objective : a.1 ≡ b.1 = let x = h.1 in let y = k.1 in cc in
+      ap Ok (same_linear a b rows objective (h.2 ∙ sym k.2))
+  one_at_setting q (Ok a) (Err s) h (inl k) = let x = h.0 in cc
+  one_at_setting q (Ok a) (Err s) h (inr k) = let x = h.1 in let y = k.1 in cc
+  one_at_setting q (Err s) (Ok b) (inl h) k = let x = k.0 in cc
+  one_at_setting q (Err s) (Ok b) (inr h) k = let x = h.1 in let y = k.1 in cc
+  one_at_setting q (Err s) (Err t) (inl h) (inl k) = cc
+  one_at_setting q (Err s) (Err t) (inl h) (inr k) = let x = k.0.1 in cc
+  one_at_setting q (Err s) (Err t) (inr h) (inl k) = let x = h.0.1 in cc
+  one_at_setting q (Err s) (Err t) (inr h) (inr k) = let x = h.1 in let y = k.1 in cc
+
+  pub one_fixed : (q : Program ParamForm) (r s : Result (Program Frac) (ℕ × Passes)) → FixGives setting q r → FixGives setting q s → r ≡ s
+  one_fixed q (Ok a) (Ok b) h k =
+      let e = one_at_setting (linear_in q) (Ok (linear_in a)) (Ok (linear_in b)) h.0 k.0 in
+      let d : linear_in a ≡ linear_in b = cc in
+      ap Ok (same_program a b (ap (λ (x : ProgramOf Frac). x.0) d) (ap (λ (x : ProgramOf Frac). x.1) d) (ap (λ (x : ProgramOf Frac). x.2) d) (h.1 ∙ sym k.1))
+  one_fixed q (Ok a) (Err s) h k = let e = one_at_setting (linear_in q) (Ok (linear_in a)) (Err s) h.0 k in cc
+  one_fixed q (Err s) (Ok b) h k = let e = one_at_setting (linear_in q) (Err s) (Ok (linear_in b)) h k.0 in cc
+  one_fixed q (Err s) (Err t) h k = let e = one_at_setting (linear_in q) (Err s) (Err t) h k in let d : s ≡ t = cc in ap Err d

@@ -1,9 +1,9 @@
 -- How many rows a program has, and how wide its forms are.
-use Rattle.std.proofs.Common.{◌≡◌, ℕ, suc, ◌+◌, ◌<◌, ◌≤◌, ◌^◌, List, [], ◌∷◌, ◌++◌, length, map, Option, Some, Result, Ok, Err, slice_get, slice_index_or, get_or, refl, sym, ap, ap₂, ◌∙◌, subst, arith, length-append}
+use Rattle.std.proofs.Common.{◌≡◌, ℕ, ◌+◌, ◌<◌, ◌≤◌, ◌^◌, List, [], ◌∷◌, ◌++◌, length, map, Option, Some, Result, Ok, slice_get, slice_index_or, sym, ap, ap₂, ◌∙◌, subst, arith, length-append}
 use Rattle.std.specs.Prelude.{sum_by}
 use Rattle.std.specs.List.{All}
 use Rattle.std.proofs.lemmas.List.{length-map}
-use Rattle.std.proofs.lemmas.List.Elements.{All-nil, All-cons, All-head, All-tail, All-append, All-map}
+use Rattle.std.proofs.lemmas.List.Elements.{All-head, All-tail, All-append, All-map}
 use Rattle.std.proofs.lemmas.Option.{slice_get-get_or}
 use native.Mathlib.Decide.{dec_lt}
 use Rattle.dcx_frac.specs.declared.fraction.Frac.{Frac}
@@ -23,7 +23,6 @@ use Rattle.dcx_unknowns.specs.Layout.{constraint_rows}
 use Rattle.dcx_entries.specs.declared.formed.FormedRow.{FormedRow}
 use Rattle.dcx_entries.specs.Parts.{zero_form}
 use Rattle.dcx_entries.proofs.Past.{past_end}
-use Rattle.dcx_graph.specs.declared.constraint.ConstraintEntry.{ConstraintEntry}
 use Rattle.dcx_graph.specs.Program.{Program, minus_one, constraint_entries, entry_origin, graph_origin, graph_row, form_at, Least, RowOf, IsProgramWith}
 use Rattle.dcx_graph.specs.Reduced.{HasOrigins}
 use Rattle.dcx_graph.proofs.Entries.{all_at, HasBoth, entries-length, entries_have}

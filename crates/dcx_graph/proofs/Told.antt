@@ -1,5 +1,5 @@
 -- What stops rows, and what follows from it.
-use Rattle.std.proofs.Common.{◌≡◌, ℕ, Result, Ok, Err, inl, inr, refl, ◌∙◌}
+use Rattle.std.proofs.Common.{◌≡◌, ℕ, Result, Ok, Err, inl, inr, refl}
 use Rattle.dcx_frac.specs.declared.fraction.Passes.{Passes}
 use Rattle.dcx_answer.specs.declared.site.Site.{Site}
 use Rattle.dcx_answer.specs.declared.site.Site.TheVariants as sites

@@ -30,10 +30,7 @@ pub enum Origin {
 }
 
 /// Adds the origins of the rows of constraints, in order.
-fn push_entries(
-    origins: &mut Vec<Origin>,
-    entries: &[ConstraintEntry],
-) -> Result<(), AllocError>
+fn push_entries(origins: &mut Vec<Origin>, entries: &[ConstraintEntry]) -> Result<(), AllocError>
     ensures { OnOk result (origins.new.items ≡ origins.old.items ++ map entry_origin entries.now) }
 {
     'entries: for entry in entries {
@@ -46,10 +43,7 @@ fn push_entries(
 }
 
 /// Adds the origins of the rows of graphs, in order.
-fn push_graph<C: Coef>(
-    origins: &mut Vec<Origin>,
-    graph: &[FormedRow<C>],
-) -> Result<(), AllocError>
+fn push_graph<C: Coef>(origins: &mut Vec<Origin>, graph: &[FormedRow<C>]) -> Result<(), AllocError>
     ensures { OnOk result (origins.new.items ≡ origins.old.items ++ map graph_origin graph.now) }
 {
     'graph: for row in graph {

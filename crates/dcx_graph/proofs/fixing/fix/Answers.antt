@@ -31,5 +31,8 @@ returns-in-Err-Passes-clause-program c =
     let stop = told-stop c.args.setting.now q c.in-Err-Passes.field-0 c.in-Err-Passes.row c.in-Err-Passes.passes c.in-Err-Passes.field-0-is c.in-Err-Passes.ensures in
     let s : ℕ × Passes = (c.in-Err-Passes.row, c.in-Err-Passes.passes) in
     let before = c.args.reduced.now.program in
-    inl (s, refl,
-    same_parts c.args.setting.now c.rows.result.now.rows before.rows c.rows.result.now.objective before.objective c.rows.result.now.kinds before.kinds c.rows.ensures.rows c.rows.ensures.objective c.rows.ensures.kinds (Err s) stop)
+    inl (
+      s,
+      refl,
+      same_parts c.args.setting.now c.rows.result.now.rows before.rows c.rows.result.now.objective before.objective c.rows.result.now.kinds before.kinds c.rows.ensures.rows c.rows.ensures.objective c.rows.ensures.kinds (Err s) stop,
+    )
