@@ -7,3 +7,4 @@ pub mod Entries
 pub mod Programs
 pub mod Sizes
 pub mod OneProgram
+pub mod Counted

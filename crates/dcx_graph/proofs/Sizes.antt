@@ -55,7 +55,7 @@ form_within of_number forms n a e h = by (dec_lt e (length (slice_index_or forms
 module _ {C : Type 0} (of_number : Frac → C) (number_of : C → Option Frac) (Sums : C → C → Result C Passes → Type 0) (Changes : Change → C → Result C Passes → Type 0) (p : Problem) (forms : List (List (Form C))) (graph : List (FormedRow C)) where
   -- ---- as many origins as rows
   module _ (kinds : List UnknownKind) (q : Program C) (is : IsProgramWith of_number number_of Sums Changes p forms graph kinds q) where
-    rows-length : length q.rows ≡ length (constraint_entries p) + length graph
+    pub rows-length : length q.rows ≡ length (constraint_entries p) + length graph
     rows-length =
         ap length is.rows_are ∙ length-append is.constraints (map graph_row graph) ∙ ap₂ ◌+◌ is.constraints_are.0 (length-map graph graph_row)
 

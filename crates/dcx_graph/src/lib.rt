@@ -11,6 +11,7 @@
 //! | the rows, what is to be small and the kinds are those of the problem whose nodes are formed, in order | `program`, `specs/Program.antt`: `IsProgram` |
 //! | what stops is the first operation that passes 128 bits, with its row; what is to be small counts as the row behind all others | `program`, `specs/Program.antt`: `IsRowStopWith` |
 //! | a problem whose nodes are formed has one program | `laws::one_program` |
+//! | it has as many rows as the layout counts | `laws::rows_are_counted` |
 //! | each row has one origin: the entry of a constraint, or a row of the graph of a node | `Reduced::origin`, `specs/Program.antt`: `origins_of` |
 //! | a program at a setting has the rows at the setting, and the origins of before; there is one | `fix`, `laws::one_program_at_setting` |
 //! | it is told whether a program was put at a setting | `Reduced::from_map`, `program`, `fix` |
