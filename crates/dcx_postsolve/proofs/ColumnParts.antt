@@ -2,7 +2,7 @@
 use Rattle.std.proofs.Common.{◌≡◌, ◌≢◌, ℕ, zero, suc, ◌+◌, ◌<◌, ◌≤◌, Bool, true, false, if◌then◌else◌, List, [], ◌∷◌, ◌++◌, length, map, refl, sym, ap, ap₂, ◌∙◌, subst, add-zero, zero-add, inl, inr, ◌⊎◌, arith, pos}
 use Rattle.std.specs.Prelude.{nat_eq, sum_by}
 use Rattle.std.proofs.lemmas.Bool.{eq-eqb, ne_eqb}
-use Rattle.std.proofs.lemmas.List.{length-append}
+use Rattle.std.proofs.lemmas.List.{length-append, append_assoc, get_or_append_left}
 use Rattle.dcx_math.specs.Rational.{ℚ, whole, ◌+ℚ◌, ◌-ℚ◌, neg_ℚ}
 use Rattle.dcx_math.specs.Sums.{rat_at, rat_sum_below}
 use Rattle.dcx_math.proofs.Orders.{+ℚ_idl, +ℚ_idr, +ℚ_assoc}
@@ -16,10 +16,9 @@ use Rattle.dcx_tab.specs.declared.rows.ColumnKind.TheVariants.{Unknown, Slack, A
 use Rattle.dcx_tab.specs.declared.program.Program.{Program}
 use Rattle.dcx_tab.specs.Program.{kind_at}
 use Rattle.dcx_lp_answer.specs.Right.{turned_if, IsOneSided}
-use Rattle.dcx_std.specs.declared.start.Start.{Start}
-use Rattle.dcx_std.specs.Columns.{all_unknown_columns, marked_from, has_slack, needs_artificial, slack_columns, artificial_columns, columns_of}
+use Rattle.dcx_std.specs.Columns.{all_unknown_columns, marked_from, has_slack, needs_artificial}
 use Rattle.dcx_std.specs.GivenRows.{GivenRows}
-use Rattle.dcx_std.specs.IntegerRows.{IsMade}
+use Rattle.dcx_std.specs.IntegerRows.{start_of, IsMade}
 use Rattle.dcx_std.specs.Solutions.{column_part, unknowns_at}
 use Rattle.dcx_std.proofs.ColumnLaws.{unknowns_count}
 use Rattle.dcx_postsolve.specs.Numbers.{numbers_from, unknown_numbers, HasColumns, IsOneSidedAt, AreOneSidedFrom}
@@ -48,7 +47,7 @@ module _ (u : ℕ) (zs : List ℚ) where
   parts-append j (k ∷ ks) ls =
       let z : suc j + length ks ≡ j + suc (length ks) = omega arith in
       ap (λ x. column_part u k (rat_at zs j) +ℚ x) (parts-append (suc j) ks ls ∙ ap (λ n. parts u zs (suc j) ks +ℚ parts u zs n ls) z)
-      ∙ +ℚ_assoc (column_part u k (rat_at zs j)) (parts u zs (suc j) ks) (parts u zs (j + suc (length ks)) ls)
+      ∙ sym (+ℚ_assoc (column_part u k (rat_at zs j)) (parts u zs (suc j) ks) (parts u zs (j + suc (length ks)) ls))
 
   -- columns of rows add nothing
   marked_parts : (column : ℕ → ColumnKind) → ((i : ℕ) (z : ℚ) → column_part u (column i) z ≡ whole (pos 0)) → (j i : ℕ) (bs : List Bool) → parts u zs j (marked_from column i bs) ≡ whole (pos 0)
@@ -118,20 +117,97 @@ unknown_parts zs a j (suc m) (Nonpos ∷ kinds) =
     let next : suc j ≡ j + 1 = omega arith in
     nothing u zs _ _ (other u zs a j true ne) ∙ ap₂ (λ n i. parts n zs i (all_unknown_columns (suc a) kinds)) z next ∙ unknown_parts zs (suc a) (j + 1) m kinds
 
-all_parts : (kinds : List UnknownKind) (starts : List Start) (zs : List ℚ) (u : ℕ) → parts u zs 0 (columns_of kinds starts) ≡ rat_at (unknown_numbers kinds zs) u
-all_parts kinds starts zs u =
+-- the columns of rows stand behind
+all_parts : (kinds : List UnknownKind) (slacks artificials : List Bool) (zs : List ℚ) (u : ℕ) →
+    parts u zs 0 ((all_unknown_columns 0 kinds ++ marked_from Slack 0 slacks) ++ marked_from Artificial 0 artificials) ≡ rat_at (unknown_numbers kinds zs) u
+all_parts kinds slacks artificials zs u =
     let front = all_unknown_columns 0 kinds in
+    let behind = marked_from Slack 0 slacks in
     let z : u ≡ 0 + u = omega arith in
-    parts-append u zs 0 (front ++ slack_columns starts) (artificial_columns starts)
-    ∙ ap₂ (λ x y. x +ℚ y) (parts-append u zs 0 front (slack_columns starts)) (marked_parts u zs Artificial (λ i y. refl) (0 + length (front ++ slack_columns starts)) 0 (map needs_artificial starts))
-    ∙ +ℚ_idr _
-    ∙ ap (λ y. parts u zs 0 front +ℚ y) (marked_parts u zs Slack (λ i y. refl) (0 + length front) 0 (map has_slack starts))
-    ∙ +ℚ_idr _
+    parts-append u zs 0 (front ++ behind) (marked_from Artificial 0 artificials)
+    ∙ ap₂ (λ x y. x +ℚ y) (parts-append u zs 0 front behind) (marked_parts u zs Artificial (λ i y. refl) (0 + length (front ++ behind)) 0 artificials)
+    ∙ +ℚ_idr (parts u zs 0 front +ℚ parts u zs (0 + length front) behind)
+    ∙ ap (λ y. parts u zs 0 front +ℚ y) (marked_parts u zs Slack (λ i y. refl) (0 + length front) 0 slacks)
+    ∙ +ℚ_idr (parts u zs 0 front)
     ∙ ap (λ n. parts n zs 0 front) z ∙ unknown_parts zs 0 0 u kinds
 
 -- ---- the two columns of a free unknown
 module _ (at : ℕ → ColumnKind) (n : ℕ) (zs : List ℚ)
     (sided : (j k u : ℕ) → j < n → k < n → at j ≡ Unknown u false → at k ≡ Unknown u true → (rat_at zs j ≡ whole (pos 0)) ⊎ (rat_at zs k ≡ whole (pos 0))) where
-  sided_from : (a j : ℕ) (kinds : List UnknownKind) → j + sum_by columns_for kinds ≤ n → ((i : ℕ) → i < length (all_unknown_columns a kinds) → at (j + i) ≡ kind_at (all_unknown_columns a kinds) i) → AreOneSidedFrom zs j kinds
-  sided_from a j [] within same = tt
-  sided_from a j (kind ∷ kinds) within same = ?
+  -- from place j on the columns are those of these unknowns
+  record AreFrom (a j : ℕ) (kinds : List UnknownKind) : Type 0 where
+    within : j + length (all_unknown_columns a kinds) ≤ n
+    same : (i : ℕ) → i < length (all_unknown_columns a kinds) → at (j + i) ≡ kind_at (all_unknown_columns a kinds) i
+
+  sided_from : (a j : ℕ) (kinds : List UnknownKind) → AreFrom a j kinds → AreOneSidedFrom zs j kinds
+  sided_from a j [] are = tt
+  sided_from a j (Free ∷ kinds) are =
+      let within = are.within in
+      let z : j + 0 ≡ j = omega arith in
+      let y : j + 1 ≡ suc j = omega arith in
+      let plus : at j ≡ Unknown a false = ap at (sym z) ∙ are.same 0 (omega arith) in
+      let minus : at (suc j) ≡ Unknown a true = ap at (sym y) ∙ are.same 1 (omega arith) in
+      (sided j (suc j) a (omega (arith, within)) (omega (arith, within)) plus minus,
+      sided_from (suc a) (j + 2) kinds (record {
+        within = omega (arith, within);
+        same = λ i l. let x : (j + 2) + i ≡ j + suc (suc i) = omega arith in ap at x ∙ are.same (suc (suc i)) (omega (arith, l));
+      }))
+  sided_from a j (Nonneg ∷ kinds) are =
+      let within = are.within in
+      (tt, sided_from (suc a) (j + 1) kinds (record {
+        within = omega (arith, within);
+        same = λ i l. let x : (j + 1) + i ≡ j + suc i = omega arith in ap at x ∙ are.same (suc i) (omega (arith, l));
+      }))
+  sided_from a j (Nonpos ∷ kinds) are =
+      let within = are.within in
+      (tt, sided_from (suc a) (j + 1) kinds (record {
+        within = omega (arith, within);
+        same = λ i l. let x : (j + 1) + i ≡ j + suc i = omega arith in ap at x ∙ are.same (suc i) (omega (arith, l));
+      }))
+
+-- ---- of a program that is made of rows
+module _ (rows : GivenRows) (q : Program) (zs : List ℚ) (made : IsMade rows q) (count : length zs ≡ length q.columns) where
+  slacks : List Bool
+  slacks = map has_slack (map (start_of (length rows.kinds)) made.integer.made)
+
+  artificials : List Bool
+  artificials = map needs_artificial (map (start_of (length rows.kinds)) made.integer.made)
+
+  front : List ColumnKind
+  front = all_unknown_columns 0 rows.kinds
+
+  columns_are : q.columns ≡ (front ++ marked_from Slack 0 slacks) ++ marked_from Artificial 0 artificials
+  unfolding front slacks artificials
+  columns_are = made.integer.has_columns
+
+  columns_in_front : q.columns ≡ front ++ (marked_from Slack 0 slacks ++ marked_from Artificial 0 artificials)
+  columns_in_front = columns_are ∙ append_assoc front (marked_from Slack 0 slacks) (marked_from Artificial 0 artificials)
+
+  front_within : length front ≤ length q.columns
+  front_within =
+      let parted = ap length columns_in_front in
+      let joined = length-append front (marked_from Slack 0 slacks ++ marked_from Artificial 0 artificials) in
+      omega (arith, parted, joined)
+
+  same_unknowns : (u : ℕ) → rat_at (unknown_numbers rows.kinds zs) u ≡ unknowns_at q.columns zs u
+  unfolding front
+  same_unknowns u =
+      sym (all_parts rows.kinds slacks artificials zs u) ∙ sym (ap (parts u zs 0) columns_are) ∙ sym (sum_is u zs 0 q.columns)
+      ∙ rat_sum_below-same (length q.columns) (λ i. column_part u (kind_at q.columns i) (rat_at zs (0 + i))) (λ i. column_part u (kind_at q.columns i) (rat_at zs i))
+      (λ i l. ap (λ n. column_part u (kind_at q.columns i) (rat_at zs n)) (zero-add i))
+
+  are_sided : IsOneSided q.columns zs → AreOneSidedFrom zs 0 rows.kinds
+  unfolding front
+  are_sided sided =
+      sided_from (kind_at q.columns) (length q.columns) zs sided 0 0 rows.kinds (record {
+        within = (let within = front_within in omega (arith, within));
+        same = λ i l. ap (kind_at q.columns) (zero-add i) ∙ ap (λ ks. kind_at ks i) columns_in_front ∙ get_or_append_left front (marked_from Slack 0 slacks ++ marked_from Artificial 0 artificials) (Unknown 0 false) i l;
+      })
+
+  pub columns_tell : ColumnsTellUnknowns rows q zs
+  unfolding front
+  columns_tell = record {
+    there = (let within = front_within in let each = unknowns_count 0 rows.kinds in omega (arith, within, each, count));
+    one_sided = are_sided;
+    same = same_unknowns;
+  }

@@ -91,7 +91,7 @@ formed_or_not (Ok x ∷ rs) i = elim (formed_or_not rs (suc i)) [ inl h ↦ inl 
 
 either_of : (status : LpStatus) (cs : List Constraint) (notes : List RowNote) (i : ℕ) → sum_by constraint_rows cs ≤ length notes → ((d : List Array) × AreDuals status cs notes d) ⊎ Passing (all_multipliers status cs notes) i
 either_of status [] notes i h = inl ([], tt)
-either_of status (c ∷ cs) notes i h = by (formed_or_not here i)
+either_of status (c ∷ cs) notes i h = by (λ k. either_of status cs (drop n notes) k behind_rows) (formed_or_not here i)
   where
     n : ℕ
     n = constraint_rows c
@@ -114,10 +114,10 @@ either_of status (c ∷ cs) notes i h = by (formed_or_not here i)
     array : Formed here → Array
     array f = record { shape = c.shape; entries = f.0; full = count f }
 
-    by : Formed here ⊎ Passing here i → ((d : List Array) × AreDuals status (c ∷ cs) notes d) ⊎ Passing (here ++ rest) i
-    by (inr p) = inr (p.0, p.1, passing_front i here rest (p.0, p.1) p.2)
-    by (inl h) = elim (either_of status cs (drop n notes) (i + length h.0) behind_rows) [
-      | inl r ↦ inl (array h ∷ r.0, record { shape = refl; numbers = h.1 }, r.1)
+    by : ((k : ℕ) → ((d : List Array) × AreDuals status cs (drop n notes) d) ⊎ Passing rest k) → Formed here ⊎ Passing here i → ((d : List Array) × AreDuals status (c ∷ cs) notes d) ⊎ Passing (here ++ rest) i
+    by others (inr p) = inr (p.0, p.1, passing_front i here rest (p.0, p.1) p.2)
+    by others (inl h) = elim (others (i + length h.0)) [
+      | inl r ↦ inl (array h ∷ r.0, (record { shape = refl; numbers = h.1 }, r.1))
       | inr p ↦ inr (p.0, p.1, ap (λ l. passing_from i (l ++ rest)) (sym h.1) ∙ passing_behind i h.0 rest ∙ p.2)
     ]
 

@@ -8,4 +8,3 @@ pub mod Names
 pub mod DualSteps
 pub mod DualLaws
 pub mod Carrying
-pub mod LawsHold

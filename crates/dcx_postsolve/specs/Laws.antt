@@ -21,7 +21,7 @@ use Rattle.dcx_lp_answer.specs.Multipliers.{passing_from}
 use Rattle.dcx_std.specs.GivenRows.{GivenRows}
 use Rattle.dcx_std.specs.IntegerRows.{IsMade}
 use Rattle.dcx_std.specs.Solutions.{unknowns_at}
-use Rattle.dcx_unknowns.specs.Unknowns.{point_at}
+use Rattle.dcx_unknowns.specs.Unknowns.{point_at, AreSquare}
 use Rattle.dcx_unknowns.specs.Layout.{constraint_rows}
 use Rattle.dcx_unknowns.specs.Laws.{AreAlike}
 use Rattle.dcx_postsolve.specs.Numbers.{unknown_numbers, HasColumns, AreOneSided}
@@ -66,11 +66,12 @@ AlikePointsHaveValues = (p : Problem) (s : Setting) (x y : Point) → AreAlike p
 abbrev pub AreSameMultipliers : List Constraint → Multipliers → Multipliers → Type 0
 AreSameMultipliers constraints m n = (k : ℕ) (c : Constraint) → slice_get constraints k ≡ Some c → (j : ℕ) → j < entries_of (sides_of c.shape) → m k j ≡ n k j
 
--- answers stay answers at points that are alike and at multipliers that are the same
+-- answers stay answers at points that are alike, where symmetric and diagonal variables are square, and at multipliers that are
+-- the same
 pub record StayAnswers (p : Problem) (s : Setting) : Type 0 where
-  pub optimal : (v : ℚ) (x y : Point) (m n : Multipliers) → AreAlike p.variables x y → AreSameMultipliers p.constraints m n → IsOptimal p s v x m → IsOptimal p s v y n
+  pub optimal : AreSquare p.variables → (v : ℚ) (x y : Point) (m n : Multipliers) → AreAlike p.variables x y → AreSameMultipliers p.constraints m n → IsOptimal p s v x m → IsOptimal p s v y n
   pub infeasible : (m n : Multipliers) (gap : ℚ) → AreSameMultipliers p.constraints m n → IsInfeasible p s m gap → IsInfeasible p s n gap
-  pub unbounded : (x y d e : Point) (bound slope : ℚ) → AreAlike p.variables x y → AreAlike p.variables d e → IsUnbounded p s x d bound slope → IsUnbounded p s y e bound slope
+  pub unbounded : AreSquare p.variables → (x y d e : Point) (bound slope : ℚ) → AreAlike p.variables x y → AreAlike p.variables d e → IsUnbounded p s x d bound slope → IsUnbounded p s y e bound slope
 
 abbrev pub AnswersStay : Type 0
 AnswersStay = (p : Problem) (s : Setting) → StayAnswers p s

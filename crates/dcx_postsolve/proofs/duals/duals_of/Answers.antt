@@ -9,7 +9,14 @@ use Rattle.dcx_postsolve.proofs.DualSteps.{rows_there, stops_here, passing_next,
 use Rattle.dcx_postsolve.proofs.duals.duals_of.Goals as goal
 
 pub returns-in_err-push_dual-clause-stops : goal.returns-in_err-push_dual-clause-stops
-returns-in_err-push_dual-clause-stops c = ?
+returns-in_err-push_dual-clause-stops c =
+    let cs = c.args.constraints.now in
+    let notes = c.args.answer.now.rows in
+    let status = c.args.answer.now.status in
+    let p = err_from_is_err_and c.from_residual-in_err-push_dual.result c.from_residual-in_err-push_dual.ensures.1 in
+    rw (p.1, p.2)
+    (stops_here status cs notes c.constraints.constraint-index c.constraints.next c.constraint-item.result c.constraints-test.true c.constraint-item.is (all_multipliers status cs notes) _ c.constraints.invariant.passing
+    c.in_err-push_dual.ensures.stops)
 
 pub constraints-preserved : goal.constraints-preserved
 constraints-preserved c =
