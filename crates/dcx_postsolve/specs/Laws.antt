@@ -40,7 +40,7 @@ ColumnsAreUnknowns = (rows : GivenRows) (q : Program) (zs : List ℚ) → IsMade
 
 -- the point of the arrays of unknowns has the entries of the point of the unknowns
 abbrev pub ArraysArePoints : Type 0
-ArraysArePoints = (p : Problem) (us : List Frac) (given : Pairs) → IsPointOf p.variables us given → AreAlike p.variables (point_of p given) (point_at p.variables (numbered us))
+ArraysArePoints = (p : Problem) (us : List Frac) (given : Pairs) → IsPointOf p.variables us given → AreAlike p.variables (point_at p.variables (numbered us)) (point_of p given)
 
 -- ---- multipliers
 -- what is told of the multipliers of constraints, of whose rows these are the first
