@@ -1,9 +1,9 @@
 -- The array of a variable from the numbers of its unknowns.
-use Rattle.std.proofs.Common.{◌≡◌, ℕ, ◌+◌, ◌<◌, ◌≤◌, List, length, map, get_or, Option, Some, if◌then◌else◌, refl, sym, ap, ◌∙◌, inl, inr, ◌⊎◌, arith, pos}
-use Rattle.std.specs.Prelude.{nat_lt}
+use Rattle.std.proofs.Common.{◌≡◌, ℕ, ◌+◌, ◌<◌, ◌≤◌, List, length, map, get_or, Option, Some, if◌then◌else◌, sym, ap, ◌∙◌, inl, inr, ◌⊎◌, arith, pos}
 use Rattle.std.specs.List.{range_with_len}
 use Rattle.std.proofs.lemmas.Bool.{cases_lt, lt-ltb, le-ltb}
 use Rattle.std.proofs.lemmas.List.{length-map, get_or_past}
+use Rattle.std.proofs.lemmas.Simd.{map-map}
 use Rattle.std.proofs.lemmas.List.FromFn.{length-map-range_with_len, get_or-map-range_with_len}
 use Rattle.dcx_math.specs.Rational.{ℚ, whole}
 use Rattle.dcx_math.specs.Sums.{rat_at}
@@ -16,7 +16,6 @@ use Rattle.dcx_convex.specs.Nodes.{first_of}
 use Rattle.dcx_call.specs.declared.attribute.Variable.{Variable}
 use Rattle.dcx_unknowns.specs.Unknowns.{sides_in, first_unknown, unknown_from, number_at, array_from}
 use Rattle.dcx_postsolve.specs.Points.{numbered}
-use Rattle.dcx_postsolve.proofs.Lists.{map_twice}
 
 -- n numbers that are listed
 listed : (f : ℕ → ℚ) (n j : ℕ) → rat_at (map f (range_with_len 0 n)) j ≡ first_of n f j
@@ -31,7 +30,7 @@ listed f n j = sym (rat_at-get_or (map f (range_with_len 0 n)) j) ∙ by (cases_
 module _ (us : List Frac) (first : ℕ) (v : Variable) (sources : List (Option ℕ)) (xs : List Frac)
     (sources_are : sources ≡ map (unknown_from first v) (places_below (entries_of (sides_in v)))) (numbers_are : map value xs ≡ map (number_at (numbered us)) sources) where
   all_are : map value xs ≡ map (λ j. number_at (numbered us) (unknown_from first v j)) (places_below (entries_of (sides_in v)))
-  all_are = numbers_are ∙ ap (map (number_at (numbered us))) sources_are ∙ map_twice (number_at (numbered us)) (unknown_from first v) (places_below (entries_of (sides_in v)))
+  all_are = numbers_are ∙ ap (map (number_at (numbered us))) sources_are ∙ map-map (number_at (numbered us)) (unknown_from first v) (places_below (entries_of (sides_in v)))
 
   -- as many as the variable has entries
   pub array_full : length xs ≡ entries_of (sides_in v)

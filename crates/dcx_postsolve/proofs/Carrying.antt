@@ -1,14 +1,12 @@
 -- Answers at points that are alike and at multipliers that are the same.
-use Rattle.std.proofs.Common.{◌≡◌, ℕ, zero, suc, ◌+◌, ◌<◌, false, List, [], ◌∷◌, map, Option, Some, None, option_map, refl, sym, ap, ap₂, ◌∙◌, subst, pos}
+use Rattle.std.proofs.Common.{◌≡◌, ℕ, zero, suc, ◌<◌, false, List, [], ◌∷◌, map, Option, Some, None, refl, sym, ap, ap₂, ◌∙◌, subst, pos}
 use Rattle.std.specs.Prelude.{slice_get}
 use Rattle.std.proofs.Math.Path.{fun_ext}
-use Rattle.std.proofs.lemmas.List.Elements.{All-nil}
 use Rattle.std.proofs.lemmas.Option.{get_or_from_slice_get, slice_get_within}
 use Rattle.dcx_math.specs.Rational.{ℚ, whole, ◌+ℚ◌, ◌-ℚ◌, ◌*ℚ◌, ◌≤ℚ◌}
-use Rattle.dcx_math.specs.Sums.{IsNonnegative, rat_sum_below}
+use Rattle.dcx_math.specs.Sums.{IsNonnegative}
 use Rattle.dcx_math.proofs.Sums.{rat_sum_below-same}
 use Rattle.dcx_shape.specs.declared.shape.Sides.{Sides}
-use Rattle.dcx_shape.specs.Shape.{sides_of}
 use Rattle.dcx_shape.specs.Sides.{rows_of, cols_of, entries_of}
 use Rattle.dcx_shape.specs.Places.{HasEntry, row_place}
 use Rattle.dcx_shape.proofs.Entries.{place_below}
@@ -24,13 +22,12 @@ use Rattle.dcx_call.specs.declared.attribute.Whole.{Whole}
 use Rattle.dcx_call.specs.declared.attribute.Whole.TheVariants.{Not, Integer, Boolean}
 use Rattle.dcx_call.specs.declared.attribute.Variable.{Variable}
 use Rattle.dcx_call.specs.Attributes.{counted}
-use Rattle.dcx_tree.specs.declared.constraint.Constraint.{Constraint}
 use Rattle.dcx_tree.specs.declared.problem.Problem.{Problem}
-use Rattle.dcx_tree.specs.Nodes.{Node, attribute_of, head_of, arg_sides, convex_node, variable_attribute}
+use Rattle.dcx_tree.specs.Nodes.{attribute_of, arg_sides, convex_node, variable_attribute}
 use Rattle.dcx_tree.specs.Meaning.{names_in, convex_problem, convex_constraint, value_at, objective_at, sense_of, IsInDomain, IsFeasible, IsOptimal, IsInfeasible, IsUnbounded}
 use Rattle.dcx_tree.proofs.Lawful.{mapped}
 use Rattle.dcx_unknowns.specs.Unknowns.{demanded, sides_in, IsSquareFor, AreSquare}
-use Rattle.dcx_unknowns.specs.Laws.{IsVariable, AreAlike, AreKept}
+use Rattle.dcx_unknowns.specs.Laws.{AreAlike}
 use Rattle.dcx_unknowns.proofs.Domains.{to_domain, to_variables}
 use Rattle.dcx_reduced.proofs.Variables.{node_same, same_value}
 use Rattle.dcx_postsolve.specs.Laws.{AreSameMultipliers, StayAnswers}
@@ -111,8 +108,8 @@ module _ (p : Problem) (s : Setting) where
   domain_alike : AreSquare p.variables → (x y : Point) → AreAlike p.variables x y → IsInDomain p x → IsInDomain p y
   domain_alike square x y alike dom =
       to_domain p y (λ k v at.
-        let here : IsSquareFor (demanded v) (sides_in v) = subst (λ (w : Variable). IsSquareFor (demanded w) (sides_in w)) (get_or_from_slice_get p.variables k v v at) (square k v (slice_get_within p.variables k v at)) in
-        keeps_alike (variable_attribute v.whole v.attribute) (sides_in v) (x k) (y k) (square_as v.whole v.attribute (sides_in v) here) (alike k v at) (to_variables p x dom k v at))
+      let here : IsSquareFor (demanded v) (sides_in v) = subst (λ (w : Variable). IsSquareFor (demanded w) (sides_in w)) (get_or_from_slice_get p.variables k v v at) (square k v (slice_get_within p.variables k v at)) in
+      keeps_alike (variable_attribute v.whole v.attribute) (sides_in v) (x k) (y k) (square_as v.whole v.attribute (sides_in v) here) (alike k v at) (to_variables p x dom k v at))
 
   objective_alike : (x y : Point) → AreAlike p.variables x y → objective_at p s x ≡ objective_at p s y
   objective_alike x y alike = ap (problems.minimized (sense_of p.sense)) (alike_value p s x y alike p.objective.0 0)

@@ -1,6 +1,5 @@
 -- What the columns of a program stand for: the unknowns that are read from them, one after the other.
-use Rattle.std.proofs.Common.{◌≡◌, ◌≢◌, ℕ, zero, suc, ◌+◌, ◌<◌, ◌≤◌, Bool, true, false, if◌then◌else◌, List, [], ◌∷◌, ◌++◌, length, map, refl, sym, ap, ap₂, ◌∙◌, subst, add-zero, zero-add, inl, inr, ◌⊎◌, arith, pos}
-use Rattle.std.specs.Prelude.{nat_eq, sum_by}
+use Rattle.std.proofs.Common.{◌≡◌, ◌≢◌, ℕ, zero, suc, ◌+◌, ◌<◌, ◌≤◌, Bool, true, false, if◌then◌else◌, List, [], ◌∷◌, ◌++◌, length, map, refl, sym, ap, ap₂, ◌∙◌, subst, add-zero, zero-add, ◌⊎◌, arith, pos}
 use Rattle.std.proofs.lemmas.Bool.{eq-eqb, ne_eqb}
 use Rattle.std.proofs.lemmas.List.{length-append, append_assoc, get_or_append_left}
 use Rattle.dcx_math.specs.Rational.{ℚ, whole, ◌+ℚ◌, ◌-ℚ◌, neg_ℚ}
@@ -10,7 +9,6 @@ use Rattle.dcx_math.proofs.Sums.{rat_sum_below-same, rat_sum_below-first}
 use Rattle.dcx_math.proofs.Ring.{ring, reads}
 use Rattle.dcx_linear.specs.declared.row.UnknownKind.{UnknownKind}
 use Rattle.dcx_linear.specs.declared.row.UnknownKind.TheVariants.{Free, Nonneg, Nonpos}
-use Rattle.dcx_linear.specs.Size.{columns_for}
 use Rattle.dcx_tab.specs.declared.rows.ColumnKind.{ColumnKind}
 use Rattle.dcx_tab.specs.declared.rows.ColumnKind.TheVariants.{Unknown, Slack, Artificial}
 use Rattle.dcx_tab.specs.declared.program.Program.{Program}
@@ -21,9 +19,8 @@ use Rattle.dcx_std.specs.GivenRows.{GivenRows}
 use Rattle.dcx_std.specs.IntegerRows.{start_of, IsMade}
 use Rattle.dcx_std.specs.Solutions.{column_part, unknowns_at}
 use Rattle.dcx_std.proofs.ColumnLaws.{unknowns_count}
-use Rattle.dcx_postsolve.specs.Numbers.{numbers_from, unknown_numbers, HasColumns, IsOneSidedAt, AreOneSidedFrom}
+use Rattle.dcx_postsolve.specs.Numbers.{numbers_from, unknown_numbers, AreOneSidedFrom}
 use Rattle.dcx_postsolve.specs.Laws.{ColumnsTellUnknowns}
-use Rattle.dcx_postsolve.proofs.Fractions.{less_none}
 
 -- ---- what columns add to an unknown
 -- the sum of what these columns add to unknown u, where the first of them has the number j
@@ -146,24 +143,29 @@ module _ (at : ℕ → ColumnKind) (n : ℕ) (zs : List ℚ)
       let z : j + 0 ≡ j = omega arith in
       let y : j + 1 ≡ suc j = omega arith in
       let plus : at j ≡ Unknown a false = ap at (sym z) ∙ are.same 0 (omega arith) in
-      let minus : at (suc j) ≡ Unknown a true = ap at (sym y) ∙ are.same 1 (omega arith) in
-      (sided j (suc j) a (omega (arith, within)) (omega (arith, within)) plus minus,
-      sided_from (suc a) (j + 2) kinds (record {
-        within = omega (arith, within);
-        same = λ i l. let x : (j + 2) + i ≡ j + suc (suc i) = omega arith in ap at x ∙ are.same (suc (suc i)) (omega (arith, l));
-      }))
+      let minus : at (suc j) ≡ Unknown a true = ap at (sym y) ∙ are.same 1 (omega arith) in (
+        sided j (suc j) a (omega (arith, within)) (omega (arith, within)) plus minus,
+        sided_from (suc a) (j + 2) kinds (record {
+          within = omega (arith, within);
+          same = λ i l. let x : (j + 2) + i ≡ j + suc (suc i) = omega arith in ap at x ∙ are.same (suc (suc i)) (omega (arith, l));
+        }),
+      )
   sided_from a j (Nonneg ∷ kinds) are =
-      let within = are.within in
-      (tt, sided_from (suc a) (j + 1) kinds (record {
-        within = omega (arith, within);
-        same = λ i l. let x : (j + 1) + i ≡ j + suc i = omega arith in ap at x ∙ are.same (suc i) (omega (arith, l));
-      }))
+      let within = are.within in (
+        tt,
+        sided_from (suc a) (j + 1) kinds (record {
+          within = omega (arith, within);
+          same = λ i l. let x : (j + 1) + i ≡ j + suc i = omega arith in ap at x ∙ are.same (suc i) (omega (arith, l));
+        }),
+      )
   sided_from a j (Nonpos ∷ kinds) are =
-      let within = are.within in
-      (tt, sided_from (suc a) (j + 1) kinds (record {
-        within = omega (arith, within);
-        same = λ i l. let x : (j + 1) + i ≡ j + suc i = omega arith in ap at x ∙ are.same (suc i) (omega (arith, l));
-      }))
+      let within = are.within in (
+        tt,
+        sided_from (suc a) (j + 1) kinds (record {
+          within = omega (arith, within);
+          same = λ i l. let x : (j + 1) + i ≡ j + suc i = omega arith in ap at x ∙ are.same (suc i) (omega (arith, l));
+        }),
+      )
 
 -- ---- of a program that is made of rows
 module _ (rows : GivenRows) (q : Program) (zs : List ℚ) (made : IsMade rows q) (count : length zs ≡ length q.columns) where

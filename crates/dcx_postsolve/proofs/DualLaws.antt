@@ -1,13 +1,12 @@
 -- What arrays of multipliers are, entry by entry, and that there is one list of them.
-use Rattle.std.proofs.Common.{◌≡◌, ℕ, zero, suc, ◌+◌, ◌<◌, ◌≤◌, List, [], ◌∷◌, ◌++◌, length, map, take, drop, get_or, Some, None, Ok, Err, option_map, refl, sym, ap, ap₂, ◌∙◌, subst, inl, inr, ◌⊎◌, arith}
+use Rattle.std.proofs.Common.{◌≡◌, ℕ, zero, suc, ◌+◌, ◌<◌, ◌≤◌, List, [], ◌∷◌, ◌++◌, length, map, take, drop, Some, None, Ok, Err, option_map, refl, sym, ap, ap₂, ◌∙◌, subst, inl, inr, ◌⊎◌, arith}
 use Rattle.std.specs.Prelude.{Result, sum_by, slice_get}
 use Rattle.std.proofs.lemmas.List.{length-map, length-take-le, length-drop}
 use Rattle.std.proofs.lemmas.List.Sums.{sum_by-cons}
-use Rattle.std.proofs.lemmas.Option.{none-some, same_Some, slice_get-map, slice_get-get_or}
+use Rattle.std.proofs.lemmas.Option.{none-some, same_Some, slice_get-map}
 use Rattle.dcx_frac.specs.declared.fraction.Frac.{Frac}
 use Rattle.dcx_math.specs.Rational.{ℚ}
 use Rattle.dcx_frac.specs.declared.fraction.Passes.{Passes}
-use Rattle.dcx_frac.specs.Frac.{value}
 use Rattle.dcx_shape.specs.Shape.{sides_of}
 use Rattle.dcx_shape.specs.Sides.{entries_of}
 use Rattle.dcx_atom.specs.declared.array.Array.{Array}
@@ -17,9 +16,10 @@ use Rattle.dcx_tree.proofs.Lawful.{mapped}
 use Rattle.dcx_lp_answer.specs.declared.answer.LpStatus.{LpStatus}
 use Rattle.dcx_lp_answer.specs.declared.answer.RowNote.{RowNote}
 use Rattle.dcx_lp_answer.specs.Multipliers.{multiplier_of, passing_from}
+use Rattle.dcx_lp_answer.proofs.Formed.{formed_is_right}
 use Rattle.dcx_unknowns.specs.Layout.{constraint_rows}
 use Rattle.dcx_postsolve.specs.Duals.{row_kind, row_multipliers, all_multipliers, IsDual, AreDuals, multipliers_in, first_row, IsRowMultiplier}
-use Rattle.dcx_postsolve.specs.Laws.{AreOne}
+use Rattle.dcx_postsolve.specs.Laws.{DualsAreRight, AreOne}
 use Rattle.dcx_postsolve.proofs.Fractions.{found}
 use Rattle.dcx_postsolve.proofs.Lists.{in_front, behind, same_formed}
 use Rattle.dcx_postsolve.proofs.DualSteps.{passing_behind, passing_front, rows_in}
@@ -59,6 +59,12 @@ row_multiplier status (b ∷ cs) notes (x ∷ ds) are (suc k) c at j l =
     let z : constraint_rows b + (first_row cs k + j) ≡ first_row (b ∷ cs) (suc k) + j = omega (arith, sum_by-cons constraint_rows b (take k cs)) in
     subst (λ n. IsRowMultiplier status c.kind notes n (multipliers_in ds k j)) z
     (behind_first status c (constraint_rows b) notes (first_row cs k + j) (multipliers_in ds k j) (row_multiplier status cs (drop (constraint_rows b) notes) ds are.1 k c at j l))
+
+-- where the rows are inequalities as the constraints say, it is the multiplier by which the answer is right
+pub right_multiplier : DualsAreRight
+right_multiplier kinds a cs d slacks are k c at j l =
+    let h = row_multiplier a.status cs a.rows d are k c at j l in
+    h.is ∙ formed_is_right kinds a (first_row cs k + j) h.note (row_kind c.kind) h.number h.noted (slacks k c at j l) h.formed
 
 -- ---- one list
 same_lists : (status : LpStatus) (cs : List Constraint) (notes : List RowNote) (d e : List Array) → AreDuals status cs notes d → AreDuals status cs notes e → map (λ x. x.entries) d ≡ map (λ x. x.entries) e

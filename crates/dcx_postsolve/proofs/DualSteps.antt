@@ -1,7 +1,7 @@
 -- Multipliers of constraints, one constraint after the other: what the first has, and what the rest has.
-use Rattle.std.proofs.Common.{◌≡◌, ℕ, suc, ◌+◌, ◌<◌, ◌≤◌, List, [], ◌∷◌, ◌++◌, length, map, get_or, drop, Some, None, Ok, Err, refl, sym, ap, ap₂, ◌∙◌, subst, append_assoc, arith}
-use Rattle.std.specs.Prelude.{Result, IfErr, sum_by}
-use Rattle.std.proofs.lemmas.List.{length-map, drop-drop, append-nil, drop_all}
+use Rattle.std.proofs.Common.{◌≡◌, ℕ, suc, ◌+◌, ◌<◌, ◌≤◌, List, [], ◌∷◌, ◌++◌, length, map, get_or, drop, Some, Ok, Err, sym, ap, ◌∙◌, subst, append_assoc, arith}
+use Rattle.std.specs.Prelude.{Result, sum_by}
+use Rattle.std.proofs.lemmas.List.{drop-drop, append-nil, drop_all}
 use Rattle.std.proofs.lemmas.List.Sums.{sum_by-cons}
 use Rattle.dcx_frac.specs.declared.fraction.Frac.{Frac}
 use Rattle.dcx_frac.specs.declared.fraction.Passes.{Passes}

@@ -1,7 +1,7 @@
 -- Lists by their places.
-use Rattle.std.proofs.Common.{◌≡◌, ℕ, zero, suc, ◌+◌, ◌<◌, List, [], ◌∷◌, length, map, take, drop, Option, Some, Ok, refl, sym, ap, ap₂, ◌∙◌, arith}
+use Rattle.std.proofs.Common.{◌≡◌, ℕ, zero, suc, ◌+◌, ◌<◌, List, [], ◌∷◌, map, take, drop, Some, Ok, refl, ap, ap₂, ◌∙◌, arith}
 use Rattle.std.specs.Prelude.{Result, slice_get}
-use Rattle.std.proofs.lemmas.Option.{none-some, slice_get_within}
+use Rattle.std.proofs.lemmas.Option.{none-some}
 
 module _ {A : Type 0} where
   -- what stands in a front stands in the whole
@@ -16,10 +16,6 @@ module _ {A : Type 0} where
   behind zero xs k = let z : k ≡ 0 + k = omega arith in ap (slice_get xs) z
   behind (suc n) [] k = refl
   behind (suc n) (y ∷ xs) k = let z : suc (n + k) ≡ suc n + k = omega arith in behind n xs k ∙ ap (slice_get (y ∷ xs)) z
-
-  pub map_twice : {B C : Type 0} (g : B → C) (f : A → B) (xs : List A) → map g (map f xs) ≡ map (λ x. g (f x)) xs
-  map_twice g f [] = refl
-  map_twice g f (x ∷ xs) = ap (λ ys. g (f x) ∷ ys) (map_twice g f xs)
 
   -- what is formed is told by the answers
   pub same_formed : (E : Type 0) (xs ys : List A) → ◌≡◌ {A = List (Result A E)} (map Ok xs) (map Ok ys) → xs ≡ ys

@@ -1,11 +1,9 @@
 -- The main statements, as the clauses of the laws say them.
-use Rattle.std.specs.Prelude.{◌≡◌, ◌≤◌, ◌⊎◌, ℕ, ◌+◌, ◌<◌, List, map, length, Option, Some, None, sum_by, slice_get}
+use Rattle.std.specs.Prelude.{◌≡◌, ◌≤◌, ◌⊎◌, ℕ, ◌+◌, ◌<◌, List, map, length, Some, None, sum_by, slice_get}
 use Rattle.dcx_math.specs.Rational.{ℚ}
 use Rattle.dcx_math.specs.Sums.{rat_at}
 use Rattle.dcx_frac.specs.declared.fraction.Frac.{Frac}
 use Rattle.dcx_frac.specs.declared.fraction.Passes.{Passes}
-use Rattle.dcx_shape.specs.Shape.{sides_of}
-use Rattle.dcx_shape.specs.Sides.{entries_of}
 use Rattle.dcx_atom.specs.declared.array.Array.{Array}
 use Rattle.dcx_point.specs.Pairs.{Pairs}
 use Rattle.dcx_convex.specs.Nodes.{Setting, Point}
@@ -13,11 +11,13 @@ use Rattle.dcx_convex.specs.Answers.{Multipliers}
 use Rattle.dcx_tree.specs.declared.constraint.Constraint.{Constraint}
 use Rattle.dcx_tree.specs.declared.problem.Problem.{Problem}
 use Rattle.dcx_tree.specs.Meaning.{point_of, value_at, IsOptimal, IsInfeasible, IsUnbounded}
+use Rattle.dcx_tab.specs.declared.rows.ColumnKind.{ColumnKind}
 use Rattle.dcx_tab.specs.declared.program.Program.{Program}
 use Rattle.dcx_lp_answer.specs.declared.answer.LpStatus.{LpStatus}
 use Rattle.dcx_lp_answer.specs.declared.answer.RowNote.{RowNote}
-use Rattle.dcx_lp_answer.specs.Right.{IsOneSided}
-use Rattle.dcx_lp_answer.specs.Multipliers.{passing_from}
+use Rattle.dcx_lp_answer.specs.declared.answer.LpAnswer.{LpAnswer}
+use Rattle.dcx_lp_answer.specs.Right.{is_inequality, multiplier_at, IsOneSided}
+use Rattle.dcx_lp_answer.specs.Multipliers.{is_at_most, passing_from}
 use Rattle.dcx_std.specs.GivenRows.{GivenRows}
 use Rattle.dcx_std.specs.IntegerRows.{IsMade}
 use Rattle.dcx_std.specs.Solutions.{unknowns_at}
@@ -26,7 +26,7 @@ use Rattle.dcx_unknowns.specs.Layout.{constraint_rows}
 use Rattle.dcx_unknowns.specs.Laws.{AreAlike}
 use Rattle.dcx_postsolve.specs.Numbers.{unknown_numbers, HasColumns, AreOneSided}
 use Rattle.dcx_postsolve.specs.Points.{numbered, IsPointOf}
-use Rattle.dcx_postsolve.specs.Duals.{all_multipliers, AreDuals, multipliers_in, first_row, IsRowMultiplier}
+use Rattle.dcx_postsolve.specs.Duals.{row_kind, all_multipliers, AreDuals, multipliers_in, first_row, IsRowMultiplier}
 
 -- ---- unknowns
 -- numbers of the columns of a program, one for each, tell those of the unknowns of its rows
@@ -58,13 +58,21 @@ DualsAreMultipliers = (status : LpStatus) (constraints : List Constraint) (notes
     (k : ℕ) (c : Constraint) → slice_get constraints k ≡ Some c → (j : ℕ) → j < constraint_rows c →
     IsRowMultiplier status c.kind notes (first_row constraints k + j) (multipliers_in d k j)
 
+-- of the rows of constraints these columns have slacks for the inequalities, and for no others
+abbrev pub HaveSlacks : List ColumnKind → List Constraint → Type 0
+HaveSlacks kinds constraints = (k : ℕ) (c : Constraint) → slice_get constraints k ≡ Some c → (j : ℕ) → j < constraint_rows c → is_inequality kinds (first_row constraints k + j) ≡ is_at_most (row_kind c.kind)
+
+abbrev pub DualsAreRight : Type 0
+DualsAreRight = (kinds : List ColumnKind) (a : LpAnswer) (constraints : List Constraint) (d : List Array) → HaveSlacks kinds constraints → AreDuals a.status constraints a.rows d →
+    (k : ℕ) (c : Constraint) → slice_get constraints k ≡ Some c → (j : ℕ) → j < constraint_rows c → multipliers_in d k j ≡ multiplier_at kinds a (first_row constraints k + j)
+
 -- ---- answers
 abbrev pub AlikePointsHaveValues : Type 0
 AlikePointsHaveValues = (p : Problem) (s : Setting) (x y : Point) → AreAlike p.variables x y → (i j : ℕ) → value_at p s x i j ≡ value_at p s y i j
 
 -- the multipliers are the same at the entries of the constraints
 abbrev pub AreSameMultipliers : List Constraint → Multipliers → Multipliers → Type 0
-AreSameMultipliers constraints m n = (k : ℕ) (c : Constraint) → slice_get constraints k ≡ Some c → (j : ℕ) → j < entries_of (sides_of c.shape) → m k j ≡ n k j
+AreSameMultipliers constraints m n = (k : ℕ) (c : Constraint) → slice_get constraints k ≡ Some c → (j : ℕ) → j < constraint_rows c → m k j ≡ n k j
 
 -- answers stay answers at points that are alike, where symmetric and diagonal variables are square, and at multipliers that are
 -- the same

@@ -1,8 +1,9 @@
 //! The laws above the definitions of `specs/`. There is no code: each clause is a statement about all programs or problems.
-ghost use Rattle.dcx_postsolve.specs.Laws.{ColumnsAreUnknowns, ArraysArePoints, DualsAreOne, DualsAreMultipliers, AlikePointsHaveValues, AnswersStay};
+ghost use Rattle.dcx_postsolve.specs.Laws.{ColumnsAreUnknowns, ArraysArePoints, DualsAreOne, DualsAreMultipliers, DualsAreRight, AlikePointsHaveValues, AnswersStay};
 
-/// Where an integer program is made of rows, there are columns of all unknowns in front, each of their numbers is that of the
-/// unknown that the columns stand for, and where one column of each free unknown is 0 at least, the numbers may be read.
+/// An integer program that is made of rows has the columns of all its unknowns in front. What is read from the numbers of
+/// columns are the unknowns that the columns stand for; it may be read where of the two columns of each free unknown one at
+/// least is 0.
 pub fn columns_are_unknowns()
     ensures { ColumnsAreUnknowns }
 {}
@@ -20,6 +21,12 @@ pub fn duals_are_one()
 /// Each entry of the array of a constraint is the multiplier of its row.
 pub fn duals_are_multipliers()
     ensures { DualsAreMultipliers }
+{}
+
+/// Where a program has slacks for the inequalities among the rows of the constraints, and for no others, each entry is the
+/// multiplier by which the answer is right for the program.
+pub fn duals_are_right()
+    ensures { DualsAreRight }
 {}
 
 /// Points that have the same entries of the variables have the same values at all nodes, at every setting.

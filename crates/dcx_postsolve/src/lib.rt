@@ -13,7 +13,7 @@
 //! | the point of such arrays is that of the unknowns | `laws::arrays_are_points` |
 //! | each constraint has an array of its shape with the multipliers of its rows, or exactly the first that passes is told with its row | `duals_of` |
 //! | there is one such list of multipliers, or one first that passes | `laws::duals_are_one` |
-//! | each entry is the multiplier of its row | `laws::duals_are_multipliers` |
+//! | each entry is the multiplier of its row, the one by which the answer is right | `laws::duals_are_multipliers`, `laws::duals_are_right` |
 //! | points that have the same entries of the variables have the same values | `laws::alike_points_have_values` |
 //! | answers stay answers at such points, and at multipliers that are the same at the rows of the constraints | `laws::answers_stay` |
 #![tactic(auto)]

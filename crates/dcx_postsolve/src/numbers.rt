@@ -17,7 +17,11 @@ fn unknown_number(kind: UnknownKind, columns: &[Frac], first: usize) -> Frac
     match kind {
         UnknownKind::Free => {
             let plus = columns[first];
-            if plus.is_zero() { columns[first + 1].neg() } else { plus }
+            if plus.is_zero() {
+                columns[first + 1].neg()
+            } else {
+                plus
+            }
         }
         UnknownKind::Nonneg => columns[first],
         UnknownKind::Nonpos => columns[first].neg(),

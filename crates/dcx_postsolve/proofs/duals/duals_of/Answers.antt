@@ -1,8 +1,8 @@
 -- One more constraint has its array, or is the first at which a multiplier passes.
-use Rattle.std.proofs.Common.{◌≡◌, ◌+◌, ◌≤◌, length, drop, sym, ap, ◌∙◌, subst, arith, Err}
-use Rattle.std.specs.Prelude.{IfErr, sum_by}
+use Rattle.std.proofs.Common.{◌+◌, ◌≤◌, length, drop, sym, ap, ◌∙◌, subst}
+use Rattle.std.specs.Prelude.{sum_by}
 use Rattle.std.proofs.lemmas.Result.{err_from_is_err_and}
-use Rattle.dcx_lp_answer.specs.Multipliers.{passing_from, StopsAt}
+use Rattle.dcx_lp_answer.specs.Multipliers.{passing_from}
 use Rattle.dcx_unknowns.specs.Layout.{constraint_rows}
 use Rattle.dcx_postsolve.specs.Duals.{all_multipliers, AreDuals}
 use Rattle.dcx_postsolve.proofs.DualSteps.{rows_there, stops_here, passing_next, duals_next, duals_all}

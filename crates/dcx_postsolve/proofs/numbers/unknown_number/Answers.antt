@@ -1,9 +1,9 @@
 -- What is read is the number of the kind.
 use Rattle.std.proofs.Common.{◌≡◌, suc, ◌+◌, ◌<◌, map, length, sym, ap, ◌∙◌, subst, arith, add-one, true≢false}
-use Rattle.dcx_math.specs.Rational.{neg_ℚ, ◌-ℚ◌}
+use Rattle.dcx_math.specs.Rational.{neg_ℚ}
 use Rattle.dcx_math.specs.Sums.{rat_at}
 use Rattle.dcx_frac.specs.Frac.{value}
-use Rattle.dcx_linear.specs.declared.row.UnknownKind.TheVariants.{Free, Nonneg, Nonpos}
+use Rattle.dcx_linear.specs.declared.row.UnknownKind.TheVariants.{Free}
 use Rattle.dcx_linear.specs.Size.{columns_for}
 use Rattle.dcx_postsolve.specs.Numbers.{unknown_number, IsOneSidedAt}
 use Rattle.dcx_postsolve.proofs.Fractions.{read}

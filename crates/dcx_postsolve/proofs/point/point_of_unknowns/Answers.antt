@@ -1,12 +1,10 @@
 -- One more variable has its array, whose unknowns are within all.
-use Rattle.std.proofs.Common.{◌+◌, ◌≤◌, length, refl, sym, subst, arith}
+use Rattle.std.proofs.Common.{length, refl, subst, arith}
 use Rattle.std.proofs.lemmas.Option.{slice_get_read}
-use Rattle.dcx_unknowns.specs.Own.{own_count}
-use Rattle.dcx_unknowns.specs.Unknowns.{demanded, sides_in, first_unknown, variable_unknowns}
 use Rattle.dcx_unknowns.proofs.Owners.{first_fits}
 use Rattle.dcx_postsolve.specs.Points.{PutsArray}
 use Rattle.dcx_postsolve.proofs.Arrays.{firsts_count, first_is}
-use Rattle.dcx_postsolve.proofs.Names.{front_none, front_next, front_all}
+use Rattle.dcx_postsolve.proofs.Names.{front_next, front_all}
 use Rattle.dcx_postsolve.proofs.point.point_of_unknowns.Goals as goal
 
 pub index-requires : goal.index-requires
