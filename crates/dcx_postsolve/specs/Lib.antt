@@ -1,0 +1,5 @@
+-- What the contracts of this crate cite.
+pub mod Numbers
+pub mod Points
+pub mod Duals
+pub mod Laws
