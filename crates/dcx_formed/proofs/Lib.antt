@@ -1,0 +1,5 @@
+-- The lemmas by which the laws are proved.
+pub mod Representable
+pub mod Lists
+pub mod Summands
+pub mod Coefficients

@@ -1,0 +1,2 @@
+//! Formed nodes.
+#![tactic(auto)]
