@@ -3,3 +3,5 @@ pub mod Representable
 pub mod Lists
 pub mod Summands
 pub mod Coefficients
+pub mod Exact
+pub mod Few
