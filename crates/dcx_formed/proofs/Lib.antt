@@ -5,3 +5,4 @@ pub mod Summands
 pub mod Coefficients
 pub mod Exact
 pub mod Few
+pub mod Reached
