@@ -6,3 +6,4 @@ pub mod Coefficients
 pub mod Exact
 pub mod Few
 pub mod Reached
+pub mod Settled
