@@ -7,3 +7,5 @@ pub mod Exact
 pub mod Few
 pub mod Reached
 pub mod Settled
+pub mod Coefs
+pub mod PartValues
