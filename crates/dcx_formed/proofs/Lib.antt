@@ -9,3 +9,4 @@ pub mod Reached
 pub mod Settled
 pub mod Coefs
 pub mod PartValues
+pub mod Steady
