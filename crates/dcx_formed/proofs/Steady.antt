@@ -15,12 +15,14 @@ use Rattle.dcx_atom.specs.declared.flags.Trend.{Trend}
 use Rattle.dcx_atom.specs.declared.flags.Bend.{Bend}
 use Rattle.dcx_atom.specs.declared.flags.Bend.TheVariants.{Convex, Concave}
 use Rattle.dcx_atom.specs.Arrays.{sides_at}
+use Rattle.dcx_atom.specs.Linear.{terms_at}
 use Rattle.dcx_affine.specs.declared.pairing.Pairing.{Pairing}
 use Rattle.dcx_affine.specs.declared.pairing.Pairing.TheVariants.{Times, MatTimes, Over}
 use Rattle.dcx_affine.specs.declared.pairing.Pair.{Pair}
 use Rattle.dcx_affine.specs.Pairing.{pairs_at}
 use Rattle.dcx_arena.specs.Nodes as arena
 use Rattle.dcx_arena.specs.Nodes.{IsNode}
+use Rattle.dcx_convex.specs.Atoms.{atom_call, linear_call}
 use Rattle.dcx_convex.specs.Calls as convex_calls
 use Rattle.dcx_convex.specs.Nodes.{Head, Numbers, Setting, zeros, first_of, arguments}
 use Rattle.dcx_convex.specs.Rules.{Parametrized, Judgement, is_constant, is_affine, is_bent, opposite, scales, bends, suits, all_suit, is_bent_call, judgement_by, judgement_at}
@@ -42,7 +44,7 @@ use Rattle.dcx_tree.specs.Meaning.{names_in, value_at}
 use Rattle.dcx_tree.proofs.Lawful.{tree_lawful}
 use Rattle.dcx_unknowns.specs.Unknowns.{point_at}
 use Rattle.dcx_unknowns.specs.Layout.{is_reduced}
-use Rattle.dcx_reduced.specs.Equations.{Forms, entry_by, args_of, Stands}
+use Rattle.dcx_reduced.specs.Equations.{Forms, call_entry, filling_of, entry_by, args_of, Stands}
 use Rattle.dcx_reduced.proofs.Constants.{call_constant}
 use Rattle.dcx_reduced.proofs.NodeForms.{nodes_of, nodes_ordered, convex_at, node_at, not_constant, not_reduced}
 use Rattle.dcx_formed.proofs.Settled.{settled_zero}
@@ -144,9 +146,6 @@ module _ (judged : ℕ → Judgement) (F G : ℕ → Numbers) (P : ℕ → Type 
         pairing_value Times qs (F a) (F b) ≡ pairing_value Times qs (G a) (G b)
     product_same qs bent h k = by (one_number bent)
       where
-        trend : ℕ → Trend
-        trend = product_trend (map (λ g. g.sign) sides)
-
         left : IsTrue (is_affine (judged a)) ⊎ (IsTrue (judged b).sign.nonneg × IsTrue (judged b).sign.nonpos)
         left =
             suited (product_trend (map (λ g. g.sign) sides) 0) (judged a)
@@ -187,3 +186,132 @@ module _ (judged : ℕ → Judgement) (F G : ℕ → Numbers) (P : ℕ → Type 
               let w = nothing b pb fb ub (and_from (judged b).sign.nonneg (judged b).sign.nonpos z.0 z.1) in
               ap (λ (x : Numbers). pairing_value Over qs (F a) x) w.0 ∙ quotients_zero (F a) (G a) qs ∙ ap (λ (x : Numbers). pairing_value Over qs (G a) x) (sym w.1)
         ]
+
+  -- the entries of a product or a quotient
+  pair_same : (q : Pairing) (sides : ℕ → Sides) (to : Sides) (ids : List ℕ) → sides_of_two q (map sides ids) ≡ Some to → All P ids → (qs : List Pair) →
+      (let c : convex_calls.Call = pairing_call q (map sides ids) to in
+      IsTrue (list_all (λ g. g.fixed) (map judged ids)) → ¬ IsTrue (list_all (is_constant Parametrized) (map judged ids)) →
+      IsTrue (is_bent_call Parametrized c Convex (map judged ids)) → IsTrue (is_bent_call Parametrized c Concave (map judged ids)) →
+      pairing_value q qs (arguments (map F ids) 0) (arguments (map F ids) 1) ≡ pairing_value q qs (arguments (map G ids) 0) (arguments (map G ids) 1))
+  pair_same q sides to [] is all qs fixed some h k = cc
+  pair_same q sides to (a ∷ []) is all qs fixed some h k = cc
+  pair_same q sides to (a ∷ b ∷ c ∷ ids) is all qs fixed some h k = cc
+  pair_same q sides to (a ∷ b ∷ []) is all qs fixed some h k = by q h k
+    where
+      fa : IsTrue (judged a).fixed
+      fa = (and_parts (judged a).fixed ((judged b).fixed && true) fixed).0
+
+      fb : IsTrue (judged b).fixed
+      fb = (and_parts (judged b).fixed true (and_parts (judged a).fixed ((judged b).fixed && true) fixed).1).0
+
+      pa : P a
+      pa = All-head P a (b ∷ []) all
+
+      pb : P b
+      pb = All-head P b [] (All-tail P a (b ∷ []) all)
+
+      by : (q : Pairing) → IsTrue (is_bent_call Parametrized (pairing_call q (map sides (a ∷ b ∷ [])) to) Convex (map judged (a ∷ b ∷ []))) → IsTrue (is_bent_call Parametrized (pairing_call q (map sides (a ∷ b ∷ [])) to) Concave (map judged (a ∷ b ∷ []))) →
+          pairing_value q qs (F a) (F b) ≡ pairing_value q qs (G a) (G b)
+      by Times x y =
+          let v = bent_parts (pairing_call Times (map sides (a ∷ b ∷ [])) to) Convex (map judged (a ∷ b ∷ [])) x some in
+          let w = bent_parts (pairing_call Times (map sides (a ∷ b ∷ [])) to) Concave (map judged (a ∷ b ∷ [])) y some in
+          product_same a b pa pb fa fb qs v.0 v.1 w.1
+      by MatTimes x y =
+          let v = bent_parts (pairing_call MatTimes (map sides (a ∷ b ∷ [])) to) Convex (map judged (a ∷ b ∷ [])) x some in
+          let w = bent_parts (pairing_call MatTimes (map sides (a ∷ b ∷ [])) to) Concave (map judged (a ∷ b ∷ [])) y some in
+          product_same a b pa pb fa fb qs v.0 v.1 w.1
+      by Over x y =
+          let v = bent_parts (pairing_call Over (map sides (a ∷ b ∷ [])) to) Convex (map judged (a ∷ b ∷ [])) x some in
+          let w = bent_parts (pairing_call Over (map sides (a ∷ b ∷ [])) to) Concave (map judged (a ∷ b ∷ [])) y some in
+          quotient_same a b pa pb fa fb qs v.0 v.1 w.1
+
+-- ---- forms that meet the equations of the first m nodes
+module _ (p : Problem) (s : Setting) (forms : Forms) (m : ℕ) (stand : (i : ℕ) (n : Node) → i < m → IsNode p.tree i n → Stands Parametrized p s forms i n (is_reduced Parametrized p i)) where
+  abbrev judged : ℕ → Judgement
+  judged i = judgement_at Parametrized (nodes_of p) i
+
+  -- a number is its value
+  number_value : (i : ℕ) → i < m → i < length p.tree → IsTrue (judged i).fixed → IsTrue (judged i).unparametrized → (u : Unknowns) (j : ℕ) → forms u i j ≡ value_at p s (λ k e. whole (pos 0)) i j
+  number_value i b c fixed settled u j =
+      let (n, at) = node_at p i c in
+      subst (Stands Parametrized p s forms i n) (ap not (and_from (judged i).fixed (judged i).unparametrized fixed settled)) (stand i n b at) u (λ k e. whole (pos 0)) j
+
+  number_same : (u w : Unknowns) (i : ℕ) → i < m → i < length p.tree → IsTrue (judged i).fixed → IsTrue (judged i).unparametrized → forms u i ≡ forms w i
+  number_same u w i b c fixed settled = fun_ext (λ j. number_value i b c fixed settled u j ∙ sym (number_value i b c fixed settled w j))
+
+  number_zero : (u : Unknowns) (i : ℕ) → i < m → i < length p.tree → IsTrue (judged i).fixed → IsTrue (judged i).unparametrized → IsTrue (is_zero (judged i).sign) → forms u i ≡ zeros
+  number_zero u i b c fixed settled zero_sign = fun_ext (λ j.
+      number_value i b c fixed settled u j
+      ∙ settled_zero Parametrized (nodes_of p) (tree_lawful (names_in p) p.tree p.nodes).lawful s (λ k e. whole (pos 0)) i j fixed settled zero_sign)
+
+  -- node i, where all before it are steady
+  module _ (i : ℕ) (n : Node) (at : IsNode p.tree i n) (b : i < m) (c : i < length p.tree) (u w : Unknowns)
+      (earlier : (a : ℕ) → a < i → IsTrue (judged a).fixed → IsTrue (is_affine (judged a)) → forms u a ≡ forms w a) where
+    abbrev told : Call → Judgement
+    told call = judgement_by Parametrized (head_of (names_in p) call (arg_sides p.tree n) n.sides) (map judged n.args)
+
+    numbers : (a : ℕ) → a < i → IsTrue (judged a).fixed → IsTrue (judged a).unparametrized → forms u a ≡ forms w a
+    numbers a l fixed settled = number_same u w a (omega arith) (omega arith) fixed settled
+
+    nothing : (a : ℕ) → a < i → IsTrue (judged a).fixed → IsTrue (judged a).unparametrized → IsTrue (is_zero (judged a).sign) → (forms u a ≡ zeros) × (forms w a ≡ zeros)
+    nothing a l fixed settled z = (number_zero u a (omega arith) (omega arith) fixed settled z, number_zero w a (omega arith) (omega arith) fixed settled z)
+
+    entry_same : (call : Call) → shape_of call (arg_sides p.tree n) ≡ Some n.sides → IsTrue (told call).fixed → IsTrue (told call).convex → IsTrue (told call).concave → ¬ IsTrue (is_constant Parametrized (told call)) →
+        (j : ℕ) → call_entry (names_in p) s (point_at p.variables u) call (arg_sides p.tree n) (arguments (map (forms u) n.args)) (filling_of Parametrized p i u) j
+        ≡ call_entry (names_in p) s (point_at p.variables w) call (arg_sides p.tree n) (arguments (map (forms w) n.args)) (filling_of Parametrized p i w) j
+    entry_same (calls.Variable v) is fixed x y not_const j = absurd (false≢true fixed)
+    entry_same (calls.Parameter q) is fixed x y not_const j = refl
+    entry_same (calls.Constant k) is fixed x y not_const j = refl
+    entry_same (calls.Atom a) is fixed x y not_const j =
+        let c : convex_calls.Call = atom_call (atom_meaning a) (arg_sides p.tree n) n.sides in
+        let some : ¬ IsTrue (list_all (is_constant Parametrized) (map judged n.args)) = λ all. not_const (call_constant Parametrized c (map judged n.args) all) in
+        let v = bent_parts c Convex (map judged n.args) x some in
+        let z = bent_parts c Concave (map judged n.args) y some in
+        let e : Convex ≡ Concave = sym (same_bend_is (atom_meaning a).bend Convex v.0) ∙ same_bend_is (atom_meaning a).bend Concave z.0 in
+        cc
+    entry_same (calls.Linear l) is fixed x y not_const j =
+        let c : convex_calls.Call = linear_call (linear_meaning l) (arg_sides p.tree n) n.sides in
+        let some : ¬ IsTrue (list_all (is_constant Parametrized) (map judged n.args)) = λ all. not_const (call_constant Parametrized c (map judged n.args) all) in
+        let v = bent_parts c Convex (map judged n.args) x some in
+        let z = bent_parts c Concave (map judged n.args) y some in
+        ap (λ (fs : List Numbers). terms_at ((linear_meaning l).terms (arg_sides p.tree n) j) (arguments fs))
+        (one_way_same judged (forms u) (forms w) (λ a. a < i) earlier numbers nothing (linear_meaning l).trend (one_way l) n.args (p.nodes.earlier i n at) fixed v.1 z.1)
+    entry_same (calls.Pairing q) is fixed x y not_const j =
+        pairing_same q is fixed x y (λ all. not_const (pairing_constant q all)) j
+      where
+        pairing_constant : (q : Pairing) → IsTrue (list_all (is_constant Parametrized) (map judged n.args)) → IsTrue (is_constant Parametrized (told (calls.Pairing q)))
+        pairing_constant q all = call_constant Parametrized (pairing_call q (arg_sides p.tree n) n.sides) (map judged n.args) all
+
+        pairing_same : (q : Pairing) → sides_of_two q (arg_sides p.tree n) ≡ Some n.sides → IsTrue (told (calls.Pairing q)).fixed → IsTrue (told (calls.Pairing q)).convex → IsTrue (told (calls.Pairing q)).concave →
+            ¬ IsTrue (list_all (is_constant Parametrized) (map judged n.args)) → (j : ℕ) →
+            call_entry (names_in p) s (point_at p.variables u) (calls.Pairing q) (arg_sides p.tree n) (arguments (map (forms u) n.args)) (filling_of Parametrized p i u) j
+            ≡ call_entry (names_in p) s (point_at p.variables w) (calls.Pairing q) (arg_sides p.tree n) (arguments (map (forms w) n.args)) (filling_of Parametrized p i w) j
+        pairing_same q is fixed x y some j =
+            pair_same judged (forms u) (forms w) (λ a. a < i) earlier numbers nothing q (arena.sides_at p.tree) n.sides n.args is (p.nodes.earlier i n at)
+            (pairs_at q (sides_at (arg_sides p.tree n) 0) (sides_at (arg_sides p.tree n) 1) j) fixed some x y
+
+  steady_within : (u w : Unknowns) (d i : ℕ) → i < d → i < m → i < length p.tree → IsTrue (judged i).fixed → IsTrue (is_affine (judged i)) → forms u i ≡ forms w i
+  steady_within u w zero i l b c fixed affine = absurd (omega arith)
+  steady_within u w (suc d) i l b c fixed affine =
+      by (is_reduced Parametrized p i) refl (λ a k. steady_within u w d a (omega arith) (omega arith) (omega arith))
+    where
+      by : (r : Bool) → is_reduced Parametrized p i ≡ r → ((a : ℕ) → a < i → IsTrue (judged a).fixed → IsTrue (is_affine (judged a)) → forms u a ≡ forms w a) → forms u i ≡ forms w i
+      by false e earlier =
+          let t = and_parts (judged i).fixed (judged i).unparametrized (not_reduced (is_constant Parametrized (judged i)) e) in
+          number_same u w i b c t.0 t.1
+      by true e earlier =
+          let (n, at) = node_at p i c in
+          let g = judgement_tells Parametrized (nodes_of p) (nodes_ordered p) i (convex_node (names_in p) p.tree n) (convex_at p i n at) in
+          let fixed_told = subst (λ (k : Judgement). IsTrue k.fixed) g fixed in
+          let both = and_parts (judged i).convex (judged i).concave affine in
+          let stands = subst (Stands Parametrized p s forms i n) e (stand i n b at) in
+          fun_ext (λ j.
+              stands u j
+              ∙ ap (λ (f : Numbers). first_of (entries_of n.sides) f j)
+              (fun_ext (λ k. entry_same i n at b c u w earlier n.call (p.nodes.shaped i n at) fixed_told (subst (λ (k : Judgement). IsTrue k.convex) g both.0) (subst (λ (k : Judgement). IsTrue k.concave) g both.1)
+              (not_constant p Parametrized i n at e) k))
+              ∙ sym (stands w j))
+
+  -- an affine node that reaches no variable is one array
+  pub steady : (u w : Unknowns) (i : ℕ) → i < m → i < length p.tree → IsTrue (judged i).fixed → IsTrue (is_affine (judged i)) → forms u i ≡ forms w i
+  steady u w i b c fixed affine = steady_within u w (suc i) i (omega arith) b c fixed affine
