@@ -10,3 +10,4 @@ pub mod Settled
 pub mod Coefs
 pub mod PartValues
 pub mod Steady
+pub mod Tables
