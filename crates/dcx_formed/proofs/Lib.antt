@@ -11,3 +11,5 @@ pub mod Coefs
 pub mod PartValues
 pub mod Steady
 pub mod Tables
+pub mod Named
+pub mod Numbers
