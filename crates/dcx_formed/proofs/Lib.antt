@@ -13,3 +13,5 @@ pub mod Steady
 pub mod Tables
 pub mod Named
 pub mod Numbers
+pub mod Made
+pub mod HaveNumbers

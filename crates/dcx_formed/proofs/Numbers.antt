@@ -58,13 +58,13 @@ Apply_constant : (rules : Rules) (c : convex_calls.Call) (args : List Judgement)
 Apply_constant Plain c args t = t
 Apply_constant Parametrized c args t = both_constant args t
 
-each_constant : (test : Judgement → Bool) (judged : ℕ → Judgement) (ids : List ℕ) → IsTrue (list_all test (map judged ids)) → All (λ a. IsTrue (test (judged a))) ids
+pub each_constant : (test : Judgement → Bool) (judged : ℕ → Judgement) (ids : List ℕ) → IsTrue (list_all test (map judged ids)) → All (λ a. IsTrue (test (judged a))) ids
 each_constant test judged [] t = All-nil (λ a. IsTrue (test (judged a)))
 each_constant test judged (a ∷ ids) t =
     let b = and_parts (test (judged a)) (list_all test (map judged ids)) t in
     All-cons (λ a. IsTrue (test (judged a))) a ids b.0 (each_constant test judged ids b.1)
 
-all_both : (P Q : ℕ → Type 0) (ids : List ℕ) → All P ids → All Q ids → All (λ a. P a × Q a) ids
+pub all_both : (P Q : ℕ → Type 0) (ids : List ℕ) → All P ids → All Q ids → All (λ a. P a × Q a) ids
 all_both P Q [] h k = All-nil (λ a. P a × Q a)
 all_both P Q (a ∷ ids) h k = All-cons (λ a. P a × Q a) a ids (All-head P a ids h, All-head Q a ids k) (all_both P Q ids (All-tail P a ids h) (All-tail Q a ids k))
 
@@ -99,7 +99,7 @@ module _ {C : Type 0} (value_at : C → Parameters → ℚ) (of_number : Frac �
   formed_number n j = entry_formed n.call (given_by setting) (given_by []) (arg_sides p.tree n) (numbers_in number_of (args_among of_number (table_forms table) n.args)) j
 
   -- what a number is made of
-  made_number : (r : Result Frac ValueStop) (e : EntryForms C) → (let s : Result (EntryForms C) ValueStop = Ok e in s ≡ number_entry of_number number_of Sums Changes Reads rules p setting r) →
+  pub made_number : (r : Result Frac ValueStop) (e : EntryForms C) → (let s : Result (EntryForms C) ValueStop = Ok e in s ≡ number_entry of_number number_of Sums Changes Reads rules p setting r) →
       (x : Frac) × (r ≡ Ok x) × (e.form ≡ constant_form (of_number x))
   made_number (Ok x) e h = (x, refl, ap (λ (z : EntryForms C). z.form) (let d : e ≡ alone (constant_form (of_number x)) = cc in d))
   made_number (Err stop) e h = absurd (cc)
