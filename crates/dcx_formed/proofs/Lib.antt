@@ -15,3 +15,5 @@ pub mod Named
 pub mod Numbers
 pub mod Made
 pub mod HaveNumbers
+pub mod Sides
+pub mod Pairs

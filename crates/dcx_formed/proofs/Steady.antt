@@ -25,7 +25,7 @@ use Rattle.dcx_arena.specs.Nodes.{IsNode}
 use Rattle.dcx_convex.specs.Atoms.{atom_call, linear_call}
 use Rattle.dcx_convex.specs.Calls as convex_calls
 use Rattle.dcx_convex.specs.Nodes.{Head, Numbers, Setting, zeros, first_of, arguments}
-use Rattle.dcx_convex.specs.Rules.{Parametrized, Judgement, is_constant, is_affine, is_bent, opposite, scales, bends, suits, all_suit, is_bent_call, judgement_by, judgement_at}
+use Rattle.dcx_convex.specs.Rules.{Rules, Parametrized, Judgement, is_constant, is_affine, is_bent, opposite, scales, bends, suits, all_suit, is_bent_call, judgement_by, judgement_at}
 use Rattle.dcx_convex.specs.Pairs.{is_zero, product_trend, quotient_trend}
 use Rattle.dcx_convex.specs.Reductions.{Unknowns}
 use Rattle.dcx_convex.proofs.Told.{judgement_tells}
@@ -83,11 +83,11 @@ one_way (linears.VStack x) i h k = false≢true k
 one_way (linears.Promote x) i h k = false≢true k
 
 -- a call whose arguments aren't all constant bends, and each argument may stand there
-pub bent_parts : (c : convex_calls.Call) (bend : Bend) (args : List Judgement) → IsTrue (is_bent_call Parametrized c bend args) → ¬ IsTrue (list_all (is_constant Parametrized) args) →
-    IsTrue (bends Parametrized c.kind bend args) × IsTrue (all_suit bend (c.trend (map (λ g. g.sign) args)) args)
-bent_parts c bend args h not_all = elim (or_cases (list_all (is_constant Parametrized) args) (bends Parametrized c.kind bend args && all_suit bend (c.trend (map (λ g. g.sign) args)) args) h) [
+pub bent_parts : (rules : Rules) (c : convex_calls.Call) (bend : Bend) (args : List Judgement) → IsTrue (is_bent_call rules c bend args) → ¬ IsTrue (list_all (is_constant rules) args) →
+    IsTrue (bends rules c.kind bend args) × IsTrue (all_suit bend (c.trend (map (λ g. g.sign) args)) args)
+bent_parts rules c bend args h not_all = elim (or_cases (list_all (is_constant rules) args) (bends rules c.kind bend args && all_suit bend (c.trend (map (λ g. g.sign) args)) args) h) [
   | inl all ↦ absurd (not_all all)
-  | inr b ↦ and_parts (bends Parametrized c.kind bend args) (all_suit bend (c.trend (map (λ g. g.sign) args)) args) b
+  | inr b ↦ and_parts (bends rules c.kind bend args) (all_suit bend (c.trend (map (λ g. g.sign) args)) args) b
 ]
 
 -- ---- numbers in pairs
@@ -213,16 +213,16 @@ module _ (judged : ℕ → Judgement) (F G : ℕ → Numbers) (P : ℕ → Type 
       by : (q : Pairing) → IsTrue (is_bent_call Parametrized (pairing_call q (map sides (a ∷ b ∷ [])) to) Convex (map judged (a ∷ b ∷ []))) → IsTrue (is_bent_call Parametrized (pairing_call q (map sides (a ∷ b ∷ [])) to) Concave (map judged (a ∷ b ∷ []))) →
           pairing_value q qs (F a) (F b) ≡ pairing_value q qs (G a) (G b)
       by Times x y =
-          let v = bent_parts (pairing_call Times (map sides (a ∷ b ∷ [])) to) Convex (map judged (a ∷ b ∷ [])) x some in
-          let w = bent_parts (pairing_call Times (map sides (a ∷ b ∷ [])) to) Concave (map judged (a ∷ b ∷ [])) y some in
+          let v = bent_parts Parametrized (pairing_call Times (map sides (a ∷ b ∷ [])) to) Convex (map judged (a ∷ b ∷ [])) x some in
+          let w = bent_parts Parametrized (pairing_call Times (map sides (a ∷ b ∷ [])) to) Concave (map judged (a ∷ b ∷ [])) y some in
           product_same a b pa pb fa fb qs v.0 v.1 w.1
       by MatTimes x y =
-          let v = bent_parts (pairing_call MatTimes (map sides (a ∷ b ∷ [])) to) Convex (map judged (a ∷ b ∷ [])) x some in
-          let w = bent_parts (pairing_call MatTimes (map sides (a ∷ b ∷ [])) to) Concave (map judged (a ∷ b ∷ [])) y some in
+          let v = bent_parts Parametrized (pairing_call MatTimes (map sides (a ∷ b ∷ [])) to) Convex (map judged (a ∷ b ∷ [])) x some in
+          let w = bent_parts Parametrized (pairing_call MatTimes (map sides (a ∷ b ∷ [])) to) Concave (map judged (a ∷ b ∷ [])) y some in
           product_same a b pa pb fa fb qs v.0 v.1 w.1
       by Over x y =
-          let v = bent_parts (pairing_call Over (map sides (a ∷ b ∷ [])) to) Convex (map judged (a ∷ b ∷ [])) x some in
-          let w = bent_parts (pairing_call Over (map sides (a ∷ b ∷ [])) to) Concave (map judged (a ∷ b ∷ [])) y some in
+          let v = bent_parts Parametrized (pairing_call Over (map sides (a ∷ b ∷ [])) to) Convex (map judged (a ∷ b ∷ [])) x some in
+          let w = bent_parts Parametrized (pairing_call Over (map sides (a ∷ b ∷ [])) to) Concave (map judged (a ∷ b ∷ [])) y some in
           quotient_same a b pa pb fa fb qs v.0 v.1 w.1
 
 -- ---- forms that meet the equations of the first m nodes
@@ -265,15 +265,15 @@ module _ (p : Problem) (s : Setting) (forms : Forms) (m : ℕ) (stand : (i : ℕ
     entry_same (calls.Atom a) is fixed x y not_const j =
         let c : convex_calls.Call = atom_call (atom_meaning a) (arg_sides p.tree n) n.sides in
         let some : ¬ IsTrue (list_all (is_constant Parametrized) (map judged n.args)) = λ all. not_const (call_constant Parametrized c (map judged n.args) all) in
-        let v = bent_parts c Convex (map judged n.args) x some in
-        let z = bent_parts c Concave (map judged n.args) y some in
+        let v = bent_parts Parametrized c Convex (map judged n.args) x some in
+        let z = bent_parts Parametrized c Concave (map judged n.args) y some in
         let e : Convex ≡ Concave = sym (same_bend_is (atom_meaning a).bend Convex v.0) ∙ same_bend_is (atom_meaning a).bend Concave z.0 in
         cc
     entry_same (calls.Linear l) is fixed x y not_const j =
         let c : convex_calls.Call = linear_call (linear_meaning l) (arg_sides p.tree n) n.sides in
         let some : ¬ IsTrue (list_all (is_constant Parametrized) (map judged n.args)) = λ all. not_const (call_constant Parametrized c (map judged n.args) all) in
-        let v = bent_parts c Convex (map judged n.args) x some in
-        let z = bent_parts c Concave (map judged n.args) y some in
+        let v = bent_parts Parametrized c Convex (map judged n.args) x some in
+        let z = bent_parts Parametrized c Concave (map judged n.args) y some in
         ap (λ (fs : List Numbers). terms_at ((linear_meaning l).terms (arg_sides p.tree n) j) (arguments fs))
         (one_way_same judged (forms u) (forms w) (λ a. a < i) earlier numbers nothing (linear_meaning l).trend (one_way l) n.args (p.nodes.earlier i n at) fixed v.1 z.1)
     entry_same (calls.Pairing q) is fixed x y not_const j =
