@@ -17,3 +17,4 @@ pub mod Made
 pub mod HaveNumbers
 pub mod Sides
 pub mod Pairs
+pub mod Nodes
