@@ -18,3 +18,6 @@ pub mod HaveNumbers
 pub mod Sides
 pub mod Pairs
 pub mod Nodes
+pub mod All
+pub mod Rows
+pub mod Stood

@@ -72,7 +72,8 @@ use Rattle.dcx_formed.proofs.Exact.{IsFew}
 use Rattle.dcx_formed.proofs.Few.{few_calls}
 use Rattle.dcx_formed.proofs.PartValues.{constant_is, zero_is, unknown_or_zero, parts_are, terms_are, result_is}
 use Rattle.dcx_formed.proofs.Named.{where_declared}
-use Rattle.dcx_formed.proofs.Tables.{form_in, args_are, entry_there, entry_past}
+use Rattle.dcx_formed.proofs.Tables.{form_in, entry_there, entry_past}
+use Rattle.dcx_formed.proofs.Stood.{args_match}
 use Rattle.dcx_formed.proofs.Numbers.{by_size, source, number_value, number_read}
 use Rattle.dcx_formed.proofs.Made.{entry_is, linear_made, atom_made, pair_made}
 use Rattle.dcx_formed.proofs.HaveNumbers.{have_numbers}
@@ -154,11 +155,6 @@ module _ {C : Type 0} (value_at : C → Parameters → ℚ) (of_number : Frac �
   number_stands i n at number u x j =
       number_value value_at of_number number_of Sums Changes Reads laws rules p setting table formed i n at number u params j
       ∙ sym (told i (slice_get_within p.tree i n at) number x j)
-
-  -- ---- the numbers that stand for arguments
-  args_match : (u : Unknowns) (ids : List ℕ) → (λ (k e : ℕ). linear_value value_at (args_among of_number forms ids k e) u params) ≡ arguments (map (F u) ids)
-  args_match u ids = fun_ext (λ k. fun_ext (λ e.
-      args_are of_number forms (λ a. Unit {0}) (λ (f : Form C). linear_value value_at f u params) (zero_is value_at of_number number_of Sums Changes laws u params) (F u) (λ a q e. refl) ids (λ _ _ _. tt) k e))
 
   -- ---- a node that is reduced, where what is affine and reaches no variable before it stands still
   module _ (i : ℕ) (n : Node) (at : IsNode p.tree i n) (reduced : is_reduced rules p i ≡ true)
@@ -276,10 +272,10 @@ module _ {C : Type 0} (value_at : C → Parameters → ℚ) (of_number : Frac �
         let args = args_among of_number forms n.args in
         parts_are value_at of_number number_of Sums Changes laws u params (map (term_part args) terms) entry.form (linear_made of_number number_of Sums Changes (map (term_part args) terms) entry h).sums
         ∙ terms_are value_at of_number number_of Sums Changes laws u params args terms (terms_fit l (arg_sides p.tree n) j few)
-        ∙ ap (λ (a : Entries). terms_at terms a) (args_match u n.args)
+        ∙ ap (λ (a : Entries). terms_at terms a) (args_match value_at of_number number_of Sums Changes laws table params u n.args)
     call_value (calls.Pairing q) is shape few j b entry h =
         pair_sum q (pair_may q n.args (arena.sides_at p.tree) n.sides shape (p.nodes.earlier i n at) (pair_taken q is)) j entry h
-        ∙ ap (λ (a : Entries). pairing_value q (pairs_at q (sides_at (arg_sides p.tree n) 0) (sides_at (arg_sides p.tree n) 1) j) (a 0) (a 1)) (args_match u n.args)
+        ∙ ap (λ (a : Entries). pairing_value q (pairs_at q (sides_at (arg_sides p.tree n) 0) (sides_at (arg_sides p.tree n) 1) j) (a 0) (a 1)) (args_match value_at of_number number_of Sums Changes laws table params u n.args)
 
     entry_stands : (j : ℕ) → j < entries_of n.sides → F u i j ≡ entry_by rules p s F i n u j
     entry_stands j b =
