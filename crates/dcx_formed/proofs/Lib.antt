@@ -21,3 +21,4 @@ pub mod Nodes
 pub mod All
 pub mod Rows
 pub mod Stood
+pub mod LawsHold
