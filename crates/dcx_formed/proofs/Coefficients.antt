@@ -1,8 +1,7 @@
 -- The coefficients of linear calls and of the graphs of atoms are those of fractions of 128 bits.
-use Rattle.std.proofs.Common.{◌≡◌, ℕ, zero, suc, ◌+◌, ◌*◌, ◌<◌, ◌≤◌, ◌^◌, List, [], ◌∷◌, map, Some, refl, sym, ap, ap₂, ◌∙◌, subst, pos, negsuc, arith}
+use Rattle.std.proofs.Common.{◌≡◌, ℕ, zero, suc, ◌+◌, ◌*◌, ◌<◌, ◌^◌, List, [], ◌∷◌, map, refl, pos, negsuc, arith}
 use Rattle.std.specs.List.{AllByRecursion}
-use Rattle.std.specs.Prelude.{nat_le, ◌&&◌, if◌then◌else◌, Bool, true, false}
-use Rattle.dcx_math.specs.Rational.{ℚ, whole, neg_ℚ, inverse}
+use Rattle.dcx_math.specs.Rational.{ℚ, whole, inverse}
 use Rattle.dcx_frac.specs.Fits.{IsRepresentable}
 use Rattle.dcx_shape.specs.declared.shape.Sides.{Sides}
 use Rattle.dcx_shape.specs.declared.shape.Sides.TheVariants.{Scalar, Vector, Matrix}
@@ -13,16 +12,15 @@ use Rattle.dcx_atom.specs.declared.axis.Axis.TheVariants.{All, Zero, One}
 use Rattle.dcx_atom.specs.declared.axis.Stride.{Stride}
 use Rattle.dcx_atom.specs.declared.flags.Bend.{Bend}
 use Rattle.dcx_atom.specs.declared.flags.Bend.TheVariants.{Convex, Concave}
-use Rattle.dcx_atom.specs.Arrays.{sides_at, list_below, joined_below}
+use Rattle.dcx_atom.specs.Arrays.{sides_at, joined_below}
 use Rattle.dcx_atom.specs.Axis.{stride_entry, folded_stride, folded_count}
 use Rattle.dcx_atom.specs.Linear.{LinearTerm}
-use Rattle.dcx_atom.specs.Rows.{RowTerm, Row, FormTerm, Form}
+use Rattle.dcx_atom.specs.Rows.{RowTerm, Row, FormTerm}
 use Rattle.dcx_atom.specs.Bounding.{argument_term, unknown_term, bound_row, outward}
 use Rattle.dcx_affine.specs.Strided.{stride_terms}
 use Rattle.dcx_affine.specs.Folds.{sum_call, running_call, trace_call}
 use Rattle.dcx_affine.specs.Places.{index_call, reshape_call, transpose_call, diag_call, promote_call}
 use Rattle.dcx_fold.specs.Groups.{member}
-use Rattle.dcx_fold.specs.Folds.{unknowns_form}
 use Rattle.dcx_fold.specs.Largest.{level_row, level_form}
 use Rattle.dcx_fold.specs.Running.{running_rows}
 use Rattle.dcx_call.specs.declared.linears.LinearCall.{LinearCall}
@@ -32,7 +30,7 @@ use Rattle.dcx_call.specs.declared.atoms.AtomCall.TheVariants as atoms
 use Rattle.dcx_call.specs.Atoms.{atom_meaning}
 use Rattle.dcx_call.specs.Linears.{linear_meaning}
 use Rattle.dcx_formed.proofs.Representable.{neg_fits, outward_fits, whole_fits, one_fits, minus_one_fits, inverse_fits}
-use Rattle.dcx_formed.proofs.Lists.{all_below, all_joined, all_map}
+use Rattle.dcx_formed.proofs.Lists.{all_below, all_joined}
 
 -- ---- terms
 abbrev pub FitsTerm : LinearTerm → Type 0

@@ -1,12 +1,11 @@
 -- What is used of coefficients, and that fractions and affine numbers have it.
-use Rattle.std.proofs.Common.{◌≡◌, Option, Some, IsSome, Result, Ok, refl, sym, ap, ◌∙◌}
+use Rattle.std.proofs.Common.{◌≡◌, Option, Some, IsSome, Result, Ok, refl, ap, ◌∙◌}
 use Rattle.dcx_math.specs.Rational.{ℚ, ◌+ℚ◌}
 use Rattle.dcx_frac.specs.declared.fraction.Frac.{Frac}
 use Rattle.dcx_frac.specs.declared.fraction.Passes.{Passes}
 use Rattle.dcx_frac.specs.Frac.{value}
 use Rattle.dcx_frac.specs.Results.{sum_of}
 use Rattle.dcx_linear.specs.declared.change.Change.{Change}
-use Rattle.dcx_linear.specs.declared.param_form.ParamForm.{ParamForm}
 use Rattle.dcx_linear.specs.Changes.{changed, changed_frac}
 use Rattle.dcx_linear.specs.Parameters.{Parameters}
 use Rattle.dcx_linear.specs.NumberLaws.{told_number_lem, sum_value_lem, change_value_lem}

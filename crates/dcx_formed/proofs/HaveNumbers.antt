@@ -1,17 +1,14 @@
 -- The forms of a node that reaches no parameter have numbers.
-use Rattle.std.proofs.Common.{◌≡◌, ℕ, zero, suc, ◌<◌, ◌≤◌, arith, Bool, true, false, IsTrue, IsSome, List, [], ◌∷◌, length, map, All, Option, Some, None, Result, Ok, Err, refl, sym, ap, subst}
+use Rattle.std.proofs.Common.{◌≡◌, ℕ, zero, suc, ◌<◌, arith, Bool, true, false, IsTrue, IsSome, List, [], ◌∷◌, length, map, Option, Some, None, Result, Ok, refl, sym, subst}
 use Rattle.std.specs.Prelude.{nat_lt, ◌+◌, pos}
 use Rattle.dcx_math.specs.Rational.{ℚ, whole}
 use Rattle.dcx_atom.specs.declared.stops.ValueStop.{ValueStop}
 use Rattle.std.specs.List.{list_all, AllByRecursion}
 use Rattle.std.proofs.lemmas.Bool.{ltb-true, ltb-false, false≢true}
 use Rattle.std.proofs.lemmas.List.Elements.{All-cons, All-nil, All-from_recursion}
-use Rattle.std.proofs.lemmas.Option.{slice_get_within}
 use Rattle.dcx_frac.specs.declared.fraction.Frac.{Frac}
 use Rattle.dcx_frac.specs.declared.fraction.Passes.{Passes}
-use Rattle.dcx_shape.specs.declared.shape.Sides.{Sides}
 use Rattle.dcx_shape.specs.Sides.{entries_of}
-use Rattle.dcx_atom.specs.declared.graph.Operand.{Operand}
 use Rattle.dcx_atom.specs.Arrays.{sides_at}
 use Rattle.dcx_atom.specs.Formed.{zero_frac, frac_at}
 use Rattle.dcx_atom.specs.Linear.{LinearTerm}
@@ -24,8 +21,6 @@ use Rattle.dcx_convex.specs.Rules.{Rules, Judgement, judgement_by, judgement_at}
 use Rattle.dcx_convex.proofs.Told.{judgement_tells}
 use Rattle.dcx_call.specs.declared.call.Call.{Call}
 use Rattle.dcx_call.specs.declared.call.Call.TheVariants as calls
-use Rattle.dcx_call.specs.Atoms.{atom_meaning}
-use Rattle.dcx_call.specs.Linears.{linear_meaning}
 use Rattle.dcx_call.specs.Values.{given_by, entry_formed}
 use Rattle.dcx_tree.specs.declared.problem.Problem.{Problem}
 use Rattle.dcx_tree.specs.Nodes.{Node, head_of, arg_sides, convex_node}

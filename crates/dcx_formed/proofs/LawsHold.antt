@@ -1,28 +1,21 @@
 -- The main statements hold.
-use Rattle.std.proofs.Common.{◌≡◌, ℕ, ◌<◌, true, false, IsTrue, List, [], length, map, Some, Ok, refl, sym, ap, ◌∙◌, subst}
+use Rattle.std.proofs.Common.{◌≡◌, IsTrue, [], map, Some, refl, ap, ◌∙◌, subst}
 use Rattle.std.proofs.lemmas.Bool.{and_parts}
-use Rattle.dcx_math.specs.Rational.{ℚ}
 use Rattle.dcx_frac.specs.declared.fraction.Frac.{Frac}
-use Rattle.dcx_frac.specs.declared.fraction.Passes.{Passes}
 use Rattle.dcx_frac.specs.Results.{sum_of}
 use Rattle.dcx_point.specs.Pairs.{Pairs}
-use Rattle.dcx_arena.specs.Nodes.{IsNode}
-use Rattle.dcx_convex.specs.Nodes.{Numbers, Point, Setting}
-use Rattle.dcx_convex.specs.Rules.{Plain, Parametrized, is_constant, is_affine, judgement_by, judgement_at}
-use Rattle.dcx_convex.specs.Reductions.{Unknowns}
+use Rattle.dcx_convex.specs.Nodes.{Numbers, Setting}
+use Rattle.dcx_convex.specs.Rules.{Plain, Parametrized, is_constant, judgement_by, judgement_at}
 use Rattle.dcx_convex.proofs.LawsHold.{constants_are_fixed}
-use Rattle.dcx_call.specs.declared.attribute.Parameter.{Parameter}
 use Rattle.dcx_call.specs.declared.call.Call.{Call}
-use Rattle.dcx_call.specs.declared.call.Call.TheVariants as calls
 use Rattle.dcx_tree.specs.declared.problem.Problem.{Problem}
-use Rattle.dcx_tree.specs.Nodes.{Node, number_in as number_of_name, head_of, arg_sides}
+use Rattle.dcx_tree.specs.Nodes.{number_in as number_of_name, head_of, arg_sides}
 use Rattle.dcx_tree.specs.Meaning.{IsAccepted, IsDpp, names_in, point_of, setting_of}
 use Rattle.dcx_linear.specs.declared.param_form.ParamForm.{ParamForm}
 use Rattle.dcx_linear.specs.Changes.{changed_frac}
 use Rattle.dcx_linear.specs.Parameters.{Parameters, entry_of}
 use Rattle.dcx_linear.specs.ParamForms.{form_value, number_of_form, form_of_number, sum_gives_form, change_gives_form, IsEntryForm}
 use Rattle.dcx_linear.specs.ParamLaws.{form_entry_value}
-use Rattle.dcx_unknowns.specs.Layout.{is_reduced}
 use Rattle.dcx_reduced.specs.Equations.{AllStand}
 use Rattle.dcx_reduced.proofs.LawsHold.{equations_reduce}
 use Rattle.dcx_reduced.proofs.NodeForms.{nodes_of, not_constant, not_reduced}

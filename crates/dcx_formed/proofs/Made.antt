@@ -1,13 +1,12 @@
 -- What the form of an entry is made of, where it is formed.
-use Rattle.std.proofs.Common.{◌≡◌, ℕ, Bool, true, false, List, [], ◌∷◌, length, map, Option, Result, Ok, Err, slice_index_or, refl, sym, ap, subst}
+use Rattle.std.proofs.Common.{◌≡◌, ℕ, Bool, true, false, List, [], ◌∷◌, Option, Result, Ok, refl, sym, ap, subst}
 use Rattle.std.specs.List.{list_any}
 use Rattle.dcx_frac.specs.declared.fraction.Frac.{Frac}
 use Rattle.dcx_frac.specs.declared.fraction.Passes.{Passes}
-use Rattle.dcx_atom.specs.declared.stops.ValueStop.{ValueStop}
 use Rattle.dcx_affine.specs.declared.pairing.Pair.{Pair}
 use Rattle.dcx_linear.specs.declared.change.Change.{Change}
 use Rattle.dcx_linear.specs.declared.form.Form.{Form}
-use Rattle.dcx_linear.specs.Parts.{Follows, sums_parts}
+use Rattle.dcx_linear.specs.Parts.{sums_parts}
 use Rattle.dcx_entries.specs.declared.entries.EntryForms.{EntryForms}
 use Rattle.dcx_entries.specs.declared.scaling.Scaling.{Scaling}
 use Rattle.dcx_entries.specs.Parts.{Arguments, zero_form, has_zero_divisor}

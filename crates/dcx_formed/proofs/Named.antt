@@ -1,5 +1,5 @@
 -- The nodes of a problem name variables and parameters that are declared.
-use Rattle.std.proofs.Common.{◌≡◌, ℕ, List, map, Some, option_map, slice_get, refl, sym, ap, ◌∙◌, subst}
+use Rattle.std.proofs.Common.{◌≡◌, ℕ, option_map, sym, ap, ◌∙◌, subst}
 use Rattle.std.proofs.Math.Logic.{∥∥₁_elim}
 use Rattle.std.proofs.lemmas.Option.{slice_get-map}
 use Rattle.dcx_math.specs.Rational.{ℚ}
@@ -11,7 +11,7 @@ use Rattle.dcx_call.specs.declared.call.Call.{Call}
 use Rattle.dcx_call.specs.declared.call.Call.TheVariants as calls
 use Rattle.dcx_tree.specs.declared.problem.Problem.{Problem}
 use Rattle.dcx_tree.specs.Nodes.{Node, number_in}
-use Rattle.dcx_tree.specs.Problems.{IsListed, AreDeclared}
+use Rattle.dcx_tree.specs.Problems.{IsListed}
 use Rattle.dcx_tree.specs.Meaning.{names_in}
 use Rattle.dcx_tree.specs.Values.{IsNamed}
 use Rattle.dcx_tree.proofs.Sublists.{contains_at}

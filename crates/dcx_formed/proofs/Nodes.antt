@@ -1,19 +1,17 @@
 -- One formed node meets its equation, where those before it meet theirs.
-use Rattle.std.proofs.Common.{◌≡◌, ◌⊎◌, inl, inr, ℕ, zero, suc, ◌+◌, ◌<◌, ◌≤◌, arith, Bool, true, false, not, IsTrue, IsSome, if◌then◌else◌, List, [], ◌∷◌, length, map, All, Option, Some, None, Result, Ok, Err, slice_index_or, refl, sym, ap, ap₂, ◌∙◌, subst, pos}
-use Rattle.std.specs.Prelude.{nat_lt, ◌&&◌, ◌||◌}
+use Rattle.std.proofs.Common.{◌≡◌, inl, inr, ℕ, suc, ◌<◌, arith, Bool, true, false, not, IsTrue, IsSome, if◌then◌else◌, List, [], ◌∷◌, length, map, All, Option, Some, None, Result, Ok, slice_index_or, refl, sym, ap, ap₂, ◌∙◌, subst, pos}
+use Rattle.std.specs.Prelude.{◌||◌}
 use Rattle.std.specs.List.{list_all}
-use Rattle.std.proofs.Math.Path.{fun_ext}
-use Rattle.std.proofs.lemmas.Bool.{ltb-true, ltb-false, lt-ltb, and_from, false≢true}
+use Rattle.std.proofs.lemmas.Bool.{lt-ltb, and_from}
 use Rattle.std.proofs.lemmas.List.Elements.{All-head, All-tail}
 use Rattle.std.proofs.lemmas.Option.{slice_get_within}
-use Rattle.dcx_math.specs.Rational.{ℚ, whole, ◌+ℚ◌, ◌*ℚ◌}
+use Rattle.dcx_math.specs.Rational.{ℚ, whole, ◌+ℚ◌}
 use Rattle.dcx_math.specs.Sums.{rat_sum_by}
 use Rattle.dcx_math.proofs.Orders.{+ℚ_idl, +ℚ_idr, *ℚ-zero}
 use Rattle.dcx_frac.specs.declared.fraction.Frac.{Frac}
 use Rattle.dcx_frac.specs.declared.fraction.Passes.{Passes}
 use Rattle.dcx_frac.specs.Frac.{value}
 use Rattle.dcx_shape.specs.declared.shape.Sides.{Sides}
-use Rattle.dcx_shape.specs.Shape.{sides_of}
 use Rattle.dcx_shape.specs.Sides.{entries_of}
 use Rattle.dcx_atom.specs.declared.flags.Bend.{Bend}
 use Rattle.dcx_atom.specs.declared.flags.Bend.TheVariants.{Convex, Concave}
@@ -28,7 +26,7 @@ use Rattle.dcx_arena.specs.Nodes as arena
 use Rattle.dcx_arena.specs.Nodes.{IsNode}
 use Rattle.dcx_convex.specs.Calls as convex_calls
 use Rattle.dcx_convex.specs.Nodes.{Numbers, Point, Setting, first_of, arguments}
-use Rattle.dcx_convex.specs.Rules.{Rules, Plain, Judgement, is_constant, is_affine, argument, scales, bends, is_bent_call, judgement_by, judgement_at}
+use Rattle.dcx_convex.specs.Rules.{Rules, Judgement, is_constant, is_affine, argument, scales, bends, judgement_by, judgement_at}
 use Rattle.dcx_convex.specs.Problems.{accepted_by}
 use Rattle.dcx_convex.specs.Reductions.{Unknowns}
 use Rattle.dcx_convex.proofs.Told.{judgement_tells}
@@ -67,7 +65,7 @@ use Rattle.dcx_formed.proofs.Settled.{fixed_alike}
 use Rattle.dcx_formed.proofs.Reached.{node_bent}
 use Rattle.dcx_formed.proofs.Steady.{bent_parts}
 use Rattle.dcx_formed.proofs.Coefs.{AreCoefs}
-use Rattle.dcx_formed.proofs.Coefficients.{IsFewMean, IsFewChosen, terms_fit, results_fit}
+use Rattle.dcx_formed.proofs.Coefficients.{terms_fit, results_fit}
 use Rattle.dcx_formed.proofs.Exact.{IsFew}
 use Rattle.dcx_formed.proofs.Few.{few_calls}
 use Rattle.dcx_formed.proofs.PartValues.{constant_is, zero_is, unknown_or_zero, parts_are, terms_are, result_is}
@@ -77,8 +75,8 @@ use Rattle.dcx_formed.proofs.Stood.{args_match}
 use Rattle.dcx_formed.proofs.Numbers.{by_size, source, number_value, number_read}
 use Rattle.dcx_formed.proofs.Made.{entry_is, linear_made, atom_made, pair_made}
 use Rattle.dcx_formed.proofs.HaveNumbers.{have_numbers}
-use Rattle.dcx_formed.proofs.Sides.{CountsAffine, scaling_may}
-use Rattle.dcx_formed.proofs.Pairs.{IsRead, IsStill, MayScale, products_are, quotients_are}
+use Rattle.dcx_formed.proofs.Sides.{scaling_may}
+use Rattle.dcx_formed.proofs.Pairs.{IsRead, MayScale, products_are, quotients_are}
 
 -- ---- lists and numbers
 first_below : (n : ℕ) (f : Numbers) (j : ℕ) → j < n → first_of n f j ≡ f j
@@ -136,7 +134,7 @@ module _ {C : Type 0} (value_at : C → Parameters → ℚ) (of_number : Frac �
     (formed : AreFormed of_number number_of Sums Changes Reads rules p setting (length p.tree) table) (params : Parameters) (s : Setting)
     (told : (i : ℕ) → i < length p.tree → is_reduced rules p i ≡ false → (x : Point) (j : ℕ) → problem_value p s x i j ≡ source value_at of_number number_of Sums Changes Reads laws rules p setting table formed i j)
     (read : (i : ℕ) (n : Node) (q : Parameter) → IsNode p.tree i n → n.call ≡ calls.Parameter q → is_reduced rules p i ≡ true → (j : ℕ) (c : C) →
-        Reads (number_of_name (names_in p).parameters q.name) q.name j setting c → value_at c params ≡ s (number_of_name (names_in p).parameters q.name) j)
+    Reads (number_of_name (names_in p).parameters q.name) q.name j setting c → value_at c params ≡ s (number_of_name (names_in p).parameters q.name) j)
     (ok : IsTrue (accepted_by rules (convex_problem p))) where
   abbrev F : Forms
   F = forms_at value_at of_number params table
@@ -246,8 +244,8 @@ module _ {C : Type 0} (value_at : C → Parameters → ℚ) (of_number : Frac �
         let k = number_of_name (names_in p).variables v.name in
         let first = first_unknown p.variables k in
         where_declared p i n v at is (number_at u (unknown_from first v j)) (point_at p.variables u k j) (λ there.
-            sym (first_below (entries_of (sides_in v)) (λ j. number_at u (unknown_from first v j)) j (subst (λ (r : Sides). j < entries_of r) (sym (own_is (sides_in v) (arg_sides p.tree n) n.sides shape)) b))
-            ∙ sym (ap (λ o. array_from u first o j) there))
+        sym (first_below (entries_of (sides_in v)) (λ j. number_at u (unknown_from first v j)) j (subst (λ (r : Sides). j < entries_of r) (sym (own_is (sides_in v) (arg_sides p.tree n) n.sides shape)) b))
+        ∙ sym (ap (λ o. array_from u first o j) there))
 
     call_value : (call : Call) → n.call ≡ call → shape_of call (arg_sides p.tree n) ≡ Some n.sides → IsFew call (arg_sides p.tree n) → (j : ℕ) → j < entries_of n.sides → (entry : EntryForms C) →
         ReducedEntry of_number number_of Sums Changes Reads rules p setting forms i n.args call (arg_sides p.tree n) j (Ok entry) →

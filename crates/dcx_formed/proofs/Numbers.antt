@@ -1,5 +1,5 @@
 -- Nodes that are numbers by the rules: their forms are numbers, which are their values.
-use Rattle.std.proofs.Common.{◌≡◌, inl, inr, ℕ, zero, suc, ◌<◌, ◌≤◌, arith, Bool, true, false, not, IsTrue, if◌then◌else◌, List, [], ◌∷◌, length, map, All, Some, Option, unwrap_or, Result, Ok, Err, refl, sym, ap, ap₂, ◌∙◌, subst, pos}
+use Rattle.std.proofs.Common.{◌≡◌, ℕ, zero, suc, ◌<◌, ◌≤◌, arith, Bool, true, false, not, IsTrue, if◌then◌else◌, List, [], ◌∷◌, length, map, All, Option, unwrap_or, Result, Ok, Err, refl, sym, ap, ◌∙◌, subst, pos}
 use Rattle.std.specs.Prelude.{nat_lt}
 use Rattle.std.specs.List.{list_all}
 use Rattle.std.proofs.Math.Path.{fun_ext}

@@ -1,16 +1,15 @@
 -- The number that the sum over the pairs of a product or a quotient is.
-use Rattle.std.proofs.Common.{◌≡◌, ℕ, List, [], ◌∷◌, map, Option, Result, Ok, Err, refl, sym, ap, ap₂, ◌∙◌, pos}
-use Rattle.dcx_math.specs.Rational.{ℚ, whole, ◌+ℚ◌, ◌*ℚ◌, ◌/ℚ◌}
+use Rattle.std.proofs.Common.{◌≡◌, ℕ, List, [], ◌∷◌, Option, Result, Ok, sym, ap, ◌∙◌}
+use Rattle.dcx_math.specs.Rational.{ℚ, ◌+ℚ◌, ◌*ℚ◌, ◌/ℚ◌}
 use Rattle.dcx_math.specs.Sums.{rat_sum_by}
 use Rattle.dcx_math.proofs.Orders.{+ℚ_idl, +ℚ_idr, +ℚ_assoc, *ℚ_comm}
 use Rattle.dcx_frac.specs.declared.fraction.Frac.{Frac}
 use Rattle.dcx_frac.specs.declared.fraction.Passes.{Passes}
 use Rattle.dcx_frac.specs.Frac.{value}
 use Rattle.dcx_affine.specs.declared.pairing.Pair.{Pair}
-use Rattle.dcx_affine.specs.declared.pairing.Pairing.TheVariants.{Times, MatTimes, Over}
+use Rattle.dcx_affine.specs.declared.pairing.Pairing.TheVariants.{Times, Over}
 use Rattle.dcx_call.specs.Values.{pairing_value}
 use Rattle.dcx_linear.specs.declared.change.Change.{Change}
-use Rattle.dcx_linear.specs.declared.change.Change.TheVariants.{Scale, Divide}
 use Rattle.dcx_linear.specs.declared.form.Form.{Form}
 use Rattle.dcx_linear.specs.Parameters.{Parameters}
 use Rattle.dcx_linear.specs.FormTerms.{Unknowns}

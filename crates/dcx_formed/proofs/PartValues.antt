@@ -1,16 +1,14 @@
 -- The numbers that the forms of numbers, of unknowns and of sums of parts are.
-use Rattle.std.proofs.Common.{◌≡◌, ℕ, ◌+◌, List, [], ◌∷◌, map, Option, Some, None, Result, Ok, refl, sym, ap, ap₂, ◌∙◌, pos}
+use Rattle.std.proofs.Common.{◌≡◌, ℕ, ◌+◌, List, [], ◌∷◌, map, Option, Some, None, Result, Ok, refl, ap, ap₂, ◌∙◌, pos}
 use Rattle.std.specs.List.{AllByRecursion}
 use Rattle.dcx_math.specs.Rational.{ℚ, whole, ◌+ℚ◌, ◌*ℚ◌}
-use Rattle.dcx_math.specs.Sums.{rat_sum_by}
-use Rattle.dcx_math.proofs.Orders.{+ℚ_idl, +ℚ_idr, *ℚ_idl, *ℚ-zero}
+use Rattle.dcx_math.proofs.Orders.{+ℚ_idl, +ℚ_idr, *ℚ_idl}
 use Rattle.dcx_frac.specs.declared.fraction.Frac.{Frac}
 use Rattle.dcx_frac.specs.declared.fraction.Passes.{Passes}
 use Rattle.dcx_frac.specs.Frac.{value}
-use Rattle.dcx_atom.specs.Arrays.{Entries}
 use Rattle.dcx_atom.specs.Formed.{zero_frac, frac_at}
 use Rattle.dcx_atom.specs.Linear.{LinearTerm, terms_at}
-use Rattle.dcx_atom.specs.Rows.{Filling, RowTerm, FormTerm, operand_at, row_at, form_at}
+use Rattle.dcx_atom.specs.Rows.{RowTerm, FormTerm, operand_at, row_at, form_at}
 use Rattle.dcx_atom.specs.declared.graph.Operand.{Operand}
 use Rattle.dcx_atom.specs.declared.graph.Operand.TheVariants.{Argument, Aux}
 use Rattle.dcx_atom.proofs.FormedSums.{value-zero_frac}
@@ -26,7 +24,6 @@ use Rattle.dcx_linear.specs.Parts.{sums_parts, parts_value}
 use Rattle.dcx_linear.proofs.PartSums.{parts_sum_value}
 use Rattle.dcx_unknowns.specs.Unknowns.{number_at}
 use Rattle.dcx_entries.specs.Parts.{Arguments, zero_form, unknown_form, form_of_unknown, term_part, aux_part, operand_form, row_part}
-use Rattle.dcx_entries.proofs.EntryValues.{from_zero}
 use Rattle.dcx_formed.proofs.Representable.{one_fits}
 use Rattle.dcx_formed.proofs.Coefficients.{FitsTerm, FitsRow, FitsFormTerm}
 use Rattle.dcx_formed.proofs.Coefs.{AreCoefs}

@@ -1,12 +1,12 @@
 -- Each node of an accepted problem is convex or concave, since each is reached.
-use Rattle.std.proofs.Common.{◌≡◌, inl, inr, ℕ, zero, suc, ◌+◌, ◌<◌, arith, true, IsTrue, List, [], ◌∷◌, length, map, Option, Some, None, option_map, slice_get, refl, sym, ap, ◌∙◌, subst}
+use Rattle.std.proofs.Common.{◌≡◌, inl, inr, ℕ, suc, ◌+◌, ◌<◌, arith, true, IsTrue, List, [], ◌∷◌, length, map, Option, Some, None, option_map, slice_get, refl, sym, ap, ◌∙◌, subst}
 use Rattle.std.specs.Option.{unwrap_or}
 use Rattle.std.specs.List.{range_with_len}
 use Rattle.std.proofs.lemmas.Option.{slice_get-map, slice_get-get_or}
 use Rattle.std.proofs.lemmas.List.FromFn.{length-range_with_len, get_or-range_with_len}
 use Rattle.dcx_shape.specs.declared.shape.Sides.{Sides}
-use Rattle.dcx_arena.specs.Nodes.{IsNode, args_at}
-use Rattle.dcx_arena.specs.Gather.{has, order_of}
+use Rattle.dcx_arena.specs.Nodes.{IsNode}
+use Rattle.dcx_arena.specs.Gather.{has}
 use Rattle.dcx_arena.specs.Unfold.{Leads}
 use Rattle.dcx_arena.proofs.Orders.{has_at, has_from, head_or}
 use Rattle.dcx_arena.proofs.Unfolds.{there_reached}

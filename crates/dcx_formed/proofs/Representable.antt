@@ -1,13 +1,11 @@
 -- Numbers that are those of fractions of 128 bits: small whole numbers, their reciprocals, negatives, magnitudes and extremes.
-use Rattle.std.proofs.Common.{◌≡◌, ◌≢◌, ℕ, zero, suc, ◌<◌, ◌^◌, List, [], ◌∷◌, inl, inr, ⊎_elim, refl, sym, ap, ◌∙◌, subst, arith, pos, negsuc, ◌<ℤ◌, lit<}
+use Rattle.std.proofs.Common.{◌≡◌, ℕ, ◌<◌, ◌^◌, inl, ⊎_elim, refl, sym, ap, ◌∙◌, subst, arith, pos, negsuc, ◌<ℤ◌, lit<}
 use Rattle.std.proofs.lemmas.Int.{ints}
 use native.Mathlib.Nat.{eq-one_of_dvd-one}
-use Rattle.dcx_math.specs.Rational.{ℚ, ratio, whole, ◌+ℚ◌, ◌-ℚ◌, ◌/ℚ◌, neg_ℚ, inverse, rat_max, rat_abs}
+use Rattle.dcx_math.specs.Rational.{ℚ, whole, ◌+ℚ◌, neg_ℚ, inverse, rat_max, rat_abs}
 use Rattle.dcx_math.proofs.Orders.{+ℚ_idl}
 use Rattle.dcx_math.proofs.Ring.{ -ℚ-is}
 use Rattle.dcx_math.proofs.Bounds.{rat_max-cases}
-use Rattle.dcx_math.proofs.Denominators.{ratio-neg_ℚ}
-use Rattle.dcx_frac.specs.declared.fraction.Frac.{Frac}
 use Rattle.dcx_frac.specs.Fits.{IsRepresentable, representable}
 use Rattle.dcx_frac.specs.Frac.{value}
 use Rattle.dcx_frac.proofs.Parts.{value_representable}

@@ -1,5 +1,5 @@
 -- The rows of formed nodes are the rows of the graphs, with the forms of the arguments put in.
-use Rattle.std.proofs.Common.{◌≡◌, ℕ, zero, suc, ◌+◌, ◌<◌, ◌≤◌, arith, Bool, true, false, List, [], ◌∷◌, ◌++◌, length, map, option_map, Option, Some, None, slice_get, slice_index_or, Result, Ok, Err, refl, sym, ap, ap₂, ◌∙◌, subst, append_assoc, append-nil}
+use Rattle.std.proofs.Common.{◌≡◌, ℕ, zero, suc, ◌+◌, ◌<◌, arith, Bool, true, false, List, [], ◌∷◌, ◌++◌, length, map, option_map, Option, Some, slice_get, slice_index_or, Result, Ok, Err, refl, sym, ap, ap₂, ◌∙◌, subst, append_assoc, append-nil}
 use Rattle.std.specs.List.{flat_map, range_with_len, AllByRecursion}
 use Rattle.std.proofs.Math.Path.{fun_ext}
 use Rattle.std.proofs.lemmas.List.{length-map, map-append}
@@ -11,7 +11,7 @@ use Rattle.dcx_shape.specs.Sides.{entries_of}
 use Rattle.dcx_atom.specs.declared.stops.ValueStop.{ValueStop}
 use Rattle.dcx_atom.specs.Arrays.{Entries, sides_at, list_below, joined_below}
 use Rattle.dcx_atom.specs.Rows.{Row, row_at}
-use Rattle.dcx_atom.specs.Graph.{PlacedRow, rows_below}
+use Rattle.dcx_atom.specs.Graph.{PlacedRow}
 use Rattle.dcx_atom.proofs.BoundRows.{list_below-first, map-list_below}
 use Rattle.dcx_affine.specs.Pairing.{pairs_at}
 use Rattle.dcx_point.specs.Pairs.{Pairs}
@@ -141,8 +141,8 @@ module _ {C : Type 0} (value_at : C → Parameters → ℚ) (of_number : Frac �
     graph_rows_are rows fits fs h =
         let part = λ (row : Row). map (row_part of_number args (first_aux rules p i)) row in
         maps_same row_of (λ row u. row_at row (arguments (map (F u) n.args)) (filling_of rules p i u)) fs rows (h.0 ∙ length-map rows part) (λ k f row there here.
-            let own : slice_index_or (map part rows) k [] ≡ part row = at_place (map part rows) k (part row) [] (slice_get-map part rows k ∙ ap (option_map part) here) in
-            fun_ext (λ u. graph_row row (all_at FitsRow rows fits k row here) f (subst (λ (ps : List (Change × Form C)). sums_parts of_number number_of Sums Changes ps (Ok f)) own (h.1 k f there)) u))
+        let own : slice_index_or (map part rows) k [] ≡ part row = at_place (map part rows) k (part row) [] (slice_get-map part rows k ∙ ap (option_map part) here) in
+        fun_ext (λ u. graph_row row (all_at FitsRow rows fits k row here) f (subst (λ (ps : List (Change × Form C)). sums_parts of_number number_of Sums Changes ps (Ok f)) own (h.1 k f there)) u))
 
     -- the rows of entry j, by its call
     abbrev call_rows_at : Call → ℕ → List Row

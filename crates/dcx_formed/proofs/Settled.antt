@@ -1,14 +1,13 @@
 -- Nodes that reach no parameter have one value at all settings, and the sign of a node that reaches nothing is true of its
 -- value, whatever the setting and the point are.
-use Rattle.std.proofs.Common.{◌≡◌, ℕ, zero, suc, Bool, true, false, IsTrue, List, [], ◌∷◌, length, map, Option, Some, None, slice_get, refl, sym, ap, ap₂, ◌∙◌, subst, pos}
+use Rattle.std.proofs.Common.{◌≡◌, ℕ, zero, suc, IsTrue, List, [], ◌∷◌, map, Option, Some, None, slice_get, refl, ap, ap₂, ◌∙◌, pos}
 use Rattle.std.specs.Prelude.{◌&&◌}
 use Rattle.std.specs.List.{list_all}
 use Rattle.std.proofs.lemmas.Bool.{and_parts, false≢true}
-use Rattle.dcx_math.specs.Rational.{ℚ, whole}
+use Rattle.dcx_math.specs.Rational.{whole}
 use Rattle.dcx_math.proofs.Orders.{≤ℚ_refl, ≤ℚ_antisym}
 use Rattle.dcx_shape.specs.declared.shape.Sides.{Sides}
-use Rattle.dcx_atom.specs.Signs.{HasSign}
-use Rattle.dcx_convex.specs.Nodes.{Attribute, Free, Nonneg, Nonpos, Symmetric, Diag, Head, Variable, Parameter, Constant, Apply, Node, EachNode, Numbers, Point, Setting, told, told_within, zeros, first_of, arguments, value_by, value_at, Keeps, VariableKeeps, ParameterKeeps, IsInDomain, AreLawful}
+use Rattle.dcx_convex.specs.Nodes.{Attribute, Free, Nonneg, Nonpos, Symmetric, Diag, Head, Variable, Parameter, Constant, Apply, Node, Numbers, Point, Setting, told, told_within, zeros, first_of, arguments, value_by, value_at, Keeps, VariableKeeps, ParameterKeeps, AreLawful}
 use Rattle.dcx_convex.specs.Rules.{Rules, Plain, Judgement, no_argument, judgement_by, judgement_at}
 use Rattle.dcx_convex.specs.Pairs.{is_zero}
 use Rattle.dcx_convex.proofs.Arguments.{args_same}

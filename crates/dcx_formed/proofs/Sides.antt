@@ -1,12 +1,11 @@
 -- Which side of a product scales the other one, and that in an accepted problem it may.
-use Rattle.std.proofs.Common.{◌≡◌, ◌⊎◌, inl, inr, ℕ, Bool, true, false, not, IsTrue, if◌then◌else◌, List, [], ◌∷◌, map, refl, sym, ap, ◌∙◌, subst}
+use Rattle.std.proofs.Common.{◌≡◌, ◌⊎◌, inl, inr, Bool, true, false, IsTrue, if◌then◌else◌, refl, sym, ◌∙◌}
 use Rattle.std.specs.Prelude.{◌&&◌, ◌||◌}
-use Rattle.std.specs.List.{list_all}
 use Rattle.std.proofs.lemmas.Bool.{and_parts, and_from, or_cases, false≢true}
 use Rattle.dcx_convex.specs.Rules.{Rules, Plain, Parametrized, Judgement, is_constant, is_affine, scales}
 use Rattle.dcx_entries.specs.declared.scaling.Side.{Side}
 use Rattle.dcx_entries.specs.declared.scaling.Scaling.{Scaling}
-use Rattle.dcx_entries.specs.declared.scaling.Scaling.TheVariants.{LeftNumber, RightNumber, LeftAffine, RightAffine, Divisor}
+use Rattle.dcx_entries.specs.declared.scaling.Scaling.TheVariants.{LeftNumber, RightNumber, LeftAffine, RightAffine}
 use Rattle.dcx_entries.specs.Nodes.{product_scaling}
 
 -- a side that counts as a number is constant, or affine and the other one reaches no parameter

@@ -6,7 +6,7 @@ use Rattle.std.specs.List.{list_all}
 use Rattle.std.proofs.Math.Path.{fun_ext}
 use Rattle.std.proofs.lemmas.Bool.{and_parts, and_from, or_cases, false≢true}
 use Rattle.std.proofs.lemmas.List.Elements.{All-head, All-tail}
-use Rattle.dcx_math.specs.Rational.{ℚ, whole, ◌+ℚ◌, ◌*ℚ◌, ◌/ℚ◌, inverse}
+use Rattle.dcx_math.specs.Rational.{ℚ, whole, ◌+ℚ◌, ◌*ℚ◌, ◌/ℚ◌}
 use Rattle.dcx_math.proofs.Orders.{zero-*ℚ, *ℚ-zero, inverse-zero}
 use Rattle.dcx_math.proofs.Ring.{/ℚ-is}
 use Rattle.dcx_shape.specs.declared.shape.Sides.{Sides}
@@ -24,8 +24,8 @@ use Rattle.dcx_arena.specs.Nodes as arena
 use Rattle.dcx_arena.specs.Nodes.{IsNode}
 use Rattle.dcx_convex.specs.Atoms.{atom_call, linear_call}
 use Rattle.dcx_convex.specs.Calls as convex_calls
-use Rattle.dcx_convex.specs.Nodes.{Head, Numbers, Setting, zeros, first_of, arguments}
-use Rattle.dcx_convex.specs.Rules.{Rules, Parametrized, Judgement, is_constant, is_affine, is_bent, opposite, scales, bends, suits, all_suit, is_bent_call, judgement_by, judgement_at}
+use Rattle.dcx_convex.specs.Nodes.{Numbers, Setting, zeros, first_of, arguments}
+use Rattle.dcx_convex.specs.Rules.{Rules, Parametrized, Judgement, is_constant, is_affine, scales, bends, suits, all_suit, is_bent_call, judgement_by, judgement_at}
 use Rattle.dcx_convex.specs.Pairs.{is_zero, product_trend, quotient_trend}
 use Rattle.dcx_convex.specs.Reductions.{Unknowns}
 use Rattle.dcx_convex.proofs.Told.{judgement_tells}
@@ -44,7 +44,7 @@ use Rattle.dcx_tree.specs.Meaning.{names_in, value_at}
 use Rattle.dcx_tree.proofs.Lawful.{tree_lawful}
 use Rattle.dcx_unknowns.specs.Unknowns.{point_at}
 use Rattle.dcx_unknowns.specs.Layout.{is_reduced}
-use Rattle.dcx_reduced.specs.Equations.{Forms, call_entry, filling_of, entry_by, args_of, Stands}
+use Rattle.dcx_reduced.specs.Equations.{Forms, call_entry, filling_of, Stands}
 use Rattle.dcx_reduced.proofs.Constants.{call_constant}
 use Rattle.dcx_reduced.proofs.NodeForms.{nodes_of, nodes_ordered, convex_at, node_at, not_constant, not_reduced}
 use Rattle.dcx_formed.proofs.Settled.{settled_zero}
@@ -306,11 +306,11 @@ module _ (p : Problem) (s : Setting) (forms : Forms) (m : ℕ) (stand : (i : ℕ
           let both = and_parts (judged i).convex (judged i).concave affine in
           let stands = subst (Stands Parametrized p s forms i n) e (stand i n b at) in
           fun_ext (λ j.
-              stands u j
-              ∙ ap (λ (f : Numbers). first_of (entries_of n.sides) f j)
-              (fun_ext (λ k. entry_same i n at b c u w earlier n.call (p.nodes.shaped i n at) fixed_told (subst (λ (k : Judgement). IsTrue k.convex) g both.0) (subst (λ (k : Judgement). IsTrue k.concave) g both.1)
-              (not_constant p Parametrized i n at e) k))
-              ∙ sym (stands w j))
+          stands u j
+          ∙ ap (λ (f : Numbers). first_of (entries_of n.sides) f j)
+          (fun_ext (λ k. entry_same i n at b c u w earlier n.call (p.nodes.shaped i n at) fixed_told (subst (λ (k : Judgement). IsTrue k.convex) g both.0) (subst (λ (k : Judgement). IsTrue k.concave) g both.1)
+          (not_constant p Parametrized i n at e) k))
+          ∙ sym (stands w j))
 
   -- an affine node that reaches no variable is one array
   pub steady : (u w : Unknowns) (i : ℕ) → i < m → i < length p.tree → IsTrue (judged i).fixed → IsTrue (is_affine (judged i)) → forms u i ≡ forms w i

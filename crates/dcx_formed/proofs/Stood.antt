@@ -1,5 +1,5 @@
 -- The numbers that the forms of the arguments of a node are.
-use Rattle.std.proofs.Common.{◌≡◌, ℕ, List, [], ◌∷◌, length, map, Option, Result, refl}
+use Rattle.std.proofs.Common.{◌≡◌, ℕ, List, map, Option, Result, refl}
 use Rattle.std.proofs.Math.Path.{fun_ext}
 use Rattle.dcx_math.specs.Rational.{ℚ}
 use Rattle.dcx_frac.specs.declared.fraction.Frac.{Frac}

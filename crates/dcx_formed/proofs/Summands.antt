@@ -1,6 +1,6 @@
 -- The numbers as whose sum an entry of an atom is formed are entries of arguments up to their sign, or 0: where the entries
 -- are those of fractions of 128 bits, so are they.
-use Rattle.std.proofs.Common.{ℕ, suc, List, [], ◌∷◌, map, pos}
+use Rattle.std.proofs.Common.{ℕ, suc, List, pos}
 use Rattle.std.specs.List.{All, AllByRecursion}
 use Rattle.std.proofs.lemmas.List.Elements.{All-from_recursion, recursion_from_All, All-map, All-take, All-weaker}
 use Rattle.dcx_math.specs.Rational.{ℚ, whole, neg_ℚ, rat_abs}
@@ -15,7 +15,7 @@ use Rattle.dcx_atom.specs.Farthest.{extreme, extreme_among}
 use Rattle.dcx_atom.specs.Bounding.{outward}
 use Rattle.dcx_atom.specs.Axis.{folded_count}
 use Rattle.dcx_fold.specs.Groups.{member}
-use Rattle.dcx_fold.specs.Sorted.{falling, All-falling}
+use Rattle.dcx_fold.specs.Sorted.{All-falling}
 use Rattle.dcx_fold.specs.Largest.{ordered, chosen}
 use Rattle.dcx_call.specs.declared.atoms.AtomCall.{AtomCall}
 use Rattle.dcx_call.specs.declared.atoms.AtomCall.TheVariants.{Abs, Maximum, Minimum, Pos, Neg, MaxOf, MinOf, Norm1, NormInf, SumLargest, SumSmallest, CumMax}

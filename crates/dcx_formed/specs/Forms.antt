@@ -1,5 +1,5 @@
 -- The forms of formed nodes at unknowns and parameters, and what nodes are formed of: fractions, or affine numbers.
-use Rattle.std.specs.Prelude.{◌≡◌, ℕ, List, [], length, map, Some, slice_index_or}
+use Rattle.std.specs.Prelude.{◌≡◌, List, [], length, map, Some, slice_index_or}
 use Rattle.dcx_math.specs.Rational.{ℚ}
 use Rattle.dcx_frac.specs.declared.fraction.Frac.{Frac}
 use Rattle.dcx_frac.specs.Frac.{value}
