@@ -1,6 +1,6 @@
 -- The lemmas by which the laws are proved.
-pub mod Representable
 pub mod Lists
+pub mod Representable
 pub mod Summands
 pub mod Coefficients
 pub mod Exact
@@ -11,6 +11,7 @@ pub mod Coefs
 pub mod PartValues
 pub mod Steady
 pub mod Tables
+pub mod Stood
 pub mod Named
 pub mod Numbers
 pub mod Made
@@ -20,5 +21,4 @@ pub mod Pairs
 pub mod Nodes
 pub mod All
 pub mod Rows
-pub mod Stood
 pub mod LawsHold

@@ -20,6 +20,7 @@ use Rattle.dcx_atom.specs.Arrays.{Entries, sides_at}
 use Rattle.dcx_atom.specs.Linear.{terms_at}
 use Rattle.dcx_affine.specs.declared.pairing.Pairing.{Pairing}
 use Rattle.dcx_affine.specs.declared.pairing.Pairing.TheVariants.{Times, MatTimes, Over}
+use Rattle.dcx_affine.specs.declared.pairing.Pair.{Pair}
 use Rattle.dcx_affine.specs.Pairing.{pairs_at}
 use Rattle.dcx_point.specs.Pairs.{Pairs}
 use Rattle.dcx_arena.specs.Nodes as arena
@@ -55,9 +56,10 @@ use Rattle.dcx_reduced.proofs.Constants.{call_constant}
 use Rattle.dcx_reduced.proofs.CallGraphs.{IsReducible}
 use Rattle.dcx_reduced.proofs.NodeForms.{nodes_of, nodes_ordered, convex_at, node_at, not_constant, reducible}
 use Rattle.dcx_entries.specs.declared.entries.EntryForms.{EntryForms}
+use Rattle.dcx_entries.specs.declared.scaling.Scaling.{Scaling}
 use Rattle.dcx_entries.specs.declared.scaling.Scaling.TheVariants.{Divisor}
-use Rattle.dcx_entries.specs.Parts.{zero_form, form_of_unknown, term_part, aux_part, number_in}
-use Rattle.dcx_entries.specs.Entries.{alone}
+use Rattle.dcx_entries.specs.Parts.{Arguments, zero_form, form_of_unknown, term_part, aux_part, number_in}
+use Rattle.dcx_entries.specs.Entries.{alone, PairEntry}
 use Rattle.dcx_entries.specs.Standing.{args_among}
 use Rattle.dcx_entries.specs.Nodes.{is_told, has_numbers, Table, table_forms, side_of, scaling_of, ReducedEntry, NodeEntryBy, AreFormed}
 use Rattle.dcx_formed.specs.Forms.{forms_at}
@@ -220,23 +222,25 @@ module _ {C : Type 0} (value_at : C → Parameters → ℚ) (of_number : Frac �
         ]
 
     -- ---- the entries of each call
+    abbrev args : Arguments C
+    args = args_among of_number forms n.args
+
+    product_sum : (scaling : Scaling) → MayScale value_at of_number number_of Sums Changes laws u params args scaling → (pairs : List Pair) (j : ℕ) (entry : EntryForms C) →
+        PairEntry of_number number_of Sums Changes scaling args pairs j (Ok entry) →
+        linear_value value_at entry.form u params ≡ pairing_value Times pairs (λ e. linear_value value_at (args 0 e) u params) (λ e. linear_value value_at (args 1 e) u params)
+    product_sum scaling may pairs j entry h =
+        products_are value_at of_number number_of Sums Changes laws u params args scaling may pairs entry.form (pair_made of_number number_of Sums Changes scaling args pairs j entry h).sums
+
     pair_sum : (q : Pairing) → MayPair q n.args → (j : ℕ) (entry : EntryForms C) → ReducedEntry of_number number_of Sums Changes Reads rules p setting forms i n.args (calls.Pairing q) (arg_sides p.tree n) j (Ok entry) →
-        linear_value value_at entry.form u params ≡ pairing_value q (pairs_at q (sides_at (arg_sides p.tree n) 0) (sides_at (arg_sides p.tree n) 1) j)
-        (λ e. linear_value value_at (args_among of_number forms n.args 0 e) u params) (λ e. linear_value value_at (args_among of_number forms n.args 1 e) u params)
+        linear_value value_at entry.form u params
+        ≡ pairing_value q (pairs_at q (sides_at (arg_sides p.tree n) 0) (sides_at (arg_sides p.tree n) 1) j) (λ e. linear_value value_at (args 0 e) u params) (λ e. linear_value value_at (args 1 e) u params)
     pair_sum Times may j entry h =
-        let scaling = scaling_of of_number number_of Sums Changes Reads rules p setting Times forms n.args in
-        let pairs = pairs_at Times (sides_at (arg_sides p.tree n) 0) (sides_at (arg_sides p.tree n) 1) j in
-        products_are value_at of_number number_of Sums Changes laws u params (args_among of_number forms n.args) scaling may pairs entry.form
-        (pair_made of_number number_of Sums Changes scaling (args_among of_number forms n.args) pairs j entry h).sums
+        product_sum (scaling_of of_number number_of Sums Changes Reads rules p setting Times forms n.args) may (pairs_at Times (sides_at (arg_sides p.tree n) 0) (sides_at (arg_sides p.tree n) 1) j) j entry h
     pair_sum MatTimes may j entry h =
-        let scaling = scaling_of of_number number_of Sums Changes Reads rules p setting MatTimes forms n.args in
-        let pairs = pairs_at MatTimes (sides_at (arg_sides p.tree n) 0) (sides_at (arg_sides p.tree n) 1) j in
-        products_are value_at of_number number_of Sums Changes laws u params (args_among of_number forms n.args) scaling may pairs entry.form
-        (pair_made of_number number_of Sums Changes scaling (args_among of_number forms n.args) pairs j entry h).sums
+        product_sum (scaling_of of_number number_of Sums Changes Reads rules p setting MatTimes forms n.args) may (pairs_at MatTimes (sides_at (arg_sides p.tree n) 0) (sides_at (arg_sides p.tree n) 1) j) j entry h
     pair_sum Over may j entry h =
         let pairs = pairs_at Over (sides_at (arg_sides p.tree n) 0) (sides_at (arg_sides p.tree n) 1) j in
-        quotients_are value_at of_number number_of Sums Changes laws u params (args_among of_number forms n.args) may pairs entry.form
-        (pair_made of_number number_of Sums Changes Divisor (args_among of_number forms n.args) pairs j entry h).sums
+        quotients_are value_at of_number number_of Sums Changes laws u params args may pairs entry.form (pair_made of_number number_of Sums Changes Divisor args pairs j entry h).sums
 
     variable_entry : (v : Variable) → n.call ≡ calls.Variable v → own_sides (sides_in v) (arg_sides p.tree n) ≡ Some n.sides → (j : ℕ) → j < entries_of n.sides →
         number_at u (unknown_from (first_unknown p.variables (number_of_name (names_in p).variables v.name)) v j) ≡ point_at p.variables u (number_of_name (names_in p).variables v.name) j
@@ -267,7 +271,6 @@ module _ {C : Type 0} (value_at : C → Parameters → ℚ) (of_number : Frac �
         ∙ result_is value_at of_number number_of Sums Changes laws u params (first_aux rules p i) result (results_fit m (arg_sides p.tree n) j few)
     call_value (calls.Linear l) is shape few j b entry h =
         let terms = (linear_meaning l).terms (arg_sides p.tree n) j in
-        let args = args_among of_number forms n.args in
         parts_are value_at of_number number_of Sums Changes laws u params (map (term_part args) terms) entry.form (linear_made of_number number_of Sums Changes (map (term_part args) terms) entry h).sums
         ∙ terms_are value_at of_number number_of Sums Changes laws u params args terms (terms_fit l (arg_sides p.tree n) j few)
         ∙ ap (λ (a : Entries). terms_at terms a) (args_match value_at of_number number_of Sums Changes laws table params u n.args)

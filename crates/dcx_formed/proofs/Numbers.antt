@@ -54,9 +54,9 @@ use Rattle.dcx_formed.proofs.PartValues.{number_is}
 use Rattle.dcx_formed.proofs.Tables.{form_in, args_are, entry_there, entry_past}
 
 -- ---- a constant call has constant arguments
-Apply_constant : (rules : Rules) (c : convex_calls.Call) (args : List Judgement) → IsTrue (is_constant rules (judgement_by rules (convex.Apply c) args)) → IsTrue (list_all (is_constant rules) args)
-Apply_constant Plain c args t = t
-Apply_constant Parametrized c args t = both_constant args t
+args_constant : (rules : Rules) (c : convex_calls.Call) (args : List Judgement) → IsTrue (is_constant rules (judgement_by rules (convex.Apply c) args)) → IsTrue (list_all (is_constant rules) args)
+args_constant Plain c args t = t
+args_constant Parametrized c args t = both_constant args t
 
 pub each_constant : (test : Judgement → Bool) (judged : ℕ → Judgement) (ids : List ℕ) → IsTrue (list_all test (map judged ids)) → All (λ a. IsTrue (test (judged a))) ids
 each_constant test judged [] t = All-nil (λ a. IsTrue (test (judged a)))
@@ -153,12 +153,12 @@ module _ {C : Type 0} (value_at : C → Parameters → ℚ) (of_number : Frac �
     same_value (calls.Parameter q) t j = refl
     same_value (calls.Constant x) t j = refl
     same_value (calls.Atom m) t j =
-        ap (λ (a : Entries). (atom_meaning m).value (arg_sides p.tree n) a j) (constant_args (Apply_constant rules (atom_call (atom_meaning m) (arg_sides p.tree n) n.sides) (map judged n.args) t))
+        ap (λ (a : Entries). (atom_meaning m).value (arg_sides p.tree n) a j) (constant_args (args_constant rules (atom_call (atom_meaning m) (arg_sides p.tree n) n.sides) (map judged n.args) t))
     same_value (calls.Linear l) t j =
-        ap (λ (a : Entries). (linear_meaning l).value (arg_sides p.tree n) a j) (constant_args (Apply_constant rules (linear_call (linear_meaning l) (arg_sides p.tree n) n.sides) (map judged n.args) t))
+        ap (λ (a : Entries). (linear_meaning l).value (arg_sides p.tree n) a j) (constant_args (args_constant rules (linear_call (linear_meaning l) (arg_sides p.tree n) n.sides) (map judged n.args) t))
     same_value (calls.Pairing q) t j =
         ap (λ (a : Entries). call_value (calls.Pairing q) (given_by setting) (given_by []) (arg_sides p.tree n) a j)
-        (constant_args (Apply_constant rules (pairing_call q (arg_sides p.tree n) n.sides) (map judged n.args) t))
+        (constant_args (args_constant rules (pairing_call q (arg_sides p.tree n) n.sides) (map judged n.args) t))
 
     value_below : (j : ℕ) → j < entries_of n.sides → number_of_form (form i j) ≡ call_value n.call (given_by setting) (given_by []) (arg_sides p.tree n) (arguments (map source n.args)) j
     value_below j b =

@@ -23,26 +23,17 @@ use Rattle.dcx_tree.specs.declared.constraint.Constraint.{Constraint}
 use Rattle.dcx_tree.specs.Nodes.{Node, head_of, arg_sides, convex_node}
 use Rattle.dcx_tree.specs.Problems.{roots_of, sides_in}
 use Rattle.dcx_tree.specs.Meaning.{names_in, convex_constraint, convex_problem}
-use Rattle.dcx_tree.proofs.Lawful.{tree_lawful}
+use Rattle.dcx_reduced.proofs.Lists.{range_at}
+use Rattle.dcx_reduced.proofs.NodeForms.{nodes_ordered, convex_at}
 
 -- what has its own sides has no arguments
 no_args : (own sides : Sides) (f : ℕ → Sides) (ids : List ℕ) (a : ℕ) → own_sides own (map f ids) ≡ Some sides → has ids a ≡ true → ⊥
 no_args own sides f [] a e h = cc
 no_args own sides f (i ∷ ids) a e h = cc
 
--- number i of those in order
-range_at : (n i : ℕ) → i < n → slice_get (range_with_len 0 n) i ≡ Some i
-range_at n i b =
-    let c : i < length (range_with_len 0 n) = let l = length-range_with_len 0 n in omega (arith, l, b) in
-    let z : 0 + i ≡ i = omega arith in
-    slice_get-get_or (range_with_len 0 n) i 0 c ∙ ap Some (get_or-range_with_len 0 n i 0 b ∙ z)
-
 module _ (p : Problem) where
   abbrev problem : problems.Problem
   problem = convex_problem p
-
-  node_is : (i : ℕ) (n : Node) → IsNode p.tree i n → convex.IsNode problem.nodes i (convex_node (names_in p) p.tree n)
-  node_is i n at = slice_get-map (convex_node (names_in p) p.tree) p.tree i ∙ ap (option_map (convex_node (names_in p) p.tree)) at
 
   -- ---- where a problem begins
   sides_reached : (cs : List Constraint) → ((k : ℕ) (c : Constraint) → slice_get cs k ≡ Some c → IsReached problem c.left.0 × IsReached problem c.right.0) →
@@ -79,7 +70,7 @@ module _ (p : Problem) where
 
   argument_reached : (o : Option Node) (i : ℕ) → slice_get p.tree i ≡ o → IsReached problem i → (a : ℕ) → has (unwrap_or (option_map (λ n. n.args) o) []) a ≡ true → IsReached problem a
   argument_reached None i at r a h = absurd (cc)
-  argument_reached (Some n) i at r a h = call_argument i n n.call (node_is i n at) (p.nodes.shaped i n at) r a h
+  argument_reached (Some n) i at r a h = call_argument i n n.call (convex_at p i n at) (p.nodes.shaped i n at) r a h
 
   lead_reached : (path : List ℕ) (i j : ℕ) → IsReached problem i → Leads p.tree i path j → IsReached problem j
   lead_reached [] i j r e = subst (IsReached problem) e r
@@ -93,4 +84,4 @@ module _ (p : Problem) where
 
   -- each node is convex or concave
   pub node_bent : (rules : Rules) → IsTrue (accepted_by rules problem) → (i : ℕ) → i < length p.tree → IsBent (judgement_at rules problem.nodes i)
-  node_bent rules ok i b = reached_bent rules problem (tree_lawful (names_in p) p.tree p.nodes).ordered ok i (node_reached i b)
+  node_bent rules ok i b = reached_bent rules problem (nodes_ordered p) ok i (node_reached i b)

@@ -3,7 +3,7 @@ use Rattle.std.proofs.Common.{◌≡◌, ℕ, zero, suc, ◌+◌, ◌<◌, arith
 use Rattle.std.specs.List.{flat_map, range_with_len, AllByRecursion}
 use Rattle.std.proofs.Math.Path.{fun_ext}
 use Rattle.std.proofs.lemmas.List.{length-map, map-append}
-use Rattle.std.proofs.lemmas.Option.{slice_get-map, none-some, same_Some}
+use Rattle.std.proofs.lemmas.Option.{slice_get-map, get_or_from_slice_get}
 use Rattle.dcx_math.specs.Rational.{ℚ}
 use Rattle.dcx_frac.specs.declared.fraction.Frac.{Frac}
 use Rattle.dcx_frac.specs.declared.fraction.Passes.{Passes}
@@ -41,62 +41,14 @@ use Rattle.dcx_entries.specs.Standing.{args_among}
 use Rattle.dcx_entries.specs.Nodes.{Table, table_forms, number_entry, numbers_in, scaling_of, ReducedEntry, NodeEntryBy, AreFormed}
 use Rattle.dcx_entries.specs.Kept.{entry_rows, node_rows, graph_rows}
 use Rattle.dcx_formed.specs.Forms.{forms_at}
+use Rattle.dcx_formed.proofs.Lists.{joined_same, joined_none, flat_below, map-joined, map-map, list_of, maps_same, all_at}
 use Rattle.dcx_formed.proofs.Coefs.{AreCoefs}
 use Rattle.dcx_formed.proofs.Coefficients.{FitsRow, rows_fit}
 use Rattle.dcx_formed.proofs.PartValues.{parts_are, row_is}
-use Rattle.dcx_formed.proofs.Tables.{at_place, entries_counted, entry_there}
+use Rattle.dcx_formed.proofs.Tables.{entries_counted, entry_there}
 use Rattle.dcx_formed.proofs.Stood.{args_match}
 use Rattle.dcx_formed.proofs.Made.{entry_is, linear_made, atom_made, pair_made}
 use Rattle.dcx_linear.specs.declared.form.Form.{Form}
-
--- ---- lists by places
-module _ {A : Type 0} where
-  joined_first : (n : ℕ) (f : ℕ → List A) → joined_below (suc n) f ≡ f 0 ++ joined_below n (λ i. f (suc i))
-  joined_first zero f = sym (append-nil (f 0))
-  joined_first (suc n) f = ap (λ xs. xs ++ f (suc n)) (joined_first n f) ∙ append_assoc (f 0) (joined_below n (λ i. f (suc i))) (f (suc n))
-
-  joined_same : (n : ℕ) (f g : ℕ → List A) → ((i : ℕ) → i < n → f i ≡ g i) → joined_below n f ≡ joined_below n g
-  joined_same zero f g h = refl
-  joined_same (suc n) f g h = ap₂ (λ x y. x ++ y) (joined_same n f g (λ i b. h i (omega arith))) (h n (omega arith))
-
-  joined_none : (n : ℕ) (f : ℕ → List A) → ((i : ℕ) → i < n → f i ≡ []) → joined_below n f ≡ []
-  joined_none zero f h = refl
-  joined_none (suc n) f h = ap₂ (λ x y. x ++ y) (joined_none n f (λ i b. h i (omega arith))) (h n (omega arith))
-
-  flat_from : (f : ℕ → List A) (a n : ℕ) → flat_map f (range_with_len a n) ≡ joined_below n (λ i. f (a + i))
-  flat_from f a zero = refl
-  flat_from f a (suc n) =
-      let z : a ≡ a + 0 = omega arith in
-      ap₂ (λ x y. x ++ y) (ap f z) (flat_from f (a + 1) n ∙ joined_same n (λ i. f ((a + 1) + i)) (λ i. f (a + suc i)) (λ i b. let e : (a + 1) + i ≡ a + suc i = omega arith in ap f e))
-      ∙ sym (joined_first n (λ i. f (a + i)))
-
-  flat_below : (f : ℕ → List A) (n : ℕ) → flat_map f (range_with_len 0 n) ≡ joined_below n f
-  flat_below f n = flat_from f 0 n ∙ joined_same n (λ i. f (0 + i)) f (λ i b. let e : 0 + i ≡ i = omega arith in ap f e)
-
-map-joined : {A B : Type 0} (h : A → B) (n : ℕ) (f : ℕ → List A) → map h (joined_below n f) ≡ joined_below n (λ i. map h (f i))
-map-joined h zero f = refl
-map-joined h (suc n) f = map-append h (joined_below n f) (f n) ∙ ap (λ xs. xs ++ map h (f n)) (map-joined h n f)
-
-map-map : {A B D : Type 0} (f : A → B) (g : B → D) (xs : List A) → map g (map f xs) ≡ map (λ x. g (f x)) xs
-map-map f g [] = refl
-map-map f g (x ∷ xs) = ap (λ ys. g (f x) ∷ ys) (map-map f g xs)
-
--- a list by its places
-list_of : {A B : Type 0} (h : A → B) (xs : List A) (d : A) → list_below (length xs) (λ k. h (slice_index_or xs k d)) ≡ map h xs
-list_of h [] d = refl
-list_of h (x ∷ xs) d = list_below-first (length xs) (λ k. h (slice_index_or (x ∷ xs) k d)) ∙ ap (λ ys. h x ∷ ys) (list_of h xs d)
-
--- two lists that are the same place by place
-maps_same : {A B D : Type 0} (h : A → D) (r : B → D) (xs : List A) (ys : List B) → length xs ≡ length ys → ((k : ℕ) (x : A) (y : B) → slice_get xs k ≡ Some x → slice_get ys k ≡ Some y → h x ≡ r y) → map h xs ≡ map r ys
-maps_same h r [] [] e same = refl
-maps_same h r [] (y ∷ ys) e same = absurd (omega (arith, e))
-maps_same h r (x ∷ xs) [] e same = absurd (omega (arith, e))
-maps_same h r (x ∷ xs) (y ∷ ys) e same = ap₂ ◌∷◌ (same 0 x y refl refl) (maps_same h r xs ys (omega (arith, e)) (λ k. same (suc k)))
-
-all_at : {A : Type 0} (P : A → Type 0) (xs : List A) → AllByRecursion P xs → (k : ℕ) (x : A) → slice_get xs k ≡ Some x → P x
-all_at P [] h k x e = absurd (none-some x e)
-all_at P (y ∷ ys) h zero x e = subst P (same_Some y x e) h.0
-all_at P (y ∷ ys) h (suc k) x e = all_at P ys h.1 k x e
 
 -- ---- the rows of a node
 module _ {C : Type 0} (value_at : C → Parameters → ℚ) (of_number : Frac → C) (number_of : C → Option Frac) (Sums : C → C → Result C Passes → Type 0) (Changes : Change → C → Result C Passes → Type 0)
@@ -141,7 +93,7 @@ module _ {C : Type 0} (value_at : C → Parameters → ℚ) (of_number : Frac �
     graph_rows_are rows fits fs h =
         let part = λ (row : Row). map (row_part of_number args (first_aux rules p i)) row in
         maps_same row_of (λ row u. row_at row (arguments (map (F u) n.args)) (filling_of rules p i u)) fs rows (h.0 ∙ length-map rows part) (λ k f row there here.
-        let own : slice_index_or (map part rows) k [] ≡ part row = at_place (map part rows) k (part row) [] (slice_get-map part rows k ∙ ap (option_map part) here) in
+        let own : slice_index_or (map part rows) k [] ≡ part row = get_or_from_slice_get (map part rows) k (part row) [] (slice_get-map part rows k ∙ ap (option_map part) here) in
         fun_ext (λ u. graph_row row (all_at FitsRow rows fits k row here) f (subst (λ (ps : List (Change × Form C)). sums_parts of_number number_of Sums Changes ps (Ok f)) own (h.1 k f there)) u))
 
     -- the rows of entry j, by its call
@@ -200,7 +152,7 @@ module _ {C : Type 0} (value_at : C → Parameters → ℚ) (of_number : Frac �
     entry_at : (j : ℕ) → j < entries_of n.sides → map placed_of (entry_rows of_number i j (slice_index_or (slice_index_or table i []) j none)) ≡ map number_of_row (rows_when (is_reduced rules p i) j)
     entry_at j b =
         let w = entry_there of_number number_of Sums Changes Reads rules p setting table formed i n at j b in
-        ap (λ e. map placed_of (entry_rows of_number i j e)) (at_place (slice_index_or table i []) j w.entry none w.here)
+        ap (λ e. map placed_of (entry_rows of_number i j e)) (get_or_from_slice_get (slice_index_or table i []) j w.entry none w.here)
         ∙ entry_numbers i j w.entry
         ∙ entry_by_rules (is_reduced rules p i) j w.entry w.gives
 

@@ -196,7 +196,11 @@ module _ (judged : ℕ → Judgement) (F G : ℕ → Numbers) (P : ℕ → Type 
   pair_same q sides to [] is all qs fixed some h k = cc
   pair_same q sides to (a ∷ []) is all qs fixed some h k = cc
   pair_same q sides to (a ∷ b ∷ c ∷ ids) is all qs fixed some h k = cc
-  pair_same q sides to (a ∷ b ∷ []) is all qs fixed some h k = by q h k
+  pair_same q sides to (a ∷ b ∷ []) is all qs fixed some h k =
+      let c : convex_calls.Call = pairing_call q (map sides (a ∷ b ∷ [])) to in
+      let x = bent_parts Parametrized c Convex (map judged (a ∷ b ∷ [])) h some in
+      let y = bent_parts Parametrized c Concave (map judged (a ∷ b ∷ [])) k some in
+      by q x.0 x.1 y.1
     where
       fa : IsTrue (judged a).fixed
       fa = (and_parts (judged a).fixed ((judged b).fixed && true) fixed).0
@@ -210,20 +214,12 @@ module _ (judged : ℕ → Judgement) (F G : ℕ → Numbers) (P : ℕ → Type 
       pb : P b
       pb = All-head P b [] (All-tail P a (b ∷ []) all)
 
-      by : (q : Pairing) → IsTrue (is_bent_call Parametrized (pairing_call q (map sides (a ∷ b ∷ [])) to) Convex (map judged (a ∷ b ∷ []))) → IsTrue (is_bent_call Parametrized (pairing_call q (map sides (a ∷ b ∷ [])) to) Concave (map judged (a ∷ b ∷ []))) →
-          pairing_value q qs (F a) (F b) ≡ pairing_value q qs (G a) (G b)
-      by Times x y =
-          let v = bent_parts Parametrized (pairing_call Times (map sides (a ∷ b ∷ [])) to) Convex (map judged (a ∷ b ∷ [])) x some in
-          let w = bent_parts Parametrized (pairing_call Times (map sides (a ∷ b ∷ [])) to) Concave (map judged (a ∷ b ∷ [])) y some in
-          product_same a b pa pb fa fb qs v.0 v.1 w.1
-      by MatTimes x y =
-          let v = bent_parts Parametrized (pairing_call MatTimes (map sides (a ∷ b ∷ [])) to) Convex (map judged (a ∷ b ∷ [])) x some in
-          let w = bent_parts Parametrized (pairing_call MatTimes (map sides (a ∷ b ∷ [])) to) Concave (map judged (a ∷ b ∷ [])) y some in
-          product_same a b pa pb fa fb qs v.0 v.1 w.1
-      by Over x y =
-          let v = bent_parts Parametrized (pairing_call Over (map sides (a ∷ b ∷ [])) to) Convex (map judged (a ∷ b ∷ [])) x some in
-          let w = bent_parts Parametrized (pairing_call Over (map sides (a ∷ b ∷ [])) to) Concave (map judged (a ∷ b ∷ [])) y some in
-          quotient_same a b pa pb fa fb qs v.0 v.1 w.1
+      by : (q : Pairing) → (let c : convex_calls.Call = pairing_call q (map sides (a ∷ b ∷ [])) to in
+          IsTrue (bends Parametrized c.kind Convex (map judged (a ∷ b ∷ []))) → IsTrue (all_suit Convex (c.trend (map (λ g. g.sign) (map judged (a ∷ b ∷ [])))) (map judged (a ∷ b ∷ []))) →
+          IsTrue (all_suit Concave (c.trend (map (λ g. g.sign) (map judged (a ∷ b ∷ [])))) (map judged (a ∷ b ∷ []))) → pairing_value q qs (F a) (F b) ≡ pairing_value q qs (G a) (G b))
+      by Times bent x y = product_same a b pa pb fa fb qs bent x y
+      by MatTimes bent x y = product_same a b pa pb fa fb qs bent x y
+      by Over bent x y = quotient_same a b pa pb fa fb qs bent x y
 
 -- ---- forms that meet the equations of the first m nodes
 module _ (p : Problem) (s : Setting) (forms : Forms) (m : ℕ) (stand : (i : ℕ) (n : Node) → i < m → IsNode p.tree i n → Stands Parametrized p s forms i n (is_reduced Parametrized p i)) where

@@ -23,10 +23,6 @@ use Rattle.dcx_entries.specs.Nodes.{Table, table_forms, NodeEntry, NodeGives, Ar
 use Rattle.dcx_entries.proofs.Each.{some_before}
 use Rattle.dcx_entries.proofs.Past.{past_end}
 
--- what stands at a place that is there
-pub at_place : {A : Type 0} (xs : List A) (j : ℕ) (x d : A) → slice_get xs j ≡ Some x → slice_index_or xs j d ≡ x
-at_place xs j x d e = get_or_from_slice_get xs j x d e
-
 -- the form of entry j of node i, and 0 past the end
 abbrev pub form_in : {C : Type 0} → (Frac → C) → List (List (Form C)) → ℕ → ℕ → Form C
 form_in of_number forms i j = slice_index_or (slice_index_or forms i []) j (zero_form of_number)
@@ -65,7 +61,7 @@ module _ {C : Type 0} (of_number : Frac → C) (number_of : C → Option Frac) (
   there =
       let b : i < length table = let c = formed.count in let l = slice_get_within p.tree i n at in omega (arith, c, l) in
       let (es, e) = some_before table i b in
-      e ∙ ap Some (sym (at_place table i es [] e))
+      e ∙ ap Some (sym (get_or_from_slice_get table i es [] e))
 
   gives : NodeGives of_number number_of Sums Changes Reads rules p setting table i n (Ok entries)
   gives = formed.each i n entries (slice_get_within p.tree i n at) at there
@@ -77,7 +73,7 @@ module _ {C : Type 0} (of_number : Frac → C) (number_of : C → Option Frac) (
 
   forms_are : slice_index_or (table_forms table) i [] ≡ entry_forms (slice_index_or table i [])
   unfolding entries
-  forms_are = at_place (table_forms table) i (entry_forms entries) [] (slice_get-map entry_forms table i ∙ ap (option_map entry_forms) there)
+  forms_are = get_or_from_slice_get (table_forms table) i (entry_forms entries) [] (slice_get-map entry_forms table i ∙ ap (option_map entry_forms) there)
 
   -- an entry
   pub entry_there : (j : ℕ) → j < entries_of n.sides → IsEntryAt j (form_in of_number (table_forms table) i j)
@@ -90,7 +86,7 @@ module _ {C : Type 0} (of_number : Frac → C) (number_of : C → Option Frac) (
         here = e;
         gives = gives.1 j entry e;
         is = ap (λ (fs : List (Form C)). slice_index_or fs j (zero_form of_number)) forms_are
-            ∙ at_place (entry_forms entries) j entry.form (zero_form of_number) (slice_get-map (λ (z : EntryForms C). z.form) entries j ∙ ap (option_map (λ (z : EntryForms C). z.form)) e);
+            ∙ get_or_from_slice_get (entry_forms entries) j entry.form (zero_form of_number) (slice_get-map (λ (z : EntryForms C). z.form) entries j ∙ ap (option_map (λ (z : EntryForms C). z.form)) e);
       }
 
   -- and 0 past the end
