@@ -1,18 +1,17 @@
 -- The law holds.
-use Rattle.std.proofs.Common.{◌≡◌, ℕ, zero, suc, ◌+◌, ◌<◌, arith, Bool, if◌then◌else◌, List, [], ◌∷◌, ◌++◌, length, map, Some, option_map, slice_get, refl, sym, ap, ap₂, ◌∙◌, subst, pos}
+use Rattle.std.proofs.Common.{◌≡◌, ℕ, zero, suc, ◌+◌, ◌<◌, arith, Bool, if◌then◌else◌, List, [], ◌∷◌, length, map, Some, option_map, slice_get, refl, sym, ap, ap₂, ◌∙◌, subst, pos, zero-add}
 use Rattle.std.specs.Prelude.{nat_lt}
 use Rattle.std.proofs.lemmas.Bool.{lt-ltb}
 use Rattle.std.proofs.lemmas.Option.{slice_get-map}
 use Rattle.dcx_math.specs.Rational.{ℚ, whole, ◌+ℚ◌, ◌-ℚ◌, ◌*ℚ◌, ◌≤ℚ◌}
 use Rattle.dcx_math.specs.Sums.{IsNonnegative}
 use Rattle.dcx_math.proofs.Orders.{≤ℚ_refl}
-use Rattle.dcx_convex.specs.Problems.{Problem, objective_of}
-use Rattle.dcx_convex.specs.Answers.{AreMultipliers, penalty_of}
-use Rattle.dcx_convex.specs.Reductions.{Unknowns, Reduced, IsAssignment, RowsHold, Solves, further, rows_weighed, program_penalty, AreRowMultipliers, IsRightOptimal, IsRightInfeasible, IsRightUnbounded}
+use Rattle.dcx_convex.specs.Problems.{Problem}
+use Rattle.dcx_convex.specs.Reductions.{Unknowns, Reduced, Solves, further, program_penalty, AreRowMultipliers, IsRightOptimal, IsRightInfeasible, IsRightUnbounded}
 use Rattle.dcx_convex.proofs.Signs.{at_test}
 use Rattle.dcx_linear.specs.Rows.{RowAt, LinearProgram, IsSolution, StandsTo, HaveSigns, combined, combined_from, IsOptimal, IsInfeasible, IsUnbounded}
 use Rattle.dcx_mapping.specs.Programs.{gap_rows, bound_row, IsProgramOf, multipliers_of}
-use Rattle.dcx_mapping.specs.Laws.{AnswersCarryOver, ProgramsCarryOver}
+use Rattle.dcx_mapping.specs.Laws.{ProgramsCarryOver}
 use Rattle.dcx_mapping.proofs.Rows.{AllFrom, all_left, all_right, IsSigned, gaps_hold, gaps_signed, combined_append, combined_gaps, combined_bounds}
 
 some_before : {A : Type 0} (xs : List A) (k : ℕ) → k < length xs → (x : A) × (slice_get xs k ≡ Some x)
@@ -25,12 +24,13 @@ module _ (l : LinearProgram) (p : Problem) (r : Reduced) (is : IsProgramOf l p r
   of_gaps : (P : ℕ → RowAt → Type 0) → ((i : ℕ) (row : RowAt) → slice_get l.rows i ≡ Some row → P i row) → AllFrom P 0 (gap_rows r.forms p.constraints)
   of_gaps P h =
       all_left P 0 (gap_rows r.forms p.constraints) (map bound_row r.rows)
-      (λ k row e. subst (λ n. P n row) (omega arith) (h k row (ap (λ rows. slice_get rows k) is.rows ∙ e)))
+      (λ k row e. subst (λ n. P n row) (sym (zero-add k)) (h k row (ap (λ rows. slice_get rows k) is.rows ∙ e)))
 
   of_bounds : (P : ℕ → RowAt → Type 0) → ((i : ℕ) (row : RowAt) → slice_get l.rows i ≡ Some row → P i row) → AllFrom P (length (gap_rows r.forms p.constraints)) (map bound_row r.rows)
   of_bounds P h =
-      all_right P 0 (gap_rows r.forms p.constraints) (map bound_row r.rows)
-      (λ k row e. subst (λ n. P n row) (omega arith) (h k row (ap (λ rows. slice_get rows k) is.rows ∙ e)))
+      subst (λ n. AllFrom P n (map bound_row r.rows)) (zero-add (length (gap_rows r.forms p.constraints)))
+      (all_right P 0 (gap_rows r.forms p.constraints) (map bound_row r.rows)
+      (λ k row e. subst (λ n. P n row) (sym (zero-add k)) (h k row (ap (λ rows. slice_get rows k) is.rows ∙ e))))
 
   -- a solution of the program solves the reduced program
   solves : (u : Unknowns) → IsSolution l u → Solves p r u
@@ -70,7 +70,7 @@ module _ (l : LinearProgram) (p : Problem) (r : Reduced) (is : IsProgramOf l p r
       ap (λ rows. combined_from m 0 rows u) is.rows
       ∙ combined_append m u 0 (gap_rows r.forms p.constraints) (map bound_row r.rows)
       ∙ ap₂ ◌+ℚ◌ (combined_gaps m u r.forms 0 p.constraints)
-      (ap (λ n. combined_from m n (map bound_row r.rows) u) (omega arith) ∙ combined_bounds m u (length (gap_rows r.forms p.constraints)) r.rows (weight m) (weight_is m))
+      (ap (λ n. combined_from m n (map bound_row r.rows) u) (zero-add (length (gap_rows r.forms p.constraints))) ∙ combined_bounds m u (length (gap_rows r.forms p.constraints)) r.rows (weight m) (weight_is m))
 
   -- ---- the three kinds of answers
   optimal : (v : ℚ) (x : Unknowns) (m : ℕ → ℚ) → IsOptimal l v x m → IsRightOptimal p r v x (multipliers_of p m) (weight m)

@@ -1,14 +1,14 @@
 -- The rows of constraints and those beside them as rows of a linear program: what holds of each, and their sum.
-use Rattle.std.proofs.Common.{◌≡◌, ℕ, zero, suc, ◌+◌, ◌<◌, arith, List, [], ◌∷◌, ◌++◌, length, map, Some, slice_get, refl, sym, ap, ap₂, ◌∙◌, subst, ⊎_elim, pos, add-zero, add-suc, length-append}
+use Rattle.std.proofs.Common.{◌≡◌, ℕ, zero, suc, ◌+◌, ◌<◌, arith, List, [], ◌∷◌, ◌++◌, length, map, Some, slice_get, refl, sym, ap, ap₂, ◌∙◌, subst, ⊎_elim, pos, add-zero, length-append}
 use Rattle.std.proofs.lemmas.Option.{none-some, same_Some}
 use Rattle.dcx_math.specs.Rational.{ℚ, whole, ◌+ℚ◌, ◌*ℚ◌, ◌≤ℚ◌}
-use Rattle.dcx_math.specs.Sums.{IsNonnegative, rat_sum_below}
+use Rattle.dcx_math.specs.Sums.{rat_sum_below}
 use Rattle.dcx_math.proofs.Orders.{+ℚ_idl, +ℚ_idr, +ℚ_assoc}
 use Rattle.dcx_atom.specs.Arrays.{list_below}
 use Rattle.dcx_atom.proofs.BoundRows.{below_or_last}
 use Rattle.dcx_convex.specs.Nodes.{Numbers}
 use Rattle.dcx_convex.specs.Problems.{Relation, AtMost, Equal, Constraint, gap_of, Holds}
-use Rattle.dcx_convex.specs.Answers.{Multipliers, MayMultiply, weighed}
+use Rattle.dcx_convex.specs.Answers.{MayMultiply, weighed}
 use Rattle.dcx_convex.specs.Reductions.{Unknowns, rows_weighed}
 use Rattle.dcx_linear.specs.declared.row.RowKind.TheVariants as kinds
 use Rattle.dcx_linear.specs.Rows.{RowAt, StandsTo, combined_from}
@@ -28,12 +28,14 @@ module _ (P : ℕ → RowAt → Type 0) where
   all_left i [] ys h k r e = absurd (none-some r e)
   all_left i (x ∷ xs) ys h zero r e = h zero r e
   all_left i (x ∷ xs) ys h (suc k) r e =
-      subst (λ n. P n r) (sym (add-suc i k)) (all_left (suc i) xs ys (λ l s d. subst (λ n. P n s) (omega arith) (h (suc l) s d)) k r e)
+      let q : suc i + k ≡ i + suc k = omega arith in
+      subst (λ n. P n r) q (all_left (suc i) xs ys (λ l s d. let w : i + suc l ≡ suc i + l = omega arith in subst (λ n. P n s) w (h (suc l) s d)) k r e)
 
   pub all_right : (i : ℕ) (xs ys : List RowAt) → AllFrom i (xs ++ ys) → AllFrom (i + length xs) ys
   all_right i [] ys h k r e = subst (λ n. P (n + k) r) (sym (add-zero i)) (h k r e)
   all_right i (x ∷ xs) ys h k r e =
-      subst (λ n. P (n + k) r) (sym (add-suc i (length xs))) (all_right (suc i) xs ys (λ l s d. subst (λ n. P n s) (omega arith) (h (suc l) s d)) k r e)
+      let q : (suc i + length xs) + k ≡ (i + suc (length xs)) + k = omega arith in
+      subst (λ n. P n r) q (all_right (suc i) xs ys (λ l s d. let w : i + suc l ≡ suc i + l = omega arith in subst (λ n. P n s) w (h (suc l) s d)) k r e)
 
   pub all_below : (i n : ℕ) (f : ℕ → RowAt) → AllFrom i (list_below n f) → (j : ℕ) → j < n → P (i + j) (f j)
   all_below i zero f h j b = absurd (omega arith)
@@ -51,6 +53,10 @@ multiplies_as : (relation : Relation) (m : ℚ) → (kind_of relation ≡ kinds.
 multiplies_as AtMost m h = h refl
 multiplies_as Equal m h = tt
 
+-- the multipliers of inequalities are at least 0
+abbrev pub IsSigned : (ℕ → ℚ) → ℕ → RowAt → Type 0
+IsSigned m n r = r.kind ≡ kinds.AtMost → whole (pos 0) ≤ℚ m n
+
 module _ (forms : Unknowns → ℕ → Numbers) where
   pub gaps_hold : (u : Unknowns) (i : ℕ) (cs : List Constraint) → AllFrom (λ n r. StandsTo r.kind (r.number u)) i (gap_rows forms cs) →
       (k : ℕ) (c : Constraint) → slice_get cs k ≡ Some c → (j : ℕ) → j < c.size → Holds c.relation (gap_of (forms u) c j)
@@ -60,10 +66,6 @@ module _ (forms : Unknowns → ℕ → Numbers) where
       (λ l. holds_as d.relation (gap_of (forms u) d j) (all_below (λ n r. StandsTo r.kind (r.number u)) i d.size (gap_row forms d) (all_left (λ n r. StandsTo r.kind (r.number u)) i (list_below d.size (gap_row forms d)) (gap_rows forms cs) h) j l)) b
   gaps_hold u i (d ∷ cs) h (suc k) c e j b =
       gaps_hold u (i + length (list_below d.size (gap_row forms d))) cs (all_right (λ n r. StandsTo r.kind (r.number u)) i (list_below d.size (gap_row forms d)) (gap_rows forms cs) h) k c e j b
-
-  -- the multipliers of inequalities are at least 0
-  abbrev pub IsSigned : (ℕ → ℚ) → ℕ → RowAt → Type 0
-  IsSigned m n r = r.kind ≡ kinds.AtMost → whole (pos 0) ≤ℚ m n
 
   pub gaps_signed : (m : ℕ → ℚ) (i : ℕ) (cs : List Constraint) → AllFrom (IsSigned m) i (gap_rows forms cs) →
       (k : ℕ) (c : Constraint) → slice_get cs k ≡ Some c → (j : ℕ) → j < c.size → MayMultiply c.relation (multipliers_from i cs m k j)

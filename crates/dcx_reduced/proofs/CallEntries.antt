@@ -55,7 +55,7 @@ CallHolds (calls.Pairing q) args size a t = Unit {0}
 pub first_same : (n : ℕ) (f g : Numbers) (j : ℕ) → (j < n → f j ≡ g j) → first_of n f j ≡ first_of n g j
 first_same n f g j h = at_test n j (λ b. (if b then f j else whole (pos 0)) ≡ (if b then g j else whole (pos 0))) h refl
 
-own_is : (own : Sides) (args : List Sides) (sides : Sides) → own_sides own args ≡ Some sides → own ≡ sides
+pub own_is : (own : Sides) (args : List Sides) (sides : Sides) → own_sides own args ≡ Some sides → own ≡ sides
 own_is own [] sides e = cc
 own_is own (a ∷ rest) sides e = cc
 

@@ -34,7 +34,7 @@ name_apart n (y ∷ names) zero name all e = subst (λ z. same_name n z ≡ fals
 name_apart n (y ∷ names) (suc k) name all e = name_apart n names k name all.1 e
 
 -- a name that stands once goes by its position
-number_of : (names : List (List ℕ)) (k : ℕ) (name : List ℕ) → IsDistinct same_name names → slice_get names k ≡ Some name → number_in names name ≡ k
+pub number_of : (names : List (List ℕ)) (k : ℕ) (name : List ℕ) → IsDistinct same_name names → slice_get names k ≡ Some name → number_in names name ≡ k
 unfolding IsDistinct
 number_of [] k name d e = absurd (none-some name e)
 number_of (n ∷ names) zero name d e =
