@@ -53,6 +53,7 @@ use Rattle.dcx_unknowns.specs.Unknowns.{sides_in, first_unknown, unknown_from, n
 use Rattle.dcx_unknowns.specs.Layout.{is_reduced, first_aux}
 use Rattle.dcx_reduced.specs.Equations.{Forms, call_entry, filling_of, entry_by, Stands}
 use Rattle.dcx_reduced.proofs.Constants.{call_constant}
+use Rattle.dcx_reduced.proofs.CallEntries.{own_is}
 use Rattle.dcx_reduced.proofs.CallGraphs.{IsReducible}
 use Rattle.dcx_reduced.proofs.NodeForms.{nodes_of, nodes_ordered, convex_at, node_at, not_constant, reducible}
 use Rattle.dcx_entries.specs.declared.entries.EntryForms.{EntryForms}
@@ -83,10 +84,6 @@ use Rattle.dcx_formed.proofs.Pairs.{IsRead, MayScale, products_are, quotients_ar
 -- ---- lists and numbers
 first_below : (n : ℕ) (f : Numbers) (j : ℕ) → j < n → first_of n f j ≡ f j
 first_below n f j b = ap (λ (t : Bool). if t then f j else whole (pos 0)) (lt-ltb j n b)
-
-own_is : (own : Sides) (args : List Sides) (sides : Sides) → own_sides own args ≡ Some sides → own ≡ sides
-own_is own [] sides e = cc
-own_is own (a ∷ rest) sides e = cc
 
 twice : (b : Bool) → not (not b) ≡ b
 twice true = refl
