@@ -1,19 +1,16 @@
 -- The forms of a node that reaches no parameter have numbers.
-use Rattle.std.proofs.Common.{◌≡◌, ℕ, zero, suc, ◌<◌, arith, Bool, true, false, IsTrue, IsSome, List, [], ◌∷◌, length, map, Option, Some, None, Result, Ok, refl, sym, subst}
+use Rattle.std.proofs.Common.{◌≡◌, ℕ, zero, suc, ◌<◌, arith, Bool, true, false, IsTrue, IsSome, List, [], length, map, Option, Some, None, Result, Ok, refl, sym, subst}
 use Rattle.std.specs.Prelude.{nat_lt, ◌+◌, pos}
 use Rattle.dcx_math.specs.Rational.{ℚ, whole}
 use Rattle.dcx_atom.specs.declared.stops.ValueStop.{ValueStop}
-use Rattle.std.specs.List.{list_all, AllByRecursion}
+use Rattle.std.specs.List.{list_all}
 use Rattle.std.proofs.lemmas.Bool.{ltb-true, ltb-false, false≢true}
-use Rattle.std.proofs.lemmas.List.Elements.{All-cons, All-nil, All-from_recursion}
+use Rattle.std.proofs.lemmas.List.Elements.{All-cons, All-nil}
 use Rattle.dcx_frac.specs.declared.fraction.Frac.{Frac}
 use Rattle.dcx_frac.specs.declared.fraction.Passes.{Passes}
 use Rattle.dcx_shape.specs.Sides.{entries_of}
 use Rattle.dcx_atom.specs.Arrays.{sides_at}
 use Rattle.dcx_atom.specs.Formed.{zero_frac, frac_at}
-use Rattle.dcx_atom.specs.Linear.{LinearTerm}
-use Rattle.dcx_atom.specs.Rows as rows
-use Rattle.dcx_affine.specs.declared.pairing.Pair.{Pair}
 use Rattle.dcx_affine.specs.Pairing.{pairs_at}
 use Rattle.dcx_point.specs.Pairs.{Pairs}
 use Rattle.dcx_arena.specs.Nodes.{IsNode}
@@ -21,6 +18,9 @@ use Rattle.dcx_convex.specs.Rules.{Rules, Judgement, judgement_by, judgement_at}
 use Rattle.dcx_convex.proofs.Told.{judgement_tells}
 use Rattle.dcx_call.specs.declared.call.Call.{Call}
 use Rattle.dcx_call.specs.declared.call.Call.TheVariants as calls
+use Rattle.dcx_call.specs.Atoms.{atom_meaning}
+use Rattle.dcx_call.specs.Linears.{linear_meaning}
+use Rattle.dcx_call.specs.Calls.{shape_of}
 use Rattle.dcx_call.specs.Values.{given_by, entry_formed}
 use Rattle.dcx_tree.specs.declared.problem.Problem.{Problem}
 use Rattle.dcx_tree.specs.Nodes.{Node, head_of, arg_sides, convex_node}
@@ -31,22 +31,18 @@ use Rattle.dcx_linear.specs.declared.form.Form.{Form}
 use Rattle.dcx_linear.specs.Forms.{is_constant as constant_form}
 use Rattle.dcx_linear.specs.Multiples.{HasNumbers}
 use Rattle.dcx_linear.specs.Parameters.{Parameters}
-use Rattle.dcx_linear.specs.Parts.{sums_parts}
 use Rattle.dcx_linear.proofs.Coefficients.{sum_keeps, change_keeps, multiple_keeps}
-use Rattle.dcx_linear.proofs.PartSums.{parts_keep}
 use Rattle.dcx_unknowns.specs.Layout.{is_reduced, first_aux}
+use Rattle.dcx_reduced.proofs.OwnGraphs.{atom_own}
 use Rattle.dcx_reduced.proofs.NodeForms.{nodes_of, nodes_ordered, convex_at, node_at}
 use Rattle.dcx_entries.specs.declared.entries.EntryForms.{EntryForms}
-use Rattle.dcx_entries.specs.declared.scaling.Scaling.{Scaling}
-use Rattle.dcx_entries.specs.declared.scaling.Scaling.TheVariants.{LeftNumber, RightNumber, LeftAffine, RightAffine, Divisor}
-use Rattle.dcx_entries.specs.Parts.{Arguments, zero_form, unknown_form, form_of_unknown, term_part, aux_part}
-use Rattle.dcx_entries.specs.Sums.{adds_pair}
+use Rattle.dcx_entries.specs.Parts.{Arguments, unknown_form, form_of_unknown}
 use Rattle.dcx_entries.specs.Standing.{args_among}
 use Rattle.dcx_entries.specs.Nodes.{Table, table_forms, numbers_in, scaling_of, ReducedEntry, NodeEntryBy, AreFormed}
-use Rattle.dcx_formed.proofs.Lists.{all_map}
+use Rattle.dcx_within.proofs.Entries.{IsKept, linear_keeps, atom_keeps, terms_have, result_has, rows_have, pair_sum_keeps}
 use Rattle.dcx_formed.proofs.Coefs.{AreCoefs}
 use Rattle.dcx_formed.proofs.Tables.{form_in, args_have, entry_there, entry_past}
-use Rattle.dcx_formed.proofs.Made.{entry_is, linear_made, atom_made, pair_made, each_keeps}
+use Rattle.dcx_formed.proofs.Made.{entry_is, pair_summed}
 use Rattle.dcx_formed.proofs.Numbers.{each_constant, all_both, number_forms, made_number}
 
 module _ {C : Type 0} (value_at : C → Parameters → ℚ) (of_number : Frac → C) (number_of : C → Option Frac) (Sums : C → C → Result C Passes → Type 0) (Changes : Change → C → Result C Passes → Type 0)
@@ -71,27 +67,15 @@ module _ {C : Type 0} (value_at : C → Parameters → ℚ) (of_number : Frac �
   unknown_or_zero_has None = constant_has zero_frac
   unknown_or_zero_has (Some n) = unknown_has n
 
-  -- sums of parts that have numbers
-  sums_have : (parts : List (Change × Form C)) (f : Form C) → AllByRecursion (λ (q : Change × Form C). Has q.1) parts → sums_parts of_number number_of Sums Changes parts (Ok f) → Has f
-  sums_have parts f all h =
-      parts_keep number_of Sums Changes IsNumberCoef laws.sum_number laws.change_number parts (zero_form of_number) f h (All-from_recursion (λ (q : Change × Form C). Has q.1) parts all) (constant_has zero_frac)
-
-  module _ (args : Arguments C) (each : (k e : ℕ) → Has (args k e)) where
-    terms_have : (ts : List LinearTerm) → AllByRecursion (λ t. Has (term_part args t).1) ts
-    terms_have [] = tt
-    terms_have (t ∷ ts) = (each t.argument t.entry, terms_have ts)
-
-    results_have : (first : ℕ) (ts : List rows.FormTerm) → AllByRecursion (λ t. Has (aux_part of_number first t).1) ts
-    results_have first [] = tt
-    results_have first (t ∷ ts) = (unknown_has (first + t.aux), results_have first ts)
-
-    -- one pair more
-    pair_has : (scaling : Scaling) (x : Pair) (f g : Form C) → adds_pair number_of Sums Changes scaling args x f (Ok g) → Has f → Has g
-    pair_has LeftNumber x f g h k = sum_keeps number_of IsNumberCoef Sums laws.sum_number f h.0 g h.2 k (change_keeps number_of IsNumberCoef Changes laws.change_number _ _ h.0 h.1 (each 1 x.right))
-    pair_has RightNumber x f g h k = sum_keeps number_of IsNumberCoef Sums laws.sum_number f h.0 g h.2 k (change_keeps number_of IsNumberCoef Changes laws.change_number _ _ h.0 h.1 (each 0 x.left))
-    pair_has LeftAffine x f g h k = sum_keeps number_of IsNumberCoef Sums laws.sum_number f h.0 g h.2 k (multiple_keeps number_of IsNumberCoef Changes laws.change_number _ _ h.0 h.1 (each 0 x.left).0)
-    pair_has RightAffine x f g h k = sum_keeps number_of IsNumberCoef Sums laws.sum_number f h.0 g h.2 k (multiple_keeps number_of IsNumberCoef Changes laws.change_number _ _ h.0 h.1 (each 1 x.right).0)
-    pair_has Divisor x f g h k = sum_keeps number_of IsNumberCoef Sums laws.sum_number f h.0 g h.2 k (change_keeps number_of IsNumberCoef Changes laws.change_number _ _ h.0 h.1 (each 0 x.left))
+  -- forms that have numbers, of any unknowns
+  kept : (count : ℕ) → IsKept of_number number_of Sums Changes Has count
+  kept count = record {
+    numbers = constant_has;
+    unknowns = λ n b. unknown_has n;
+    sums = λ f g h s a b. sum_keeps number_of IsNumberCoef Sums laws.sum_number f g h s a b;
+    changes = λ change f h s a. change_keeps number_of IsNumberCoef Changes laws.change_number change f h s a;
+    multiples = λ g f h s a b. multiple_keeps number_of IsNumberCoef Changes laws.change_number g.constant f h s a.0;
+  }
 
   abbrev judged : ℕ → Judgement
   judged i = judgement_at rules (nodes_of p) i
@@ -110,23 +94,28 @@ module _ {C : Type 0} (value_at : C → Parameters → ℚ) (of_number : Frac �
         args_have of_number (table_forms table) (λ a. (a < i) × IsTrue (judged a).unparametrized) Has (constant_has zero_frac) (λ a q e. earlier a q.0 q.1 e) n.args
         (all_both (λ a. a < i) (λ a. IsTrue (judged a).unparametrized) n.args (p.nodes.earlier i n at) (each_constant (λ g. g.unparametrized) judged n.args t)) k e
 
-    reduced_has : (call : Call) → IsTrue (judgement_by rules (head_of (names_in p) call (arg_sides p.tree n) n.sides) (map judged n.args)).unparametrized → (j : ℕ) (entry : EntryForms C) →
+    reduced_has : (call : Call) → IsTrue (judgement_by rules (head_of (names_in p) call (arg_sides p.tree n) n.sides) (map judged n.args)).unparametrized → shape_of call (arg_sides p.tree n) ≡ Some n.sides → (j : ℕ) → j < entries_of n.sides → (entry : EntryForms C) →
         ReducedEntry of_number number_of Sums Changes Reads rules p setting (table_forms table) i n.args call (arg_sides p.tree n) j (Ok entry) → Has entry.form
-    reduced_has (calls.Variable v) t j entry h = subst (λ (z : EntryForms C). Has z.form) (sym (entry_is {E = ValueStop} entry _ h)) (unknown_or_zero_has _)
-    reduced_has (calls.Parameter q) t j entry h = absurd (false≢true t)
-    reduced_has (calls.Constant c) t j entry h =
+    reduced_has (calls.Variable v) t shape j b entry h = subst (λ (z : EntryForms C). Has z.form) (sym (entry_is {E = ValueStop} entry _ h)) (unknown_or_zero_has _)
+    reduced_has (calls.Parameter q) t shape j b entry h = absurd (false≢true t)
+    reduced_has (calls.Constant c) t shape j b entry h =
         let (x, made, is) = made_number value_at of_number number_of Sums Changes Reads laws rules p setting table formed (entry_formed (calls.Constant c) (given_by setting) (given_by []) (arg_sides p.tree n) (numbers_in number_of args) j) entry h in
         subst Has (sym is) (constant_has x)
-    reduced_has (calls.Atom m) t j entry h =
-        sums_have _ entry.form (all_map (λ (q : Change × Form C). Has q.1) (aux_part of_number (first_aux rules p i)) _ (results_have args (args_settled t) (first_aux rules p i) _))
-        (atom_made of_number number_of Sums Changes _ _ entry h).sums
-    reduced_has (calls.Linear l) t j entry h =
-        sums_have _ entry.form (all_map (λ (q : Change × Form C). Has q.1) (term_part args) _ (terms_have args (args_settled t) _)) (linear_made of_number number_of Sums Changes _ entry h).sums
-    reduced_has (calls.Pairing q) t j entry h =
-        let scaling = scaling_of of_number number_of Sums Changes Reads rules p setting q (table_forms table) n.args in
-        let pairs = pairs_at q (sides_at (arg_sides p.tree n) 0) (sides_at (arg_sides p.tree n) 1) j in
-        each_keeps (adds_pair number_of Sums Changes scaling args) Has (pair_has args (args_settled t) scaling) pairs (zero_form of_number) entry.form
-        (pair_made of_number number_of Sums Changes scaling args pairs j entry h).sums (constant_has zero_frac)
+    reduced_has (calls.Atom m) t shape j b entry h =
+        let own = atom_own m (arg_sides p.tree n) n.sides shape in
+        let first = first_aux rules p i in
+        let many = length ((atom_meaning m).kinds (arg_sides p.tree n)) in
+        let few : (k : ℕ) → k < many → first + k < first + many = λ k l. omega arith in
+        (atom_keeps of_number number_of Sums Changes Has (first + many) (kept (first + many)) _ _ entry h
+        (result_has of_number number_of Sums Changes Has (first + many) (kept (first + many)) first many few ((atom_meaning m).result (arg_sides p.tree n) j) (own.results j b))
+        (rows_have of_number number_of Sums Changes Has (first + many) (kept (first + many)) first many few args (args_settled t) ((atom_meaning m).rows (arg_sides p.tree n) j) (own.rows j b))).form
+    reduced_has (calls.Linear l) t shape j b entry h =
+        (linear_keeps of_number number_of Sums Changes Has 0 (kept 0) _ entry h (terms_have of_number number_of Sums Changes Has 0 (kept 0) args (args_settled t) ((linear_meaning l).terms (arg_sides p.tree n) j))).form
+    reduced_has (calls.Pairing q) t shape j b entry h =
+        (pair_sum_keeps of_number number_of Sums Changes Has 0 (kept 0) args (args_settled t) (scaling_of of_number number_of Sums Changes Reads rules p setting q (table_forms table) n.args)
+        (pairs_at q (sides_at (arg_sides p.tree n) 0) (sides_at (arg_sides p.tree n) 1) j) entry
+        (pair_summed of_number number_of Sums Changes (scaling_of of_number number_of Sums Changes Reads rules p setting q (table_forms table) n.args) args
+        (pairs_at q (sides_at (arg_sides p.tree n) 0) (sides_at (arg_sides p.tree n) 1) j) j entry h).1).form
 
     by_rules : (r : Bool) → is_reduced rules p i ≡ r → (j : ℕ) → j < entries_of n.sides → Has (form i j)
     by_rules false e j b = let h = number_forms value_at of_number number_of Sums Changes Reads laws rules p setting table formed i n at e j in subst Has (sym h.is) (constant_has h.number)
@@ -134,7 +123,7 @@ module _ {C : Type 0} (value_at : C → Parameters → ℚ) (of_number : Frac �
         let w = entry_there of_number number_of Sums Changes Reads rules p setting table formed i n at j b in
         let g = subst (λ r. NodeEntryBy of_number number_of Sums Changes Reads rules p setting r (table_forms table) i n j (Ok w.entry)) e w.gives in
         let t = subst (λ (k : Judgement). IsTrue k.unparametrized) (judgement_tells rules (nodes_of p) (nodes_ordered p) i (convex_node (names_in p) p.tree n) (convex_at p i n at)) settled in
-        subst Has (sym w.is) (reduced_has n.call t j w.entry g)
+        subst Has (sym w.is) (reduced_has n.call t (p.nodes.shaped i n at) j b w.entry g)
 
     node_has : (j : ℕ) → Has (form i j)
     node_has j = by (nat_lt j (entries_of n.sides)) refl

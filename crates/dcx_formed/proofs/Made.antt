@@ -1,5 +1,5 @@
 -- What the form of an entry is made of, where it is formed.
-use Rattle.std.proofs.Common.{◌≡◌, ℕ, Bool, true, false, List, [], ◌∷◌, Option, Result, Ok, refl, sym, ap, subst}
+use Rattle.std.proofs.Common.{◌≡◌, ℕ, Bool, true, false, List, [], Option, Result, Ok, refl, sym, ap, subst}
 use Rattle.std.specs.List.{list_any}
 use Rattle.dcx_frac.specs.declared.fraction.Frac.{Frac}
 use Rattle.dcx_frac.specs.declared.fraction.Passes.{Passes}
@@ -11,7 +11,7 @@ use Rattle.dcx_entries.specs.declared.entries.EntryForms.{EntryForms}
 use Rattle.dcx_entries.specs.declared.scaling.Scaling.{Scaling}
 use Rattle.dcx_entries.specs.Parts.{Arguments, zero_form, has_zero_divisor}
 use Rattle.dcx_entries.specs.Sums.{adds_pair, adds_each}
-use Rattle.dcx_entries.specs.Entries.{alone, LinearEntry, EachSum, AtomEntry, PairEntry, PairEntryBy}
+use Rattle.dcx_entries.specs.Entries.{alone, LinearEntry, EachSum, AtomEntry, PairSum, PairEntry, PairEntryBy}
 
 -- an answer is an entry
 pub entry_is : {C E : Type 0} (entry other : EntryForms C) → (let r : Result (EntryForms C) E = Ok entry in r ≡ Ok other) → entry ≡ other
@@ -42,26 +42,22 @@ module _ {C : Type 0} (of_number : Frac → C) (number_of : C → Option Frac) (
         rows_sum = subst (λ (z : EntryForms C). EachSum of_number number_of Sums Changes rows (Ok z.rows)) (sym e) h.2.1;
       }
 
-  -- a sum over pairs, none of which is divided by 0
+  -- a sum over pairs
   pub record IsPairSum (scaling : Scaling) (args : Arguments C) (pairs : List Pair) (entry : EntryForms C) : Type 0 where
-    pub divisors : list_any (has_zero_divisor number_of scaling args) pairs ≡ false
     pub sums : adds_each (adds_pair number_of Sums Changes scaling args) pairs (zero_form of_number) (Ok entry.form)
     pub rows : entry.rows ≡ []
 
-  pub pair_made : (scaling : Scaling) (args : Arguments C) (pairs : List Pair) (j : ℕ) (entry : EntryForms C) → PairEntry of_number number_of Sums Changes scaling args pairs j (Ok entry) → IsPairSum scaling args pairs entry
-  pair_made scaling args pairs j entry h = by (list_any (has_zero_divisor number_of scaling args) pairs) refl h
+  pub pair_summed : (scaling : Scaling) (args : Arguments C) (pairs : List Pair) (j : ℕ) (entry : EntryForms C) → PairEntry of_number number_of Sums Changes scaling args pairs j (Ok entry) →
+      (list_any (has_zero_divisor number_of scaling args) pairs ≡ false) × PairSum of_number number_of Sums Changes scaling args pairs (Ok entry)
+  pair_summed scaling args pairs j entry h = by (list_any (has_zero_divisor number_of scaling args) pairs) refl h
     where
-      by : (b : Bool) → list_any (has_zero_divisor number_of scaling args) pairs ≡ b → PairEntryBy of_number number_of Sums Changes b scaling args pairs j (Ok entry) → IsPairSum scaling args pairs entry
+      by : (b : Bool) → list_any (has_zero_divisor number_of scaling args) pairs ≡ b → PairEntryBy of_number number_of Sums Changes b scaling args pairs j (Ok entry) →
+          (list_any (has_zero_divisor number_of scaling args) pairs ≡ false) × PairSum of_number number_of Sums Changes scaling args pairs (Ok entry)
       by true d h = cc
-      by false d h =
-          let e = entry_is {E = Passes} entry (alone h.0) h.2 in
-          record {
-            divisors = d;
-            sums = subst (λ (z : EntryForms C). adds_each (adds_pair number_of Sums Changes scaling args) pairs (zero_form of_number) (Ok z.form)) (sym e) h.1;
-            rows = ap (λ (z : EntryForms C). z.rows) e;
-          }
+      by false d h = (d, h)
 
--- what each addition keeps is kept
-pub each_keeps : {T S : Type 0} (Add : T → S → Result S Passes → Type 0) (P : S → Type 0) → ((x : T) (f g : S) → Add x f (Ok g) → P f → P g) → (xs : List T) (f h : S) → adds_each Add xs f (Ok h) → P f → P h
-each_keeps Add P keeps [] f h s k = let d : h ≡ f = cc in subst P (sym d) k
-each_keeps Add P keeps (x ∷ xs) f h s k = each_keeps Add P keeps xs s.0 h s.2 (keeps x f s.0 s.1 k)
+  pub pair_made : (scaling : Scaling) (args : Arguments C) (pairs : List Pair) (j : ℕ) (entry : EntryForms C) → PairEntry of_number number_of Sums Changes scaling args pairs j (Ok entry) → IsPairSum scaling args pairs entry
+  pair_made scaling args pairs j entry h =
+      let s = (pair_summed scaling args pairs j entry h).1 in
+      let e = entry_is {E = Passes} entry (alone s.0) s.2 in
+      record { sums = subst (λ (z : EntryForms C). adds_each (adds_pair number_of Sums Changes scaling args) pairs (zero_form of_number) (Ok z.form)) (sym e) s.1; rows = ap (λ (z : EntryForms C). z.rows) e }

@@ -1,11 +1,9 @@
 -- Each node of an accepted problem is convex or concave, since each is reached.
-use Rattle.std.proofs.Common.{◌≡◌, inl, inr, ℕ, suc, ◌+◌, ◌<◌, arith, true, IsTrue, List, [], ◌∷◌, length, map, Option, Some, None, option_map, slice_get, refl, sym, ap, ◌∙◌, subst}
+use Rattle.std.proofs.Common.{◌≡◌, inl, inr, ℕ, suc, ◌<◌, true, IsTrue, List, [], ◌∷◌, length, map, Option, Some, None, option_map, slice_get, refl, sym, ap, ◌∙◌, subst}
 use Rattle.std.specs.Option.{unwrap_or}
 use Rattle.std.specs.List.{range_with_len}
-use Rattle.std.proofs.lemmas.Option.{slice_get-map, slice_get-get_or}
-use Rattle.std.proofs.lemmas.List.FromFn.{length-range_with_len, get_or-range_with_len}
+use Rattle.std.proofs.lemmas.Option.{slice_get-map}
 use Rattle.dcx_shape.specs.declared.shape.Sides.{Sides}
-use Rattle.dcx_arena.specs.Nodes.{IsNode}
 use Rattle.dcx_arena.specs.Gather.{has}
 use Rattle.dcx_arena.specs.Unfold.{Leads}
 use Rattle.dcx_arena.proofs.Orders.{has_at, has_from, head_or}
@@ -20,7 +18,7 @@ use Rattle.dcx_call.specs.declared.call.Call.TheVariants as calls
 use Rattle.dcx_call.specs.Calls.{own_sides, shape_of}
 use Rattle.dcx_tree.specs.declared.problem.Problem.{Problem}
 use Rattle.dcx_tree.specs.declared.constraint.Constraint.{Constraint}
-use Rattle.dcx_tree.specs.Nodes.{Node, head_of, arg_sides, convex_node}
+use Rattle.dcx_tree.specs.Nodes.{Node, head_of, arg_sides}
 use Rattle.dcx_tree.specs.Problems.{roots_of, sides_in}
 use Rattle.dcx_tree.specs.Meaning.{names_in, convex_constraint, convex_problem}
 use Rattle.dcx_reduced.proofs.Lists.{range_at}

@@ -1,18 +1,18 @@
 -- The rows of formed nodes are the rows of the graphs, with the forms of the arguments put in.
-use Rattle.std.proofs.Common.{◌≡◌, ℕ, zero, suc, ◌+◌, ◌<◌, arith, Bool, true, false, List, [], ◌∷◌, ◌++◌, length, map, option_map, Option, Some, slice_get, slice_index_or, Result, Ok, Err, refl, sym, ap, ap₂, ◌∙◌, subst, append_assoc, append-nil}
-use Rattle.std.specs.List.{flat_map, range_with_len, AllByRecursion}
+use Rattle.std.proofs.Common.{◌≡◌, ℕ, ◌<◌, Bool, true, false, List, [], length, map, option_map, Option, Some, slice_get, slice_index_or, Result, Ok, Err, refl, sym, ap, ◌∙◌, subst}
+use Rattle.std.specs.List.{AllByRecursion}
 use Rattle.std.proofs.Math.Path.{fun_ext}
-use Rattle.std.proofs.lemmas.List.{length-map, map-append}
+use Rattle.std.proofs.lemmas.List.{length-map}
 use Rattle.std.proofs.lemmas.Option.{slice_get-map, get_or_from_slice_get}
 use Rattle.dcx_math.specs.Rational.{ℚ}
 use Rattle.dcx_frac.specs.declared.fraction.Frac.{Frac}
 use Rattle.dcx_frac.specs.declared.fraction.Passes.{Passes}
 use Rattle.dcx_shape.specs.Sides.{entries_of}
 use Rattle.dcx_atom.specs.declared.stops.ValueStop.{ValueStop}
-use Rattle.dcx_atom.specs.Arrays.{Entries, sides_at, list_below, joined_below}
+use Rattle.dcx_atom.specs.Arrays.{Entries, sides_at, joined_below}
 use Rattle.dcx_atom.specs.Rows.{Row, row_at}
 use Rattle.dcx_atom.specs.Graph.{PlacedRow}
-use Rattle.dcx_atom.proofs.BoundRows.{list_below-first, map-list_below}
+use Rattle.dcx_atom.proofs.BoundRows.{map-list_below}
 use Rattle.dcx_affine.specs.Pairing.{pairs_at}
 use Rattle.dcx_point.specs.Pairs.{Pairs}
 use Rattle.dcx_arena.specs.Nodes.{IsNode}
