@@ -14,7 +14,7 @@ use std::alloc::{AllocError, Global};
 
 /// What stands at an entry: the number of a node that is one by the rules, and else a form.
 #[derive(Drop)]
-pub(crate) enum Entry<'a, C: Coef> {
+pub enum Entry<'a, C: Coef> {
     /// A number.
     Number(Frac),
     /// A form.
@@ -24,7 +24,7 @@ pub(crate) enum Entry<'a, C: Coef> {
 /// The form of an entry, multiplied or divided.
 ///
 /// `Passes` where an operation passes 128 bits: the first one.
-pub(crate) fn changed_entry<C: Coef>(
+pub fn changed_entry<C: Coef>(
     alloc: Global,
     entry: &Entry<C>,
     change: Change,

@@ -18,7 +18,7 @@ pub enum Standing<C: Coef> {
 }
 
 /// What stands at an entry of a node, and 0 past its end.
-pub(crate) fn entry_at<C: Coef>(standing: &Standing<C>, entry: u32) -> Entry<'_, C>
+pub fn entry_at<C: Coef>(standing: &Standing<C>, entry: u32) -> Entry<'_, C>
     ensures { found_form C.of_number result ≡ entry_of C.of_number standing.now entry }
 {
     match standing {

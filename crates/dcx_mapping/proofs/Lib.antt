@@ -1,3 +1,3 @@
 -- Lemmas of this crate.
 mod Rows
-mod LawsHold
+pub mod LawsHold

@@ -1,11 +1,11 @@
 -- The rows of constraints and those beside them as rows of a linear program: what holds of each, and their sum.
-use Rattle.std.proofs.Common.{◌≡◌, ℕ, zero, suc, ◌+◌, ◌<◌, arith, List, [], ◌∷◌, ◌++◌, length, map, Some, slice_get, refl, sym, ap, ap₂, ◌∙◌, subst, ⊎_elim, pos, add-zero, length-append}
+use Rattle.std.proofs.Common.{◌≡◌, ℕ, zero, suc, ◌+◌, ◌<◌, arith, List, [], ◌∷◌, ◌++◌, length, map, Some, slice_get, refl, sym, ap, ap₂, ◌∙◌, subst, ⊎_elim, pos, add-zero}
 use Rattle.std.proofs.lemmas.Option.{none-some, same_Some}
 use Rattle.dcx_math.specs.Rational.{ℚ, whole, ◌+ℚ◌, ◌*ℚ◌, ◌≤ℚ◌}
 use Rattle.dcx_math.specs.Sums.{rat_sum_below}
 use Rattle.dcx_math.proofs.Orders.{+ℚ_idl, +ℚ_idr, +ℚ_assoc}
 use Rattle.dcx_atom.specs.Arrays.{list_below}
-use Rattle.dcx_atom.proofs.BoundRows.{below_or_last}
+use Rattle.dcx_atom.proofs.BoundRows.{below_or_last, length-list_below}
 use Rattle.dcx_convex.specs.Nodes.{Numbers}
 use Rattle.dcx_convex.specs.Problems.{Relation, AtMost, Equal, Constraint, gap_of, Holds}
 use Rattle.dcx_convex.specs.Answers.{MayMultiply, weighed}
@@ -13,10 +13,6 @@ use Rattle.dcx_convex.specs.Reductions.{Unknowns, rows_weighed}
 use Rattle.dcx_linear.specs.declared.row.RowKind.TheVariants as kinds
 use Rattle.dcx_linear.specs.Rows.{RowAt, StandsTo, combined_from}
 use Rattle.dcx_mapping.specs.Programs.{kind_of, gap_row, gap_rows, bound_row, multipliers_from}
-
-pub length-list_below : {A : Type 0} (n : ℕ) (f : ℕ → A) → length (list_below n f) ≡ n
-length-list_below zero f = refl
-length-list_below (suc n) f = omega (arith, length-append (list_below n f) (f n ∷ []), length-list_below n f)
 
 -- ---- what holds of each row, by its number
 module _ (P : ℕ → RowAt → Type 0) where

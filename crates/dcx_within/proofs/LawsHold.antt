@@ -16,9 +16,10 @@ use Rattle.dcx_tree.specs.Nodes.{number_in}
 use Rattle.dcx_tree.specs.Problems.{AreDeclared}
 use Rattle.dcx_tree.specs.Meaning.{names_in}
 use Rattle.dcx_linear.specs.declared.change.Change.{Change}
+use Rattle.dcx_linear.specs.declared.form.Form.{Form}
 use Rattle.dcx_linear.specs.declared.form.FormTerm.{FormTerm}
 use Rattle.dcx_linear.specs.declared.param_term.ParamTerm.{ParamTerm}
-use Rattle.dcx_linear.specs.Forms.{is_constant}
+use Rattle.dcx_linear.specs.Forms.{is_constant, sum_gives_linear, change_gives_linear}
 use Rattle.dcx_linear.specs.ParamTerms.{with_coefficient}
 use Rattle.dcx_linear.specs.ParamForms.{form_of_number, number_of_form, sum_gives_form, change_gives_form, IsEntryForm}
 use Rattle.dcx_linear.proofs.Coefficients.{sum_keeps, change_keeps, multiple_keeps}
@@ -55,7 +56,7 @@ module _ (p : Problem) where
   known_closed : (t : ParamTerm) (x : Frac) → IsKnownTerm p t → IsKnownTerm p (with_coefficient t x)
   known_closed t x h = record { name = h.name; entry = h.entry }
 
-  known_number : (x : Frac) → IsKnown p (is_constant (form_of_number x))
+  pub known_number : (x : Frac) → IsKnown p (is_constant (form_of_number x))
   known_number x = (All-nil (IsKnownTerm p), All-nil (λ (t : FormTerm ParamForm). IsKnownNumber p t.coefficient))
 
   sum_known : (a b c : ParamForm) → sum_gives_form a b (Ok c) → IsKnownNumber p a → IsKnownNumber p b → IsKnownNumber p c
@@ -64,12 +65,18 @@ module _ (p : Problem) where
   change_known : (change : Change) (a c : ParamForm) → change_gives_form change a (Ok c) → IsKnownNumber p a → IsKnownNumber p c
   change_known change a c s h = change_lists (IsKnownTerm p) known_closed change a c s h
 
+  pub sum_keeps_known : (f g h : Form ParamForm) → sum_gives_linear number_of_form sum_gives_form f g (Ok h) → IsKnown p f → IsKnown p g → IsKnown p h
+  sum_keeps_known = sum_keeps number_of_form (IsKnownNumber p) sum_gives_form sum_known
+
+  pub change_keeps_known : (change : Change) (f h : Form ParamForm) → change_gives_linear number_of_form change_gives_form change f (Ok h) → IsKnown p f → IsKnown p h
+  change_keeps_known = change_keeps number_of_form (IsKnownNumber p) change_gives_form change_known
+
   known_kept : (count : ℕ) → IsKept form_of_number number_of_form sum_gives_form change_gives_form (IsKnown p) count
   known_kept count = record {
     numbers = known_number;
     unknowns = λ n b. (All-nil (IsKnownTerm p), All-cons (λ (t : FormTerm ParamForm). IsKnownNumber p t.coefficient) _ [] (All-nil (IsKnownTerm p)) (All-nil (λ (t : FormTerm ParamForm). IsKnownNumber p t.coefficient)));
-    sums = sum_keeps number_of_form (IsKnownNumber p) sum_gives_form sum_known;
-    changes = change_keeps number_of_form (IsKnownNumber p) change_gives_form change_known;
+    sums = sum_keeps_known;
+    changes = change_keeps_known;
     multiples = λ g f h s a b. multiple_keeps number_of_form (IsKnownNumber p) change_gives_form change_known g.constant f h s a.0;
   }
 

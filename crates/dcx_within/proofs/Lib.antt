@@ -3,4 +3,4 @@ mod Unknowns
 pub mod Entries
 mod Nodes
 mod Parameters
-mod LawsHold
+pub mod LawsHold

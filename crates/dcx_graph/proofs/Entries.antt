@@ -1,0 +1,46 @@
+-- The entries of constraints: how many there are, and what holds of their sides.
+use Rattle.std.proofs.Common.{◌≡◌, ℕ, zero, suc, ◌+◌, List, [], ◌∷◌, length, Some, slice_get, refl, sym, ap₂, ◌∙◌, subst, length-append}
+use Rattle.std.specs.Prelude.{sum_by}
+use Rattle.std.specs.List.{All}
+use Rattle.std.proofs.lemmas.Option.{slice_get_within, get_or_from_slice_get}
+use Rattle.std.proofs.lemmas.List.Sums.{sum_by-cons}
+use Rattle.std.proofs.lemmas.List.Elements.{All-nil, All-head, All-tail, All-append, All-push}
+use Rattle.dcx_atom.specs.Arrays.{list_below}
+use Rattle.dcx_atom.proofs.BoundRows.{length-list_below}
+use Rattle.dcx_tree.specs.declared.constraint.Constraint.{Constraint}
+use Rattle.dcx_tree.specs.Problems.{sides_in}
+use Rattle.dcx_unknowns.specs.Layout.{constraint_rows}
+use Rattle.dcx_graph.specs.declared.constraint.ConstraintEntry.{ConstraintEntry}
+use Rattle.dcx_graph.specs.Program.{row_kind, entries_in, entries_from}
+
+-- what holds of each item, holds of one that stands at a place
+pub all_at : {A : Type 0} (P : A → Type 0) (xs : List A) (i : ℕ) (x : A) → All P xs → slice_get xs i ≡ Some x → P x
+all_at P xs i x h e = subst P (get_or_from_slice_get xs i x x e) (h i x (slice_get_within xs i x e))
+
+-- there is one for each row
+pub entries-length : (k : ℕ) (cs : List Constraint) → length (entries_from k cs) ≡ sum_by constraint_rows cs
+entries-length k [] = refl
+entries-length k (c ∷ cs) =
+    length-append (entries_in k c) (entries_from (suc k) cs)
+    ∙ ap₂ ◌+◌ (length-list_below (constraint_rows c) (λ e. record { constraint = k; entry = e; kind = row_kind c.kind; left = c.left; right = c.right })) (entries-length (suc k) cs)
+    ∙ sym (sum_by-cons constraint_rows c cs)
+
+-- ---- what holds of the sides of constraints, holds of those of their entries
+module _ (P : ℕ → Type 0) where
+  pub record HasBoth (x : ConstraintEntry) : Type 0 where
+    pub left : P x.left.0
+    pub right : P x.right.0
+
+  below : (n : ℕ) (f : ℕ → ConstraintEntry) → ((e : ℕ) → HasBoth (f e)) → All HasBoth (list_below n f)
+  below zero f h = All-nil HasBoth
+  below (suc n) f h = All-push HasBoth (list_below n f) (f n) (below n f h) (h n)
+
+  pub entries_have : (k : ℕ) (cs : List Constraint) → All P (sides_in cs) → All HasBoth (entries_from k cs)
+  entries_have k [] h = All-nil HasBoth
+  entries_have k (c ∷ cs) h =
+      let first : P c.left.0 = All-head P c.left.0 (c.right.0 ∷ sides_in cs) h in
+      let rest : All P (c.right.0 ∷ sides_in cs) = All-tail P c.left.0 (c.right.0 ∷ sides_in cs) h in
+      let second : P c.right.0 = All-head P c.right.0 (sides_in cs) rest in
+      All-append HasBoth (entries_in k c) (entries_from (suc k) cs)
+      (below (constraint_rows c) (λ e. record { constraint = k; entry = e; kind = row_kind c.kind; left = c.left; right = c.right }) (λ e. record { left = first; right = second }))
+      (entries_have (suc k) cs (All-tail P c.right.0 (sides_in cs) rest))

@@ -1,0 +1,32 @@
+//! Laws of the program of a problem. Each function is a law: its clause is a statement about all of them, and the body is
+//! empty.
+ghost use Rattle.std.specs.Prelude.{◌≡◌, ℕ, length, Result};
+ghost use Rattle.dcx_frac.specs.declared.fraction.Frac.{Frac};
+ghost use Rattle.dcx_frac.specs.declared.fraction.Passes.{Passes};
+ghost use Rattle.dcx_point.specs.Pairs.{Pairs};
+ghost use Rattle.dcx_convex.specs.Rules.{Rules};
+ghost use Rattle.dcx_tree.specs.declared.problem.Problem.{Problem};
+ghost use Rattle.dcx_linear.specs.declared.param_form.ParamForm.{ParamForm};
+ghost use Rattle.dcx_unknowns.specs.Layout.{is_reduced, rows_counted, row_count};
+ghost use Rattle.dcx_entries.specs.Nodes.{Table, AreFormed};
+ghost use Rattle.dcx_entries.specs.Kept.{graph_rows};
+ghost use Rattle.dcx_graph.specs.Program.{Program, IsProgram, GivesProgram};
+ghost use Rattle.dcx_graph.specs.Fixing.{FixGives};
+
+use dcx_linear::Coef;
+
+/// A problem whose nodes are formed has one program, or one operation that passes first, at one row.
+pub fn one_program<C: Coef>()
+    ensures { (rules : Rules) (p : Problem) (table : Table C) (r s : Result (Program C) (ℕ × Passes)) → GivesProgram C.of_number C.number_of C.sum_gives C.change_gives rules p table r → GivesProgram C.of_number C.number_of C.sum_gives C.change_gives rules p table s → r ≡ s }
+{}
+
+/// Formed nodes have as many rows as the layout of the program counts, and so has the program.
+pub fn rows_are_counted<C: Coef>()
+    ensures graph { (rules : Rules) (p : Problem) (setting : Pairs) (table : Table C) → AreFormed C.of_number C.number_of C.sum_gives C.change_gives C.parameter_gives rules p setting (length p.tree) table → length (graph_rows C.of_number table) ≡ rows_counted p.tree (is_reduced rules p) (length p.tree) }
+    ensures program { (rules : Rules) (p : Problem) (setting : Pairs) (table : Table C) (q : Program C) → AreFormed C.of_number C.number_of C.sum_gives C.change_gives C.parameter_gives rules p setting (length p.tree) table → IsProgram C.of_number C.number_of C.sum_gives C.change_gives rules p table q → length q.rows ≡ row_count rules p }
+{}
+
+/// A program with affine coefficients has one program at a setting, or one operation that passes first, at one row.
+pub fn one_program_at_setting()
+    ensures { (setting : Pairs) (q : Program ParamForm) (r s : Result (Program Frac) (ℕ × Passes)) → FixGives setting q r → FixGives setting q s → r ≡ s }
+{}
