@@ -1,9 +1,7 @@
 -- The lemmas by which the laws are proved.
 pub mod Lists
 pub mod Representable
-pub mod Summands
 pub mod Coefficients
-pub mod Exact
 pub mod Few
 pub mod Reached
 pub mod Settled

@@ -3,7 +3,7 @@ use Rattle.std.proofs.Common.{◌≡◌, inl, inr, ℕ, suc, ◌<◌, arith, Boo
 use Rattle.std.specs.Prelude.{◌||◌}
 use Rattle.std.specs.List.{list_all}
 use Rattle.std.proofs.lemmas.Bool.{lt-ltb, and_from}
-use Rattle.std.proofs.lemmas.List.Elements.{All-head, All-tail}
+use Rattle.std.proofs.lemmas.List.Elements.{All-head, All-tail, recursion_from_All}
 use Rattle.std.proofs.lemmas.Option.{slice_get_within}
 use Rattle.dcx_math.specs.Rational.{ℚ, whole, ◌+ℚ◌}
 use Rattle.dcx_math.specs.Sums.{rat_sum_by}
@@ -63,14 +63,14 @@ use Rattle.dcx_entries.specs.Parts.{Arguments, zero_form, form_of_unknown, term_
 use Rattle.dcx_entries.specs.Entries.{alone, PairEntry}
 use Rattle.dcx_entries.specs.Standing.{args_among}
 use Rattle.dcx_entries.specs.Nodes.{is_told, has_numbers, Table, table_forms, side_of, scaling_of, ReducedEntry, NodeEntryBy, AreFormed}
+use Rattle.dcx_exact.proofs.Coefficients.{FitsIn, coefficients_fit}
 use Rattle.dcx_formed.specs.Forms.{forms_at}
 use Rattle.dcx_formed.proofs.Settled.{fixed_alike}
 use Rattle.dcx_formed.proofs.Reached.{node_bent}
 use Rattle.dcx_formed.proofs.Steady.{bent_parts}
 use Rattle.dcx_formed.proofs.Coefs.{AreCoefs}
-use Rattle.dcx_formed.proofs.Coefficients.{terms_fit, results_fit}
-use Rattle.dcx_formed.proofs.Exact.{IsFew}
-use Rattle.dcx_formed.proofs.Few.{few_calls}
+use Rattle.dcx_formed.proofs.Coefficients.{results_fit}
+use Rattle.dcx_formed.proofs.Few.{few_args}
 use Rattle.dcx_formed.proofs.PartValues.{constant_is, zero_is, unknown_or_zero, parts_are, terms_are, result_is}
 use Rattle.dcx_formed.proofs.Named.{where_declared}
 use Rattle.dcx_formed.proofs.Tables.{form_in, entry_there, entry_past}
@@ -248,30 +248,30 @@ module _ {C : Type 0} (value_at : C → Parameters → ℚ) (of_number : Frac �
         sym (first_below (entries_of (sides_in v)) (λ j. number_at u (unknown_from first v j)) j (subst (λ (r : Sides). j < entries_of r) (sym (own_is (sides_in v) (arg_sides p.tree n) n.sides shape)) b))
         ∙ sym (ap (λ o. array_from u first o j) there))
 
-    call_value : (call : Call) → n.call ≡ call → shape_of call (arg_sides p.tree n) ≡ Some n.sides → IsFew call (arg_sides p.tree n) → (j : ℕ) → j < entries_of n.sides → (entry : EntryForms C) →
+    call_value : (call : Call) → n.call ≡ call → shape_of call (arg_sides p.tree n) ≡ Some n.sides → (j : ℕ) → j < entries_of n.sides → (entry : EntryForms C) →
         ReducedEntry of_number number_of Sums Changes Reads rules p setting forms i n.args call (arg_sides p.tree n) j (Ok entry) →
         linear_value value_at entry.form u params ≡ call_entry (names_in p) s (point_at p.variables u) call (arg_sides p.tree n) (arguments (map (F u) n.args)) (filling_of rules p i u) j
-    call_value (calls.Variable v) is shape few j b entry h =
+    call_value (calls.Variable v) is shape j b entry h =
         let o = unknown_from (first_unknown p.variables (number_of_name (names_in p).variables v.name)) v j in
         ap (λ (z : EntryForms C). linear_value value_at z.form u params) (entry_is {E = ValueStop} entry (alone (form_of_unknown of_number o)) h)
         ∙ unknown_or_zero value_at of_number number_of Sums Changes laws u params o
         ∙ variable_entry v is shape j b
-    call_value (calls.Parameter q) is shape few j b entry h =
+    call_value (calls.Parameter q) is shape j b entry h =
         ap (λ (z : EntryForms C). linear_value value_at z.form u params) (entry_is {E = ValueStop} entry (alone (constant_form h.0)) h.2)
         ∙ constant_is value_at of_number number_of Sums Changes laws u params h.0
         ∙ read i n q at is reduced j h.0 h.1
-    call_value (calls.Constant c) is shape few j b entry h = absurd (subst IsReducible is (reducible p rules i n at reduced))
-    call_value (calls.Atom m) is shape few j b entry h =
+    call_value (calls.Constant c) is shape j b entry h = absurd (subst IsReducible is (reducible p rules i n at reduced))
+    call_value (calls.Atom m) is shape j b entry h =
         let result = (atom_meaning m).result (arg_sides p.tree n) j in
         let made = atom_made of_number number_of Sums Changes (map (aux_part of_number (first_aux rules p i)) result) _ entry h in
         parts_are value_at of_number number_of Sums Changes laws u params (map (aux_part of_number (first_aux rules p i)) result) entry.form made.sums
-        ∙ result_is value_at of_number number_of Sums Changes laws u params (first_aux rules p i) result (results_fit m (arg_sides p.tree n) j few)
-    call_value (calls.Linear l) is shape few j b entry h =
+        ∙ result_is value_at of_number number_of Sums Changes laws u params (first_aux rules p i) result (results_fit m (arg_sides p.tree n) n.sides j shape (few_args p.tree p.nodes n))
+    call_value (calls.Linear l) is shape j b entry h =
         let terms = (linear_meaning l).terms (arg_sides p.tree n) j in
         parts_are value_at of_number number_of Sums Changes laws u params (map (term_part args) terms) entry.form (linear_made of_number number_of Sums Changes (map (term_part args) terms) entry h).sums
-        ∙ terms_are value_at of_number number_of Sums Changes laws u params args terms (terms_fit l (arg_sides p.tree n) j few)
+        ∙ terms_are value_at of_number number_of Sums Changes laws u params args terms (recursion_from_All FitsIn terms (coefficients_fit l (arg_sides p.tree n) n.sides j shape b (few_args p.tree p.nodes n)))
         ∙ ap (λ (a : Entries). terms_at terms a) (args_match value_at of_number number_of Sums Changes laws table params u n.args)
-    call_value (calls.Pairing q) is shape few j b entry h =
+    call_value (calls.Pairing q) is shape j b entry h =
         pair_sum q (pair_may q n.args (arena.sides_at p.tree) n.sides shape (p.nodes.earlier i n at) (pair_taken q is)) j entry h
         ∙ ap (λ (a : Entries). pairing_value q (pairs_at q (sides_at (arg_sides p.tree n) 0) (sides_at (arg_sides p.tree n) 1) j) (a 0) (a 1)) (args_match value_at of_number number_of Sums Changes laws table params u n.args)
 
@@ -280,7 +280,7 @@ module _ {C : Type 0} (value_at : C → Parameters → ℚ) (of_number : Frac �
         let w = entry_there of_number number_of Sums Changes Reads rules p setting table formed i n at j b in
         let g = subst (λ r. NodeEntryBy of_number number_of Sums Changes Reads rules p setting r forms i n j (Ok w.entry)) reduced w.gives in
         ap (λ (f : Form C). linear_value value_at f u params) w.is
-        ∙ call_value n.call refl (p.nodes.shaped i n at) (few_calls p.tree p.nodes i n at j b) j b w.entry g
+        ∙ call_value n.call refl (p.nodes.shaped i n at) j b w.entry g
 
     pub reduced_stands : (j : ℕ) → F u i j ≡ first_of (entries_of n.sides) (entry_by rules p s F i n u) j
     reduced_stands j =

@@ -47,8 +47,8 @@ use Rattle.dcx_entries.specs.Entries.{alone}
 use Rattle.dcx_entries.specs.Standing.{args_among}
 use Rattle.dcx_entries.specs.Nodes.{Table, table_forms, number_entry, numbers_in, NodeEntryBy, AreFormed}
 use Rattle.dcx_formed.proofs.Coefs.{AreCoefs}
-use Rattle.dcx_formed.proofs.Exact.{entry_exact}
-use Rattle.dcx_formed.proofs.Few.{few_calls}
+use Rattle.dcx_exact.proofs.Exact.{forms_exactly}
+use Rattle.dcx_formed.proofs.Few.{few_args}
 use Rattle.dcx_formed.proofs.Named.{where_named}
 use Rattle.dcx_formed.proofs.PartValues.{number_is}
 use Rattle.dcx_formed.proofs.Tables.{form_in, args_are, entry_there, entry_past}
@@ -165,8 +165,8 @@ module _ {C : Type 0} (value_at : C → Parameters → ℚ) (of_number : Frac �
         let (x, made, is) = number_made i n at number j b in
         let told = subst (λ (g : Judgement). IsTrue (is_constant rules g)) (judgement_tells rules (nodes_of p) (nodes_ordered p) i (convex_node (names_in p) p.tree n) (convex_at p i n at)) (not_reduced (is_constant rules (judged i)) number) in
         ap value (number_is_in (form i j) (record { number = x; is = is }))
-        ∙ entry_exact formed_args (λ k e. value_representable (number_in number_of (args_among of_number (table_forms table) n.args k e))) setting [] (arg_sides p.tree n) n.sides j b n.call
-        (p.nodes.shaped i n at) (few_calls p.tree p.nodes i n at j b) x made
+        ∙ forms_exactly n.call setting [] (arg_sides p.tree n) n.sides formed_args (p.nodes.shaped i n at) (few_args p.tree p.nodes n)
+        (λ k e. value_representable (number_in number_of (args_among of_number (table_forms table) n.args k e))) j b x made
         ∙ same_value n.call told j
 
     value_past : (j : ℕ) → entries_of n.sides ≤ j → number_of_form (form i j) ≡ whole (pos 0)

@@ -24,8 +24,9 @@ use Rattle.dcx_linear.specs.Parts.{sums_parts, parts_value}
 use Rattle.dcx_linear.proofs.PartSums.{parts_sum_value}
 use Rattle.dcx_unknowns.specs.Unknowns.{number_at}
 use Rattle.dcx_entries.specs.Parts.{Arguments, zero_form, unknown_form, form_of_unknown, term_part, aux_part, operand_form, row_part}
+use Rattle.dcx_exact.proofs.Coefficients.{FitsIn}
 use Rattle.dcx_formed.proofs.Representable.{one_fits}
-use Rattle.dcx_formed.proofs.Coefficients.{FitsTerm, FitsRow, FitsFormTerm}
+use Rattle.dcx_formed.proofs.Coefficients.{FitsRow, FitsFormTerm}
 use Rattle.dcx_formed.proofs.Coefs.{AreCoefs}
 
 module _ {C : Type 0} (value_at : C → Parameters → ℚ) (of_number : Frac → C) (number_of : C → Option Frac) (Sums : C → C → Result C Passes → Type 0) (Changes : Change → C → Result C Passes → Type 0)
@@ -68,7 +69,7 @@ module _ {C : Type 0} (value_at : C → Parameters → ℚ) (of_number : Frac �
       ∙ ap (λ y. y +ℚ parts_value value_at parts u params) zero_is ∙ +ℚ_idl (parts_value value_at parts u params)
 
   -- ---- the parts of calls
-  pub terms_are : (args : Arguments C) (ts : List LinearTerm) → AllByRecursion FitsTerm ts → parts_value value_at (map (term_part args) ts) u params ≡ terms_at ts (λ k e. form_number (args k e))
+  pub terms_are : (args : Arguments C) (ts : List LinearTerm) → AllByRecursion FitsIn ts → parts_value value_at (map (term_part args) ts) u params ≡ terms_at ts (λ k e. form_number (args k e))
   terms_are args [] h = refl
   terms_are args (t ∷ ts) h = ap₂ (λ x y. x *ℚ form_number (args t.argument t.entry) +ℚ y) (value-frac_at t.coefficient h.0) (terms_are args ts h.1)
 
