@@ -1,6 +1,6 @@
 -- Lemmas of this crate.
 mod Unknowns
-mod Entries
+pub mod Entries
 mod Nodes
 mod Parameters
 pub mod LawsHold

@@ -1,0 +1,22 @@
+-- The lemmas by which the laws are proved.
+pub mod Lists
+pub mod Representable
+pub mod Coefficients
+pub mod Few
+pub mod Reached
+pub mod Settled
+pub mod Coefs
+pub mod PartValues
+pub mod Steady
+pub mod Tables
+pub mod Stood
+pub mod Named
+pub mod Numbers
+pub mod Made
+pub mod HaveNumbers
+pub mod Sides
+pub mod Pairs
+pub mod Nodes
+pub mod All
+pub mod Rows
+pub mod LawsHold

@@ -1,0 +1,14 @@
+//! The laws above the definitions of `specs/`. There is no code: each clause is a statement about all problems.
+ghost use Rattle.dcx_formed.specs.Laws.{FracsMeetEquations, ParamFormsMeetEquations};
+
+/// Nodes of an accepted problem that are formed of fractions at a setting: their forms meet the equation of each node at that
+/// setting, their rows are the rows of the graphs, and where symmetric and diagonal variables are square both are a reduced
+/// program of the problem at the setting.
+pub fn fracs_meet_equations()
+    ensures { FracsMeetEquations }
+{}
+
+/// Nodes of a problem that is accepted where parameters are affine, formed of affine numbers: the same at every setting.
+pub fn param_forms_meet_equations()
+    ensures { ParamFormsMeetEquations }
+{}
