@@ -1,3 +1,3 @@
 -- Lemmas of this crate.
-mod Rows
+pub mod Rows
 pub mod LawsHold

@@ -8,3 +8,4 @@ pub mod Names
 pub mod DualSteps
 pub mod DualLaws
 pub mod Carrying
+pub mod Alike
