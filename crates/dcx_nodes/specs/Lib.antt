@@ -1,0 +1,5 @@
+-- What the contracts of this crate cite.
+pub mod Marks
+pub mod Given
+pub mod Formed
+pub mod Numbers
