@@ -6,4 +6,6 @@ pub mod Folds
 pub mod OneAnswer
 pub mod OwnRows
 pub mod PairEntries
+pub mod Past
 pub mod Places
+pub mod Told

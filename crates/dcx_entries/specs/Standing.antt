@@ -1,5 +1,5 @@
 -- The forms that stand for nodes while a problem is reduced, and those of the arguments of a node.
-use Rattle.std.specs.Prelude.{ℕ, ◌+◌, ◌<◌, ◌^◌, List, [], length, map, Option, slice_index_or}
+use Rattle.std.specs.Prelude.{ℕ, ◌+◌, ◌<◌, ◌^◌, List, [], map, Option, slice_index_or}
 use Rattle.dcx_frac.specs.declared.fraction.Frac.{Frac}
 use Rattle.dcx_atom.specs.declared.graph.Operand.{Operand}
 use Rattle.dcx_atom.specs.declared.graph.Operand.TheVariants.{Argument, Aux}

@@ -4,6 +4,7 @@ ghost use Rattle.std.specs.List.{list_all};
 ghost use Rattle.dcx_entries.specs.Nodes.{is_told, has_numbers, pairing_scaling, product_scaling};
 ghost use Rattle.dcx_entries.specs.Standing.{forms_of};
 
+use crate::entries::EntryForms;
 use crate::standing::Standing;
 use dcx_affine::Pairing;
 use dcx_linear::{Coef, Form};
@@ -77,19 +78,24 @@ fn has_numbers<C: Coef>(form: &Form<C>) -> bool
     true
 }
 
+/// Whether all coefficients of the forms of entries are numbers.
+fn entries_have_numbers<C: Coef>(entries: &[EntryForms<C>]) -> bool
+    ensures { result ≡ list_all (λ e. has_numbers C.number_of e.form) entries.now }
+{
+    'entries: for entry in entries {
+        if !has_numbers(&entry.form) {
+            return false;
+        }
+    }
+    true
+}
+
 /// Whether all coefficients of the forms of a node are numbers.
 pub fn have_numbers<C: Coef>(standing: &Standing<C>) -> bool
     ensures { result ≡ list_all (has_numbers C.number_of) (forms_of C.of_number standing.now) }
 {
     match standing {
         Standing::Numbers(_) => true,
-        Standing::Forms(list) => {
-            'entries: for entry in list.as_slice() {
-                if !has_numbers(&entry.form) {
-                    return false;
-                }
-            }
-            true
-        }
+        Standing::Forms(list) => entries_have_numbers(list.as_slice()),
     }
 }

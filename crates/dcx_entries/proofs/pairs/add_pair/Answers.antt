@@ -11,8 +11,8 @@ use Rattle.dcx_entries.specs.Sums.{adds_pair}
 use Rattle.dcx_entries.specs.Standing.{args_of}
 use Rattle.dcx_entries.proofs.pairs.add_pair.Goals as goal
 
-pub add_entry-requires-in-Divisor-clause-allowed : goal.add_entry-requires-in-Divisor-clause-allowed
-add_entry-requires-in-Divisor-clause-allowed g c = λ e.
+pub add_entry-requires-in-Divisor : goal.add_entry-requires-in-Divisor
+add_entry-requires-in-Divisor g c = λ e.
     let t = g.C.Coef in
     let no : zero_test c.argument_number-by-in-Divisor.result ≡ false =
     ap (λ n. zero_test n) c.argument_number-by-in-Divisor.ensures ∙ ap (λ s. has_zero_divisor t.number_of s (args_of t.of_number c.args.args.now) c.args.pair.now) (sym c.in-Divisor.is) ∙ c.requires.nonzero in

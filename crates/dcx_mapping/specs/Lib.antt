@@ -1,0 +1,3 @@
+-- What the laws of this crate cite.
+pub mod Programs
+pub mod Laws
