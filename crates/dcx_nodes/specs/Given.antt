@@ -6,6 +6,7 @@ use Rattle.dcx_shape.specs.Places.{places_below}
 use Rattle.dcx_point.specs.Pairs.{Pairs}
 use Rattle.dcx_arena.specs.Nodes.{IsNode, call_at}
 use Rattle.dcx_call.specs.declared.atoms.AtomCall.{AtomCall}
+use Rattle.dcx_call.specs.declared.attribute.Variable.{Variable}
 use Rattle.dcx_call.specs.declared.call.Call.{Call}
 use Rattle.dcx_call.specs.declared.call.Call.TheVariants as calls
 use Rattle.dcx_call.specs.Values.{IsGiven}
@@ -36,8 +37,8 @@ abbrev pub HasFewUnknowns : Problem → List Bool → Type 0
 HasFewUnknowns p reduced = length (kinds_with p (marked reduced)) < 2 ^ 32
 
 -- the first unknown of each variable
-abbrev pub AreFirsts : Problem → List ℕ → Type 0
-AreFirsts p firsts = firsts ≡ map (first_unknown p.variables) (places_below (length p.variables))
+abbrev pub AreFirstsOf : List Variable → List ℕ → Type 0
+AreFirstsOf vs firsts = firsts ≡ map (first_unknown vs) (places_below (length vs))
 
 -- all of it
 pub record IsReady (can_read : Pairs → List ℕ → ℕ → Type 0) (p : Problem) (reduced fixed : List Bool) (setting : Pairs) (firsts : List ℕ) : Type 0 where
@@ -47,7 +48,7 @@ pub record IsReady (can_read : Pairs → List ℕ → ℕ → Type 0) (p : Probl
   pub few : HasFewUnknowns p reduced
   pub numbers : NumbersAreGiven p reduced setting
   pub readable : ParametersAreReadable can_read p reduced setting
-  pub firsts : AreFirsts p firsts
+  pub begin : AreFirstsOf p.variables firsts
 
 -- the first auxiliary unknown of node i, where it is told which nodes are reduced
 abbrev pub first_marked : Problem → List Bool → ℕ → ℕ

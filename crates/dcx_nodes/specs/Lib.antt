@@ -3,3 +3,4 @@ pub mod Marks
 pub mod Given
 pub mod Formed
 pub mod Numbers
+pub mod SoFar
