@@ -1,3 +1,10 @@
 -- Lemmas of this crate.
 pub mod Positions
+pub mod AtNode
 pub mod Numbers
+pub mod Leaves
+pub mod Gives
+pub mod LinearNodes
+pub mod Auxiliaries
+pub mod AtomNodes
+pub mod PairNodes

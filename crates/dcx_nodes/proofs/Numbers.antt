@@ -62,7 +62,7 @@ number_get [] j x e = absurd (none-some x e)
 number_get (y ∷ ys) zero x e = ap value (same_Some y x e)
 number_get (y ∷ ys) (suc j) x e = number_get ys j x e
 
-mapped_at : {A B : Type 0} (f : A → B) (xs : List A) (j : ℕ) (y : B) → slice_get (map f xs) j ≡ Some y → (x : A) × (slice_get xs j ≡ Some x) × (f x ≡ y)
+pub mapped_at : {A B : Type 0} (f : A → B) (xs : List A) (j : ℕ) (y : B) → slice_get (map f xs) j ≡ Some y → (x : A) × (slice_get xs j ≡ Some x) × (f x ≡ y)
 mapped_at f [] j y e = absurd (none-some y e)
 mapped_at f (x ∷ xs) zero y e = (x, refl, same_Some (f x) y e)
 mapped_at f (x ∷ xs) (suc j) y e = mapped_at f xs j y e

@@ -2,7 +2,7 @@
 use Rattle.std.proofs.Common.{◌≡◌, ◌↔◌, ℕ, suc, ◌+◌, ◌<◌, ◌≤◌, arith, Bool, true, false, if◌then◌else◌, List, [], ◌∷◌, length, map, drop, get_or, refl, sym, ap, ◌∙◌, subst}
 use Rattle.std.specs.Prelude.{IsTrue}
 use Rattle.std.proofs.Math.Seq.{drop-cons}
-use Rattle.std.proofs.lemmas.List.{drop-all}
+use Rattle.std.proofs.lemmas.List.{drop_all}
 use Rattle.dcx_point.specs.Pairs.{same_name}
 use Rattle.dcx_point.proofs.Puts.{same_name-refl, same_name-true}
 use Rattle.dcx_tree.specs.Nodes.{number_in}
@@ -45,5 +45,5 @@ module _ {A : Type 0} (name_of : A → List ℕ) (xs : List A) (name : List ℕ)
   -- none is left
   pub not_found : (k : ℕ) → length xs ≤ k → k ≤ length xs → Passed k → length xs ≡ number_in (map name_of xs) name
   not_found k past within passed =
-      let none : number_in (map name_of (drop k xs)) name ≡ 0 = ap (λ ys. number_in (map name_of ys) name) (drop-all xs k past) in
+      let none : number_in (map name_of (drop k xs)) name ≡ 0 = ap (λ ys. number_in (map name_of ys) name) (drop_all k xs past) in
       omega (arith, passed, none, past, within)
