@@ -8,3 +8,4 @@ pub mod LinearNodes
 pub mod Auxiliaries
 pub mod AtomNodes
 pub mod PairNodes
+pub mod GraphRows

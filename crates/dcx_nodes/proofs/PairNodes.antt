@@ -193,3 +193,14 @@ module _ (p : Problem) (i : ℕ) (q : Pairing) (c : call_at p.tree i ≡ Some (c
           (subst (λ s. FormsEach (PairTold s ids (map (sides_at p.tree) ids)) size r) scaling_is
           (each_alike PairGives (PairTold scaling_marked ids (map (sides_at p.tree) ids)) size r
           (λ j b s g. subst (λ ps. PairEntry of_number number_of Sums Changes scaling_marked (args_among of_number forms ids) ps j s) (pairs_told j (below j b)) g) f))))
+
+-- ---- as code has them
+pub pos_get : (ids : List NodeId) (k : ℕ) → get_or (positions ids) k 0 ≡ (get_or ids k (record { 0 = 0 })).0
+pos_get [] k = refl
+pos_get (a ∷ ids) zero = refl
+pos_get (a ∷ ids) (suc k) = pos_get ids k
+
+pub given_pairs : (q : Pairing) (x y a b : Sides) (pairs : List (List Pair)) → x ≡ a → y ≡ b → IfSome (paired_sides q x y) (λ s. pairs ≡ list_below (entries_of s) (pairs_at q x y)) →
+    IfSome (paired_sides q a b) (λ s. pairs ≡ list_below (entries_of s) (pairs_at q a b))
+given_pairs q x y a b pairs e f h =
+    subst (λ z. IfSome (paired_sides q a z) (λ s. pairs ≡ list_below (entries_of s) (pairs_at q a z))) f (subst (λ z. IfSome (paired_sides q z y) (λ s. pairs ≡ list_below (entries_of s) (pairs_at q z y))) e h)

@@ -50,8 +50,9 @@ pub(crate) fn pairing_node<C: Coef>(
     ensures entries { IsFormed result (ReducedGives C.of_number C.number_of C.sum_gives C.change_gives C.parameter_gives given.now.problem.now given.now.setting.now given.now.reduced.now given.now.fixed.now (all_forms C.of_number args.now.standing.now) node.0) }
 {
     let tree = &given.problem.tree;
-    let left = args.ids[0];
-    let right = args.ids[1];
+    let ids = args.ids;
+    let left = ids[0];
+    let right = ids[1];
     let left_side = side_at(given, args.standing, left);
     let right_side = side_at(given, args.standing, right);
     let scaling = pairing_scaling(pairing, left_side, right_side);
