@@ -9,3 +9,6 @@ pub mod Auxiliaries
 pub mod AtomNodes
 pub mod PairNodes
 pub mod GraphRows
+pub mod Corner
+pub mod Local
+pub mod Standings

@@ -110,7 +110,7 @@ two_sides q f (a ∷ []) sides d e = absurd (none-some sides e)
 two_sides q f (a ∷ b ∷ []) sides d e = (e, refl, refl)
 two_sides q f (a ∷ b ∷ c ∷ rest) sides d e = absurd (none-some sides e)
 
-same_get : {A : Type 0} (xs : List A) (k : ℕ) (d e : A) → k < length xs → get_or xs k d ≡ get_or xs k e
+pub same_get : {A : Type 0} (xs : List A) (k : ℕ) (d e : A) → k < length xs → get_or xs k d ≡ get_or xs k e
 same_get [] k d e b = absurd (omega (arith, b))
 same_get (x ∷ xs) zero d e b = refl
 same_get (x ∷ xs) (suc k) d e b = same_get xs k d e (omega (arith, b))
