@@ -12,3 +12,4 @@ pub mod GraphRows
 pub mod Corner
 pub mod Local
 pub mod Standings
+pub mod OneMore

@@ -52,7 +52,9 @@ module _ {C : Type 0} (of_number : Frac → C) (number_of : C → Option Frac) (
     found (a ∷ ids) h = ap₂ ◌∷◌ (let b = All-head (λ a. a < i) a ids h in get_or-append forms more [] a (omega (arith, b, within))) (found ids (All-tail (λ a. a < i) a ids h))
 
     args_alike : args_among of_number (forms ++ more) n.args ≡ args_among of_number forms n.args
-    args_alike = ap (λ (m : List (List (Form C))) (k e : ℕ). slice_index_or (slice_index_or m k []) e (is_constant (of_number zero_frac))) (found n.args (p.nodes.earlier i n at))
+    args_alike =
+        let among : List (List (Form C)) → Arguments C = λ m k e. slice_index_or (slice_index_or m k []) e (is_constant (of_number zero_frac)) in
+        ap among (found n.args (p.nodes.earlier i n at))
 
     side_alike : (a : ℕ) → a < i → side_of of_number number_of Sums Changes Reads rules p setting (forms ++ more) a ≡ side_of of_number number_of Sums Changes Reads rules p setting forms a
     side_alike a b =

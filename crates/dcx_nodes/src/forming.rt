@@ -1,5 +1,5 @@
 //! What is formed so far of the nodes of a problem.
-ghost use Rattle.std.specs.Prelude.{◌≡◌, ◌<◌, ◌≤◌, ◌+◌, length, IfErr, OnOk};
+ghost use Rattle.std.specs.Prelude.{◌≡◌, ◌<◌, ◌≤◌, ◌+◌, ◌++◌, [], ◌∷◌, length, IfErr, OnOk};
 ghost use Rattle.dcx_entries.specs.Forming.{OnStop};
 ghost use Rattle.dcx_nodes.specs.Given.{IsReady};
 ghost use Rattle.dcx_nodes.specs.SoFar.{AreFormedTo, StopsAt, IsMarkedStop, stop_of};
@@ -41,6 +41,20 @@ fn stop_of(node: NodeId, stop: ValueStop) -> FormStop
     }
 }
 
+/// Puts what stands for a node at the end.
+fn push_standing<C: Coef>(
+    standing: &mut Vec<Standing<C>>,
+    kept: Standing<C>,
+) -> Result<(), ValueStop>
+    ensures ok { OnOk result (standing.new.items ≡ standing.old.items ++ kept ∷ []) }
+    ensures err { IfErr result (λ e. e ≡ ValueStop.Memory) }
+{
+    match standing.push(kept) {
+        Ok(()) => Ok(()),
+        Err(_) => Err(ValueStop::Memory),
+    }
+}
+
 /// Forms one node more.
 ///
 /// `Passes` where an operation passes 128 bits, and `ZeroDivisor` where a divisor is 0: the first of both, entry by entry.
@@ -57,9 +71,8 @@ fn add_node<C: Coef>(
     ensures stop { IfErr result (λ e. OnStop e (StopsAt C.of_number C.number_of C.sum_gives C.change_gives C.parameter_gives given.now.problem.now given.now.setting.now given.now.reduced.now given.now.fixed.now node.0)) }
 {
     let formed = form_node(alloc, given, node, &forming.standing, &mut forming.next)?;
-    let kept = keep(alloc, &mut forming.rows, node, formed)?;
-    match forming.standing.push(kept) {
-        Ok(()) => Ok(()),
+    match keep(alloc, &mut forming.rows, node, formed) {
+        Ok(kept) => push_standing(&mut forming.standing, kept),
         Err(_) => Err(ValueStop::Memory),
     }
 }
