@@ -1,5 +1,5 @@
 -- One node more is formed, or the first that isn't is met.
-use Rattle.std.proofs.Common.{◌≡◌, ℕ, zero, suc, ◌+◌, ◌<◌, ◌≤◌, ◌^◌, arith, Bool, List, [], ◌∷◌, ◌++◌, length, length-append, map, Option, Some, refl, sym, ap, ap₂, ◌∙◌, subst, Result, Ok, Err, OnOk, IfErr}
+use Rattle.std.proofs.Common.{◌≡◌, ℕ, zero, suc, ◌+◌, ◌<◌, ◌≤◌, ◌^◌, arith, Bool, List, [], ◌∷◌, ◌++◌, length, length-append, map, get_or, slice_index_or, Option, Some, refl, sym, ap, ap₂, ◌∙◌, subst, Result, Ok, Err, OnOk, IfErr}
 use Rattle.std.specs.Prelude.{slice_get}
 use Rattle.std.proofs.lemmas.List.Sums.{sum_by-cons}
 use Rattle.std.proofs.lemmas.List.{length-map, map_push}
@@ -15,12 +15,14 @@ use Rattle.dcx_arena.specs.Nodes.{IsNode, sides_at, entries_in as entries_over}
 use Rattle.dcx_convex.specs.Rules.{Rules}
 use Rattle.dcx_tree.specs.declared.problem.Problem.{Problem}
 use Rattle.dcx_tree.specs.Nodes.{Node}
+use Rattle.dcx_tree.specs.Problems.{roots_of}
 use Rattle.dcx_tree.proofs.NodeValues.{sides_are}
 use Rattle.dcx_reduced.proofs.NodeForms.{node_at}
 use Rattle.dcx_linear.specs.declared.change.Change.{Change}
 use Rattle.dcx_linear.specs.declared.form.Form.{Form}
 use Rattle.dcx_linear.specs.Forms.{is_constant}
 use Rattle.dcx_entries.specs.declared.entries.EntryForms.{EntryForms}
+use Rattle.dcx_entries.specs.declared.formed.Formed.{Formed}
 use Rattle.dcx_entries.specs.declared.formed.FormedRow.{FormedRow}
 use Rattle.dcx_entries.specs.declared.standing.Standing.{Standing}
 use Rattle.dcx_entries.specs.declared.standing.Standing.TheVariants.{Numbers, Forms}
@@ -34,7 +36,7 @@ use Rattle.dcx_nodes.specs.declared.forming.Forming.{Forming}
 use Rattle.dcx_nodes.specs.Marks.{AreMarks}
 use Rattle.dcx_nodes.specs.Given.{first_marked}
 use Rattle.dcx_nodes.specs.Formed.{entries_in, IsOfSides, AreOfSides, MarkedGives}
-use Rattle.dcx_nodes.specs.SoFar.{AreFormedTo, StopsAt, IsMarkedStop, stop_of}
+use Rattle.dcx_nodes.specs.SoFar.{AreFormedTo, StopsAt, IsMarkedKept, IsMarkedStop, stop_of}
 use Rattle.dcx_nodes.proofs.GraphRows.{node_more}
 use Rattle.dcx_nodes.proofs.Numbers.{forms_counted}
 use Rattle.dcx_nodes.proofs.Local.{get_pushed, formed_more}
@@ -99,6 +101,16 @@ module _ {C : Type 0} (of_number : Frac → C) (number_of : C → Option Frac) (
     count = ap length standing;
     sides = λ i s there. absurd (none-some s (ap (λ xs. slice_get xs i) (sym standing) ∙ there));
     next = next;
+  }
+
+  -- all are formed
+  pub all_kept : (f : Forming C) (kept : Formed C) → AreFormedTo of_number number_of Sums Changes Reads p setting reduced fixed (length p.tree) f → kept.standing ≡ f.standing.items → kept.rows ≡ f.rows.items →
+      IsMarkedKept of_number number_of Sums Changes Reads p setting reduced fixed kept
+  all_kept f kept so_far standing rows rules marks = record {
+    table = so_far.table;
+    formed = so_far.formed rules marks;
+    roots = λ k d lt. ap (λ forms. slice_index_or forms (get_or (roots_of p.objective p.constraints) k d) []) (ap (all_forms of_number) standing ∙ so_far.forms);
+    rows = rows ∙ so_far.rows;
   }
 
   -- what stops a node, stops all

@@ -42,7 +42,7 @@ overflow_add-result c =
     let all : first_unknown vs k + own_count (demanded v) (sides_in v) ≡ variable_unknowns vs = last_of_all vs k v (omega (arith, some)) c.index-variables-last.is in
     let square : IsSquare v = subst IsSquare (sym c.index-variables-last.is) (c.requires.square k v lt) in
     let own = all_own v square first in
-    let read = read_last v square first c.in_ok-unknowns.unknowns.items c.len.result c.index.result.now c.in_ok-unknowns.ensures (c.len.ensures ∙ sym c.in_ok-unknowns.unknowns.ok) c.index.ensures in
+    let read = read_last v square first c.in_ok-unknowns.unknowns.items c.len.result c.index.result.now c.in_ok-unknowns.ensures (c.len.ensures ∙ c.in_ok-unknowns.unknowns.ok.0) c.index.ensures in
     let same = same_Some c.in-Some.unknown (first + own_before (demanded v) (sides_in v) (last v square first)) (sym c.in-Some.is ∙ read) in
     omega (arith, same, own, first_is, all, c.requires.few)
 
@@ -59,7 +59,7 @@ returns-in-Some c =
     let all : first_unknown vs k + own_count (demanded v) (sides_in v) ≡ variable_unknowns vs = last_of_all vs k v (omega (arith, some)) c.index-variables-last.is in
     let square : IsSquare v = subst IsSquare (sym c.index-variables-last.is) (c.requires.square k v lt) in
     let own = all_own v square first in
-    let read = read_last v square first c.in_ok-unknowns.unknowns.items c.len.result c.index.result.now c.in_ok-unknowns.ensures (c.len.ensures ∙ sym c.in_ok-unknowns.unknowns.ok) c.index.ensures in
+    let read = read_last v square first c.in_ok-unknowns.unknowns.items c.len.result c.index.result.now c.in_ok-unknowns.ensures (c.len.ensures ∙ c.in_ok-unknowns.unknowns.ok.0) c.index.ensures in
     let same = same_Some c.in-Some.unknown (first + own_before (demanded v) (sides_in v) (last v square first)) (sym c.in-Some.is ∙ read) in
     omega (arith, same, own, first_is, all)
 
@@ -85,5 +85,5 @@ returns c =
     let all : first_unknown vs k + own_count (demanded v) (sides_in v) ≡ variable_unknowns vs = last_of_all vs k v (omega (arith, some)) c.index-variables-last.is in
     let square : IsSquare v = subst IsSquare (sym c.index-variables-last.is) (c.requires.square k v lt) in
     let own = all_own v square first in
-    let read = read_last v square first c.in_ok-unknowns.unknowns.items c.len.result c.index.result.now c.in_ok-unknowns.ensures (c.len.ensures ∙ sym c.in_ok-unknowns.unknowns.ok) c.index.ensures in
+    let read = read_last v square first c.in_ok-unknowns.unknowns.items c.len.result c.index.result.now c.in_ok-unknowns.ensures (c.len.ensures ∙ c.in_ok-unknowns.unknowns.ok.0) c.index.ensures in
     absurd (none-some (first + own_before (demanded v) (sides_in v) (last v square first)) (sym c.in-None.is ∙ read))
