@@ -1,5 +1,5 @@
 -- What is known of a node by its call.
-use Rattle.std.proofs.Common.{◌≡◌, ℕ, ◌<◌, arith, List, [], ◌∷◌, length, map, All, Option, Some, None, option_map, refl, sym, ap, ◌∙◌, subst}
+use Rattle.std.proofs.Common.{◌≡◌, ℕ, ◌<◌, arith, List, [], ◌∷◌, length, map, All, Some, option_map, sym, ap, ◌∙◌, subst}
 use Rattle.std.specs.Prelude.{slice_get}
 use Rattle.std.proofs.lemmas.List.Elements.{All-weaker}
 use Rattle.std.proofs.lemmas.Option.{same_Some, none-some, slice_get_within}
@@ -10,7 +10,7 @@ use Rattle.dcx_call.specs.Calls.{own_sides, shape_of}
 use Rattle.dcx_tree.specs.declared.problem.Problem.{Problem}
 use Rattle.dcx_tree.specs.Nodes.{Node, arg_sides}
 use Rattle.dcx_tree.proofs.Names.{found_in}
-use Rattle.dcx_tree.proofs.NodeValues.{args_are, sides_are}
+use Rattle.dcx_tree.proofs.NodeValues.{args_are}
 
 pub own_is : (own : Sides) (args : List Sides) (sides : Sides) → own_sides own args ≡ Some sides → own ≡ sides
 own_is own [] sides e = same_Some own sides e

@@ -1,5 +1,5 @@
 -- The graph of an atom speaks of its own auxiliary unknowns, which have numbers of 32 bits.
-use Rattle.std.proofs.Common.{◌≡◌, ℕ, zero, suc, ◌+◌, ◌<◌, ◌≤◌, ◌^◌, arith, Bool, true, List, [], ◌∷◌, length, map, get_or, All, Option, Some, None, refl, sym, ap, ap₂, ◌∙◌, subst, Result, Ok, Err}
+use Rattle.std.proofs.Common.{◌≡◌, ℕ, ◌+◌, ◌<◌, ◌^◌, arith, Bool, List, [], ◌∷◌, length, map, get_or, All, Option, Some, None, sym, ap, ◌∙◌, subst, Result}
 use Rattle.std.proofs.lemmas.List.{length-map, get_or-map}
 use Rattle.std.proofs.lemmas.List.Elements.{All-cons, All-nil}
 use Rattle.std.proofs.lemmas.Option.{same_Some}
@@ -14,9 +14,7 @@ use Rattle.dcx_atom.specs.declared.graph.AuxTerm.{AuxTerm}
 use Rattle.dcx_atom.specs.declared.graph.Operand.{Operand}
 use Rattle.dcx_atom.specs.declared.graph.Operand.TheVariants.{Argument, Aux}
 use Rattle.dcx_atom.specs.declared.stops.ValueStop.{ValueStop}
-use Rattle.dcx_atom.specs.Arrays.{list_below}
 use Rattle.dcx_atom.specs.Graph.{row_term, form_term, PlacedRow, placed_row, IsGraphOf}
-use Rattle.dcx_atom.specs.Meaning.{Meaning}
 use Rattle.dcx_atom.specs.Rows.{Row}
 use Rattle.dcx_atom.proofs.BoundRows.{length-list_below}
 use Rattle.dcx_point.specs.Pairs.{Pairs}
@@ -24,11 +22,10 @@ use Rattle.dcx_arena.specs.Nodes.{IsNode, call_at, args_at, sides_at}
 use Rattle.dcx_call.specs.declared.atoms.AtomCall.{AtomCall}
 use Rattle.dcx_call.specs.declared.call.Call.TheVariants as calls
 use Rattle.dcx_call.specs.Atoms.{atom_meaning}
-use Rattle.dcx_convex.specs.Rules.{Rules}
 use Rattle.dcx_tree.specs.declared.problem.Problem.{Problem}
 use Rattle.dcx_tree.specs.Nodes.{Node, arg_sides}
 use Rattle.dcx_tree.proofs.NodeValues.{args_are, sides_are}
-use Rattle.dcx_unknowns.specs.Layout.{IsCallGraph, IsNodeGraph, first_aux}
+use Rattle.dcx_unknowns.specs.Layout.{IsCallGraph, IsNodeGraph}
 use Rattle.dcx_reduced.proofs.Lists.{Each, each_head, each_tail, each_nil, each_cons, each_joined}
 use Rattle.dcx_reduced.proofs.OwnTerms.{IsOwn, AreOwnTerms, AreOwnRows, IsOwnForm}
 use Rattle.dcx_reduced.proofs.OwnUnknowns.{UsesOwn}
@@ -36,7 +33,7 @@ use Rattle.dcx_reduced.proofs.OwnGraphs.{atom_own}
 use Rattle.dcx_linear.specs.declared.change.Change.{Change}
 use Rattle.dcx_linear.specs.declared.form.Form.{Form}
 use Rattle.dcx_entries.specs.declared.entries.EntryForms.{EntryForms}
-use Rattle.dcx_entries.specs.Forming.{FormsEach, AtEntry, IsFormed}
+use Rattle.dcx_entries.specs.Forming.{FormsEach, AtEntry}
 use Rattle.dcx_entries.specs.Parts.{aux_part, row_part}
 use Rattle.dcx_entries.specs.Entries.{AtomEntry}
 use Rattle.dcx_entries.specs.Standing.{args_among, IsOperand}
@@ -44,10 +41,9 @@ use Rattle.dcx_entries.proofs.OwnRows.{list_below_at}
 use Rattle.dcx_entries.proofs.Places.{RowIsThere, AuxFits}
 use Rattle.dcx_nodes.specs.Given.{first_marked}
 use Rattle.dcx_nodes.specs.Formed.{ReducedGives}
-use Rattle.dcx_nodes.specs.Marks.{AreMarks}
 use Rattle.dcx_nodes.proofs.AtNode.{call_is, shape_given}
 use Rattle.dcx_nodes.proofs.Auxiliaries.{first_by_rules}
-use Rattle.dcx_nodes.proofs.Gives.{formed_weaker, reduced_by}
+use Rattle.dcx_nodes.proofs.Gives.{reduced_by}
 
 -- ---- of the first so many unknowns
 module _ (n first : ℕ) (few : first + n < 2 ^ 32) where

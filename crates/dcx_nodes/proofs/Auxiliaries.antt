@@ -1,10 +1,9 @@
 -- The auxiliary unknowns of the nodes, one node after the other.
-use Rattle.std.proofs.Common.{◌≡◌, ℕ, zero, suc, ◌+◌, ◌<◌, ◌≤◌, ◌^◌, arith, Bool, true, false, List, [], ◌∷◌, ◌++◌, length, length-append, map, Option, Some, refl, sym, ap, ◌∙◌, subst, add-zero, ◌-◌}
+use Rattle.std.proofs.Common.{◌≡◌, ℕ, zero, suc, ◌+◌, ◌<◌, ◌≤◌, ◌^◌, arith, Bool, true, false, List, [], ◌++◌, length, length-append, map, Some, sym, ap, ◌∙◌, subst, add-zero, ◌-◌}
 use Rattle.std.specs.Prelude.{slice_get}
-use Rattle.std.specs.List.{flat_map, range_with_len}
 use Rattle.std.proofs.lemmas.List.{length-map, append-nil}
 use Rattle.dcx_atom.specs.declared.graph.Graph.{Graph}
-use Rattle.dcx_arena.specs.Nodes.{IsNode, call_at}
+use Rattle.dcx_arena.specs.Nodes.{call_at}
 use Rattle.dcx_call.specs.declared.call.Call.{Call}
 use Rattle.dcx_convex.specs.Rules.{Rules}
 use Rattle.dcx_tree.specs.declared.problem.Problem.{Problem}

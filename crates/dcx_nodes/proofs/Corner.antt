@@ -1,10 +1,9 @@
 -- The last entry of a variable has its own unknown, the last one of the variable.
-use Rattle.std.proofs.Common.{◌≡◌, ℕ, zero, suc, ◌+◌, ◌-◌, ◌*◌, ◌<◌, ◌≤◌, arith, Bool, true, false, ◌==◌, List, [], ◌∷◌, length, map, get_or, Option, Some, option_map, refl, sym, ap, ap₂, ◌∙◌, subst, zero-add, ◌++◌}
+use Rattle.std.proofs.Common.{◌≡◌, ℕ, zero, suc, ◌+◌, ◌-◌, ◌*◌, ◌<◌, arith, true, false, ◌==◌, List, [], ◌∷◌, length, map, get_or, Option, Some, option_map, refl, sym, ap, ap₂, ◌∙◌, zero-add, ◌++◌}
 use Rattle.std.proofs.lemmas.Bool.{eq-eqb, le-leb, false≢true}
 use Rattle.std.proofs.lemmas.List.{length-map, get_or-map}
 use Rattle.std.proofs.lemmas.List.FromFn.{length-range_with_len, get_or-range_with_len}
 use Rattle.dcx_shape.specs.declared.shape.Sides.{Sides}
-use Rattle.dcx_shape.specs.Shape.{sides_of}
 use Rattle.dcx_shape.specs.Sides.{rows_of, cols_of, entries_of}
 use Rattle.dcx_shape.specs.Places.{HasEntry, row_place, places_below}
 use Rattle.dcx_shape.proofs.Entries.{entries_are}

@@ -1,6 +1,5 @@
 -- From what is formed by a call to what is formed of its node.
-use Rattle.std.proofs.Common.{◌≡◌, ℕ, ◌<◌, arith, Bool, List, [], ◌∷◌, length, map, get_or, Option, Some, refl, sym, ap, ◌∙◌, subst, Result, Ok, Err, IfOk}
-use Rattle.std.specs.Prelude.{slice_get}
+use Rattle.std.proofs.Common.{◌≡◌, ℕ, ◌<◌, arith, Bool, List, length, Option, Some, sym, ap, ◌∙◌, subst, Result, Ok, Err, IfOk}
 use Rattle.std.proofs.lemmas.Option.{slice_get_within}
 use Rattle.dcx_frac.specs.declared.fraction.Frac.{Frac}
 use Rattle.dcx_frac.specs.declared.fraction.Passes.{Passes}
@@ -16,7 +15,7 @@ use Rattle.dcx_tree.proofs.NodeValues.{sides_are}
 use Rattle.dcx_linear.specs.declared.change.Change.{Change}
 use Rattle.dcx_linear.specs.declared.form.Form.{Form}
 use Rattle.dcx_entries.specs.declared.entries.EntryForms.{EntryForms}
-use Rattle.dcx_entries.specs.Forming.{FormsEach, OnStop, IsFormed}
+use Rattle.dcx_entries.specs.Forming.{FormsEach, IsFormed}
 use Rattle.dcx_entries.specs.Nodes.{ReducedEntry}
 use Rattle.dcx_entries.proofs.Each.{OnStop-weaker}
 use Rattle.dcx_nodes.specs.Marks.{AreMarks}

@@ -1,11 +1,11 @@
 -- Variables and parameters are among those that are listed, and their entries are formed of their own.
-use Rattle.std.proofs.Common.{◌≡◌, ℕ, zero, suc, ◌+◌, ◌<◌, ◌≤◌, ◌^◌, arith, Bool, true, false, if◌then◌else◌, List, [], ◌∷◌, ◌++◌, length, length-append, map, get_or, Option, Some, None, refl, sym, ap, ◌∙◌, subst, zero-add, Result, Ok, Err}
+use Rattle.std.proofs.Common.{◌≡◌, ℕ, suc, ◌+◌, ◌<◌, ◌≤◌, ◌^◌, arith, Bool, true, false, if◌then◌else◌, List, [], ◌∷◌, length, length-append, map, get_or, Option, Some, refl, sym, ap, ◌∙◌, subst, zero-add, Result, Ok}
 use Rattle.std.specs.Prelude.{slice_get}
 use Rattle.std.proofs.Props.{props}
 use Rattle.std.proofs.Math.Logic.{∥∥₁_elim}
 use Rattle.std.proofs.lemmas.List.{length-map, get_or-map}
 use Rattle.std.proofs.lemmas.List.FromFn.{length-range_with_len, get_or-range_with_len}
-use Rattle.std.proofs.lemmas.Option.{none-some, same_Some, slice_get_within, get_or_from_slice_get}
+use Rattle.std.proofs.lemmas.Option.{slice_get_within, get_or_from_slice_get}
 use Rattle.dcx_frac.specs.declared.fraction.Frac.{Frac}
 use Rattle.dcx_frac.specs.declared.fraction.Passes.{Passes}
 use Rattle.dcx_shape.specs.declared.shape.Sides.{Sides}
@@ -19,9 +19,7 @@ use Rattle.dcx_call.specs.declared.attribute.Attribute.{Attribute}
 use Rattle.dcx_call.specs.declared.attribute.Attribute.TheVariants as attributes
 use Rattle.dcx_call.specs.declared.attribute.Variable.{Variable}
 use Rattle.dcx_call.specs.declared.attribute.Parameter.{Parameter}
-use Rattle.dcx_call.specs.declared.call.Call.{Call}
 use Rattle.dcx_call.specs.declared.call.Call.TheVariants as calls
-use Rattle.dcx_convex.specs.Rules.{Rules}
 use Rattle.dcx_tree.specs.declared.problem.Problem.{Problem}
 use Rattle.dcx_tree.specs.Nodes.{Node, arg_sides, number_in}
 use Rattle.dcx_tree.specs.Problems.{IsListed}
@@ -32,10 +30,9 @@ use Rattle.dcx_tree.proofs.Sublists.{contains_at}
 use Rattle.dcx_domain.proofs.Few.{few_parameters}
 use Rattle.dcx_unknowns.specs.Own.{own_count}
 use Rattle.dcx_unknowns.specs.Unknowns.{demanded, sides_in, variable_unknowns, variable_kinds, first_unknown, unknown_from, IsSquareFor, IsSquare, AreSquare}
-use Rattle.dcx_unknowns.specs.Layout.{marked, aux_kind, aux_below, kinds_with}
+use Rattle.dcx_unknowns.specs.Layout.{marked, aux_kind, aux_below}
 use Rattle.dcx_unknowns.proofs.Domains.{number_is}
 use Rattle.dcx_unknowns.proofs.Owners.{are_numbered, first_fits}
-use Rattle.dcx_unknowns.proofs.Places.{place_within}
 use Rattle.dcx_linear.specs.declared.change.Change.{Change}
 use Rattle.dcx_linear.specs.declared.form.Form.{Form}
 use Rattle.dcx_entries.specs.declared.entries.EntryForms.{EntryForms}
@@ -44,7 +41,6 @@ use Rattle.dcx_entries.specs.Parts.{form_of_unknown}
 use Rattle.dcx_entries.specs.Entries.{alone, ParameterEntry}
 use Rattle.dcx_entries.specs.Nodes.{ReducedEntry}
 use Rattle.dcx_nodes.specs.Given.{HasFewUnknowns, AreFirstsOf}
-use Rattle.dcx_nodes.specs.Marks.{AreMarks}
 use Rattle.dcx_nodes.specs.Formed.{ReducedGives}
 use Rattle.dcx_nodes.proofs.AtNode.{own_is, call_is, shape_given}
 use Rattle.dcx_nodes.proofs.Numbers.{mapped_at}

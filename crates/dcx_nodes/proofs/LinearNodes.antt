@@ -1,11 +1,10 @@
 -- The terms of a linear call, as they are listed, are those of its meaning.
-use Rattle.std.proofs.Common.{◌≡◌, ℕ, zero, suc, ◌<◌, arith, Bool, List, [], ◌∷◌, length, map, get_or, slice_index_or, Option, Some, IfSome, IsSome, refl, sym, ap, ap₂, ◌∙◌, subst, Result, Ok, Err}
+use Rattle.std.proofs.Common.{◌≡◌, ℕ, zero, suc, ◌<◌, Bool, List, [], ◌∷◌, length, map, slice_index_or, Option, Some, IfSome, IsSome, refl, sym, ap, ◌∙◌, subst, Result}
 use Rattle.std.proofs.lemmas.List.{length-map}
 use Rattle.std.proofs.lemmas.Option.{same_Some}
 use Rattle.dcx_frac.specs.declared.fraction.Frac.{Frac}
 use Rattle.dcx_frac.specs.declared.fraction.Passes.{Passes}
 use Rattle.dcx_shape.specs.declared.shape.Shape.{Shape}
-use Rattle.dcx_shape.specs.declared.shape.Sides.{Sides}
 use Rattle.dcx_shape.specs.Shape.{sides_of}
 use Rattle.dcx_shape.specs.Sides.{entries_of}
 use Rattle.dcx_atom.specs.declared.stops.ValueStop.{ValueStop}
@@ -14,28 +13,25 @@ use Rattle.dcx_atom.specs.Arrays.{sides_list, list_below}
 use Rattle.dcx_atom.specs.Linear.{linear_term, AreTermsOf}
 use Rattle.dcx_atom.proofs.BoundRows.{length-list_below}
 use Rattle.dcx_point.specs.Pairs.{Pairs}
-use Rattle.dcx_arena.specs.declared.node.NodeId.{NodeId}
-use Rattle.dcx_arena.specs.Nodes.{IsNode, call_at, positions, args_at, sides_at}
+use Rattle.dcx_arena.specs.Nodes.{IsNode, call_at, args_at, sides_at}
 use Rattle.dcx_call.specs.declared.linears.LinearCall.{LinearCall}
 use Rattle.dcx_call.specs.declared.call.Call.TheVariants as calls
 use Rattle.dcx_call.specs.Linears.{linear_meaning}
 use Rattle.dcx_call.proofs.Entries.{some_fact}
-use Rattle.dcx_convex.specs.Rules.{Rules}
 use Rattle.dcx_tree.specs.declared.problem.Problem.{Problem}
 use Rattle.dcx_tree.specs.Nodes.{Node, arg_sides}
 use Rattle.dcx_tree.proofs.NodeValues.{args_are, sides_are}
 use Rattle.dcx_linear.specs.declared.change.Change.{Change}
 use Rattle.dcx_linear.specs.declared.form.Form.{Form}
 use Rattle.dcx_entries.specs.declared.entries.EntryForms.{EntryForms}
-use Rattle.dcx_entries.specs.declared.standing.Standing.{Standing}
-use Rattle.dcx_entries.specs.Forming.{FormsEach, AtEntry, IsFormed}
-use Rattle.dcx_entries.specs.Parts.{Arguments, term_part}
+use Rattle.dcx_entries.specs.Forming.{FormsEach, AtEntry}
+use Rattle.dcx_entries.specs.Parts.{term_part}
 use Rattle.dcx_entries.specs.Entries.{LinearEntry}
-use Rattle.dcx_entries.specs.Standing.{all_forms, args_among}
+use Rattle.dcx_entries.specs.Standing.{args_among}
 use Rattle.dcx_entries.proofs.OwnRows.{list_below_at}
 use Rattle.dcx_nodes.specs.Formed.{ReducedGives}
-use Rattle.dcx_nodes.proofs.AtNode.{call_is, shape_given}
-use Rattle.dcx_nodes.proofs.Gives.{each_alike, formed_weaker, reduced_by}
+use Rattle.dcx_nodes.proofs.AtNode.{shape_given}
+use Rattle.dcx_nodes.proofs.Gives.{each_alike, reduced_by}
 
 made_at : {A B : Type 0} (f : List A → List B) → f [] ≡ [] → (xs : List (List A)) (j : ℕ) → f (slice_index_or xs j []) ≡ slice_index_or (map f xs) j []
 made_at f e [] j = e

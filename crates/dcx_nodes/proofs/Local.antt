@@ -1,5 +1,5 @@
 -- What is formed of a node depends on the forms of its arguments alone.
-use Rattle.std.proofs.Common.{◌≡◌, ℕ, zero, suc, ◌+◌, ◌<◌, ◌≤◌, arith, Bool, true, false, List, [], ◌∷◌, ◌++◌, length, length-append, map, get_or, slice_index_or, All, Option, Some, refl, sym, ap, ap₂, ◌∙◌, subst, Result, Ok, Err}
+use Rattle.std.proofs.Common.{◌≡◌, ℕ, zero, suc, ◌+◌, ◌<◌, ◌≤◌, arith, Bool, true, false, List, [], ◌∷◌, ◌++◌, length, length-append, map, get_or, slice_index_or, All, Option, Some, refl, sym, ap, ap₂, ◌∙◌, subst, Result, Ok}
 use Rattle.std.specs.Prelude.{slice_get, not, option_map}
 use Rattle.std.specs.List.{list_all}
 use Rattle.std.proofs.Math.ListN.{get_or-append}
@@ -8,7 +8,6 @@ use Rattle.std.proofs.lemmas.List.Elements.{All-head, All-tail}
 use Rattle.std.proofs.lemmas.Option.{same_Some, none-some, slice_get_within}
 use Rattle.dcx_frac.specs.declared.fraction.Frac.{Frac}
 use Rattle.dcx_frac.specs.declared.fraction.Passes.{Passes}
-use Rattle.dcx_shape.specs.declared.shape.Sides.{Sides}
 use Rattle.dcx_shape.specs.Sides.{entries_of}
 use Rattle.dcx_atom.specs.declared.stops.ValueStop.{ValueStop}
 use Rattle.dcx_atom.specs.Arrays.{sides_at}
@@ -77,7 +76,7 @@ module _ {C : Type 0} (of_number : Frac → C) (number_of : C → Option Frac) (
     reduced_alike (calls.Pairing q) is j r h =
         let call : call_at p.tree i ≡ Some (calls.Pairing q) = ap (option_map (λ (z : Node). z.call)) at ∙ ap Some is in
         let scaling = ap₂ (pairing_scaling q) (side_alike (get_or n.args 0 0) (arg_below p i q call n at n.args (sym (args_are p.tree i n at)) 0 0 (omega arith)))
-            (side_alike (get_or n.args 1 0) (arg_below p i q call n at n.args (sym (args_are p.tree i n at)) 1 0 (omega arith))) in
+        (side_alike (get_or n.args 1 0) (arg_below p i q call n at n.args (sym (args_are p.tree i n at)) 1 0 (omega arith))) in
         subst (λ s. PairEntry of_number number_of Sums Changes s (args_among of_number (forms ++ more) n.args) (pairs_at q (sides_at (arg_sides p.tree n) 0) (sides_at (arg_sides p.tree n) 1) j) j r) (sym scaling)
         (subst (λ a. PairEntry of_number number_of Sums Changes (scaling_of of_number number_of Sums Changes Reads rules p setting q forms n.args) a (pairs_at q (sides_at (arg_sides p.tree n) 0) (sides_at (arg_sides p.tree n) 1) j) j r) (sym args_alike) h)
 

@@ -1,12 +1,12 @@
 -- The value of a node that is a number, at arrays of the numbers that its arguments are.
-use Rattle.std.proofs.Common.{◌≡◌, ℕ, zero, suc, ◌+◌, ◌<◌, ◌≤◌, arith, List, [], ◌∷◌, ◌++◌, map, length, get_or, slice_index_or, take, All, Option, Some, None, IfSome, IsSome, unwrap_or, option_map, refl, sym, ap, ap₂, ◌∙◌, subst, inl, inr, length-append, Result, Ok, Err, IsOk, IfOk, IfErr, pos}
+use Rattle.std.proofs.Common.{◌≡◌, ℕ, zero, suc, ◌+◌, ◌<◌, ◌≤◌, arith, List, [], ◌∷◌, ◌++◌, map, length, get_or, slice_index_or, take, Option, Some, IfSome, IsSome, unwrap_or, option_map, refl, sym, ap, ap₂, ◌∙◌, subst, inl, inr, length-append, Result, Ok, Err, IsOk, IfOk, IfErr, pos}
 use Rattle.std.specs.List.{AllZip, slice_get}
 use Rattle.std.proofs.Math.Path.{fun_ext}
 use Rattle.std.proofs.lemmas.Bool.{cases_lt}
 use Rattle.std.proofs.lemmas.List.{length-map, take_more, map_push}
 use Rattle.std.proofs.lemmas.List.Elements.{All-cons, All-nil}
 use Rattle.std.proofs.lemmas.Option.{same_Some, none-some, slice_get_within, get_or_from_slice_get, slice_get-map}
-use Rattle.dcx_math.specs.Rational.{ℚ, whole}
+use Rattle.dcx_math.specs.Rational.{whole}
 use Rattle.dcx_frac.specs.declared.fraction.Frac.{Frac}
 use Rattle.dcx_frac.specs.declared.fraction.Passes.{Passes}
 use Rattle.dcx_frac.specs.Frac.{value}
@@ -26,7 +26,7 @@ use Rattle.dcx_arena.specs.declared.node.NodeId.{NodeId}
 use Rattle.dcx_arena.specs.Nodes.{IsNode, call_at, positions, sides_at}
 use Rattle.dcx_call.specs.declared.call.Call.{Call}
 use Rattle.dcx_call.specs.Calls.{shape_of}
-use Rattle.dcx_call.specs.Values.{given_by, call_value, entry_formed, formed_at, value_at, IsGiven, IsValue, IsValueStop}
+use Rattle.dcx_call.specs.Values.{given_by, entry_formed, formed_at, IsGiven, IsValue, IsValueStop}
 use Rattle.dcx_call.proofs.Entries.{some_fact}
 use Rattle.dcx_convex.specs.Rules.{Rules}
 use Rattle.dcx_exact.specs.Exact.{AreFractions, HaveFewEntries}
@@ -114,16 +114,16 @@ module _ {C : Type 0} (of_number : Frac → C) where
         at j b = elim (cases_lt j k) [
           | inl lt ↦ number_before xs x j (rw h.0 lt) ∙ h.1 j lt
           | inr ge ↦
-            let last : j ≡ k = omega (arith, b, ge) in
-            ap (number_at (xs ++ x ∷ [])) (last ∙ sym h.0) ∙ number_push xs x ∙ ap value is ∙ ap (λ i. value (number_in number_of (entry_of of_number s i))) (sym last)
+              let last : j ≡ k = omega (arith, b, ge) in
+              ap (number_at (xs ++ x ∷ [])) (last ∙ sym h.0) ∙ number_push xs x ∙ ap value is ∙ ap (λ i. value (number_in number_of (entry_of of_number s i))) (sym last)
         ]
 
     pub numbers_all : (sides : Sides) (s : Standing C) (xs : List Frac) → IsOfSides sides s → AreNumbersTo s (entries_of sides) xs → (e : ℕ) → number_at xs e ≡ value (number_in number_of (entry_of of_number s e))
     numbers_all sides s xs of_sides h e = elim (cases_lt e (entries_of sides)) [
       | inl lt ↦ h.1 e lt
       | inr ge ↦
-        number_past xs e (omega (arith, h.0, ge)) ∙ sym zero_number
-        ∙ ap (λ f. value (number_in number_of f)) (sym (past_end (forms_of of_number s) e (zero_form of_number) (omega (arith, forms_counted sides s of_sides, ge))))
+          number_past xs e (omega (arith, h.0, ge)) ∙ sym zero_number
+          ∙ ap (λ f. value (number_in number_of f)) (sym (past_end (forms_of of_number s) e (zero_form of_number) (omega (arith, forms_counted sides s of_sides, ge))))
     ]
 
     -- a value has its own numbers
@@ -230,8 +230,13 @@ module _ {C : Type 0} (of_number : Frac → C) (number_of : C → Option Frac) (
 
     -- what stops
     first_stops : (stop : ValueStop) → IsFirst (formed_at n.call setting [] xs) (entries_of n.sides) stop → FormsEach Entry (entries_of n.sides) (Err stop)
-    first_stops stop h = (h.entry, h.within, entry_err h.entry stop h.here, λ j b.
-        let formed = formed_is (formed_at n.call setting [] xs j) (h.before j b) in (alone (is_constant (of_number formed.0)), entry_ok j formed.0 formed.1))
+    first_stops stop h = (
+      h.entry,
+      h.within,
+      entry_err h.entry stop h.here,
+      λ j b.
+          let formed = formed_is (formed_at n.call setting [] xs j) (h.before j b) in (alone (is_constant (of_number formed.0)), entry_ok j formed.0 formed.1),
+    )
 
     pub value_stops : (stop : ValueStop) → IfSome (shape_of n.call (array_sides xs)) (λ s. IsValueStop n.call setting [] xs (entries_of s) stop) → OnStop stop (λ e. FormsEach Entry (entries_of n.sides) (Err e))
     value_stops stop h = by stop (some_fact (λ s. IsValueStop n.call setting [] xs (entries_of s) stop) (shape_of n.call (array_sides xs)) n.sides shape_is h)
@@ -254,8 +259,11 @@ module _ {C : Type 0} (of_number : Frac → C) (number_of : C → Option Frac) (
     where
       sides_is : (x : Array) → IsValue n.call setting [] xs x → sides_of x.shape ≡ sides_at p.tree i
       sides_is x h = same_Some (sides_of x.shape) n.sides (sym h.shape ∙ shape_is) ∙ sym (sides_are_at p.tree i n at)
-  answers (Err stop) h k = (OnStop-weaker stop (λ e. (rules : Rules) → FormsEach (Entry rules) (entries_of n.sides) (Err e)) (λ e. ValueGives of_number number_of Sums Changes Reads p setting (all_forms of_number standing) i (Err e)) (λ e f. of_any (Err e) f)
-      (each_rules stop (λ rules. value_stops rules stop k)), tt)
+  answers (Err stop) h k = (
+    OnStop-weaker stop (λ e. (rules : Rules) → FormsEach (Entry rules) (entries_of n.sides) (Err e)) (λ e. ValueGives of_number number_of Sums Changes Reads p setting (all_forms of_number standing) i (Err e)) (λ e f. of_any (Err e) f)
+        (each_rules stop (λ rules. value_stops rules stop k)),
+    tt,
+  )
     where
       each_rules : (stop : ValueStop) → ((rules : Rules) → OnStop stop (λ e. FormsEach (Entry rules) (entries_of n.sides) (Err e))) → OnStop stop (λ e. (rules : Rules) → FormsEach (Entry rules) (entries_of n.sides) (Err e))
       each_rules (stops.Passes entry passes) f = f

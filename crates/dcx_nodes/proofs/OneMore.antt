@@ -1,5 +1,5 @@
 -- One node more is formed, or the first that isn't is met.
-use Rattle.std.proofs.Common.{◌≡◌, ℕ, zero, suc, ◌+◌, ◌<◌, ◌≤◌, ◌^◌, arith, Bool, List, [], ◌∷◌, ◌++◌, length, length-append, map, get_or, slice_index_or, Option, Some, refl, sym, ap, ap₂, ◌∙◌, subst, Result, Ok, Err, OnOk, IfErr}
+use Rattle.std.proofs.Common.{◌≡◌, ℕ, zero, suc, ◌+◌, ◌<◌, ◌≤◌, ◌^◌, arith, Bool, List, [], ◌∷◌, ◌++◌, length, length-append, map, get_or, slice_index_or, Option, refl, sym, ap, ap₂, ◌∙◌, subst, Result, Ok, Err, OnOk, IfErr}
 use Rattle.std.specs.Prelude.{slice_get}
 use Rattle.std.proofs.lemmas.List.Sums.{sum_by-cons}
 use Rattle.std.proofs.lemmas.List.{length-map, map_push}
@@ -12,30 +12,26 @@ use Rattle.dcx_atom.specs.declared.stops.ValueStop.TheVariants as values
 use Rattle.dcx_point.specs.Pairs.{Pairs}
 use Rattle.dcx_arena.specs.declared.node.NodeId.{NodeId}
 use Rattle.dcx_arena.specs.Nodes.{IsNode, sides_at, entries_in as entries_over}
-use Rattle.dcx_convex.specs.Rules.{Rules}
 use Rattle.dcx_tree.specs.declared.problem.Problem.{Problem}
 use Rattle.dcx_tree.specs.Nodes.{Node}
 use Rattle.dcx_tree.specs.Problems.{roots_of}
 use Rattle.dcx_tree.proofs.NodeValues.{sides_are}
 use Rattle.dcx_reduced.proofs.NodeForms.{node_at}
 use Rattle.dcx_linear.specs.declared.change.Change.{Change}
-use Rattle.dcx_linear.specs.declared.form.Form.{Form}
 use Rattle.dcx_linear.specs.Forms.{is_constant}
 use Rattle.dcx_entries.specs.declared.entries.EntryForms.{EntryForms}
 use Rattle.dcx_entries.specs.declared.formed.Formed.{Formed}
-use Rattle.dcx_entries.specs.declared.formed.FormedRow.{FormedRow}
 use Rattle.dcx_entries.specs.declared.standing.Standing.{Standing}
 use Rattle.dcx_entries.specs.declared.standing.Standing.TheVariants.{Numbers, Forms}
-use Rattle.dcx_entries.specs.Forming.{FormsEach, OnStop}
+use Rattle.dcx_entries.specs.Forming.{OnStop}
 use Rattle.dcx_entries.specs.Entries.{alone, entry_forms}
 use Rattle.dcx_entries.specs.Standing.{forms_of, all_forms}
-use Rattle.dcx_entries.specs.Kept.{node_rows, graph_rows, IsStop}
-use Rattle.dcx_entries.specs.Nodes.{Table, table_forms, NodeEntry, AreFormed}
+use Rattle.dcx_entries.specs.Kept.{node_rows}
+use Rattle.dcx_entries.specs.Nodes.{table_forms}
 use Rattle.dcx_entries.proofs.Each.{OnStop-weaker}
 use Rattle.dcx_nodes.specs.declared.forming.Forming.{Forming}
-use Rattle.dcx_nodes.specs.Marks.{AreMarks}
 use Rattle.dcx_nodes.specs.Given.{first_marked}
-use Rattle.dcx_nodes.specs.Formed.{entries_in, IsOfSides, AreOfSides, MarkedGives}
+use Rattle.dcx_nodes.specs.Formed.{entries_in, IsOfSides, MarkedGives}
 use Rattle.dcx_nodes.specs.SoFar.{AreFormedTo, StopsAt, IsMarkedKept, IsMarkedStop, stop_of}
 use Rattle.dcx_nodes.proofs.GraphRows.{node_more}
 use Rattle.dcx_nodes.proofs.Numbers.{forms_counted}

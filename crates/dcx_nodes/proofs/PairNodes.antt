@@ -1,8 +1,7 @@
 -- Products and quotients: two sides, and which of them scales the other.
-use Rattle.std.proofs.Common.{◌≡◌, ℕ, zero, suc, ◌<◌, ◌≤◌, arith, Bool, true, false, not, ◌&&◌, if◌then◌else◌, List, [], ◌∷◌, length, map, get_or, slice_index_or, All, Option, Some, None, IfSome, IsSome, refl, sym, ap, ap₂, ◌∙◌, subst, Result, Ok, Err}
+use Rattle.std.proofs.Common.{◌≡◌, ℕ, zero, suc, ◌<◌, arith, Bool, true, false, not, ◌&&◌, if◌then◌else◌, List, [], ◌∷◌, length, map, get_or, slice_index_or, All, Option, Some, None, IfSome, IsSome, refl, sym, ap, ap₂, ◌∙◌, subst, Result}
 use Rattle.std.specs.List.{list_all}
 use Rattle.std.proofs.lemmas.Bool.{and_parts}
-use Rattle.std.proofs.lemmas.List.{length-map}
 use Rattle.std.proofs.lemmas.List.Elements.{All-cons, All-nil}
 use Rattle.std.proofs.lemmas.Option.{same_Some, none-some, slice_get_within}
 use Rattle.dcx_frac.specs.declared.fraction.Frac.{Frac}
@@ -24,12 +23,10 @@ use Rattle.dcx_arena.specs.Nodes.{IsNode, call_at, positions, args_at, sides_at}
 use Rattle.dcx_call.specs.declared.call.Call.TheVariants as calls
 use Rattle.dcx_call.specs.Calls.{sides_of_two}
 use Rattle.dcx_call.proofs.Entries.{some_fact}
-use Rattle.dcx_convex.specs.Rules.{Rules, Plain, judgement_at}
+use Rattle.dcx_convex.specs.Rules.{Rules}
 use Rattle.dcx_tree.specs.declared.problem.Problem.{Problem}
 use Rattle.dcx_tree.specs.Nodes.{Node, arg_sides}
-use Rattle.dcx_tree.specs.Meaning.{convex_problem}
 use Rattle.dcx_tree.proofs.NodeValues.{args_are, sides_are}
-use Rattle.dcx_unknowns.specs.Layout.{marked, is_reduced}
 use Rattle.dcx_linear.specs.declared.change.Change.{Change}
 use Rattle.dcx_linear.specs.declared.form.Form.{Form}
 use Rattle.dcx_linear.specs.declared.form.FormTerm.{FormTerm}
@@ -38,15 +35,15 @@ use Rattle.dcx_linear.specs.Multiples.{HasNumbers, is_number_term}
 use Rattle.dcx_entries.specs.declared.entries.EntryForms.{EntryForms}
 use Rattle.dcx_entries.specs.declared.scaling.Side.{Side}
 use Rattle.dcx_entries.specs.declared.scaling.Scaling.{Scaling}
-use Rattle.dcx_entries.specs.declared.scaling.Scaling.TheVariants.{LeftNumber, RightNumber, LeftAffine, RightAffine, Divisor}
+use Rattle.dcx_entries.specs.declared.scaling.Scaling.TheVariants.{LeftNumber, RightNumber, LeftAffine, RightAffine}
 use Rattle.dcx_entries.specs.Forming.{FormsEach}
 use Rattle.dcx_entries.specs.Entries.{PairEntry}
 use Rattle.dcx_entries.specs.Standing.{args_among, HasNumbersFor}
-use Rattle.dcx_entries.specs.Nodes.{is_told, has_numbers, pairing_scaling, product_scaling, side_of, scaling_of}
+use Rattle.dcx_entries.specs.Nodes.{is_told, has_numbers, pairing_scaling, side_of, scaling_of}
 use Rattle.dcx_entries.proofs.OwnRows.{list_below_at}
 use Rattle.dcx_nodes.specs.Marks.{AreMarks, side_marked}
 use Rattle.dcx_nodes.specs.Formed.{ReducedGives}
-use Rattle.dcx_nodes.proofs.AtNode.{call_is, shape_given}
+use Rattle.dcx_nodes.proofs.AtNode.{shape_given}
 use Rattle.dcx_nodes.proofs.Gives.{each_alike, reduced_by}
 
 -- ---- forms of numbers

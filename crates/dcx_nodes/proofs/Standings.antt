@@ -1,5 +1,5 @@
 -- What stands for a node, from what its call forms.
-use Rattle.std.proofs.Common.{◌≡◌, ℕ, ◌<◌, Bool, true, false, List, [], length, Option, Some, refl, sym, ap, ◌∙◌, subst, Result, Ok, Err, IfOk, OnOk}
+use Rattle.std.proofs.Common.{◌≡◌, ℕ, ◌<◌, Bool, true, false, List, [], length, Option, Some, sym, ◌∙◌, subst, Result, Ok, Err, IfOk, OnOk}
 use Rattle.dcx_frac.specs.declared.fraction.Frac.{Frac}
 use Rattle.dcx_frac.specs.declared.fraction.Passes.{Passes}
 use Rattle.dcx_shape.specs.declared.shape.Sides.{Sides}
@@ -9,10 +9,8 @@ use Rattle.dcx_atom.specs.declared.array.Array.{Array}
 use Rattle.dcx_atom.specs.declared.stops.ValueStop.{ValueStop}
 use Rattle.dcx_point.specs.Pairs.{Pairs}
 use Rattle.dcx_arena.specs.Nodes.{IsNode, call_at}
-use Rattle.dcx_call.specs.declared.call.Call.{Call}
 use Rattle.dcx_call.specs.declared.call.Call.TheVariants as calls
 use Rattle.dcx_call.specs.Values.{IsGiven}
-use Rattle.dcx_convex.specs.Rules.{Rules}
 use Rattle.dcx_tree.specs.declared.problem.Problem.{Problem}
 use Rattle.dcx_tree.specs.Nodes.{Node, arg_sides}
 use Rattle.dcx_unknowns.specs.Layout.{marked}
@@ -20,11 +18,10 @@ use Rattle.dcx_linear.specs.declared.change.Change.{Change}
 use Rattle.dcx_linear.specs.declared.form.Form.{Form}
 use Rattle.dcx_entries.specs.declared.entries.EntryForms.{EntryForms}
 use Rattle.dcx_entries.specs.declared.standing.Standing.{Standing}
-use Rattle.dcx_entries.specs.Forming.{FormsEach, OnStop, IsFormed}
+use Rattle.dcx_entries.specs.Forming.{FormsEach, IsFormed}
 use Rattle.dcx_entries.specs.Standing.{args_among}
 use Rattle.dcx_entries.specs.Nodes.{NumberEntry, ReducedEntry, NodeEntryBy}
 use Rattle.dcx_entries.proofs.Each.{OnStop-weaker}
-use Rattle.dcx_nodes.specs.Marks.{AreMarks}
 use Rattle.dcx_nodes.specs.Formed.{IsOfSides, StandingBy, ValueBy, as_forms, as_value, entries_in, ValueGives, ReducedGives, MarkedGives}
 use Rattle.dcx_nodes.proofs.AtNode.{call_is}
 

@@ -1,5 +1,5 @@
 -- What is told of the nodes of a problem before they are formed.
-use Rattle.std.specs.Prelude.{◌≡◌, ℕ, ◌<◌, Bool, true, false, not, List, [], length, Option, slice_index_or}
+use Rattle.std.specs.Prelude.{◌≡◌, ℕ, ◌<◌, Bool, not, List, [], length, Option, slice_index_or}
 use Rattle.std.specs.List.{list_all}
 use Rattle.dcx_frac.specs.declared.fraction.Frac.{Frac}
 use Rattle.dcx_convex.specs.Rules.{Rules, Plain, judgement_at}

@@ -9,7 +9,7 @@ use Rattle.dcx_atom.specs.Arrays.{number_at}
 use Rattle.dcx_arena.specs.Nodes.{sides_at}
 use Rattle.dcx_tree.specs.Nodes.{Node}
 use Rattle.dcx_entries.specs.declared.standing.Standing.{Standing}
-use Rattle.dcx_entries.specs.declared.standing.Standing.TheVariants.{Numbers, Forms}
+use Rattle.dcx_entries.specs.declared.standing.Standing.TheVariants.{Numbers}
 use Rattle.dcx_entries.specs.Parts.{number_in}
 use Rattle.dcx_entries.specs.Standing.{entry_of}
 

@@ -88,13 +88,7 @@ pub(crate) fn parameter_node<C: Coef>(
 {
     let position = parameter_position(given.problem.parameters.as_slice(), &parameter.name);
     let size = parameter.shape.size();
-    match parameter_entries(
-        alloc,
-        position as u32,
-        &parameter.name,
-        size,
-        given.setting,
-    ) {
+    match parameter_entries(alloc, position as u32, &parameter.name, size, given.setting) {
         Ok(entries) => Ok(entries),
         Err(_) => Err(ValueStop::Memory),
     }

@@ -126,9 +126,7 @@ pub(crate) fn node_value<C: Coef>(
         return tree.call(node).value(alloc, &point, given.setting, only);
     }
     match arrays_of(alloc, tree, args) {
-        Ok(arrays) => tree
-            .call(node)
-            .value(alloc, &point, given.setting, &arrays),
+        Ok(arrays) => tree.call(node).value(alloc, &point, given.setting, &arrays),
         Err(_) => Err(ValueStop::Memory),
     }
 }

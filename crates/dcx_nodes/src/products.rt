@@ -12,7 +12,9 @@ ghost use Rattle.dcx_nodes.specs.Marks.{side_marked};
 use crate::given::Given;
 use dcx_affine::Pairing;
 use dcx_atom::ValueStop;
-use dcx_entries::{Arguments, EntryList, Side, Standing, have_numbers, pair_entries, pairing_scaling};
+use dcx_entries::{
+    Arguments, EntryList, Side, Standing, have_numbers, pair_entries, pairing_scaling,
+};
 use dcx_linear::Coef;
 use dcx_tree::NodeId;
 use std::alloc::Global;

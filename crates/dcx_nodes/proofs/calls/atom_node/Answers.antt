@@ -1,9 +1,8 @@
 -- The graph is the atom's, and its unknowns are its own.
-use Rattle.std.proofs.Common.{◌≡◌, ◌+◌, ◌<◌, ◌^◌, length, Some, None, Ok, Err, sym, ap, ◌∙◌, subst, arith}
+use Rattle.std.proofs.Common.{◌≡◌, ◌+◌, length, Some, Ok, Err, sym, ap, ◌∙◌, subst, arith}
 use Rattle.std.proofs.lemmas.Option.{slice_get_within}
 use Rattle.std.proofs.lemmas.Result.{err_from_is_err_and}
 use Rattle.dcx_shape.specs.Sides.{entries_of}
-use Rattle.dcx_atom.specs.declared.graph.Graph.{Graph}
 use Rattle.dcx_arena.specs.Nodes.{positions, sides_at}
 use Rattle.dcx_call.specs.declared.call.Call.TheVariants as calls
 use Rattle.dcx_call.specs.Atoms.{atom_meaning}
@@ -12,7 +11,6 @@ use Rattle.dcx_tree.proofs.NodeValues.{sides_are}
 use Rattle.dcx_unknowns.specs.Layout.{IsNodeGraph}
 use Rattle.dcx_entries.specs.Forming.{FormsEach}
 use Rattle.dcx_entries.specs.Standing.{all_forms}
-use Rattle.dcx_nodes.specs.Given.{first_marked}
 use Rattle.dcx_nodes.specs.Formed.{ReducedGives}
 use Rattle.dcx_nodes.proofs.AtNode.{the_node}
 use Rattle.dcx_nodes.proofs.Auxiliaries.{first_small, next_graph}

@@ -1,5 +1,5 @@
 -- The terms of the call are those of its meaning.
-use Rattle.std.proofs.Common.{◌≡◌, ℕ, [], length, map, slice_index_or, ap, sym, ◌∙◌, subst, IfSome, Result}
+use Rattle.std.proofs.Common.{ℕ, [], length, map, slice_index_or, ap, sym, ◌∙◌, subst, IfSome, Result}
 use Rattle.dcx_shape.specs.Shape.{sides_of}
 use Rattle.dcx_shape.specs.Sides.{entries_of}
 use Rattle.dcx_arena.specs.Nodes.{positions, sides_at}
@@ -8,7 +8,6 @@ use Rattle.dcx_atom.specs.declared.stops.ValueStop.{ValueStop}
 use Rattle.dcx_atom.specs.Linear.{linear_term, AreTermsOf}
 use Rattle.dcx_call.specs.declared.call.Call.TheVariants as calls
 use Rattle.dcx_call.specs.Linears.{linear_meaning}
-use Rattle.dcx_tree.specs.Nodes.{arg_sides}
 use Rattle.dcx_tree.proofs.NodeValues.{sides_are}
 use Rattle.dcx_entries.specs.declared.entries.EntryForms.{EntryForms}
 use Rattle.dcx_entries.specs.Forming.{AtEntry}

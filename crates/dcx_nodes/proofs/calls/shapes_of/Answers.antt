@@ -1,5 +1,5 @@
 -- The shape of each node is read.
-use Rattle.std.proofs.Common.{◌≡◌, length, map, ap, ◌∙◌}
+use Rattle.std.proofs.Common.{length, map, ap, ◌∙◌}
 use Rattle.std.proofs.lemmas.List.{take_all}
 use Rattle.dcx_arena.specs.Nodes.{positions, sides_at}
 use Rattle.dcx_arena.proofs.Positions.{position_below}

@@ -1,5 +1,5 @@
 -- The last unknown is that of the last entry of the last variable.
-use Rattle.std.proofs.Common.{◌≡◌, ◌+◌, ◌-◌, ◌<◌, length, get_or, Some, None, sym, ◌∙◌, subst, arith}
+use Rattle.std.proofs.Common.{◌≡◌, ◌+◌, ◌-◌, ◌<◌, length, get_or, sym, ◌∙◌, subst, arith}
 use Rattle.std.proofs.lemmas.Option.{same_Some, none-some}
 use Rattle.dcx_unknowns.specs.Own.{own_count, own_before}
 use Rattle.dcx_unknowns.specs.Unknowns.{demanded, sides_in, variable_unknowns, first_unknown, IsSquare}

@@ -1,5 +1,5 @@
 -- The node is formed, and its rows are kept apart.
-use Rattle.std.proofs.Common.{sym, ap, ◌∙◌, subst, Ok, Err}
+use Rattle.std.proofs.Common.{subst, Ok, Err}
 use Rattle.std.proofs.lemmas.Result.{err_from_is_err_and}
 use Rattle.dcx_entries.specs.Forming.{OnStop}
 use Rattle.dcx_arena.specs.Nodes.{sides_at}

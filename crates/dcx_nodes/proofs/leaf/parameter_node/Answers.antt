@@ -1,7 +1,5 @@
 -- The parameter is listed, and its entries are asked for.
 use Rattle.std.proofs.Common.{◌≡◌, [], map, ap, ◌∙◌, subst, arith}
-use Rattle.dcx_shape.specs.Shape.{sides_of}
-use Rattle.dcx_shape.specs.Sides.{entries_of}
 use Rattle.dcx_call.specs.declared.call.Call.TheVariants as calls
 use Rattle.dcx_tree.specs.Nodes.{number_in}
 use Rattle.dcx_tree.specs.Meaning.{names_in}

@@ -1,5 +1,5 @@
 -- Each call forms its own entries.
-use Rattle.std.proofs.Common.{◌≡◌, ◌+◌, [], Some, refl, sym, ap, ◌∙◌}
+use Rattle.std.proofs.Common.{◌≡◌, ◌+◌, Some, refl, sym, ap, ◌∙◌}
 use Rattle.dcx_arena.specs.Nodes.{sides_at}
 use Rattle.dcx_call.specs.declared.call.Call.TheVariants as calls
 use Rattle.dcx_entries.specs.Standing.{all_forms}

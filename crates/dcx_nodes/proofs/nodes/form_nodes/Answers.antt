@@ -1,6 +1,5 @@
 -- All that is needed is given.
-use Rattle.std.proofs.Common.{◌≡◌, ◌<◌, ◌^◌, ap, sym, ◌∙◌, subst}
-use Rattle.dcx_call.proofs.Entries.{ok_weaker, err_weaker}
+use Rattle.std.proofs.Common.{◌<◌, ◌^◌, ap, sym, ◌∙◌, subst}
 use Rattle.dcx_unknowns.specs.Unknowns.{variable_unknowns, AreSquare}
 use Rattle.dcx_nodes.specs.Given.{AreFirstsOf}
 use Rattle.dcx_nodes.proofs.Leaves.{few_variable_unknowns}

@@ -1,5 +1,5 @@
 -- One argument more.
-use Rattle.std.proofs.Common.{◌≡◌, ◌<◌, length, get_or, sym, ap, ◌∙◌, subst, arith}
+use Rattle.std.proofs.Common.{length, get_or, sym, ◌∙◌, subst, arith}
 use Rattle.std.proofs.lemmas.List.{take_all}
 use Rattle.dcx_arena.specs.Nodes.{positions, sides_at}
 use Rattle.dcx_arena.proofs.Positions.{position_below}

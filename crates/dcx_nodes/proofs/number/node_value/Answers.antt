@@ -1,8 +1,6 @@
 -- The value at the arrays of the numbers that the arguments are.
-use Rattle.std.proofs.Common.{◌≡◌, [], ◌∷◌, List, sym, ap, ◌∙◌, subst}
-use Rattle.dcx_atom.specs.declared.array.Array.{Array}
+use Rattle.std.proofs.Common.{[], ◌∷◌, ◌∙◌, subst}
 use Rattle.dcx_arena.specs.Nodes.{positions}
-use Rattle.dcx_call.specs.Values.{IsGiven}
 use Rattle.dcx_tree.proofs.NodeValues.{args_are}
 use Rattle.dcx_reduced.proofs.NodeForms.{node_at}
 use Rattle.dcx_nodes.specs.Numbers.{HaveNumbersOf}

@@ -22,7 +22,7 @@ use Rattle.dcx_nodes.specs.Formed.{ReducedGives}
 use Rattle.dcx_nodes.specs.Marks.{side_marked}
 use Rattle.dcx_nodes.proofs.AtNode.{the_node}
 use Rattle.dcx_nodes.proofs.Gives.{formed_weaker, formed_count}
-use Rattle.dcx_nodes.proofs.PairNodes.{args_two, paired, arg_below, pairs_counted, pairs_have_numbers, PairGives, pair_gives, pos_get, given_pairs}
+use Rattle.dcx_nodes.proofs.PairNodes.{args_two, paired, arg_below, pairs_counted, pairs_have_numbers, pair_gives, pos_get, given_pairs}
 use Rattle.dcx_nodes.proofs.products.pairing_node.Goals as goal
 
 pub bounds-ids-0 : goal.bounds-ids-0
