@@ -13,3 +13,4 @@ pub mod Corner
 pub mod Local
 pub mod Standings
 pub mod OneMore
+pub mod OneForming

@@ -33,7 +33,7 @@ use Rattle.dcx_nodes.specs.Formed.{ReducedGives}
 use Rattle.dcx_nodes.proofs.AtNode.{shape_given}
 use Rattle.dcx_nodes.proofs.Gives.{each_alike, reduced_by}
 
-made_at : {A B : Type 0} (f : List A → List B) → f [] ≡ [] → (xs : List (List A)) (j : ℕ) → f (slice_index_or xs j []) ≡ slice_index_or (map f xs) j []
+pub made_at : {A B : Type 0} (f : List A → List B) → f [] ≡ [] → (xs : List (List A)) (j : ℕ) → f (slice_index_or xs j []) ≡ slice_index_or (map f xs) j []
 made_at f e [] j = e
 made_at f e (x ∷ xs) zero = refl
 made_at f e (x ∷ xs) (suc j) = made_at f e xs j

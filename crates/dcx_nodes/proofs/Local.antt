@@ -34,6 +34,7 @@ use Rattle.dcx_entries.specs.Parts.{Arguments, term_part, aux_part, row_part}
 use Rattle.dcx_entries.specs.Entries.{entry_forms, LinearEntry, AtomEntry, PairEntry}
 use Rattle.dcx_entries.specs.Standing.{args_among}
 use Rattle.dcx_entries.specs.Nodes.{has_numbers, Table, table_forms, NumberEntry, side_of, scaling_of, pairing_scaling, ReducedEntry, NodeEntryBy, NodeEntry, NodeGives, AreFormed}
+use Rattle.dcx_nodes.proofs.Gives.{each_alike}
 use Rattle.dcx_nodes.proofs.PairNodes.{arg_below}
 
 -- what stands in a list that has one more
@@ -45,25 +46,26 @@ get_pushed (z ∷ zs) x y (suc j) e P f g = get_pushed zs x y j e P f (λ d. g (
 
 module _ {C : Type 0} (of_number : Frac → C) (number_of : C → Option Frac) (Sums : C → C → Result C Passes → Type 0) (Changes : Change → C → Result C Passes → Type 0)
     (Reads : ℕ → List ℕ → ℕ → Pairs → C → Type 0) (rules : Rules) (p : Problem) (setting : Pairs) where
-  module _ (forms more : List (List (Form C))) (i : ℕ) (within : i ≤ length forms) (n : Node) (at : IsNode p.tree i n) where
-    found : (ids : List ℕ) → All (λ a. a < i) ids → map (λ a. slice_index_or (forms ++ more) a []) ids ≡ map (λ a. slice_index_or forms a []) ids
+  -- other forms, which are the same of the nodes before node i
+  module _ (forms other : List (List (Form C))) (i : ℕ) (same : (a : ℕ) → a < i → slice_index_or other a [] ≡ slice_index_or forms a []) (n : Node) (at : IsNode p.tree i n) where
+    found : (ids : List ℕ) → All (λ a. a < i) ids → map (λ a. slice_index_or other a []) ids ≡ map (λ a. slice_index_or forms a []) ids
     found [] h = refl
-    found (a ∷ ids) h = ap₂ ◌∷◌ (let b = All-head (λ a. a < i) a ids h in get_or-append forms more [] a (omega (arith, b, within))) (found ids (All-tail (λ a. a < i) a ids h))
+    found (a ∷ ids) h = ap₂ ◌∷◌ (same a (All-head (λ a. a < i) a ids h)) (found ids (All-tail (λ a. a < i) a ids h))
 
-    args_alike : args_among of_number (forms ++ more) n.args ≡ args_among of_number forms n.args
+    args_alike : args_among of_number other n.args ≡ args_among of_number forms n.args
     args_alike =
         let among : List (List (Form C)) → Arguments C = λ m k e. slice_index_or (slice_index_or m k []) e (is_constant (of_number zero_frac)) in
         ap among (found n.args (p.nodes.earlier i n at))
 
-    side_alike : (a : ℕ) → a < i → side_of of_number number_of Sums Changes Reads rules p setting (forms ++ more) a ≡ side_of of_number number_of Sums Changes Reads rules p setting forms a
+    side_alike : (a : ℕ) → a < i → side_of of_number number_of Sums Changes Reads rules p setting other a ≡ side_of of_number number_of Sums Changes Reads rules p setting forms a
     side_alike a b =
         ap (λ fs. record { number = not (is_reduced rules p a); fixed = (judgement_at Plain (convex_problem p).nodes a).fixed; numbers = list_all (has_numbers number_of) fs })
-        (get_or-append forms more [] a (omega (arith, b, within)))
+        (same a b)
 
     abbrev Entry : List (List (Form C)) → Call → ℕ → Result (EntryForms C) ValueStop → Type 0
     Entry fs call j r = ReducedEntry of_number number_of Sums Changes Reads rules p setting fs i n.args call (arg_sides p.tree n) j r
 
-    reduced_alike : (call : Call) → n.call ≡ call → (j : ℕ) (r : Result (EntryForms C) ValueStop) → Entry forms call j r → Entry (forms ++ more) call j r
+    reduced_alike : (call : Call) → n.call ≡ call → (j : ℕ) (r : Result (EntryForms C) ValueStop) → Entry forms call j r → Entry other call j r
     reduced_alike (calls.Variable v) is j r h = h
     reduced_alike (calls.Parameter q) is j r h = h
     reduced_alike (calls.Constant x) is j r h =
@@ -77,18 +79,18 @@ module _ {C : Type 0} (of_number : Frac → C) (number_of : C → Option Frac) (
         let call : call_at p.tree i ≡ Some (calls.Pairing q) = ap (option_map (λ (z : Node). z.call)) at ∙ ap Some is in
         let scaling = ap₂ (pairing_scaling q) (side_alike (get_or n.args 0 0) (arg_below p i q call n at n.args (sym (args_are p.tree i n at)) 0 0 (omega arith)))
         (side_alike (get_or n.args 1 0) (arg_below p i q call n at n.args (sym (args_are p.tree i n at)) 1 0 (omega arith))) in
-        subst (λ s. PairEntry of_number number_of Sums Changes s (args_among of_number (forms ++ more) n.args) (pairs_at q (sides_at (arg_sides p.tree n) 0) (sides_at (arg_sides p.tree n) 1) j) j r) (sym scaling)
+        subst (λ s. PairEntry of_number number_of Sums Changes s (args_among of_number other n.args) (pairs_at q (sides_at (arg_sides p.tree n) 0) (sides_at (arg_sides p.tree n) 1) j) j r) (sym scaling)
         (subst (λ a. PairEntry of_number number_of Sums Changes (scaling_of of_number number_of Sums Changes Reads rules p setting q forms n.args) a (pairs_at q (sides_at (arg_sides p.tree n) 0) (sides_at (arg_sides p.tree n) 1) j) j r) (sym args_alike) h)
 
-    by_mark : (b : Bool) (j : ℕ) (r : Result (EntryForms C) ValueStop) → NodeEntryBy of_number number_of Sums Changes Reads rules p setting b forms i n j r → NodeEntryBy of_number number_of Sums Changes Reads rules p setting b (forms ++ more) i n j r
+    by_mark : (b : Bool) (j : ℕ) (r : Result (EntryForms C) ValueStop) → NodeEntryBy of_number number_of Sums Changes Reads rules p setting b forms i n j r → NodeEntryBy of_number number_of Sums Changes Reads rules p setting b other i n j r
     by_mark true j r h = reduced_alike n.call refl j r h
     by_mark false j r h = subst (λ a. NumberEntry of_number number_of Sums Changes Reads rules p setting n.call (arg_sides p.tree n) a j r) (sym args_alike) h
 
-    pub entry_alike : (j : ℕ) (r : Result (EntryForms C) ValueStop) → NodeEntry of_number number_of Sums Changes Reads rules p setting forms i n j r → NodeEntry of_number number_of Sums Changes Reads rules p setting (forms ++ more) i n j r
+    pub entry_alike : (j : ℕ) (r : Result (EntryForms C) ValueStop) → NodeEntry of_number number_of Sums Changes Reads rules p setting forms i n j r → NodeEntry of_number number_of Sums Changes Reads rules p setting other i n j r
     entry_alike = by_mark (is_reduced rules p i)
 
-    pub entries_alike : (size : ℕ) (es : List (EntryForms C)) → FormsEach (NodeEntry of_number number_of Sums Changes Reads rules p setting forms i n) size (Ok es) → FormsEach (NodeEntry of_number number_of Sums Changes Reads rules p setting (forms ++ more) i n) size (Ok es)
-    entries_alike size es h = (h.0, λ j e there. entry_alike j (Ok e) (h.1 j e there))
+    pub entries_alike : (size : ℕ) (r : Result (List (EntryForms C)) ValueStop) → FormsEach (NodeEntry of_number number_of Sums Changes Reads rules p setting forms i n) size r → FormsEach (NodeEntry of_number number_of Sums Changes Reads rules p setting other i n) size r
+    entries_alike size r h = each_alike (NodeEntry of_number number_of Sums Changes Reads rules p setting forms i n) (NodeEntry of_number number_of Sums Changes Reads rules p setting other i n) size r (λ j b. entry_alike j) h
 
   -- one node more
   pub formed_more : (k : ℕ) (table : Table C) (es : List (EntryForms C)) → AreFormed of_number number_of Sums Changes Reads rules p setting k table →
@@ -97,12 +99,15 @@ module _ {C : Type 0} (of_number : Frac → C) (number_of : C → Option Frac) (
     count = omega (arith, length-append table (es ∷ []), h.count);
     each = λ i n fs lt at there. subst (λ forms. FormsEach (NodeEntry of_number number_of Sums Changes Reads rules p setting forms i n) (entries_of n.sides) (Ok fs)) (sym (map_push entry_forms table es))
         (get_pushed table es fs i there (FormsEach (NodeEntry of_number number_of Sums Changes Reads rules p setting (table_forms table ++ entry_forms es ∷ []) i n) (entries_of n.sides) (Ok fs))
-        (λ old. entries_alike (table_forms table) (entry_forms es ∷ []) i (let b = slice_get_within table i fs old in omega (arith, b, length-map table entry_forms)) n at (entries_of n.sides) fs
+        (λ old. entries_alike (table_forms table) (table_forms table ++ entry_forms es ∷ []) i (pushed_same i (let b = slice_get_within table i fs old in omega (arith, b))) n at (entries_of n.sides) (Ok fs)
         (h.each i n fs (let b = slice_get_within table i fs old in omega (arith, b, h.count)) at old))
         (λ last same. subst (λ gs. FormsEach (NodeEntry of_number number_of Sums Changes Reads rules p setting (table_forms table ++ entry_forms es ∷ []) i n) (entries_of n.sides) (Ok gs)) same
-        (entries_alike (table_forms table) (entry_forms es ∷ []) i (omega (arith, last, length-map table entry_forms)) n at (entries_of n.sides) es
+        (entries_alike (table_forms table) (table_forms table ++ entry_forms es ∷ []) i (pushed_same i (omega (arith, last))) n at (entries_of n.sides) (Ok es)
         (new_node i n at (last ∙ h.count)))));
   }
     where
+      pushed_same : (i : ℕ) → i ≤ length table → (a : ℕ) → a < i → slice_index_or (table_forms table ++ entry_forms es ∷ []) a [] ≡ slice_index_or (table_forms table) a []
+      pushed_same i le a b = get_or-append (table_forms table) (entry_forms es ∷ []) [] a (omega (arith, b, le, length-map table entry_forms))
+
       new_node : (i : ℕ) (n : Node) → IsNode p.tree i n → i ≡ k → NodeGives of_number number_of Sums Changes Reads rules p setting table i n (Ok es)
       new_node i n at e = subst (λ m. (n : Node) → IsNode p.tree m n → NodeGives of_number number_of Sums Changes Reads rules p setting table m n (Ok es)) (sym e) here n at

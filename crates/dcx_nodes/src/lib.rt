@@ -17,6 +17,7 @@
 //! | an atom takes the next auxiliary unknowns, and speaks of no others | `calls`, `specs/Given.antt` |
 //! | a side that is a number, or an affine number where the other side has numbers, scales the other side | `products`, `specs/Marks.antt` |
 //! | rows keep their node, their entry and their number | `rows` |
+//! | nodes are formed in one way, where the entries of parameters have one answer | `laws::one_forming` |
 //! | one step is counted for each node that is begun | `form_nodes` |
 #![tactic(auto)]
 
@@ -24,6 +25,7 @@ mod calls;
 mod count;
 mod forming;
 mod given;
+pub mod laws;
 mod leaf;
 mod node;
 mod nodes;
