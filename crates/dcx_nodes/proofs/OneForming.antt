@@ -1,11 +1,9 @@
 -- The nodes of a problem are formed in one way.
-use Rattle.std.proofs.Common.{◌≡◌, ℕ, zero, suc, ◌<◌, ◌≤◌, arith, Bool, true, false, List, [], ◌∷◌, length, map, get_or, slice_index_or, Option, Some, refl, sym, ap, ap₂, ◌∙◌, subst, Result, Ok, Err}
+use Rattle.std.proofs.Common.{◌≡◌, ℕ, zero, suc, ◌<◌, ◌≤◌, arith, Bool, true, false, List, [], ◌∷◌, length, map, get_or, Option, Some, refl, sym, ap, ap₂, ◌∙◌, subst, Result, Ok, Err}
 use Rattle.std.specs.Prelude.{slice_get}
-use Rattle.std.proofs.lemmas.List.{length-map}
 use native.Mathlib.Decide.{dec_lt}
 use Rattle.dcx_frac.specs.declared.fraction.Frac.{Frac}
 use Rattle.dcx_frac.specs.declared.fraction.Passes.{Passes}
-use Rattle.dcx_shape.specs.declared.shape.Sides.{Sides}
 use Rattle.dcx_shape.specs.Sides.{entries_of}
 use Rattle.dcx_atom.specs.declared.stops.ValueStop.{ValueStop}
 use Rattle.dcx_atom.specs.Arrays.{sides_at}
@@ -92,8 +90,8 @@ module _ {C : Type 0} (of_number : Frac → C) (number_of : C → Option Frac) (
       let (n, at) = node_at p i (omega (arith, la, within)) in
       let before = forms_alike t u i (λ x lx. agree m a b t u f g within x (omega (arith, lx, lt)) (omega (arith, lx, la)) (omega (arith, lx, lb))) in
       let e : ◌≡◌ {A = Result (List (EntryForms C)) ValueStop} (Ok (get_or t i [])) (Ok (get_or u i [])) = one_node (table_forms u) i n (entries_of n.sides) (Ok (get_or t i [])) (Ok (get_or u i []))
-          (entries_alike of_number number_of Sums Changes Reads rules p setting (table_forms t) (table_forms u) i before n at (entries_of n.sides) (Ok (get_or t i [])) (f.each i n (get_or t i []) la at (there_at a t f i la)))
-          (g.each i n (get_or u i []) lb at (there_at b u g i lb)) in
+      (entries_alike of_number number_of Sums Changes Reads rules p setting (table_forms t) (table_forms u) i before n at (entries_of n.sides) (Ok (get_or t i [])) (f.each i n (get_or t i []) la at (there_at a t f i la)))
+      (g.each i n (get_or u i []) lb at (there_at b u g i lb)) in
       cc
 
   -- ---- all nodes
@@ -112,8 +110,8 @@ module _ {C : Type 0} (of_number : Frac → C) (number_of : C → Option Frac) (
   formed_or_stops k t f within m e lt h =
       let (n, at) = node_at p e.node (omega (arith, lt, within)) in
       let d : ◌≡◌ {A = Result (List (EntryForms C)) ValueStop} (Ok (get_or t e.node [])) (Err e.stop) = one_node (table_forms t) e.node n (entries_of n.sides) (Ok (get_or t e.node [])) (Err e.stop)
-          (f.each e.node n (get_or t e.node []) lt at (there_at k t f e.node lt))
-          (moved k t f within e.node h.table (omega (arith, lt)) h.before n at e.stop (h.here n at)) in
+      (f.each e.node n (get_or t e.node []) lt at (there_at k t f e.node lt))
+      (moved k t f within e.node h.table (omega (arith, lt)) h.before n at e.stop (h.here n at)) in
       cc
 
   same_stop : (m : ℕ) → m ≤ length p.tree → (e d : NodeStop) → e.node ≡ d.node → IsFirstStop of_number number_of Sums Changes Reads rules p setting m e → IsFirstStop of_number number_of Sums Changes Reads rules p setting m d → e ≡ d
@@ -125,7 +123,7 @@ module _ {C : Type 0} (of_number : Frac → C) (number_of : C → Option Frac) (
       let here : NodeGives of_number number_of Sums Changes Reads rules p setting h.table d.node n (Err e.stop) =
       subst (λ i. (n : Node) → IsNode p.tree i n → NodeGives of_number number_of Sums Changes Reads rules p setting h.table i n (Err e.stop)) same h.here n at in
       let q : ◌≡◌ {A = Result (List (EntryForms C)) ValueStop} (Err e.stop) (Err d.stop) = one_node (table_forms k.table) d.node n (entries_of n.sides) (Err e.stop) (Err d.stop)
-          (moved d.node k.table k.before le d.node h.table (omega arith) formed n at e.stop here) (k.here n at) in
+      (moved d.node k.table k.before le d.node h.table (omega arith) formed n at e.stop here) (k.here n at) in
       let stops : e.stop ≡ d.stop = cc in
       ap₂ (λ x y. record { node = x; stop = y }) same stops
 
