@@ -1,0 +1,16 @@
+-- Lemmas of this crate.
+pub mod Positions
+pub mod AtNode
+pub mod Numbers
+pub mod Leaves
+pub mod Gives
+pub mod LinearNodes
+pub mod Auxiliaries
+pub mod AtomNodes
+pub mod PairNodes
+pub mod GraphRows
+pub mod Corner
+pub mod Local
+pub mod Standings
+pub mod OneMore
+pub mod OneForming

@@ -1,0 +1,159 @@
+-- The graph is the atom's, and its unknowns are its own.
+use Rattle.std.proofs.Common.{◌≡◌, ◌+◌, length, Some, Ok, Err, sym, ap, ◌∙◌, subst, arith}
+use Rattle.std.proofs.lemmas.Option.{slice_get_within}
+use Rattle.std.proofs.lemmas.Result.{err_from_is_err_and}
+use Rattle.dcx_shape.specs.Sides.{entries_of}
+use Rattle.dcx_arena.specs.Nodes.{positions, sides_at}
+use Rattle.dcx_call.specs.declared.call.Call.TheVariants as calls
+use Rattle.dcx_call.specs.Atoms.{atom_meaning}
+use Rattle.dcx_tree.specs.Nodes.{arg_sides}
+use Rattle.dcx_tree.proofs.NodeValues.{sides_are}
+use Rattle.dcx_unknowns.specs.Layout.{IsNodeGraph}
+use Rattle.dcx_entries.specs.Forming.{FormsEach}
+use Rattle.dcx_entries.specs.Standing.{all_forms}
+use Rattle.dcx_nodes.specs.Formed.{ReducedGives}
+use Rattle.dcx_nodes.proofs.AtNode.{the_node}
+use Rattle.dcx_nodes.proofs.Auxiliaries.{first_small, next_graph}
+use Rattle.dcx_nodes.proofs.Gives.{formed_weaker}
+use Rattle.dcx_nodes.proofs.AtomNodes.{graph_there, graph_of, results_counted, results_fit, rows_fit, AtomGives, atom_gives}
+use Rattle.dcx_nodes.proofs.calls.atom_node.Goals as goal
+
+pub node_graph-requires : goal.node_graph-requires
+node_graph-requires g c =
+    let p = c.args.given.now.problem.now in
+    let (m, call) = c.requires.call in
+    let (n, at) = the_node p c.args.node.0 (calls.Atom m) call in
+    slice_get_within p.tree c.args.node.0 n at
+
+pub atom_entries-requires-clause-size : goal.atom_entries-requires-clause-size
+atom_entries-requires-clause-size g c =
+    let p = c.args.given.now.problem.now in
+    let i = c.args.node.0 in
+    let (m, call) = c.requires.call in
+    let (n, at) = the_node p i (calls.Atom m) call in
+    let graph : IsNodeGraph p.tree i (Some c.in-Ok-Some.graph) = rw c.in-Ok-Some.field-0-is at c.in-Ok-Some.ensures in
+    results_counted p i m call n at c.in-Ok-Some.graph graph ∙ sym (c.size-size.ensures.value ∙ ap entries_of (c.shape.ensures ∙ sides_are p.tree i n at))
+
+pub atom_entries-requires-clause-few : goal.atom_entries-requires-clause-few
+atom_entries-requires-clause-few g c =
+    let p = c.args.given.now.problem.now in
+    let reduced = c.args.given.now.reduced.now in
+    let i = c.args.node.0 in
+    let (m, call) = c.requires.call in
+    let (n, at) = the_node p i (calls.Atom m) call in
+    let lt = slice_get_within p.tree i n at in
+    let graph : IsNodeGraph p.tree i (Some c.in-Ok-Some.graph) = rw c.in-Ok-Some.field-0-is at c.in-Ok-Some.ensures in
+    let small = first_small p reduced c.requires.ready.few (i + 1) (omega (arith, lt)) in
+    let next = next_graph p reduced i c.in-Ok-Some.graph lt c.requires.reduced graph in
+    results_fit p i m call n at c.in-Ok-Some.graph graph c.args.next.now (omega (arith, small, next, c.requires.next))
+
+pub atom_entries-requires-clause-there : goal.atom_entries-requires-clause-there
+atom_entries-requires-clause-there g c =
+    let p = c.args.given.now.problem.now in
+    let reduced = c.args.given.now.reduced.now in
+    let i = c.args.node.0 in
+    let (m, call) = c.requires.call in
+    let (n, at) = the_node p i (calls.Atom m) call in
+    let lt = slice_get_within p.tree i n at in
+    let graph : IsNodeGraph p.tree i (Some c.in-Ok-Some.graph) = rw c.in-Ok-Some.field-0-is at c.in-Ok-Some.ensures in
+    let small = first_small p reduced c.requires.ready.few (i + 1) (omega (arith, lt)) in
+    let next = next_graph p reduced i c.in-Ok-Some.graph lt c.requires.reduced graph in
+    rows_fit p i m call n at c.in-Ok-Some.graph graph c.args.next.now (omega (arith, small, next, c.requires.next))
+
+pub returns-in_err-entries-in-Ok-Some-clause-entries : goal.returns-in_err-entries-in-Ok-Some-clause-entries
+returns-in_err-entries-in-Ok-Some-clause-entries g c =
+    let t = g.C.Coef in
+    let p = c.args.given.now.problem.now in
+    let reduced = c.args.given.now.reduced.now in
+    let i = c.args.node.0 in
+    let forms = all_forms t.of_number c.args.args.now.standing.now in
+    let ids = positions c.args.args.now.ids.now in
+    let (m, call) = c.requires.call in
+    let (n, at) = the_node p i (calls.Atom m) call in
+    let graph : IsNodeGraph p.tree i (Some c.in-Ok-Some.graph) = rw c.in-Ok-Some.field-0-is at c.in-Ok-Some.ensures in
+    let size_is : c.size-size.result ≡ entries_of (sides_at p.tree i) = c.size-size.ensures.value ∙ ap entries_of c.shape.ensures in
+    let q = err_from_is_err_and c.from_residual.result c.from_residual.ensures.1 in
+    rw (q.1, q.2)
+    (formed_weaker (Err c.in_err-entries-in-Ok-Some.field-0.0)
+    (FormsEach (AtomGives p i m call n at t.of_number t.number_of t.sum_gives t.change_gives t.parameter_gives c.args.given.now.setting.now reduced c.args.given.now.fixed.now forms ids c.requires.ids ids c.args.next.now (arg_sides p.tree n)) c.size-size.result)
+    (ReducedGives t.of_number t.number_of t.sum_gives t.change_gives t.parameter_gives p c.args.given.now.setting.now reduced c.args.given.now.fixed.now forms i)
+    (λ r h. atom_gives p i m call n at t.of_number t.number_of t.sum_gives t.change_gives t.parameter_gives c.args.given.now.setting.now reduced c.args.given.now.fixed.now forms ids c.requires.ids
+    c.requires.ready.reduced_counted c.size-size.result r size_is
+    (subst (λ first. FormsEach (AtomGives p i m call n at t.of_number t.number_of t.sum_gives t.change_gives t.parameter_gives c.args.given.now.setting.now reduced c.args.given.now.fixed.now forms ids c.requires.ids ids first (arg_sides p.tree n)) c.size-size.result r) c.requires.next h))
+    (c.in_err-entries-in-Ok-Some.ensures (atom_meaning m) (arg_sides p.tree n) (graph_of p i m call n at c.in-Ok-Some.graph graph c.size-size.result size_is)))
+
+pub overflow_cast-next : goal.overflow_cast-next
+overflow_cast-next g c =
+    let p = c.args.given.now.problem.now in
+    let reduced = c.args.given.now.reduced.now in
+    let i = c.args.node.0 in
+    let (m, call) = c.requires.call in
+    let (n, at) = the_node p i (calls.Atom m) call in
+    let lt = slice_get_within p.tree i n at in
+    let graph : IsNodeGraph p.tree i (Some c.in-Ok-Some.graph) = rw c.in-Ok-Some.field-0-is at c.in-Ok-Some.ensures in
+    let small = first_small p reduced c.requires.ready.few (i + 1) (omega (arith, lt)) in
+    let next = next_graph p reduced i c.in-Ok-Some.graph lt c.requires.reduced graph in
+    let many = ap length c.as_slice.ensures in
+    omega (arith, small, next, many)
+
+pub overflow_add-next : goal.overflow_add-next
+overflow_add-next g c =
+    let p = c.args.given.now.problem.now in
+    let reduced = c.args.given.now.reduced.now in
+    let i = c.args.node.0 in
+    let (m, call) = c.requires.call in
+    let (n, at) = the_node p i (calls.Atom m) call in
+    let lt = slice_get_within p.tree i n at in
+    let graph : IsNodeGraph p.tree i (Some c.in-Ok-Some.graph) = rw c.in-Ok-Some.field-0-is at c.in-Ok-Some.ensures in
+    let small = first_small p reduced c.requires.ready.few (i + 1) (omega (arith, lt)) in
+    let next = next_graph p reduced i c.in-Ok-Some.graph lt c.requires.reduced graph in
+    let many = ap length c.as_slice.ensures in
+    omega (arith, small, next, many, c.requires.next)
+
+pub unreachable-requires : goal.unreachable-requires
+unreachable-requires g c =
+    let p = c.args.given.now.problem.now in
+    let i = c.args.node.0 in
+    let (m, call) = c.requires.call in
+    let (n, at) = the_node p i (calls.Atom m) call in
+    graph_there p i m call n at (rw c.in-Ok-None.field-0-is at c.in-Ok-None.ensures)
+
+pub returns-in_ok-entries-in-Ok-Some-clause-count : goal.returns-in_ok-entries-in-Ok-Some-clause-count
+returns-in_ok-entries-in-Ok-Some-clause-count g c =
+    let p = c.args.given.now.problem.now in
+    let i = c.args.node.0 in
+    let (m, call) = c.requires.call in
+    let (n, at) = the_node p i (calls.Atom m) call in
+    let graph : IsNodeGraph p.tree i (Some c.in-Ok-Some.graph) = rw c.in-Ok-Some.field-0-is at c.in-Ok-Some.ensures in
+    let size_is : c.size-size.result ≡ entries_of (sides_at p.tree i) = c.size-size.ensures.value ∙ ap entries_of c.shape.ensures in
+    (c.in_ok-entries-in-Ok-Some.ensures (atom_meaning m) (arg_sides p.tree n) (graph_of p i m call n at c.in-Ok-Some.graph graph c.size-size.result size_is)).0 ∙ size_is
+
+pub returns-in_ok-entries-in-Ok-Some-clause-entries : goal.returns-in_ok-entries-in-Ok-Some-clause-entries
+returns-in_ok-entries-in-Ok-Some-clause-entries g c =
+    let t = g.C.Coef in
+    let p = c.args.given.now.problem.now in
+    let reduced = c.args.given.now.reduced.now in
+    let i = c.args.node.0 in
+    let forms = all_forms t.of_number c.args.args.now.standing.now in
+    let ids = positions c.args.args.now.ids.now in
+    let (m, call) = c.requires.call in
+    let (n, at) = the_node p i (calls.Atom m) call in
+    let graph : IsNodeGraph p.tree i (Some c.in-Ok-Some.graph) = rw c.in-Ok-Some.field-0-is at c.in-Ok-Some.ensures in
+    let size_is : c.size-size.result ≡ entries_of (sides_at p.tree i) = c.size-size.ensures.value ∙ ap entries_of c.shape.ensures in
+    atom_gives p i m call n at t.of_number t.number_of t.sum_gives t.change_gives t.parameter_gives c.args.given.now.setting.now reduced c.args.given.now.fixed.now forms ids c.requires.ids
+    c.requires.ready.reduced_counted c.size-size.result (Ok c.in_ok-entries-in-Ok-Some.entries) size_is
+    (subst (λ first. FormsEach (AtomGives p i m call n at t.of_number t.number_of t.sum_gives t.change_gives t.parameter_gives c.args.given.now.setting.now reduced c.args.given.now.fixed.now forms ids c.requires.ids ids first (arg_sides p.tree n)) c.size-size.result (Ok c.in_ok-entries-in-Ok-Some.entries)) c.requires.next
+    (c.in_ok-entries-in-Ok-Some.ensures (atom_meaning m) (arg_sides p.tree n) (graph_of p i m call n at c.in-Ok-Some.graph graph c.size-size.result size_is)))
+
+pub returns-in_ok-entries-in-Ok-Some-clause-next : goal.returns-in_ok-entries-in-Ok-Some-clause-next
+returns-in_ok-entries-in-Ok-Some-clause-next g c =
+    let p = c.args.given.now.problem.now in
+    let reduced = c.args.given.now.reduced.now in
+    let i = c.args.node.0 in
+    let (m, call) = c.requires.call in
+    let (n, at) = the_node p i (calls.Atom m) call in
+    let lt = slice_get_within p.tree i n at in
+    let graph : IsNodeGraph p.tree i (Some c.in-Ok-Some.graph) = rw c.in-Ok-Some.field-0-is at c.in-Ok-Some.ensures in
+    let next = next_graph p reduced i c.in-Ok-Some.graph lt c.requires.reduced graph in
+    let many = ap length c.as_slice.ensures in
+    omega (arith, next, many, c.requires.next)

@@ -1,0 +1,6 @@
+-- What the contracts of this crate cite.
+pub mod Marks
+pub mod Given
+pub mod Formed
+pub mod Numbers
+pub mod SoFar
