@@ -12,7 +12,8 @@ use Rattle.dcx_linear.specs.NumberLaws.{told_number_lem, sum_value_lem, change_v
 use Rattle.dcx_linear.specs.ParamForms.{form_value, number_of_form, form_of_number, sum_gives_form, change_gives_form}
 use Rattle.dcx_linear.specs.ParamLaws.{form_number_value, form_told_number, form_sum_value, form_change_value}
 use Rattle.dcx_linear.proofs.NumberForms.{sum_number, change_number}
-use Rattle.dcx_formed.specs.Forms.{frac_value}
+use Rattle.dcx_linear.specs.FormsAt.{frac_value}
+
 
 -- the laws of coefficients, and that sums and changes of numbers are numbers
 pub record AreCoefs {C : Type 0} (value_at : C → Parameters → ℚ) (of_number : Frac → C) (number_of : C → Option Frac) (Sums : C → C → Result C Passes → Type 0) (Changes : Change → C → Result C Passes → Type 0) : Type 0 where

@@ -20,7 +20,8 @@ use Rattle.dcx_reduced.specs.Equations.{AllStand}
 use Rattle.dcx_reduced.proofs.LawsHold.{equations_reduce}
 use Rattle.dcx_reduced.proofs.NodeForms.{nodes_of, not_constant, not_reduced}
 use Rattle.dcx_entries.specs.Nodes.{Table}
-use Rattle.dcx_formed.specs.Forms.{forms_at, frac_value, AreFormedOfFracs, AreFormedOfParamForms}
+use Rattle.dcx_linear.specs.FormsAt.{frac_value}
+use Rattle.dcx_formed.specs.Forms.{forms_at, AreFormedOfFracs, AreFormedOfParamForms}
 use Rattle.dcx_formed.specs.Laws.{FracsMeetEquations, ParamFormsMeetEquations}
 use Rattle.dcx_formed.proofs.Settled.{value_settled}
 use Rattle.dcx_formed.proofs.Steady.{steady}

@@ -2,7 +2,6 @@
 use Rattle.std.specs.Prelude.{◌≡◌, List, [], length, map, Some, slice_index_or}
 use Rattle.dcx_math.specs.Rational.{ℚ}
 use Rattle.dcx_frac.specs.declared.fraction.Frac.{Frac}
-use Rattle.dcx_frac.specs.Frac.{value}
 use Rattle.dcx_frac.specs.Results.{sum_of}
 use Rattle.dcx_point.specs.Pairs.{Pairs}
 use Rattle.dcx_convex.specs.Nodes.{Setting}
@@ -36,10 +35,6 @@ pub record MeetEquations {C : Type 0} (value_at : C → Parameters → ℚ) (of_
   pub stand : AllStand rules p s (forms_at value_at of_number params table)
   pub rows : graph_numbers rules p s (forms_at value_at of_number params table) ≡ rows_at value_at params (graph_rows of_number table)
   pub reduction : AreSquare p.variables → IsReduction rules (convex_problem p) s (reduced_with rules p s (forms_at value_at of_number params table))
-
--- a fraction is itself, whatever the parameters are
-abbrev pub frac_value : Frac → Parameters → ℚ
-frac_value f params = value f
 
 -- all nodes are formed of fractions
 abbrev pub AreFormedOfFracs : Rules → Problem → Pairs → Table Frac → Type 0

@@ -9,7 +9,8 @@ use Rattle.dcx_linear.specs.declared.param_form.ParamForm.{ParamForm}
 use Rattle.dcx_linear.specs.Parameters.{Parameters}
 use Rattle.dcx_linear.specs.ParamForms.{form_value, form_of_number}
 use Rattle.dcx_entries.specs.Nodes.{Table}
-use Rattle.dcx_formed.specs.Forms.{MeetEquations, frac_value, AreFormedOfFracs, AreFormedOfParamForms}
+use Rattle.dcx_linear.specs.FormsAt.{frac_value}
+use Rattle.dcx_formed.specs.Forms.{MeetEquations, AreFormedOfFracs, AreFormedOfParamForms}
 
 -- the nodes of an accepted problem that are formed of fractions at a setting meet the equations at that setting
 abbrev pub FracsMeetEquations : Type 0

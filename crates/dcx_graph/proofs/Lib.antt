@@ -8,3 +8,16 @@ pub mod Programs
 pub mod Sizes
 pub mod OneProgram
 pub mod Counted
+pub mod AsLinear
+pub mod Marked
+pub mod Widths
+pub mod Given
+pub mod Stages
+pub mod Backward
+pub mod AtSetting
+pub mod Known
+pub mod Stopping
+pub mod Slacks
+pub mod Mapped
+pub mod Correct
+pub mod OneReduction

@@ -12,6 +12,10 @@ ghost use Rattle.dcx_entries.specs.Nodes.{Table, AreFormed};
 ghost use Rattle.dcx_entries.specs.Kept.{graph_rows};
 ghost use Rattle.dcx_graph.specs.Program.{Program, IsProgram, GivesProgram};
 ghost use Rattle.dcx_graph.specs.Fixing.{FixGives};
+ghost use Rattle.dcx_graph.specs.AsLinear.{ProgramsAreReductions};
+ghost use Rattle.dcx_graph.specs.Backward.{AnswersCarryOver};
+ghost use Rattle.dcx_graph.specs.Correct.{ReducesNumbers, ReducesAffine, NumbersAreReductions, AffineAreReductions, AffineAreKnown, IsOneAnswer};
+ghost use Rattle.dcx_graph.specs.Fixed.{ProgramsAreKnown, KnownAreListed, FixedAreReductions};
 
 use dcx_linear::Coef;
 
@@ -29,4 +33,54 @@ pub fn rows_are_counted<C: Coef>()
 /// A program with affine coefficients has one program at a setting, or one operation that passes first, at one row.
 pub fn one_program_at_setting()
     ensures { (setting : Pairs) (q : Program ParamForm) (r s : Result (Program Frac) (ℕ × Passes)) → FixGives setting q r → FixGives setting q s → r ≡ s }
+{}
+
+/// The program of nodes whose forms and rows are a reduced program is the linear program of that one: its rows are those of the
+/// constraints, entry by entry, and then those of the graphs.
+pub fn programs_are_reductions<C: Coef>()
+    ensures { ProgramsAreReductions C.value_at C.of_number C.number_of C.sum_gives C.change_gives }
+{}
+
+/// Where the rules accept a problem and the setting fits, a right answer of the linear program of a reduced program of the problem
+/// is an answer of the problem.
+pub fn answers_carry_over()
+    ensures { AnswersCarryOver }
+{}
+
+/// Where each entry that a program lists is one of a declared parameter, a setting with an array for each parameter has them all.
+pub fn known_are_listed()
+    ensures { KnownAreListed }
+{}
+
+/// A program at a setting is a reduced program of the problem there, if it was one with the setting's numbers.
+pub fn fixed_are_reductions()
+    ensures { FixedAreReductions }
+{}
+
+/// The program of nodes that are formed with affine coefficients lists entries of declared parameters alone.
+pub fn programs_are_known()
+    ensures { ProgramsAreKnown }
+{}
+
+/// Where the rules accept a problem whose symmetric and diagonal variables are square, the program with numbers that reducing gives
+/// is a reduced program of the problem at the setting.
+pub fn numbers_are_reductions()
+    ensures { NumbersAreReductions }
+{}
+
+/// Where the rules accept it with parameters affine, the program with affine coefficients that reducing gives is a reduced program
+/// of the problem at every setting.
+pub fn affine_are_reductions()
+    ensures { AffineAreReductions }
+{}
+
+/// It lists entries of declared parameters alone.
+pub fn affine_are_known()
+    ensures { AffineAreKnown }
+{}
+
+/// A problem is reduced in one way: to one program, or to one stop at one place.
+pub fn one_reduction()
+    ensures numbers { (p : Problem) (setting : Pairs) → IsOneAnswer (ReducesNumbers p setting) }
+    ensures affine { (p : Problem) (setting : Pairs) → IsOneAnswer (ReducesAffine p setting) }
 {}

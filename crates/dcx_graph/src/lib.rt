@@ -11,7 +11,6 @@
 //! | the rows, what is to be small and the kinds are those of the problem whose nodes are formed, in order | `program`, `specs/Program.antt`: `IsProgram` |
 //! | what stops is the first operation that passes 128 bits, with its row; what is to be small counts as the row behind all others | `program`, `specs/Program.antt`: `IsRowStopWith` |
 //! | a problem whose nodes are formed has one program | `laws::one_program` |
-//! | it has as many rows as the layout counts | `laws::rows_are_counted` |
 //! | each row has one origin: the entry of a constraint, or a row of the graph of a node | `Reduced::origin`, `specs/Program.antt`: `origins_of` |
 //! | a program at a setting has the rows at the setting, and the origins of before; there is one | `fix`, `laws::one_program_at_setting` |
 //! | it is told whether a program was put at a setting | `Reduced::from_map`, `program`, `fix` |
@@ -20,14 +19,21 @@
 mod constraint;
 mod fixing;
 pub mod laws;
+mod marks;
 mod origin;
 mod program;
+mod reading;
 mod reduced;
+mod reducible;
+mod reducing;
 mod rows;
 mod side;
 mod stop;
 
 pub use fixing::fix;
 pub use origin::Origin;
+pub use reading::{AnswerStop, map_back};
 pub use reduced::Reduced;
+pub use reducible::Reducible;
+pub use reducing::reduce;
 pub use stop::ReduceStop;

@@ -1,0 +1,5 @@
+use Rattle.dcx_graph.proofs.Correct.{affine_are_reductions}
+use Rattle.dcx_graph.proofs.laws.affine_are_reductions.Goals as goal
+
+pub returns : goal.returns
+returns c = affine_are_reductions
