@@ -1,5 +1,5 @@
 -- The program of a problem is the linear program of the reduced program with the forms of the nodes.
-use Rattle.std.proofs.Common.{◌≡◌, ◌↔◌, ℕ, zero, suc, ◌+◌, ◌<◌, arith, IsTrue, List, [], ◌∷◌, ◌++◌, length, map, Option, Some, option_map, Result, Ok, Err, slice_get, slice_index_or, refl, sym, ap, ap₂, ◌∙◌, subst, pos, negsuc, lit<}
+use Rattle.std.proofs.Common.{◌≡◌, ◌↔◌, ℕ, zero, suc, arith, List, [], ◌∷◌, ◌++◌, length, map, Option, Some, Result, Ok, slice_get, refl, sym, ap, ap₂, ◌∙◌, subst, pos, negsuc, lit<}
 use Rattle.std.proofs.Math.Path.{fun_ext}
 use Rattle.std.proofs.lemmas.List.{map-append}
 use Rattle.dcx_math.specs.Rational.{ℚ, whole, ◌+ℚ◌, ◌-ℚ◌, ◌*ℚ◌, neg_ℚ}
@@ -16,9 +16,8 @@ use Rattle.dcx_shape.specs.Sides.{entries_of}
 use Rattle.dcx_atom.specs.Arrays.{list_below}
 use Rattle.dcx_convex.specs.Nodes.{Setting, Numbers}
 use Rattle.dcx_convex.specs.Rules.{Rules}
-use Rattle.dcx_convex.specs.Problems as convex
 use Rattle.dcx_convex.specs.Problems.{minimized, objective_of}
-use Rattle.dcx_convex.specs.Reductions.{Unknowns, Reduced, IsAssignment, IsReduction}
+use Rattle.dcx_convex.specs.Reductions.{Unknowns, IsAssignment, IsReduction}
 use Rattle.dcx_tree.specs.declared.constraint.Constraint.{Constraint}
 use Rattle.dcx_tree.specs.declared.constraint.Kind.{Kind}
 use Rattle.dcx_tree.specs.declared.constraint.Kind.TheVariants as relations
@@ -30,7 +29,6 @@ use Rattle.dcx_linear.specs.declared.change.Change.{Change}
 use Rattle.dcx_linear.specs.declared.change.Change.TheVariants.{Scale}
 use Rattle.dcx_linear.specs.declared.form.Form.{Form}
 use Rattle.dcx_linear.specs.declared.row.Row.{Row}
-use Rattle.dcx_linear.specs.declared.row.RowKind.{RowKind}
 use Rattle.dcx_linear.specs.Changes.{changed}
 use Rattle.dcx_linear.specs.Parameters.{Parameters}
 use Rattle.dcx_linear.specs.Forms.{linear_value, sum_gives_linear, change_gives_linear}
@@ -41,7 +39,7 @@ use Rattle.dcx_reduced.proofs.OfKinds.{kinds_from, nonneg_from, nonpos_from}
 use Rattle.dcx_entries.specs.declared.formed.FormedRow.{FormedRow}
 use Rattle.dcx_entries.specs.Nodes.{Table, table_forms}
 use Rattle.dcx_entries.specs.Kept.{graph_rows}
-use Rattle.dcx_mapping.specs.Programs.{kind_of, gap_row, gap_rows, bound_row, IsProgramOf}
+use Rattle.dcx_mapping.specs.Programs.{kind_of, gap_row, gap_rows, bound_row}
 use Rattle.dcx_graph.specs.declared.constraint.ConstraintEntry.{ConstraintEntry}
 use Rattle.dcx_graph.specs.Program.{Program, minus_one, row_kind, entries_in, entries_from, constraint_entries, form_at, Least, graph_row, EntryRow, EntryRows, Objective, IsProgram}
 use Rattle.dcx_graph.specs.AsLinear.{row_at, linear_at, IsReductionAt}

@@ -1,6 +1,5 @@
 -- A program with affine coefficients at a setting.
-use Rattle.std.proofs.Common.{◌≡◌, ℕ, zero, suc, ◌+◌, ◌<◌, arith, List, [], ◌∷◌, length, map, get_or, Option, Some, None, option_map, IsSome, Result, Ok, Err, slice_get, slice_index_or, refl, sym, ap, ap₂, ◌∙◌, subst}
-use Rattle.std.specs.List.{All}
+use Rattle.std.proofs.Common.{◌≡◌, ℕ, zero, suc, ◌<◌, arith, List, [], ◌∷◌, length, map, get_or, Option, Some, None, option_map, IsSome, Result, Ok, Err, slice_get, refl, sym, ap, ap₂, ◌∙◌, subst}
 use Rattle.std.specs.Option.{unwrap_or, option_and_then}
 use Rattle.std.proofs.Math.Path.{fun_ext}
 use Rattle.std.proofs.lemmas.Option.{none-some, same_Some, slice_get-map, slice_get_within, get_or_from_slice_get}
@@ -15,7 +14,6 @@ use Rattle.dcx_atom.specs.Arrays.{number_at}
 use Rattle.dcx_point.specs.Pairs.{Pairs, array_of}
 use Rattle.dcx_call.specs.declared.attribute.Parameter.{Parameter}
 use Rattle.dcx_call.specs.Values.{given_by, HasArray}
-use Rattle.dcx_convex.specs.Rules.{Rules}
 use Rattle.dcx_tree.specs.declared.problem.Problem.{Problem}
 use Rattle.dcx_tree.specs.Meaning.{names_in, setting_of}
 use Rattle.dcx_tree.proofs.Lawful.{mapped}
@@ -24,7 +22,7 @@ use Rattle.dcx_linear.specs.declared.row.Row.{Row}
 use Rattle.dcx_linear.specs.declared.param_form.ParamForm.{ParamForm}
 use Rattle.dcx_linear.specs.declared.param_term.ParamTerm.{ParamTerm}
 use Rattle.dcx_linear.specs.declared.row.UnknownKind.{UnknownKind}
-use Rattle.dcx_linear.specs.Parameters.{Parameters, IsNameOf, array_entry, entry_of}
+use Rattle.dcx_linear.specs.Parameters.{Parameters, array_entry, entry_of}
 use Rattle.dcx_linear.specs.ParamForms.{form_value, IsNamedForm, IsListedBy, StandsFor}
 use Rattle.dcx_linear.specs.NamedForms.{IsNamedLinear}
 use Rattle.dcx_linear.specs.FormTerms.{Unknowns}
@@ -33,10 +31,8 @@ use Rattle.dcx_linear.specs.FormsAt.{frac_value, with_form, at_row, form_on_row,
 use Rattle.dcx_linear.specs.Rows.{RowAt, LinearProgram}
 use Rattle.dcx_linear.proofs.SettingForms.{form_at-value}
 use Rattle.dcx_within.specs.Within.{IsKnown, IsKnownNumber, IsKnownTerm}
-use Rattle.dcx_graph.specs.Program.{Program}
-use Rattle.dcx_graph.specs.Fixing.{FixGives, IsListedProgram}
-use Rattle.dcx_graph.specs.AsLinear.{row_at, linear_at, IsReductionAt}
-use Rattle.dcx_graph.specs.Fixed.{IsKnownProgram, HaveArrays, KnownAreListed, FixedAreReductions}
+use Rattle.dcx_graph.specs.AsLinear.{row_at, IsReductionAt}
+use Rattle.dcx_graph.specs.Fixed.{HaveArrays, KnownAreListed, FixedAreReductions}
 
 -- ---- arrays
 number_there : (xs : List Frac) (j : ℕ) (x : Frac) → slice_get xs j ≡ Some x → number_at xs j ≡ value x

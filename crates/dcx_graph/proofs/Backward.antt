@@ -1,36 +1,30 @@
 -- Answers of the linear program of a problem are answers of the problem.
-use Rattle.std.proofs.Common.{◌≡◌, ℕ, ◌<◌, arith, IsTrue, length, map, Some, slice_get, sym, ap, ap₂, ◌∙◌, subst}
+use Rattle.std.proofs.Common.{ℕ, ◌<◌, arith, length, subst}
 use Rattle.std.proofs.lemmas.List.{length-map}
-use Rattle.dcx_math.specs.Rational.{ℚ}
-use Rattle.dcx_convex.specs.Nodes.{Setting, Point}
-use Rattle.dcx_convex.specs.Rules.{Rules}
+use Rattle.dcx_convex.specs.Nodes.{Point}
 use Rattle.dcx_convex.specs.Problems as convex
 use Rattle.dcx_convex.specs.Problems.{accepted_by}
 use Rattle.dcx_convex.specs.Reductions.{IsWellFormed}
 use Rattle.dcx_convex.proofs.LawsHold.{reductions_map_back}
-use Rattle.dcx_tree.specs.declared.constraint.Constraint.{Constraint}
 use Rattle.dcx_tree.specs.declared.problem.Problem.{Problem}
 use Rattle.dcx_tree.specs.Nodes.{convex_node}
 use Rattle.dcx_tree.specs.Meaning as meaning
 use Rattle.dcx_tree.specs.Meaning.{names_in, convex_problem, convex_constraint, Fits}
 use Rattle.dcx_tree.proofs.Lawful.{mapped, tree_lawful}
-use Rattle.dcx_linear.specs.FormTerms.{Unknowns}
-use Rattle.dcx_linear.specs.Rows as rows
-use Rattle.dcx_linear.specs.Rows.{LinearProgram}
 use Rattle.dcx_unknowns.specs.Unknowns.{point_at}
 use Rattle.dcx_mapping.specs.Programs.{multipliers_of}
 use Rattle.dcx_mapping.proofs.LawsHold as program
-use Rattle.dcx_graph.specs.AsLinear.{IsReductionAt}
-use Rattle.dcx_graph.specs.Backward.{CarriesOver, AnswersCarryOver}
+use Rattle.dcx_graph.specs.Backward.{AnswersCarryOver}
 
 -- a problem is well formed in the terms of disciplined convex programming
 well_formed : (p : Problem) → IsWellFormed (convex_problem p)
 well_formed p = record {
   ordered = (tree_lawful (names_in p) p.tree p.nodes).ordered;
   objective = inside p.objective.0 p.objective_kept.there;
-  sides = λ k c at. let (d, there, is) = mapped convex_constraint p.constraints k c at in
-      (subst (λ (e : convex.Constraint). e.left < length (convex_problem p).nodes) is (inside d.left.0 (p.constraints_kept.left k d there).there),
-          subst (λ (e : convex.Constraint). e.right < length (convex_problem p).nodes) is (inside d.right.0 (p.constraints_kept.right k d there).there));
+  sides = λ k c at. let (d, there, is) = mapped convex_constraint p.constraints k c at in (
+    subst (λ (e : convex.Constraint). e.left < length (convex_problem p).nodes) is (inside d.left.0 (p.constraints_kept.left k d there).there),
+    subst (λ (e : convex.Constraint). e.right < length (convex_problem p).nodes) is (inside d.right.0 (p.constraints_kept.right k d there).there),
+  );
 }
   where
     inside : (i : ℕ) → i < length p.tree → i < length (convex_problem p).nodes

@@ -1,12 +1,12 @@
 -- A program that reducing gives is a reduced program of its problem.
-use Rattle.std.proofs.Common.{◌≡◌, Some, refl, ap, ◌∙◌, length}
+use Rattle.std.proofs.Common.{◌≡◌, Some, refl, ap, ◌∙◌}
 use Rattle.dcx_frac.specs.Results.{sum_of}
 use Rattle.dcx_convex.specs.Rules.{Plain, Parametrized}
 use Rattle.dcx_tree.specs.Meaning.{setting_of}
 use Rattle.dcx_linear.specs.Changes.{changed_frac}
 use Rattle.dcx_linear.specs.FormLaws.{linear_sum_value, linear_change_value}
 use Rattle.dcx_linear.specs.NumberLaws.{told_number_lem, sum_value_lem, change_value_lem}
-use Rattle.dcx_linear.specs.ParamForms.{form_of_number, number_of_form, sum_gives_form, change_gives_form, form_value, IsEntryForm}
+use Rattle.dcx_linear.specs.ParamForms.{form_of_number, number_of_form, sum_gives_form, change_gives_form, form_value}
 use Rattle.dcx_linear.specs.ParamLaws.{form_number_value, form_told_number, form_sum_value, form_change_value}
 use Rattle.dcx_linear.specs.FormsAt.{frac_value}
 use Rattle.dcx_entries.specs.Nodes.{table_forms}

@@ -1,9 +1,7 @@
 -- What is given to the nodes of a problem, by the rules: what a number takes, and parameters that may be asked for.
-use Rattle.std.proofs.Common.{◌≡◌, ◌≢◌, ℕ, ◌<◌, Bool, true, false, not, IsTrue, List, [], length, map, Some, refl, sym, ap, ◌∙◌, subst}
+use Rattle.std.proofs.Common.{◌≡◌, ℕ, Bool, true, false, not, List, [], map, refl, sym, ap, ◌∙◌}
 use Rattle.std.proofs.lemmas.Bool.{false≢true}
 use Rattle.std.proofs.lemmas.Option.{slice_get_within}
-use Rattle.dcx_shape.specs.Shape.{sides_of}
-use Rattle.dcx_shape.specs.Sides.{entries_of}
 use Rattle.dcx_point.specs.Pairs.{Pairs}
 use Rattle.dcx_arena.specs.Nodes.{IsNode}
 use Rattle.dcx_call.specs.declared.call.Call.{Call}
@@ -14,7 +12,7 @@ use Rattle.dcx_convex.proofs.Told.{judgement_tells}
 use Rattle.dcx_tree.specs.declared.problem.Problem.{Problem}
 use Rattle.dcx_tree.specs.Nodes.{Node, head_of, arg_sides, convex_node}
 use Rattle.dcx_tree.specs.Meaning.{names_in}
-use Rattle.dcx_unknowns.specs.Layout.{marked, is_reduced, AreReduced}
+use Rattle.dcx_unknowns.specs.Layout.{is_reduced, AreReduced}
 use Rattle.dcx_reduced.proofs.NodeForms.{nodes_of, nodes_ordered, convex_at}
 use Rattle.dcx_nodes.specs.Given.{IsReadable, NumbersAreGiven, ParametersAreReadable}
 use Rattle.dcx_graph.specs.Reducing.{IsGivenFor, ParametersAreGiven}

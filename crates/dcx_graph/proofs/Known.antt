@@ -1,19 +1,16 @@
 -- The program of formed nodes speaks of declared parameters alone.
-use Rattle.std.proofs.Common.{◌≡◌, ℕ, List, [], length, map, get_or, Some, Ok, slice_get, sym, subst}
+use Rattle.std.proofs.Common.{get_or, subst}
 use Rattle.std.specs.List.{All}
-use Rattle.std.proofs.lemmas.List.Elements.{All-nil}
 use Rattle.std.proofs.lemmas.Option.{slice_get_within, get_or_from_slice_get}
 use Rattle.dcx_atom.specs.Formed.{zero_frac}
-use Rattle.dcx_tree.specs.declared.problem.Problem.{Problem}
 use Rattle.dcx_tree.specs.Problems.{roots_of}
-use Rattle.dcx_linear.specs.declared.form.FormTerm.{FormTerm}
 use Rattle.dcx_linear.specs.declared.row.Row.{Row}
 use Rattle.dcx_linear.specs.declared.param_form.ParamForm.{ParamForm}
-use Rattle.dcx_linear.specs.ParamForms.{form_of_number, number_of_form, sum_gives_form, change_gives_form, IsEntryForm}
+use Rattle.dcx_linear.specs.ParamForms.{form_of_number, number_of_form, sum_gives_form, change_gives_form}
 use Rattle.dcx_unknowns.specs.Layout.{unknown_kinds}
 use Rattle.dcx_entries.specs.Nodes.{table_forms}
 use Rattle.dcx_entries.specs.Kept.{graph_rows}
-use Rattle.dcx_within.specs.Within.{IsKnown, IsKnownTerm, IsKnownNumber}
+use Rattle.dcx_within.specs.Within.{IsKnown}
 use Rattle.dcx_within.proofs.LawsHold.{forms_are_known, known_number, sum_keeps_known, change_keeps_known}
 use Rattle.dcx_graph.specs.Fixed.{ProgramsAreKnown}
 use Rattle.dcx_graph.proofs.Sizes.{OfNode, program_rows_have, program_objective_has}

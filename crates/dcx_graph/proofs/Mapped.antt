@@ -1,14 +1,12 @@
 -- What is read from an answer of the rows is right for the problem.
-use Rattle.std.proofs.Common.{◌≡◌, ℕ, ◌≤◌, arith, List, length, map, slice_get, refl, sym, ap, ◌∙◌, subst}
+use Rattle.std.proofs.Common.{◌≡◌, ◌≤◌, arith, List, length, map, sym, ap, ◌∙◌, subst}
 use Rattle.std.specs.Prelude.{sum_by}
 use Rattle.std.proofs.lemmas.List.{length-map}
-use Rattle.dcx_math.specs.Rational.{ℚ}
 use Rattle.dcx_math.specs.Sums.{rat_at}
 use Rattle.dcx_frac.specs.declared.fraction.Frac.{Frac}
 use Rattle.dcx_frac.specs.Frac.{value}
 use Rattle.dcx_point.specs.Pairs.{Pairs}
 use Rattle.dcx_convex.specs.Nodes.{Setting}
-use Rattle.dcx_convex.specs.Answers.{Multipliers}
 use Rattle.dcx_tree.specs.declared.problem.Problem.{Problem}
 use Rattle.dcx_tree.specs.Meaning.{convex_problem, point_of}
 use Rattle.dcx_linear.specs.declared.form.Form.{Form}
@@ -16,7 +14,6 @@ use Rattle.dcx_linear.specs.declared.row.Row.{Row}
 use Rattle.dcx_linear.specs.declared.row.UnknownKind.{UnknownKind}
 use Rattle.dcx_linear.specs.FormTerms.{Unknowns}
 use Rattle.dcx_linear.specs.Widths.{form_width, rows_width}
-use Rattle.dcx_linear.specs.Rows.{LinearProgram}
 use Rattle.dcx_lp_answer.specs.declared.answer.LpStatus.{LpStatus}
 use Rattle.dcx_lp_answer.specs.declared.answer.LpStatus.TheVariants as status
 use Rattle.dcx_lp_answer.specs.declared.answer.LpAnswer.{LpAnswer}
@@ -31,7 +28,6 @@ use Rattle.dcx_unknowns.specs.Layout.{constraint_rows}
 use Rattle.dcx_unknowns.specs.Unknowns.{point_at, AreSquare}
 use Rattle.dcx_unknowns.specs.Laws.{AreAlike}
 use Rattle.dcx_mapping.specs.Programs.{multipliers_of, bound_row}
-use Rattle.dcx_postsolve.specs.Numbers.{unknown_numbers}
 use Rattle.dcx_postsolve.specs.Points.{numbered}
 use Rattle.dcx_postsolve.specs.Duals.{AreDuals, multipliers_in}
 use Rattle.dcx_postsolve.specs.Laws.{ColumnsTellUnknowns, AreSameMultipliers}
@@ -101,8 +97,8 @@ module _ (p : Problem) (s : Setting) (q : Program Frac) (a : LpAnswer) (known : 
       multiplier_is 0 p.constraints (multiplier_at is.integer.columns a) k c at j
       ∙ ap (multiplier_at is.integer.columns a) (omega arith)
       ∙ sym (right_multiplier is.integer.columns a p.constraints d
-          (have_slacks (rows_of q) is.integer known is.made is.reduction.reduced.forms p.constraints (map bound_row is.reduction.reduced.rows) is.reduction.program.rows)
-          are k c at j b)
+      (have_slacks (rows_of q) is.integer known is.made is.reduction.reduced.forms p.constraints (map bound_row is.reduction.reduced.rows) is.reduction.program.rows)
+      are k c at j b)
 
   -- ---- the answer
   carries : CarriesOver p s (linear_program (rows_of q))
@@ -118,7 +114,7 @@ module _ (p : Problem) (s : Setting) (q : Program Frac) (a : LpAnswer) (known : 
       let h = carries.optimal (value a.number) (unknowns_at is.integer.columns (map value a.columns)) (multiplier_at is.integer.columns a) rows in
       subst (λ n. IsRightFor p s (answers.Optimal n point duals)) (sym same)
       ((answers_stay p s).optimal square (value a.number) (point_at p.variables (unknowns_at is.integer.columns (map value a.columns))) (point_of p point)
-          (multipliers_of (convex_problem p) (multiplier_at is.integer.columns a)) (multipliers_in duals) (point_read a.columns point is.parts.columns at) (duals_read duals are) h)
+      (multipliers_of (convex_problem p) (multiplier_at is.integer.columns a)) (multipliers_in duals) (point_read a.columns point is.parts.columns at) (duals_read duals are) h)
   read_right square (answers.Infeasible duals gap) (e, same, are) =
       let rows = right_rows status.Infeasible e in
       let h = carries.infeasible (value a.number) (multiplier_at is.integer.columns a) rows in
@@ -129,6 +125,6 @@ module _ (p : Problem) (s : Setting) (q : Program Frac) (a : LpAnswer) (known : 
       let h = carries.unbounded (unknowns_at is.integer.columns (map value a.columns)) (unknowns_at is.integer.columns (map value a.ray)) (value a.number) (value a.slope) rows in
       subst (λ n. IsRightFor p s (answers.Unbounded point ray n slope)) (sym same_bound)
       (subst (λ n. IsRightFor p s (answers.Unbounded point ray a.number n)) (sym same_slope)
-          ((answers_stay p s).unbounded square (point_at p.variables (unknowns_at is.integer.columns (map value a.columns))) (point_of p point)
-              (point_at p.variables (unknowns_at is.integer.columns (map value a.ray))) (point_of p ray) (value a.number) (value a.slope)
-              (point_read a.columns point is.parts.columns at) (point_read a.ray ray (is.parts.ray e) along) h))
+      ((answers_stay p s).unbounded square (point_at p.variables (unknowns_at is.integer.columns (map value a.columns))) (point_of p point)
+      (point_at p.variables (unknowns_at is.integer.columns (map value a.ray))) (point_of p ray) (value a.number) (value a.slope)
+      (point_read a.columns point is.parts.columns at) (point_read a.ray ray (is.parts.ray e) along) h))

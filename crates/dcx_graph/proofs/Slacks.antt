@@ -49,12 +49,12 @@ module _ (forms : Unknowns → ℕ → Numbers) where
   gaps_have P i (d ∷ cs) h zero c e j b =
       subst (λ (y : Constraint). j < constraint_rows y → P (i + (first_row (d ∷ cs) 0 + j)) (gap_row forms (convex_constraint y) j)) (same_Some d c e)
       (λ l. subst (λ n. P (i + n) (gap_row forms (convex_constraint d) j)) (omega arith)
-          (all_below P i (constraint_rows d) (gap_row forms (convex_constraint d)) (all_left P i (list_below (constraint_rows d) (gap_row forms (convex_constraint d))) (gap_rows forms (map convex_constraint cs)) h) j l)) b
+      (all_below P i (constraint_rows d) (gap_row forms (convex_constraint d)) (all_left P i (list_below (constraint_rows d) (gap_row forms (convex_constraint d))) (gap_rows forms (map convex_constraint cs)) h) j l)) b
   gaps_have P i (d ∷ cs) h (suc k) c e j b =
       subst (λ n. P n (gap_row forms (convex_constraint c) j)) (omega (arith, sum_by-cons constraint_rows d (take k cs)))
       (gaps_have P (i + constraint_rows d) cs
-          (subst (λ n. AllFrom P (i + n) (gap_rows forms (map convex_constraint cs))) (length-list_below (constraint_rows d) (gap_row forms (convex_constraint d)))
-              (all_right P i (list_below (constraint_rows d) (gap_row forms (convex_constraint d))) (gap_rows forms (map convex_constraint cs)) h)) k c e j b)
+      (subst (λ n. AllFrom P (i + n) (gap_rows forms (map convex_constraint cs))) (length-list_below (constraint_rows d) (gap_row forms (convex_constraint d)))
+      (all_right P i (list_below (constraint_rows d) (gap_row forms (convex_constraint d))) (gap_rows forms (map convex_constraint cs)) h)) k c e j b)
 
 -- ---- multipliers
 -- the multiplier of an entry is that of its row
@@ -83,7 +83,7 @@ module _ (rows : GivenRows) (q : Program) (known : HasKinds rows) (made : IsMade
   rows_enough =
       let count = (scaled_program rows q made).count in
       let all : length rows.rows ≡ sum_by constraint_rows cs + length rest =
-          sym (length-map rows.rows row_at) ∙ ap length are ∙ length-append (gap_rows forms (map convex_constraint cs)) rest ∙ ap (λ n. n + length rest) (gaps_length forms cs) in
+      sym (length-map rows.rows row_at) ∙ ap length are ∙ length-append (gap_rows forms (map convex_constraint cs)) rest ∙ ap (λ n. n + length rest) (gaps_length forms cs) in
       omega (arith, count, all)
 
   -- the row of an entry
@@ -91,8 +91,8 @@ module _ (rows : GivenRows) (q : Program) (known : HasKinds rows) (made : IsMade
   row_there k c at j b =
       subst (λ n. slice_get (linear_program rows).rows n ≡ Some (gap_row forms (convex_constraint c) j)) (omega arith)
       (gaps_have forms (λ n r. slice_get (linear_program rows).rows n ≡ Some r) 0 cs
-          (all_left (λ n r. slice_get (linear_program rows).rows n ≡ Some r) 0 (gap_rows forms (map convex_constraint cs)) rest
-              (λ n r e. ap (λ xs. slice_get xs (0 + n)) are ∙ ap (λ m. slice_get (gap_rows forms (map convex_constraint cs) ++ rest) m) (omega arith) ∙ e)) k c at j b)
+      (all_left (λ n r. slice_get (linear_program rows).rows n ≡ Some r) 0 (gap_rows forms (map convex_constraint cs)) rest
+      (λ n r e. ap (λ xs. slice_get xs (0 + n)) are ∙ ap (λ m. slice_get (gap_rows forms (map convex_constraint cs) ++ rest) m) (omega arith) ∙ e)) k c at j b)
 
   -- the inequalities have slacks, and no others
   pub have_slacks : HaveSlacks q.columns cs

@@ -1,5 +1,5 @@
 -- What the stages of a reduction answer is what the reduction answers.
-use Rattle.std.proofs.Common.{◌≡◌, ◌⊎◌, ℕ, ◌+◌, ◌<◌, ◌≤◌, ◌^◌, arith, List, [], ◌∷◌, length, Option, Result, Ok, Err, refl, sym, subst, inl, inr}
+use Rattle.std.proofs.Common.{ℕ, ◌<◌, ◌≤◌, ◌^◌, arith, List, [], ◌∷◌, length, Option, Result, Ok, Err, sym, subst, inl, inr}
 use Rattle.std.specs.Prelude.{sum_by}
 use Rattle.std.proofs.lemmas.List.Sums.{sum_by-cons}
 use Rattle.dcx_frac.specs.declared.fraction.Frac.{Frac}
@@ -14,14 +14,13 @@ use Rattle.dcx_linear.specs.declared.row.UnknownKind.TheVariants as kinds
 use Rattle.dcx_linear.specs.Size.{columns_for}
 use Rattle.dcx_unknowns.specs.declared.stop.LayoutStop.{LayoutStop}
 use Rattle.dcx_unknowns.specs.declared.stop.LayoutStop.TheVariants as layouts
-use Rattle.dcx_unknowns.specs.Layout.{is_reduced, kinds_with, rows_with, columns_with, row_count, column_count, AreFew, IsLayoutStop}
+use Rattle.dcx_unknowns.specs.Layout.{kinds_with, rows_with, columns_with, row_count, column_count, AreFew, IsLayoutStop}
 use Rattle.dcx_entries.specs.declared.stop.FormStop.{FormStop}
 use Rattle.dcx_entries.specs.declared.stop.FormStop.TheVariants as forms
 use Rattle.dcx_entries.specs.Nodes.{Table, AreFormed}
 use Rattle.dcx_entries.specs.Kept.{IsStop}
 use Rattle.dcx_graph.specs.declared.stop.ReduceStop.{ReduceStop}
-use Rattle.dcx_graph.specs.declared.stop.ReduceStop.TheVariants as stops
-use Rattle.dcx_graph.specs.Program.{Program, GivesProgram}
+use Rattle.dcx_graph.specs.Program.{GivesProgram}
 use Rattle.dcx_graph.specs.Reduced.{Reduction}
 use Rattle.dcx_graph.specs.Stops.{IsWideAt, TellsBy}
 use Rattle.dcx_graph.specs.Reducing.{layout_stop, form_stop, Reduces, OrMemory}

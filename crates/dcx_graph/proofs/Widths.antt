@@ -1,12 +1,11 @@
 -- The forms that are kept of formed nodes are no wider than the unknowns are many.
-use Rattle.std.proofs.Common.{◌≡◌, ◌⊎◌, ℕ, zero, suc, ◌<◌, ◌≤◌, arith, List, [], ◌∷◌, length, map, get_or, Option, Some, None, option_map, Result, slice_get, slice_index_or, refl, sym, ap, ◌∙◌, subst, inl, inr, ⊎_elim}
+use Rattle.std.proofs.Common.{◌≡◌, ◌⊎◌, ℕ, zero, suc, ◌<◌, ◌≤◌, arith, List, [], ◌∷◌, length, get_or, Option, Some, None, option_map, Result, slice_get, slice_index_or, refl, sym, ap, ◌∙◌, subst, inl, inr}
 use Rattle.std.specs.List.{All}
 use Rattle.std.proofs.lemmas.List.{length-map}
-use Rattle.std.proofs.lemmas.Option.{none-some, slice_get-map, slice_get_cases, get_or_from_slice_get}
+use Rattle.std.proofs.lemmas.Option.{slice_get-map, slice_get_cases, get_or_from_slice_get}
 use Rattle.dcx_frac.specs.declared.fraction.Frac.{Frac}
 use Rattle.dcx_frac.specs.declared.fraction.Passes.{Passes}
 use Rattle.dcx_atom.specs.Arrays.{list_below}
-use Rattle.dcx_atom.proofs.BoundRows.{below_or_last}
 use Rattle.dcx_point.specs.Pairs.{Pairs}
 use Rattle.dcx_convex.specs.Rules.{Rules}
 use Rattle.dcx_tree.specs.declared.problem.Problem.{Problem}
@@ -56,8 +55,8 @@ module _ {C : Type 0} (of_number : Frac → C) (P : Form C → Type 0) (table : 
   rows_have =
       each_all (λ (r : FormedRow C). P r.form) (graph_rows of_number table)
       (each_joined (λ (r : FormedRow C). P r.form) (length table) (λ i. node_rows of_number i (slice_index_or table i [])) (λ i b.
-          let (es, at) = there table i b in
-          subst (λ xs. Each (λ (r : FormedRow C). P r.form) (node_rows of_number i xs)) (sym (get_or_from_slice_get table i es [] at)) (of_node i es at)))
+      let (es, at) = there table i b in
+      subst (λ xs. Each (λ (r : FormedRow C). P r.form) (node_rows of_number i xs)) (sym (get_or_from_slice_get table i es [] at)) (of_node i es at)))
     where
       of_entry : (i j : ℕ) (e : EntryForms C) → OfEntry P e → Each (λ (r : FormedRow C). P r.form) (entry_rows of_number i j e)
       of_entry i j e h =

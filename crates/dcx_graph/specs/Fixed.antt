@@ -1,5 +1,5 @@
 -- Programs with affine coefficients that speak of a problem's parameters alone, and what they are at a setting.
-use Rattle.std.specs.Prelude.{◌≡◌, ℕ, List, length, Some, Ok, slice_get}
+use Rattle.std.specs.Prelude.{◌≡◌, ℕ, length, Some, Ok, slice_get}
 use Rattle.std.specs.List.{All}
 use Rattle.dcx_shape.specs.Shape.{sides_of}
 use Rattle.dcx_point.specs.Pairs.{Pairs}

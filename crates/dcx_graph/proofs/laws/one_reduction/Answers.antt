@@ -32,14 +32,14 @@ pub returns-clause-numbers : goal.returns-clause-numbers
 returns-clause-numbers c = λ p setting r s h k.
     one_reduction (λ f. f) (λ f. Some f) (λ a b r. r ≡ sum_of a b) (λ change a r. r ≡ changed_frac change a) (λ position name entry given f. entry_of given name entry ≡ Some f) Plain p setting
     (one_forming (λ f. f) (λ f. Some f) (λ a b r. r ≡ sum_of a b) (λ change a r. r ≡ changed_frac change a) (λ position name entry given f. entry_of given name entry ≡ Some f)
-        (λ a b r s. one_answer (sum_of a b) r s) (λ change a r s. one_answer (changed_frac change a) r s) one_number Plain p setting (length p.tree) (omega arith))
+    (λ a b r s. one_answer (sum_of a b) r s) (λ change a r s. one_answer (changed_frac change a) r s) one_number Plain p setting (length p.tree) (omega arith))
     (λ table r s. one_program_with (λ f. f) (λ f. Some f) (λ a b r. r ≡ sum_of a b) (λ change a r. r ≡ changed_frac change a) (λ a b r s. one_answer (sum_of a b) r s) (λ change a r s. one_answer (changed_frac change a) r s)
-        (table_forms table) p (graph_rows (λ f. f) table) (unknown_kinds Plain p) r s) r s h k
+    (table_forms table) p (graph_rows (λ f. f) table) (unknown_kinds Plain p) r s) r s h k
 
 pub returns-clause-affine : goal.returns-clause-affine
 returns-clause-affine c = λ p setting r s h k.
     one_reduction form_of_number number_of_form sum_gives_form change_gives_form (λ position name entry given f. IsEntryForm position name entry f) Parametrized p setting
     (one_forming form_of_number number_of_form sum_gives_form change_gives_form (λ position name entry given f. IsEntryForm position name entry f)
-        one_form_sum one_form_change one_entry Parametrized p setting (length p.tree) (omega arith))
+    one_form_sum one_form_change one_entry Parametrized p setting (length p.tree) (omega arith))
     (λ table r s. one_program_with form_of_number number_of_form sum_gives_form change_gives_form one_form_sum one_form_change
-        (table_forms table) p (graph_rows form_of_number table) (unknown_kinds Parametrized p) r s) r s h k
+    (table_forms table) p (graph_rows form_of_number table) (unknown_kinds Parametrized p) r s) r s h k

@@ -1,4 +1,4 @@
-use Rattle.std.proofs.Common.{arith, sym, ap, ◌∙◌, subst}
+use Rattle.std.proofs.Common.{sym, ◌∙◌, subst}
 use Rattle.std.proofs.lemmas.Result.{IfOk-weaker}
 use Rattle.dcx_tree.specs.Meaning.{setting_of}
 use Rattle.dcx_graph.specs.Answers.{TellUnknowns, IsRead, IsRightFor}

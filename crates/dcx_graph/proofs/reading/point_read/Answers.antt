@@ -1,4 +1,4 @@
-use Rattle.std.proofs.Common.{◌<◌, ◌^◌, List, arith, map, sym, subst}
+use Rattle.std.proofs.Common.{◌<◌, List, arith, map, sym, subst}
 use Rattle.std.specs.List.{IsDistinct}
 use Rattle.std.proofs.Props.{props}
 use Rattle.std.proofs.Math.Logic.{∥∥₁_elim}
