@@ -21,3 +21,4 @@ pub mod Slacks
 pub mod Mapped
 pub mod Correct
 pub mod OneReduction
+pub mod OneReading

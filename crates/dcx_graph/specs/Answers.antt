@@ -3,7 +3,10 @@ use Rattle.std.specs.Prelude.{◌≡◌, ⊤, ℕ, IsTrue, List, length, map, So
 use Rattle.dcx_frac.specs.declared.fraction.Frac.{Frac}
 use Rattle.dcx_frac.specs.declared.fraction.Passes.{Passes}
 use Rattle.dcx_frac.specs.Frac.{value}
-use Rattle.dcx_point.specs.Pairs.{Pairs}
+use Rattle.dcx_atom.specs.declared.array.Array.{Array}
+use Rattle.dcx_point.specs.Pairs.{Pairs, names_of}
+use Rattle.dcx_call.specs.declared.attribute.Variable.{Variable}
+use Rattle.dcx_call.specs.Values.{given_by}
 use Rattle.dcx_convex.specs.Nodes.{Setting}
 use Rattle.dcx_convex.specs.Rules.{Rules}
 use Rattle.dcx_convex.specs.Problems.{accepted_by}
@@ -25,6 +28,7 @@ use Rattle.dcx_answer.specs.declared.site.Site.TheVariants as sites
 use Rattle.dcx_std.specs.GivenRows.{GivenRows, given}
 use Rattle.dcx_std.specs.IntegerRows.{IsMade}
 use Rattle.dcx_std.specs.Solutions.{linear_program}
+use Rattle.dcx_unknowns.specs.Laws.{IsVariable}
 use Rattle.dcx_postsolve.specs.Numbers.{unknown_numbers, HasColumns, AreOneSided}
 use Rattle.dcx_postsolve.specs.Points.{IsPointOf}
 use Rattle.dcx_postsolve.specs.Duals.{all_multipliers, AreDuals, multipliers_in}
@@ -99,3 +103,34 @@ abbrev pub IsRightFor : Problem → Setting → Answer → Type 0
 IsRightFor p s (answers.Optimal number point duals) = meaning.IsOptimal p s (value number) (point_of p point) (multipliers_in duals)
 IsRightFor p s (answers.Infeasible duals gap) = meaning.IsInfeasible p s (multipliers_in duals) (value gap)
 IsRightFor p s (answers.Unbounded point ray bound slope) = meaning.IsUnbounded p s (point_of p point) (point_of p ray) (value bound) (value slope)
+
+-- ---- one answer
+-- the points have the same names, and the same entries of the variables, and so on for ever
+pub record IsSamePoint (p : Problem) (x y : Pairs) : Type 0 where
+  pub names : names_of x ≡ names_of y
+  pub numbers : (k : ℕ) (v : Variable) → IsVariable p.variables k v → (j : ℕ) → given_by x v.name j ≡ given_by y v.name j
+
+-- the multipliers have the same numbers
+abbrev pub AreSameDuals : List Array → List Array → Type 0
+AreSameDuals ds es = map (λ x. x.entries) ds ≡ map (λ x. x.entries) es
+
+-- the answers are of one kind, and have the same numbers
+abbrev pub IsSameAnswer : Problem → Answer → Answer → Type 0
+IsSameAnswer p (answers.Optimal n x ds) (answers.Optimal m y es) = (n ≡ m) × IsSamePoint p x y × AreSameDuals ds es
+IsSameAnswer p (answers.Optimal n x ds) (answers.Infeasible es g) = ⊥
+IsSameAnswer p (answers.Optimal n x ds) (answers.Unbounded y q b t) = ⊥
+IsSameAnswer p (answers.Infeasible ds g) (answers.Optimal m y es) = ⊥
+IsSameAnswer p (answers.Infeasible ds g) (answers.Infeasible es h) = (g ≡ h) × AreSameDuals ds es
+IsSameAnswer p (answers.Infeasible ds g) (answers.Unbounded y q b t) = ⊥
+IsSameAnswer p (answers.Unbounded x r b t) (answers.Optimal m y es) = ⊥
+IsSameAnswer p (answers.Unbounded x r b t) (answers.Infeasible es g) = ⊥
+IsSameAnswer p (answers.Unbounded x r b t) (answers.Unbounded y q c u) = (b ≡ c) × (t ≡ u) × IsSamePoint p x y × IsSamePoint p r q
+
+-- what is told of what is read from an answer
+pub record IsOneReading (p : Problem) (kinds : List UnknownKind) (a : LpAnswer) : Type 0 where
+  pub same : (x y : Answer) → IsRead p kinds a x → IsRead p kinds a y → IsSameAnswer p x y
+  pub never_both : (x : Answer) (site : Site) → IsRead p kinds a x → PassesAt p a site → ⊥
+  pub one_stop : (s t : Site) → PassesAt p a s → PassesAt p a t → s ≡ t
+
+abbrev pub ReadingsAreOne : Type 0
+ReadingsAreOne = (p : Problem) (kinds : List UnknownKind) (a : LpAnswer) → IsOneReading p kinds a

@@ -13,6 +13,7 @@ ghost use Rattle.dcx_entries.specs.Kept.{graph_rows};
 ghost use Rattle.dcx_graph.specs.Program.{Program, IsProgram, GivesProgram};
 ghost use Rattle.dcx_graph.specs.Fixing.{FixGives};
 ghost use Rattle.dcx_graph.specs.AsLinear.{ProgramsAreReductions};
+ghost use Rattle.dcx_graph.specs.Answers.{ReadingsAreOne};
 ghost use Rattle.dcx_graph.specs.Backward.{AnswersCarryOver};
 ghost use Rattle.dcx_graph.specs.Correct.{ReducesNumbers, ReducesAffine, NumbersAreReductions, AffineAreReductions, AffineAreKnown, IsOneAnswer};
 ghost use Rattle.dcx_graph.specs.Fixed.{ProgramsAreKnown, KnownAreListed, FixedAreReductions};
@@ -83,4 +84,10 @@ pub fn affine_are_known()
 pub fn one_reduction()
     ensures numbers { (p : Problem) (setting : Pairs) → IsOneAnswer (ReducesNumbers p setting) }
     ensures affine { (p : Problem) (setting : Pairs) → IsOneAnswer (ReducesAffine p setting) }
+{}
+
+/// One thing is read from an answer of the rows: one answer, but for what its arrays hold past their ends, or one multiplier that
+/// passes 128 bits first.
+pub fn readings_are_one()
+    ensures { ReadingsAreOne }
 {}

@@ -26,6 +26,7 @@
 //! | a right answer of the linear program of a reduced program is one of the problem | `laws::answers_carry_over` |
 //! | what is read from a right answer of the integer rows is right for the problem | `map_back`, `specs/Answers.antt`: `IsRightFor` |
 //! | it has the numbers of that answer, or the first multiplier that passes 128 bits is told, with its row | `map_back`, `specs/Answers.antt`: `IsRead`, `StopsReading` |
+//! | one answer is read, or one stop | `laws::readings_are_one` |
 #![tactic(auto)]
 
 mod constraint;
