@@ -36,7 +36,7 @@ use Rattle.dcx_postsolve.proofs.DualLaws.{right_multiplier}
 use Rattle.dcx_postsolve.proofs.Alike.{arrays_are_points}
 use Rattle.dcx_postsolve.proofs.Carrying.{answers_stay}
 use Rattle.dcx_graph.specs.Program.{Program}
-use Rattle.dcx_graph.specs.Answers.{rows_of, IsAnswered, TellUnknowns, IsPointRead, IsRead, IsRightFor}
+use Rattle.dcx_graph.specs.Answers.{rows_of, IsAnswered, TellUnknowns, CanBeRead, IsPointRead, IsRead, IsRightFor}
 use Rattle.dcx_graph.specs.Backward.{CarriesOver}
 use Rattle.dcx_graph.proofs.Backward.{answers_carry_over}
 use Rattle.dcx_graph.proofs.Slacks.{rows_enough, have_slacks, multiplier_is}
@@ -53,13 +53,13 @@ known_of q kinds rows objective same_kinds same_rows same_objective rows_known o
 
 module _ (p : Problem) (s : Setting) (q : Program Frac) (a : LpAnswer) (known : HasKinds (rows_of q)) (is : IsAnswered p s q a) where
   -- ---- rows
-  pub rows_noted : sum_by constraint_rows p.constraints ≤ length a.rows
+  rows_noted : sum_by constraint_rows p.constraints ≤ length a.rows
   rows_noted =
       let enough = rows_enough (rows_of q) is.integer known is.made is.reduction.reduced.forms p.constraints (map bound_row is.reduction.reduced.rows) is.reduction.program.rows in
       let count = is.parts.notes in
       omega (arith, enough, count)
 
-  pub rows_few : length a.rows ≤ 600
+  rows_few : length a.rows ≤ 600
   rows_few =
       let fits = is.made.fits.0 in
       let count = (scaled_program (rows_of q) is.integer is.made).count in
@@ -78,11 +78,14 @@ module _ (p : Problem) (s : Setting) (q : Program Frac) (a : LpAnswer) (known : 
   one_sided status.Infeasible r = r.one_sided
   one_sided status.Unbounded r = r.one_sided
 
-  pub columns_told : TellUnknowns q.kinds a.columns
+  columns_told : TellUnknowns q.kinds a.columns
   columns_told = told a.columns is.parts.columns (one_sided a.status is.right)
 
-  pub ray_told : a.status ≡ status.Unbounded → TellUnknowns q.kinds a.ray
+  ray_told : a.status ≡ status.Unbounded → TellUnknowns q.kinds a.ray
   ray_told e = told a.ray (is.parts.ray e) (subst (λ t. IsRightAs t is.integer a) e is.right).one_sided_ray
+
+  pub can_be_read : CanBeRead p q.kinds a
+  can_be_read = let few = rows_few in record { rows = rows_noted; few = omega (arith, few); columns = columns_told; ray = ray_told }
 
   -- ---- points and multipliers
   point_read : (xs : List Frac) (given : Pairs) → length xs ≡ length is.integer.columns → IsPointRead p q.kinds xs given →

@@ -1,5 +1,5 @@
 -- From an answer of the rows back to the problem: when there is one, what it is, and the first multiplier that passes.
-use Rattle.std.specs.Prelude.{◌≡◌, ⊤, ℕ, IsTrue, List, length, map, Some}
+use Rattle.std.specs.Prelude.{◌≡◌, ⊤, ℕ, ◌<◌, ◌≤◌, ◌^◌, IsTrue, List, length, map, sum_by, Some}
 use Rattle.dcx_frac.specs.declared.fraction.Frac.{Frac}
 use Rattle.dcx_frac.specs.declared.fraction.Passes.{Passes}
 use Rattle.dcx_frac.specs.Frac.{value}
@@ -28,6 +28,7 @@ use Rattle.dcx_answer.specs.declared.site.Site.TheVariants as sites
 use Rattle.dcx_std.specs.GivenRows.{GivenRows, given}
 use Rattle.dcx_std.specs.IntegerRows.{IsMade}
 use Rattle.dcx_std.specs.Solutions.{linear_program}
+use Rattle.dcx_unknowns.specs.Layout.{constraint_rows}
 use Rattle.dcx_unknowns.specs.Laws.{IsVariable}
 use Rattle.dcx_postsolve.specs.Numbers.{unknown_numbers, HasColumns, AreOneSided}
 use Rattle.dcx_postsolve.specs.Points.{IsPointOf}
@@ -64,6 +65,13 @@ pub record IsAnswered (p : Problem) (s : Setting) (q : Program Frac) (a : LpAnsw
 pub record TellUnknowns (kinds : List UnknownKind) (columns : List Frac) : Type 0 where
   pub there : HasColumns kinds (map value columns)
   pub one_sided : AreOneSided kinds (map value columns)
+
+-- the answer has what is read of it: the notes of the constraints' rows, and the numbers of the unknowns' columns
+pub record CanBeRead (p : Problem) (kinds : List UnknownKind) (a : LpAnswer) : Type 0 where
+  pub rows : sum_by constraint_rows p.constraints ≤ length a.rows
+  pub few : length a.rows < 2 ^ 32
+  pub columns : TellUnknowns kinds a.columns
+  pub ray : a.status ≡ status.Unbounded → TellUnknowns kinds a.ray
 
 -- the point of the unknowns whose columns have these numbers
 pub record IsPointRead (p : Problem) (kinds : List UnknownKind) (columns : List Frac) (point : Pairs) : Type 0 where

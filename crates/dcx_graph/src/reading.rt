@@ -6,7 +6,7 @@ ghost use Rattle.dcx_unknowns.specs.Layout.{constraint_rows};
 ghost use Rattle.dcx_unknowns.specs.Unknowns.{AreSquare};
 ghost use Rattle.dcx_tree.specs.Meaning.{setting_of};
 ghost use Rattle.dcx_postsolve.specs.Duals.{AreDuals};
-ghost use Rattle.dcx_graph.specs.Answers.{IsAnswered, TellUnknowns, IsPointRead, IsRead, StopsReading, IsRightFor, answer_stop};
+ghost use Rattle.dcx_graph.specs.Answers.{IsAnswered, TellUnknowns, CanBeRead, IsPointRead, IsRead, StopsReading, IsRightFor, answer_stop};
 
 use crate::reduced::Reduced;
 use dcx_answer::{Answer, Duals, Site};
@@ -89,9 +89,7 @@ fn optimal(
 ) -> Result<Answer, AnswerStop>
     requires status { answer.now.status ≡ status.Optimal }
     requires square { AreSquare problem.now.variables }
-    requires told { TellUnknowns kinds.now answer.now.columns }
-    requires rows { sum_by constraint_rows problem.now.constraints ≤ length answer.now.rows }
-    requires few { length answer.now.rows < 2 ^ 32 }
+    requires there { CanBeRead problem.now kinds.now answer.now }
     ensures read { IfOk result (IsRead problem.now kinds.now answer.now) }
     ensures stops { IfErr result (StopsReading problem.now answer.now) }
 {
@@ -128,8 +126,7 @@ fn unbounded(
 ) -> Result<Answer, AllocError>
     requires status { answer.now.status ≡ status.Unbounded }
     requires square { AreSquare problem.now.variables }
-    requires told { TellUnknowns kinds.now answer.now.columns }
-    requires ray { TellUnknowns kinds.now answer.now.ray }
+    requires there { CanBeRead problem.now kinds.now answer.now }
     ensures read { IfOk result (IsRead problem.now kinds.now answer.now) }
 {
     let point = point_read(alloc, problem, kinds, answer.columns.as_slice())?;
@@ -140,6 +137,25 @@ fn unbounded(
         bound: answer.number,
         slope: answer.slope,
     })
+}
+
+/// What is read from an answer of rows over unknowns of these kinds.
+fn read(
+    alloc: Global,
+    problem: &Problem,
+    kinds: &[UnknownKind],
+    answer: &LpAnswer,
+) -> Result<Answer, AnswerStop>
+    requires square { AreSquare problem.now.variables }
+    requires there { CanBeRead problem.now kinds.now answer.now }
+    ensures read { IfOk result (IsRead problem.now kinds.now answer.now) }
+    ensures stops { IfErr result (StopsReading problem.now answer.now) }
+{
+    match answer.status {
+        LpStatus::Optimal => optimal(alloc, problem, kinds, answer),
+        LpStatus::Infeasible => infeasible(alloc, problem, answer),
+        LpStatus::Unbounded => Ok(unbounded(alloc, problem, kinds, answer)?),
+    }
 }
 
 /// The answer to the problem at the setting that an answer of the rows of its reduced program shows: the value, gap, bound and
@@ -161,10 +177,5 @@ pub fn map_back(
     ensures right { IfOk result (IsRightFor problem.now (setting_of problem.now setting.now)) }
     ensures stops { IfErr result (StopsReading problem.now answer.now) }
 {
-    let kinds = reduced.rows().kinds.as_slice();
-    match answer.status {
-        LpStatus::Optimal => optimal(alloc, problem, kinds, answer),
-        LpStatus::Infeasible => infeasible(alloc, problem, answer),
-        LpStatus::Unbounded => Ok(unbounded(alloc, problem, kinds, answer)?),
-    }
+    read(alloc, problem, reduced.rows().kinds.as_slice(), answer)
 }
