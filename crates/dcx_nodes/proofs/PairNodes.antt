@@ -2,6 +2,7 @@
 use Rattle.std.proofs.Common.{◌≡◌, ℕ, zero, suc, ◌<◌, arith, Bool, true, false, not, ◌&&◌, if◌then◌else◌, List, [], ◌∷◌, length, map, get_or, slice_index_or, All, Option, Some, None, IfSome, IsSome, refl, sym, ap, ap₂, ◌∙◌, subst, Result}
 use Rattle.std.specs.List.{list_all}
 use Rattle.std.proofs.lemmas.Bool.{and_parts}
+use Rattle.std.proofs.lemmas.List.{length-map}
 use Rattle.std.proofs.lemmas.List.Elements.{All-cons, All-nil}
 use Rattle.std.proofs.lemmas.Option.{same_Some, none-some, slice_get_within}
 use Rattle.dcx_frac.specs.declared.fraction.Frac.{Frac}
@@ -43,7 +44,7 @@ use Rattle.dcx_entries.specs.Nodes.{is_told, has_numbers, pairing_scaling, side_
 use Rattle.dcx_entries.proofs.OwnRows.{list_below_at}
 use Rattle.dcx_nodes.specs.Marks.{AreMarks, side_marked}
 use Rattle.dcx_nodes.specs.Formed.{ReducedGives}
-use Rattle.dcx_nodes.proofs.AtNode.{shape_given}
+use Rattle.dcx_nodes.proofs.AtNode.{the_node, shape_given}
 use Rattle.dcx_nodes.proofs.Gives.{each_alike, reduced_by}
 
 -- ---- forms of numbers
@@ -201,3 +202,20 @@ pub given_pairs : (q : Pairing) (x y a b : Sides) (pairs : List (List Pair)) →
     IfSome (paired_sides q a b) (λ s. pairs ≡ list_below (entries_of s) (pairs_at q a b))
 given_pairs q x y a b pairs e f h =
     subst (λ z. IfSome (paired_sides q a z) (λ s. pairs ≡ list_below (entries_of s) (pairs_at q a z))) f (subst (λ z. IfSome (paired_sides q z y) (λ s. pairs ≡ list_below (entries_of s) (pairs_at q z y))) e h)
+
+-- a product has two arguments, which stand before it
+module _ (p : Problem) (i : ℕ) (q : Pairing) (c : call_at p.tree i ≡ Some (calls.Pairing q)) (ids : List NodeId) (ids_are : positions ids ≡ args_at p.tree i) where
+  pub two_ids : length ids ≡ 2
+  two_ids =
+      let (n, at) = the_node p i (calls.Pairing q) c in
+      let many = args_two p i q c n at (positions ids) ids_are in
+      omega (arith, many, length-map ids (λ (a : NodeId). a.0))
+
+  pub call_within : i < length p.tree
+  call_within = let (n, at) = the_node p i (calls.Pairing q) c in slice_get_within p.tree i n at
+
+  pub id_below : (k : ℕ) → k < 2 → (get_or ids k (record { 0 = 0 })).0 < i
+  id_below k b =
+      let (n, at) = the_node p i (calls.Pairing q) c in
+      let below = arg_below p i q c n at (positions ids) ids_are k 0 b in
+      omega (arith, below, pos_get ids k)

@@ -1,14 +1,11 @@
 -- The pairs are those of the two sides.
 use Rattle.std.proofs.Common.{◌≡◌, ℕ, [], List, length, get_or, slice_index_or, All, IfSome, IsSome, Result, refl, sym, ap, ap₂, ◌∙◌, subst, arith}
-use Rattle.std.proofs.lemmas.List.{length-map}
-use Rattle.std.proofs.lemmas.Option.{slice_get_within}
 use Rattle.dcx_shape.specs.Shape.{sides_of}
 use Rattle.dcx_shape.specs.Sides.{entries_of}
 use Rattle.dcx_atom.specs.declared.stops.ValueStop.{ValueStop}
 use Rattle.dcx_atom.specs.Arrays.{list_below}
 use Rattle.dcx_affine.specs.declared.pairing.Pair.{Pair}
 use Rattle.dcx_affine.specs.Pairing.{paired_sides, pairs_at}
-use Rattle.dcx_arena.specs.declared.node.NodeId.{NodeId}
 use Rattle.dcx_arena.specs.Nodes.{positions, sides_at}
 use Rattle.dcx_call.specs.declared.call.Call.TheVariants as calls
 use Rattle.dcx_tree.proofs.NodeValues.{sides_are}
@@ -22,126 +19,56 @@ use Rattle.dcx_nodes.specs.Formed.{ReducedGives}
 use Rattle.dcx_nodes.specs.Marks.{side_marked}
 use Rattle.dcx_nodes.proofs.AtNode.{the_node}
 use Rattle.dcx_nodes.proofs.Gives.{formed_weaker, formed_count}
-use Rattle.dcx_nodes.proofs.PairNodes.{args_two, paired, arg_below, pairs_counted, pairs_have_numbers, pair_gives, pos_get, given_pairs}
+use Rattle.dcx_nodes.proofs.PairNodes.{two_ids, call_within, id_below, paired, pairs_counted, pairs_have_numbers, pair_gives, pos_get, given_pairs}
 use Rattle.dcx_nodes.proofs.products.pairing_node.Goals as goal
 
 pub bounds-ids-0 : goal.bounds-ids-0
-bounds-ids-0 g c =
-    let p = c.args.given.now.problem.now in
-    let i = c.args.node.0 in
-    let q = c.args.pairing in
-    let ids = positions c.args.args.now.ids.now in
-    let (n, at) = the_node p i (calls.Pairing q) c.requires.call in
-    let many = args_two p i q c.requires.call n at ids c.requires.ids in
-    let same = length-map c.args.args.now.ids.now (λ (a : NodeId). a.0) in
-    omega (arith, many, same)
+bounds-ids-0 g c = let two = two_ids c.args.given.now.problem.now c.args.node.0 c.args.pairing c.requires.call c.args.args.now.ids.now c.requires.ids in omega (arith, two)
 
 pub bounds-ids-1 : goal.bounds-ids-1
-bounds-ids-1 g c =
-    let p = c.args.given.now.problem.now in
-    let i = c.args.node.0 in
-    let q = c.args.pairing in
-    let ids = positions c.args.args.now.ids.now in
-    let (n, at) = the_node p i (calls.Pairing q) c.requires.call in
-    let many = args_two p i q c.requires.call n at ids c.requires.ids in
-    let same = length-map c.args.args.now.ids.now (λ (a : NodeId). a.0) in
-    omega (arith, many, same)
+bounds-ids-1 g c = let two = two_ids c.args.given.now.problem.now c.args.node.0 c.args.pairing c.requires.call c.args.args.now.ids.now c.requires.ids in omega (arith, two)
 
 pub side_at-left_side-requires-clause-reduced : goal.side_at-left_side-requires-clause-reduced
 side_at-left_side-requires-clause-reduced g c =
-    let p = c.args.given.now.problem.now in
-    let i = c.args.node.0 in
-    let q = c.args.pairing in
-    let ids = positions c.args.args.now.ids.now in
-    let (n, at) = the_node p i (calls.Pairing q) c.requires.call in
-    let below = arg_below p i q c.requires.call n at ids c.requires.ids 0 0 (omega arith) in
-    let within = slice_get_within p.tree i n at in
-    let same = pos_get c.args.args.now.ids.now 0 in
-    omega (arith, below, within, same, c.requires.ready.reduced_counted)
+    let within = call_within c.args.given.now.problem.now c.args.node.0 c.args.pairing c.requires.call c.args.args.now.ids.now c.requires.ids in
+    let below = id_below c.args.given.now.problem.now c.args.node.0 c.args.pairing c.requires.call c.args.args.now.ids.now c.requires.ids 0 (omega arith) in
+    omega (arith, below, within, c.requires.ready.reduced_counted)
 
 pub side_at-left_side-requires-clause-fixed : goal.side_at-left_side-requires-clause-fixed
 side_at-left_side-requires-clause-fixed g c =
-    let p = c.args.given.now.problem.now in
-    let i = c.args.node.0 in
-    let q = c.args.pairing in
-    let ids = positions c.args.args.now.ids.now in
-    let (n, at) = the_node p i (calls.Pairing q) c.requires.call in
-    let below = arg_below p i q c.requires.call n at ids c.requires.ids 0 0 (omega arith) in
-    let within = slice_get_within p.tree i n at in
-    let same = pos_get c.args.args.now.ids.now 0 in
-    omega (arith, below, within, same, c.requires.ready.fixed_counted)
+    let within = call_within c.args.given.now.problem.now c.args.node.0 c.args.pairing c.requires.call c.args.args.now.ids.now c.requires.ids in
+    let below = id_below c.args.given.now.problem.now c.args.node.0 c.args.pairing c.requires.call c.args.args.now.ids.now c.requires.ids 0 (omega arith) in
+    omega (arith, below, within, c.requires.ready.fixed_counted)
 
 pub side_at-left_side-requires-clause-before : goal.side_at-left_side-requires-clause-before
-side_at-left_side-requires-clause-before g c =
-    let p = c.args.given.now.problem.now in
-    let i = c.args.node.0 in
-    let q = c.args.pairing in
-    let ids = positions c.args.args.now.ids.now in
-    let (n, at) = the_node p i (calls.Pairing q) c.requires.call in
-    let below = arg_below p i q c.requires.call n at ids c.requires.ids 0 0 (omega arith) in
-    let within = slice_get_within p.tree i n at in
-    let same = pos_get c.args.args.now.ids.now 0 in
-    omega (arith, below, same, c.requires.before)
+side_at-left_side-requires-clause-before g c = let below = id_below c.args.given.now.problem.now c.args.node.0 c.args.pairing c.requires.call c.args.args.now.ids.now c.requires.ids 0 (omega arith) in omega (arith, below, c.requires.before)
 
 pub side_at-right_side-requires-clause-reduced : goal.side_at-right_side-requires-clause-reduced
 side_at-right_side-requires-clause-reduced g c =
-    let p = c.args.given.now.problem.now in
-    let i = c.args.node.0 in
-    let q = c.args.pairing in
-    let ids = positions c.args.args.now.ids.now in
-    let (n, at) = the_node p i (calls.Pairing q) c.requires.call in
-    let below = arg_below p i q c.requires.call n at ids c.requires.ids 1 0 (omega arith) in
-    let within = slice_get_within p.tree i n at in
-    let same = pos_get c.args.args.now.ids.now 1 in
-    omega (arith, below, within, same, c.requires.ready.reduced_counted)
+    let within = call_within c.args.given.now.problem.now c.args.node.0 c.args.pairing c.requires.call c.args.args.now.ids.now c.requires.ids in
+    let below = id_below c.args.given.now.problem.now c.args.node.0 c.args.pairing c.requires.call c.args.args.now.ids.now c.requires.ids 1 (omega arith) in
+    omega (arith, below, within, c.requires.ready.reduced_counted)
 
 pub side_at-right_side-requires-clause-fixed : goal.side_at-right_side-requires-clause-fixed
 side_at-right_side-requires-clause-fixed g c =
-    let p = c.args.given.now.problem.now in
-    let i = c.args.node.0 in
-    let q = c.args.pairing in
-    let ids = positions c.args.args.now.ids.now in
-    let (n, at) = the_node p i (calls.Pairing q) c.requires.call in
-    let below = arg_below p i q c.requires.call n at ids c.requires.ids 1 0 (omega arith) in
-    let within = slice_get_within p.tree i n at in
-    let same = pos_get c.args.args.now.ids.now 1 in
-    omega (arith, below, within, same, c.requires.ready.fixed_counted)
+    let within = call_within c.args.given.now.problem.now c.args.node.0 c.args.pairing c.requires.call c.args.args.now.ids.now c.requires.ids in
+    let below = id_below c.args.given.now.problem.now c.args.node.0 c.args.pairing c.requires.call c.args.args.now.ids.now c.requires.ids 1 (omega arith) in
+    omega (arith, below, within, c.requires.ready.fixed_counted)
 
 pub side_at-right_side-requires-clause-before : goal.side_at-right_side-requires-clause-before
-side_at-right_side-requires-clause-before g c =
-    let p = c.args.given.now.problem.now in
-    let i = c.args.node.0 in
-    let q = c.args.pairing in
-    let ids = positions c.args.args.now.ids.now in
-    let (n, at) = the_node p i (calls.Pairing q) c.requires.call in
-    let below = arg_below p i q c.requires.call n at ids c.requires.ids 1 0 (omega arith) in
-    let within = slice_get_within p.tree i n at in
-    let same = pos_get c.args.args.now.ids.now 1 in
-    omega (arith, below, same, c.requires.before)
+side_at-right_side-requires-clause-before g c = let below = id_below c.args.given.now.problem.now c.args.node.0 c.args.pairing c.requires.call c.args.args.now.ids.now c.requires.ids 1 (omega arith) in omega (arith, below, c.requires.before)
 
 pub shape-requires : goal.shape-requires
 shape-requires g c =
-    let p = c.args.given.now.problem.now in
-    let i = c.args.node.0 in
-    let q = c.args.pairing in
-    let ids = positions c.args.args.now.ids.now in
-    let (n, at) = the_node p i (calls.Pairing q) c.requires.call in
-    let below = arg_below p i q c.requires.call n at ids c.requires.ids 0 0 (omega arith) in
-    let within = slice_get_within p.tree i n at in
-    let same = pos_get c.args.args.now.ids.now 0 in
-    omega (arith, below, within, same)
+    let within = call_within c.args.given.now.problem.now c.args.node.0 c.args.pairing c.requires.call c.args.args.now.ids.now c.requires.ids in
+    let below = id_below c.args.given.now.problem.now c.args.node.0 c.args.pairing c.requires.call c.args.args.now.ids.now c.requires.ids 0 (omega arith) in
+    omega (arith, below, within)
 
 pub shape-requires-2 : goal.shape-requires-2
 shape-requires-2 g c =
-    let p = c.args.given.now.problem.now in
-    let i = c.args.node.0 in
-    let q = c.args.pairing in
-    let ids = positions c.args.args.now.ids.now in
-    let (n, at) = the_node p i (calls.Pairing q) c.requires.call in
-    let below = arg_below p i q c.requires.call n at ids c.requires.ids 1 0 (omega arith) in
-    let within = slice_get_within p.tree i n at in
-    let same = pos_get c.args.args.now.ids.now 1 in
-    omega (arith, below, within, same)
+    let within = call_within c.args.given.now.problem.now c.args.node.0 c.args.pairing c.requires.call c.args.args.now.ids.now c.requires.ids in
+    let below = id_below c.args.given.now.problem.now c.args.node.0 c.args.pairing c.requires.call c.args.args.now.ids.now c.requires.ids 1 (omega arith) in
+    omega (arith, below, within)
 
 pub pairs-requires : goal.pairs-requires
 pairs-requires g c =
@@ -155,13 +82,7 @@ pairs-requires g c =
     subst IsSome (sym (ap₂ (paired_sides q) left_is right_is ∙ paired p i q c.requires.call n at ids c.requires.ids 0)) refl
 
 pub shape-requires-in-Ok : goal.shape-requires-in-Ok
-shape-requires-in-Ok g c =
-    let p = c.args.given.now.problem.now in
-    let i = c.args.node.0 in
-    let q = c.args.pairing in
-    let ids = positions c.args.args.now.ids.now in
-    let (n, at) = the_node p i (calls.Pairing q) c.requires.call in
-    slice_get_within p.tree i n at
+shape-requires-in-Ok g c = call_within c.args.given.now.problem.now c.args.node.0 c.args.pairing c.requires.call c.args.args.now.ids.now c.requires.ids
 
 pub pair_entries-requires-clause-size : goal.pair_entries-requires-clause-size
 pair_entries-requires-clause-size g c =
