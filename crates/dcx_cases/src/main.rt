@@ -9,6 +9,8 @@ mod count;
 mod fronts;
 mod gathered;
 mod pages;
+mod programs;
+mod reduced;
 mod running;
 mod sections;
 mod short;
