@@ -1,6 +1,4 @@
 //! The lines of a reduced program: how many rows and columns it has, the kinds of its unknowns, what is to be small, and its rows.
-ghost use Rattle.std.specs.Prelude.{◌<◌, length};
-
 use dcx_frac::Frac;
 use dcx_graph::{Origin, Reduced, Reducible};
 use dcx_linear::{Form, ParamForm, ParamTerm, Row, RowKind, UnknownKind, unknown_columns};
@@ -161,7 +159,9 @@ fn push_size<C: Shown>(
 fn push_rows<C: Shown>(text: &mut String, reduced: &Reduced<C>) -> Result<(), AllocError> {
     let rows = reduced.rows().rows.as_slice();
     for (i, row) in rows.iter().enumerate() {
-        push_row(text, row, reduced.origin(i as u32))?;
+        if let Ok(number) = u32::try_from(i) {
+            push_row(text, row, reduced.origin(number))?;
+        }
     }
     Ok(())
 }
