@@ -1,8 +1,6 @@
 //! The reduced program of a script's problem at the setting that the script ends with, as lines.
-ghost use Rattle.std.specs.Prelude.{◌≡◌, ◌<◌, ℕ, IfOk, IsSome};
-ghost use Rattle.dcx_arena.specs.Nodes.{IsNode};
+ghost use Rattle.std.specs.Prelude.{◌≡◌, ◌<◌, IfOk, IsSome};
 ghost use Rattle.dcx_convex.specs.Rules.{Plain};
-ghost use Rattle.dcx_tree.specs.Nodes.{Node};
 ghost use Rattle.dcx_linear.specs.Parameters.{entry_of};
 ghost use Rattle.dcx_unknowns.specs.Unknowns.{AreSquare};
 ghost use Rattle.dcx_rules.specs.Verdicts.{IsVerdictOf};
