@@ -8,10 +8,14 @@ mod cases;
 mod count;
 mod fronts;
 mod gathered;
+mod given;
 mod pages;
+mod programs;
+mod reduced;
 mod running;
 mod sections;
 mod short;
+mod stops;
 
 use cases::run_cases;
 use count::Count;

@@ -2,6 +2,7 @@
 ghost use Rattle.std.specs.Prelude.{◌≡◌, ◌<◌};
 
 use crate::gathered::gathered;
+use crate::reduced::{Asked, reduced};
 use dcx_host::{Library, MemoryLibrary, MemorySink, Sink};
 use dcx_shape::Bytes;
 use dcx_steps::Steps;
@@ -92,21 +93,24 @@ fn words_of(alloc: Global, text: &str) -> Result<Vec<String>, AllocError> {
     Ok(words)
 }
 
-/// What the problem of a file is, where the words ask for that.
+/// What the problem of a file is, or its reduced program, where the words ask for that.
 fn asked(alloc: Global, words: &[String], given: &Given) -> Result<Option<Came>, AllocError> {
     let [verb, name] = words else {
         return Ok(None);
     };
-    if verb.as_str() != "gather" {
-        return Ok(None);
-    }
     let Some(bytes) = given.files.get(name) else {
         return Ok(None);
     };
-    Ok(Some(gathered(alloc, bytes.as_slice())?))
+    let bytes = bytes.as_slice();
+    Ok(match verb.as_str() {
+        "gather" => Some(gathered(alloc, bytes)?),
+        "rows" => Some(reduced(alloc, Asked::Rows, bytes)?),
+        "map" => Some(reduced(alloc, Asked::Map, bytes)?),
+        _ => None,
+    })
 }
 
-/// What the program gives, or, for the verb `gather`, the lines of the problem.
+/// What the program gives, or, for the verbs `gather`, `rows` and `map`, the lines of the problem or of its reduced program.
 pub(crate) fn outcome(alloc: Global, given: Given) -> Result<Came, AllocError> {
     let words = words_of(alloc, given.words.as_str())?;
     if let Some(came) = asked(alloc, &words, &given)? {

@@ -1,0 +1,2 @@
+-- Lemmas of this program.
+pub mod Maps
