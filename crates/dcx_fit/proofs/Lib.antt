@@ -1,0 +1,3 @@
+-- The lemmas.
+pub mod Names
+pub mod Misfits

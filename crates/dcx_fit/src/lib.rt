@@ -1,0 +1,16 @@
+//! Whether a setting fits a problem, and what stops it first.
+//!
+//! A setting fits where it names parameters of the problem alone, and gives each parameter an array of its shape whose
+//! entries are as its attribute demands. The names of the setting are asked first, in its order, and then the parameters in
+//! order of declaration: whether there is an array, then its shape, then its entries. Divisors aren't asked here.
+//!
+//! | what must hold | where |
+//! |---|---|
+//! | which settings fit, and which stop comes first | `specs/Fit.antt` |
+//! | a setting fits, or the first misfit stops it | `fit` |
+#![tactic(auto)]
+
+mod fault;
+mod parameters;
+
+pub use parameters::fit;
