@@ -1,3 +1,5 @@
 -- The lemmas.
 pub mod Names
 pub mod Misfits
+pub mod First
+pub mod Fitting

@@ -8,9 +8,12 @@
 //! |---|---|
 //! | which settings fit, and which stop comes first | `specs/Fit.antt` |
 //! | a setting fits, or the first misfit stops it | `fit` |
+//! | a setting with a misfit doesn't fit, and there is one first misfit | `laws::fits_or_stops` |
+//! | a setting is a fitting one of the problem exactly where it fits here and nothing is divided by 0 | `laws::fitting_is_meant` |
 #![tactic(auto)]
 
 mod fault;
+pub mod laws;
 mod parameters;
 
 pub use parameters::fit;
