@@ -1,5 +1,5 @@
 -- There is one first misfit.
-use Rattle.std.proofs.Common.{◌≡◌, ◌≢◌, ◌⊎◌, inl, inr, ℕ, ◌<◌, List, Some, None, refl, sym, ap, ap₂, ◌∙◌, subst, arith}
+use Rattle.std.proofs.Common.{◌≡◌, ◌≢◌, ℕ, ◌<◌, List, Some, None, refl, sym, ap, ap₂, ◌∙◌, subst, arith}
 use native.Mathlib.Decide.{dec_lt}
 use Rattle.std.specs.List.{slice_get, All}
 use Rattle.std.proofs.lemmas.Option.{none-some, same_Some}
@@ -16,6 +16,7 @@ use Rattle.dcx_answer.specs.declared.stop.Stop.{Stop}
 use Rattle.dcx_answer.specs.declared.stop.Stop.TheVariants.{UnknownParam, MissingParam, ParamShape, ParamSign, TooLarge, ZeroDivisor, Wide, PivotLimit, Memory}
 use Rattle.dcx_fit.specs.Fit.{IsNamed, IsMet, IsFirstLeft, IsFaultOf, IsFirstUnknown, IsUnmet, IsFirstMisfit}
 use Rattle.dcx_fit.specs.Laws.{HoldsForStops}
+use Rattle.dcx_fit.proofs.Each.{each}
 use Rattle.dcx_fit.proofs.Misfits.{fault_unmet, unknown_unfit, misfit_unfit}
 
 -- one place is the first where P doesn't hold
@@ -112,6 +113,7 @@ module _ (ps : List Parameter) (given : Pairs) where
 
 pub stops_hold : HoldsForStops
 stops_hold = record {
+  either = each;
   unfit = misfit_unfit;
   one = λ ps given s t f g m k. one ps given s t (first ps given s f m) (first ps given t g k) m k;
 }

@@ -19,7 +19,7 @@ use Rattle.dcx_call.specs.declared.call.Call.{Call}
 use Rattle.dcx_call.specs.declared.call.Call.TheVariants as calls
 use Rattle.dcx_call.specs.Attributes.{IsWithin}
 use Rattle.dcx_call.specs.Values.{given_by}
-use Rattle.dcx_tree.specs.Nodes.{Names, Node, attribute_of, head_of, arg_sides, convex_node, convex_nodes, numbers_by, number_in}
+use Rattle.dcx_tree.specs.Nodes.{Names, Node, attribute_of, head_of, arg_sides, convex_node, convex_nodes, numbers_by}
 use Rattle.dcx_tree.specs.Problems.{IsListed, AreDeclared}
 use Rattle.dcx_tree.specs.Meaning.{names_in, setting_of}
 use Rattle.dcx_tree.proofs.Lawful.{mapped}
@@ -105,8 +105,8 @@ kept_prop ps given f g = λ z k e lt.
 pub fitting_holds : HoldsForFitting
 fitting_holds p given = (
   (λ h.
-    let kept : All (KeptBy given) p.parameters = ∥∥₁_elim p.declared (kept_prop p.parameters given) (λ d. to_parameters p.tree p.variables p.parameters d (names_in p) refl given h.fits.parameters) in
-    (record { named = h.named; met = λ k e lt. record { shaped = h.shaped k e lt; within = kept k e lt } }, h.fits.divisors)),
+      let kept : All (KeptBy given) p.parameters = ∥∥₁_elim p.declared (kept_prop p.parameters given) (λ d. to_parameters p.tree p.variables p.parameters d (names_in p) refl given h.fits.parameters) in
+      (record { named = h.named; met = λ k e lt. record { shaped = h.shaped k e lt; within = kept k e lt } }, h.fits.divisors)),
   (λ (f, divisors). record {
     named = f.named;
     shaped = λ k e lt. (f.met k e lt).shaped;

@@ -1,5 +1,5 @@
 -- Names that parameters have.
-use Rattle.std.proofs.Common.{◌≡◌, ℕ, true, false, List, map, Some, option_map, refl, sym, ap, ◌∙◌, true≢false}
+use Rattle.std.proofs.Common.{◌≡◌, ℕ, true, false, List, map, Some, option_map, sym, ap, ◌∙◌, true≢false}
 use Rattle.std.specs.List.{list_any}
 use Rattle.std.proofs.lemmas.Option.{slice_get-map}
 use Rattle.dcx_point.specs.Pairs.{same_name}

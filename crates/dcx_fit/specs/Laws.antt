@@ -1,5 +1,5 @@
 -- The main statements, as the clauses of the laws say them.
-use Rattle.std.specs.Prelude.{◌≡◌, ◌≢◌, ◌↔◌, List, map}
+use Rattle.std.specs.Prelude.{◌≡◌, ◌≢◌, ◌⊎◌, ◌↔◌, List, map}
 use Rattle.dcx_convex.specs.Nodes as nodes
 use Rattle.dcx_convex.specs.Nodes.{Setting, Point, EachNode, HasNoZeroDivisor}
 use Rattle.dcx_point.specs.Pairs.{Pairs}
@@ -10,8 +10,9 @@ use Rattle.dcx_answer.specs.declared.stop.Stop.{Stop}
 use Rattle.dcx_answer.specs.declared.stop.Stop.TheVariants.{Memory}
 use Rattle.dcx_fit.specs.Fit.{FitsParameters, IsFirstMisfit}
 
--- where something is a misfit the setting doesn't fit, and want of memory aside there is one first misfit
+-- a setting fits or has a first misfit, which isn't want of memory, and not both; there is one first misfit
 pub record HoldsForStops : Type 0 where
+  pub either : (parameters : List Parameter) (given : Pairs) → FitsParameters parameters given ⊎ ((stop : Stop) × IsFirstMisfit parameters given stop × (stop ≢ Memory))
   pub unfit : (parameters : List Parameter) (given : Pairs) (stop : Stop) → IsFirstMisfit parameters given stop → ¬ FitsParameters parameters given
   pub one : (parameters : List Parameter) (given : Pairs) (s t : Stop) → IsFirstMisfit parameters given s → IsFirstMisfit parameters given t →
       s ≢ Memory → t ≢ Memory → s ≡ t

@@ -1,7 +1,7 @@
 //! Laws above the definitions of `specs/`. There is no code: each clause is a statement about all settings.
 ghost use Rattle.dcx_fit.specs.Laws.{HoldsForStops, HoldsForFitting};
 
-/// A setting with a misfit doesn't fit, and want of memory aside the first misfit is one.
+/// A setting fits, or one first misfit stops it, and not both.
 pub fn fits_or_stops()
     ensures { HoldsForStops }
 {}

@@ -8,7 +8,7 @@
 //! |---|---|
 //! | which settings fit, and which stop comes first | `specs/Fit.antt` |
 //! | a setting fits, or the first misfit stops it | `fit` |
-//! | a setting with a misfit doesn't fit, and there is one first misfit | `laws::fits_or_stops` |
+//! | a setting fits, or one first misfit stops it, and not both | `laws::fits_or_stops` |
 //! | a setting is a fitting one of the problem exactly where it fits here and nothing is divided by 0 | `laws::fitting_is_meant` |
 #![tactic(auto)]
 

@@ -6,13 +6,16 @@ use Rattle.dcx_fit.proofs.Misfits.{met}
 use Rattle.dcx_fit.proofs.parameters.fault_of.Goals as goal
 
 pub returns-then-ne : goal.returns-then-ne
-returns-then-ne c = (refl, record {
-  array = c.in-Some.array.now;
-  there = sym c.in-Some.ensures;
-  is_declared = refl;
-  is_given = refl;
-  differs = search rules;
-})
+returns-then-ne c = (
+  refl,
+  record {
+    array = c.in-Some.array.now;
+    there = sym c.in-Some.ensures;
+    is_declared = refl;
+    is_given = refl;
+    differs = search rules;
+  },
+)
 
 pub returns-in_err-entry : goal.returns-in_err-entry
 returns-in_err-entry c =

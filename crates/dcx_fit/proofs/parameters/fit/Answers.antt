@@ -1,7 +1,5 @@
 -- The names are asked first, and then the parameters.
-use Rattle.std.proofs.Common.{◌≡◌, ◌↔◌, List, Err, IsOk, IfErr, MatchResult, subst, rules}
-use Rattle.std.specs.List.{All}
-use Rattle.dcx_point.specs.Pairs.{names_of}
+use Rattle.std.proofs.Common.{◌≡◌, ◌↔◌, List, Err, IsOk, IfErr, subst, rules}
 use Rattle.dcx_call.specs.declared.attribute.Parameter.{Parameter}
 use Rattle.dcx_fit.specs.Fit.{FitsParameters, IsFirstMisfit}
 use Rattle.dcx_fit.proofs.Misfits.{both, exact, stops, stopped}
