@@ -1,0 +1,6 @@
+-- The lemmas.
+pub mod Names
+pub mod Misfits
+pub mod Each
+pub mod First
+pub mod Fitting
