@@ -1,0 +1,3 @@
+-- The lemmas.
+pub mod Divisors
+pub mod LawsHold
