@@ -1,8 +1,8 @@
 -- The graph of an atom speaks of its own auxiliary unknowns, which have numbers of 32 bits.
-use Rattle.std.proofs.Common.{◌≡◌, ℕ, ◌+◌, ◌<◌, ◌^◌, arith, Bool, List, [], ◌∷◌, length, map, get_or, All, Option, Some, None, sym, ap, ◌∙◌, subst, Result}
+use Rattle.std.proofs.Common.{◌≡◌, ℕ, ◌+◌, ◌<◌, ◌^◌, arith, Bool, List, [], ◌∷◌, length, map, get_or, All, Option, Some, None, sym, ap, ◌∙◌, subst, Result, true}
 use Rattle.std.proofs.lemmas.List.{length-map, get_or-map}
 use Rattle.std.proofs.lemmas.List.Elements.{All-cons, All-nil}
-use Rattle.std.proofs.lemmas.Option.{same_Some}
+use Rattle.std.proofs.lemmas.Option.{same_Some, slice_get_within}
 use Rattle.dcx_frac.specs.declared.fraction.Frac.{Frac}
 use Rattle.dcx_frac.specs.declared.fraction.Passes.{Passes}
 use Rattle.dcx_shape.specs.declared.shape.Sides.{Sides}
@@ -25,7 +25,7 @@ use Rattle.dcx_call.specs.Atoms.{atom_meaning}
 use Rattle.dcx_tree.specs.declared.problem.Problem.{Problem}
 use Rattle.dcx_tree.specs.Nodes.{Node, arg_sides}
 use Rattle.dcx_tree.proofs.NodeValues.{args_are, sides_are}
-use Rattle.dcx_unknowns.specs.Layout.{IsCallGraph, IsNodeGraph}
+use Rattle.dcx_unknowns.specs.Layout.{marked, IsCallGraph, IsNodeGraph}
 use Rattle.dcx_reduced.proofs.Lists.{Each, each_head, each_tail, each_nil, each_cons, each_joined}
 use Rattle.dcx_reduced.proofs.OwnTerms.{IsOwn, AreOwnTerms, AreOwnRows, IsOwnForm}
 use Rattle.dcx_reduced.proofs.OwnUnknowns.{UsesOwn}
@@ -39,10 +39,10 @@ use Rattle.dcx_entries.specs.Entries.{AtomEntry}
 use Rattle.dcx_entries.specs.Standing.{args_among, IsOperand}
 use Rattle.dcx_entries.proofs.OwnRows.{list_below_at}
 use Rattle.dcx_entries.proofs.Places.{RowIsThere, AuxFits}
-use Rattle.dcx_nodes.specs.Given.{first_marked}
+use Rattle.dcx_nodes.specs.Given.{HasFewUnknowns, first_marked}
 use Rattle.dcx_nodes.specs.Formed.{ReducedGives}
-use Rattle.dcx_nodes.proofs.AtNode.{call_is, shape_given}
-use Rattle.dcx_nodes.proofs.Auxiliaries.{first_by_rules}
+use Rattle.dcx_nodes.proofs.AtNode.{the_node, call_is, shape_given}
+use Rattle.dcx_nodes.proofs.Auxiliaries.{first_by_rules, graph_room}
 use Rattle.dcx_nodes.proofs.Gives.{reduced_by}
 
 -- ---- of the first so many unknowns
@@ -121,3 +121,22 @@ module _ (p : Problem) (i : ℕ) (m : AtomCall) (c : call_at p.tree i ≡ Some (
         subst (λ first. FormsEach (AtomGives z.args first (arg_sides p.tree z)) size r) (first_by_rules p reduced rules count marks.reduces i)
         (subst (λ (y : Node). FormsEach (AtomGives y.args (first_marked p reduced i) (arg_sides p.tree y)) size r) (same_Some n z (sym at ∙ there))
         (subst (λ zs. FormsEach (AtomGives zs (first_marked p reduced i) (arg_sides p.tree n)) size r) (ids_are ∙ args_are p.tree i n at) f)))
+
+-- ---- as code has them
+module _ (p : Problem) (i : ℕ) (m : AtomCall) (c : call_at p.tree i ≡ Some (calls.Atom m)) where
+  pub atom_within : i < length p.tree
+  atom_within = let (n, at) = the_node p i (calls.Atom m) c in slice_get_within p.tree i n at
+
+  module _ (g : Graph) (h : IsNodeGraph p.tree i (Some g)) where
+    pub results_here : length g.results ≡ entries_of (sides_at p.tree i)
+    results_here = let (n, at) = the_node p i (calls.Atom m) c in results_counted p i m c n at g h ∙ sym (ap entries_of (sides_are p.tree i n at))
+
+    module _ (reduced : List Bool) (few : HasFewUnknowns p reduced) (e : marked reduced i ≡ true) (first : ℕ) (is : first ≡ first_marked p reduced i) where
+      pub room_here : first + length g.aux < 2 ^ 32
+      room_here = graph_room p reduced i few g atom_within e h first is
+
+      pub fits_here : All (λ ts. All (AuxFits first) ts) g.results
+      fits_here = let (n, at) = the_node p i (calls.Atom m) c in results_fit p i m c n at g h first room_here
+
+      pub rows_here : All (RowIsThere first) g.rows
+      rows_here = let (n, at) = the_node p i (calls.Atom m) c in rows_fit p i m c n at g h first room_here

@@ -46,6 +46,13 @@ module _ (p : Problem) (reduced : List Bool) where
         let own = ap length (node_some p.tree i g lt h).0 in
         omega (arith, more, own)
 
+    -- and they are few
+    pub graph_room : HasFewUnknowns p reduced → (g : Graph) → i < length p.tree → marked reduced i ≡ true → IsNodeGraph p.tree i (Some g) → (first : ℕ) → first ≡ first_marked p reduced i → first + length g.aux < 2 ^ 32
+    graph_room few g lt e h first is =
+        let small = first_small few (i + 1) (omega (arith, lt)) in
+        let next = next_graph g lt e h in
+        omega (arith, small, next, is)
+
     -- a node that isn't reduced takes none
     pub next_unmarked : marked reduced i ≡ false → first_marked p reduced (i + 1) ≡ first_marked p reduced i
     next_unmarked e = ap (λ xs. variable_unknowns p.variables + length xs) (aux_no_more p.tree (marked reduced) i e)

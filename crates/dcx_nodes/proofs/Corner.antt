@@ -1,5 +1,5 @@
 -- The last entry of a variable has its own unknown, the last one of the variable.
-use Rattle.std.proofs.Common.{◌≡◌, ℕ, zero, suc, ◌+◌, ◌-◌, ◌*◌, ◌<◌, arith, true, false, ◌==◌, List, [], ◌∷◌, length, map, get_or, Option, Some, option_map, refl, sym, ap, ap₂, ◌∙◌, zero-add, ◌++◌}
+use Rattle.std.proofs.Common.{◌≡◌, ℕ, zero, suc, ◌+◌, ◌-◌, ◌*◌, ◌<◌, arith, true, false, ◌==◌, List, [], ◌∷◌, length, map, get_or, Option, Some, option_map, refl, sym, ap, ap₂, ◌∙◌, subst, zero-add, ◌++◌}
 use Rattle.std.proofs.lemmas.Bool.{eq-eqb, le-leb, false≢true}
 use Rattle.std.proofs.lemmas.List.{length-map, get_or-map}
 use Rattle.std.proofs.lemmas.List.FromFn.{length-range_with_len, get_or-range_with_len}
@@ -11,7 +11,9 @@ use Rattle.dcx_call.specs.declared.attribute.Attribute.{Attribute}
 use Rattle.dcx_call.specs.declared.attribute.Attribute.TheVariants.{Free, Nonneg, Nonpos, Symmetric, Diag}
 use Rattle.dcx_call.specs.declared.attribute.Variable.{Variable}
 use Rattle.dcx_unknowns.specs.Own.{row_in, column_in, is_own, own_count, own_before}
-use Rattle.dcx_unknowns.specs.Unknowns.{demanded, sides_in, variable_unknowns, first_unknown, unknown_from, IsSquareFor, IsSquare}
+use Rattle.dcx_unknowns.specs.Unknowns.{demanded, sides_in, variable_unknowns, first_unknown, unknown_from, IsSquareFor, IsSquare, AreSquare}
+use Rattle.dcx_nodes.specs.Given.{AreFirstsOf}
+use Rattle.dcx_nodes.proofs.Leaves.{firsts_counted, first_at}
 use Rattle.dcx_unknowns.proofs.Owners.{are_numbered, firsts_next}
 use Rattle.dcx_unknowns.proofs.Places.{own_count_is, own_more}
 use Rattle.dcx_unknowns.proofs.Sources.{row_is, column_is, own_source}
@@ -93,3 +95,26 @@ pub read_last : (v : Variable) (square : IsSquare v) (first : ℕ) (unknowns : L
 read_last v square first unknowns len o e many at =
     let size : len ≡ entries_of (sides_in v) = many ∙ ap length e ∙ length-map (places_below (entries_of (sides_in v))) (unknown_from first v) ∙ length-range_with_len 0 (entries_of (sides_in v)) in
     at ∙ ap (λ n. get_or unknowns (n - 1) o) size ∙ last_listed v square first unknowns o e ∙ last_unknown v square first
+
+-- the last variable, as code has it
+module _ (vs : List Variable) (some : 0 < length vs) (firsts : List ℕ) (are : AreFirstsOf vs firsts) where
+  pub last_there : length vs - 1 < length firsts
+  last_there = let counted = firsts_counted vs firsts are in omega (arith, some, counted)
+
+  module _ (v : Variable) (at : v ≡ get_or vs (length vs - 1) v) where
+    -- its unknowns are the last ones
+    pub last_fits : get_or firsts (length vs - 1) 0 + own_count (demanded v) (sides_in v) ≡ variable_unknowns vs
+    last_fits =
+        let first_is = first_at vs firsts (length vs - 1) 0 are (omega (arith, some)) in
+        let all = last_of_all vs (length vs - 1) v (omega (arith, some)) at in
+        omega (arith, first_is, all)
+
+    -- what is read at their end is the last of all
+    pub last_read : AreSquare vs → (unknowns : List (Option ℕ)) (len : ℕ) (o : Option ℕ) → unknowns ≡ map (unknown_from (get_or firsts (length vs - 1) 0) v) (places_below (entries_of (sides_in v))) →
+        len ≡ length unknowns → o ≡ get_or unknowns (len - 1) o → (u : ℕ) × (o ≡ Some u) × (u + 1 ≡ variable_unknowns vs)
+    last_read square unknowns len o e many here =
+        let own : IsSquare v = subst IsSquare (sym at) (square (length vs - 1) v (omega (arith, some))) in
+        let first = get_or firsts (length vs - 1) 0 in
+        let whole = all_own v own first in
+        let fits = last_fits in
+        (first + own_before (demanded v) (sides_in v) (last v own first), read_last v own first unknowns len o e many here, omega (arith, whole, fits))

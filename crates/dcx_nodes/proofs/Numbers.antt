@@ -23,7 +23,7 @@ use Rattle.dcx_atom.specs.Formed.{zero_frac}
 use Rattle.dcx_atom.proofs.FormedSums.{value-zero_frac}
 use Rattle.dcx_point.specs.Pairs.{Pairs}
 use Rattle.dcx_arena.specs.declared.node.NodeId.{NodeId}
-use Rattle.dcx_arena.specs.Nodes.{IsNode, call_at, positions, sides_at}
+use Rattle.dcx_arena.specs.Nodes.{IsNode, call_at, args_at, positions, sides_at}
 use Rattle.dcx_call.specs.declared.call.Call.{Call}
 use Rattle.dcx_call.specs.Calls.{shape_of}
 use Rattle.dcx_call.specs.Values.{given_by, entry_formed, formed_at, IsGiven, IsValue, IsValueStop}
@@ -34,7 +34,8 @@ use Rattle.dcx_exact.proofs.Exact.{forms_exactly}
 use Rattle.dcx_exact.proofs.Fractions.{number_fits}
 use Rattle.dcx_tree.specs.declared.problem.Problem.{Problem}
 use Rattle.dcx_tree.specs.Nodes.{Node, arg_sides}
-use Rattle.dcx_tree.proofs.NodeValues.{sides_are as sides_are_at}
+use Rattle.dcx_reduced.proofs.NodeForms.{node_at}
+use Rattle.dcx_tree.proofs.NodeValues.{args_are, sides_are as sides_are_at}
 use Rattle.dcx_linear.specs.declared.change.Change.{Change}
 use Rattle.dcx_linear.specs.declared.form.Form.{Form}
 use Rattle.dcx_linear.specs.Forms.{is_constant}
@@ -292,3 +293,24 @@ pub given_is : (p : Problem) (setting : Pairs) (i : ℕ) (n : Node) → IsNode p
 given_is p setting i n at call point c e h =
     let same : n.call ≡ call = same_Some n.call call (ap (option_map (λ (z : Node). z.call)) (sym at) ∙ c) in
     subst (IsGiven call setting) (sym e) (subst (λ z. IsGiven z setting []) same h)
+
+-- ---- as code has them
+module _ {C : Type 0} (of_number : Frac → C) (number_of : C → Option Frac) (Sums : C → C → Result C Passes → Type 0) (Changes : Change → C → Result C Passes → Type 0)
+    (Reads : ℕ → List ℕ → ℕ → Pairs → C → Type 0) (told : (x : Frac) → number_of (of_number x) ≡ Some x)
+    (p : Problem) (setting : Pairs) (standing : List (Standing C)) (i : ℕ) (lt : i < length p.tree) (ids : List ℕ) (ids_are : ids ≡ args_at p.tree i) (xs : List Array)
+    (have : HaveNumbersOf of_number number_of p.tree standing ids xs) where
+  node_has : (n : Node) → IsNode p.tree i n → HaveNumbersOf of_number number_of p.tree standing n.args xs
+  node_has n at = subst (λ zs. HaveNumbersOf of_number number_of p.tree standing zs xs) (ids_are ∙ args_are p.tree i n at) have
+
+  pub may_ask : (call : Call) (ys : List Array) → call_at p.tree i ≡ Some call → ys ≡ xs → IsSome (shape_of call (array_sides ys))
+  may_ask call ys c d = let (n, at) = node_at p i lt in has_shape of_number number_of Sums Changes Reads told p setting standing i n at xs (node_has n at) call ys c d
+
+  pub call_gives : (call : Call) (point : Pairs) (ys : List Array) (r : Result Array ValueStop) → call_at p.tree i ≡ Some call → point ≡ [] → ys ≡ xs → IfOk r (IsValue call setting point ys) →
+      IfErr r (λ e. IfSome (shape_of call (array_sides ys)) (λ s. IsValueStop call setting point ys (entries_of s) e)) →
+      ValueBy of_number r (ValueGives of_number number_of Sums Changes Reads p setting (all_forms of_number standing) i) × IfOk r (λ x. sides_of x.shape ≡ sides_at p.tree i)
+  call_gives call point ys r c e d h k =
+      let (n, at) = node_at p i lt in call_answers of_number number_of Sums Changes Reads told p setting standing i n at xs (node_has n at) call point ys r c e d h k
+
+pub asked_given : (p : Problem) (setting : Pairs) (i : ℕ) → i < length p.tree → ((n : Node) → IsNode p.tree i n → IsGiven n.call setting []) → (call : Call) (point : Pairs) → call_at p.tree i ≡ Some call → point ≡ [] →
+    IsGiven call setting point
+asked_given p setting i lt given call point c e = let (n, at) = node_at p i lt in given_is p setting i n at call point c e (given n at)

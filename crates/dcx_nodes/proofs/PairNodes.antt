@@ -219,3 +219,44 @@ module _ (p : Problem) (i : ℕ) (q : Pairing) (c : call_at p.tree i ≡ Some (c
       let (n, at) = the_node p i (calls.Pairing q) c in
       let below = arg_below p i q c n at (positions ids) ids_are k 0 b in
       omega (arith, below, pos_get ids k)
+
+  -- where these are the sides of the arguments
+  module _ (x y : Sides) (x_is : x ≡ sides_at p.tree (get_or ids 0 (record { 0 = 0 })).0) (y_is : y ≡ sides_at p.tree (get_or ids 1 (record { 0 = 0 })).0) where
+    left_is : x ≡ sides_at p.tree (get_or (positions ids) 0 0)
+    left_is = x_is ∙ ap (sides_at p.tree) (sym (pos_get ids 0))
+
+    right_is : y ≡ sides_at p.tree (get_or (positions ids) 1 0)
+    right_is = y_is ∙ ap (sides_at p.tree) (sym (pos_get ids 1))
+
+    pub may_pair : IsSome (paired_sides q x y)
+    may_pair = let (n, at) = the_node p i (calls.Pairing q) c in subst IsSome (sym (ap₂ (paired_sides q) left_is right_is ∙ paired p i q c n at (positions ids) ids_are 0)) refl
+
+    module _ (pairs : List (List Pair)) (h : IfSome (paired_sides q x y) (λ s. pairs ≡ list_below (entries_of s) (pairs_at q x y))) where
+      given_here : IfSome (paired_sides q (sides_at p.tree (get_or (positions ids) 0 0)) (sides_at p.tree (get_or (positions ids) 1 0)))
+          (λ s. pairs ≡ list_below (entries_of s) (pairs_at q (sides_at p.tree (get_or (positions ids) 0 0)) (sides_at p.tree (get_or (positions ids) 1 0))))
+      given_here = given_pairs q x y (sides_at p.tree (get_or (positions ids) 0 0)) (sides_at p.tree (get_or (positions ids) 1 0)) pairs left_is right_is h
+
+      pub counted_here : length pairs ≡ entries_of (sides_at p.tree i)
+      counted_here = let (n, at) = the_node p i (calls.Pairing q) c in pairs_counted p i q c n at (positions ids) ids_are 0 pairs given_here ∙ sym (ap entries_of (sides_are p.tree i n at))
+
+      module _ {C : Type 0} (of_number : Frac → C) (number_of : C → Option Frac) (Sums : C → C → Result C Passes → Type 0) (Changes : Change → C → Result C Passes → Type 0)
+          (Reads : ℕ → List ℕ → ℕ → Pairs → C → Type 0) (told : (x : Frac) → number_of (of_number x) ≡ Some x) (setting : Pairs) (reduced fixed : List Bool) (forms : List (List (Form C)))
+          (s : Scaling) (l r : Side) (s_is : s ≡ pairing_scaling q l r) (l_is : l ≡ side_marked number_of reduced fixed forms (get_or ids 0 (record { 0 = 0 })).0)
+          (r_is : r ≡ side_marked number_of reduced fixed forms (get_or ids 1 (record { 0 = 0 })).0) where
+        scaling_here : s ≡ pairing_scaling q (side_marked number_of reduced fixed forms (get_or (positions ids) 0 0)) (side_marked number_of reduced fixed forms (get_or (positions ids) 1 0))
+        scaling_here =
+            s_is ∙ ap₂ (pairing_scaling q) (l_is ∙ ap (side_marked number_of reduced fixed forms) (sym (pos_get ids 0))) (r_is ∙ ap (side_marked number_of reduced fixed forms) (sym (pos_get ids 1)))
+
+        pub numbers_here : (ps : List Pair) → All (HasNumbersFor number_of s (args_among of_number forms (positions ids))) ps
+        numbers_here ps =
+            let (n, at) = the_node p i (calls.Pairing q) c in
+            subst (λ z. All (HasNumbersFor number_of z (args_among of_number forms (positions ids))) ps) (sym scaling_here)
+            (pairs_have_numbers p i q c n at (positions ids) ids_are 0 pairs given_here of_number number_of Sums Changes Reads told setting reduced fixed forms ps)
+
+        pub gives_here : (size : ℕ) (r : Result (List (EntryForms C)) ValueStop) → size ≡ entries_of (sides_at p.tree i) →
+            FormsEach (λ j r. PairEntry of_number number_of Sums Changes s (args_among of_number forms (positions ids)) (slice_index_or pairs j []) j r) size r →
+            ReducedGives of_number number_of Sums Changes Reads p setting reduced fixed forms i r
+        gives_here size r size_is h =
+            let (n, at) = the_node p i (calls.Pairing q) c in
+            pair_gives p i q c n at (positions ids) ids_are 0 pairs given_here of_number number_of Sums Changes Reads told setting reduced fixed forms size r size_is
+            (subst (λ z. FormsEach (λ j r. PairEntry of_number number_of Sums Changes z (args_among of_number forms (positions ids)) (slice_index_or pairs j []) j r) size r) scaling_here h)

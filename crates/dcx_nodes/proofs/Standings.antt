@@ -1,5 +1,5 @@
 -- What stands for a node, from what its call forms.
-use Rattle.std.proofs.Common.{◌≡◌, ℕ, ◌<◌, Bool, true, false, List, [], length, Option, Some, sym, ◌∙◌, subst, Result, Ok, Err, IfOk, OnOk}
+use Rattle.std.proofs.Common.{◌≡◌, ℕ, ◌+◌, ◌<◌, Bool, true, false, List, [], length, Option, Some, sym, ◌∙◌, subst, Result, Ok, Err, IfOk, OnOk}
 use Rattle.dcx_frac.specs.declared.fraction.Frac.{Frac}
 use Rattle.dcx_frac.specs.declared.fraction.Passes.{Passes}
 use Rattle.dcx_shape.specs.declared.shape.Sides.{Sides}
@@ -9,11 +9,12 @@ use Rattle.dcx_atom.specs.declared.array.Array.{Array}
 use Rattle.dcx_atom.specs.declared.stops.ValueStop.{ValueStop}
 use Rattle.dcx_point.specs.Pairs.{Pairs}
 use Rattle.dcx_arena.specs.Nodes.{IsNode, call_at}
+use Rattle.dcx_call.specs.declared.call.Call.{Call}
 use Rattle.dcx_call.specs.declared.call.Call.TheVariants as calls
 use Rattle.dcx_call.specs.Values.{IsGiven}
 use Rattle.dcx_tree.specs.declared.problem.Problem.{Problem}
 use Rattle.dcx_tree.specs.Nodes.{Node, arg_sides}
-use Rattle.dcx_unknowns.specs.Layout.{marked}
+use Rattle.dcx_unknowns.specs.Layout.{marked, call_aux}
 use Rattle.dcx_linear.specs.declared.change.Change.{Change}
 use Rattle.dcx_linear.specs.declared.form.Form.{Form}
 use Rattle.dcx_entries.specs.declared.entries.EntryForms.{EntryForms}
@@ -23,7 +24,9 @@ use Rattle.dcx_entries.specs.Standing.{args_among}
 use Rattle.dcx_entries.specs.Nodes.{NumberEntry, ReducedEntry, NodeEntryBy}
 use Rattle.dcx_entries.proofs.Each.{OnStop-weaker}
 use Rattle.dcx_nodes.specs.Formed.{IsOfSides, StandingBy, ValueBy, as_forms, as_value, entries_in, ValueGives, ReducedGives, MarkedGives}
+use Rattle.dcx_nodes.specs.Given.{first_marked}
 use Rattle.dcx_nodes.proofs.AtNode.{call_is}
+use Rattle.dcx_nodes.proofs.Auxiliaries.{next_without}
 
 module _ {C : Type 0} (of_number : Frac → C) where
   -- ---- entries
@@ -74,6 +77,11 @@ module _ {C : Type 0} (of_number : Frac → C) where
 pub on_ok : {A E : Type 0} (r : Result A E) (X : Type 0) → X → OnOk r X
 on_ok (Ok x) X h = h
 on_ok (Err e) X h = tt
+
+-- a call without a graph takes no auxiliary unknowns
+pub next_stays : {A E : Type 0} (p : Problem) (reduced : List Bool) (i : ℕ) (next : ℕ) → next ≡ first_marked p reduced i → marked reduced i ≡ true → (call : Call) → call_at p.tree i ≡ Some call →
+    ((n : Node) → call_aux p.tree n call ≡ []) → (r : Result A E) → OnOk r (next ≡ first_marked p reduced (i + 1))
+next_stays p reduced i next is e call c none r = on_ok r (next ≡ first_marked p reduced (i + 1)) (is ∙ sym (next_without p reduced i call c none e))
 
 -- a constant takes nothing
 pub constant_given : (p : Problem) (i : ℕ) (x : Array) (setting : Pairs) → call_at p.tree i ≡ Some (calls.Constant x) → (n : Node) → IsNode p.tree i n → IsGiven n.call setting []

@@ -1,64 +1,38 @@
 -- The graph is the atom's, and its unknowns are its own.
-use Rattle.std.proofs.Common.{◌≡◌, ◌+◌, length, Some, Ok, Err, sym, ap, ◌∙◌, subst, arith}
-use Rattle.std.proofs.lemmas.Option.{slice_get_within}
+use Rattle.std.proofs.Common.{◌≡◌, length, Some, Ok, Err, sym, ap, ◌∙◌, subst, arith}
 use Rattle.std.proofs.lemmas.Result.{err_from_is_err_and}
 use Rattle.dcx_shape.specs.Sides.{entries_of}
 use Rattle.dcx_arena.specs.Nodes.{positions, sides_at}
 use Rattle.dcx_call.specs.declared.call.Call.TheVariants as calls
 use Rattle.dcx_call.specs.Atoms.{atom_meaning}
 use Rattle.dcx_tree.specs.Nodes.{arg_sides}
-use Rattle.dcx_tree.proofs.NodeValues.{sides_are}
 use Rattle.dcx_unknowns.specs.Layout.{IsNodeGraph}
 use Rattle.dcx_entries.specs.Forming.{FormsEach}
 use Rattle.dcx_entries.specs.Standing.{all_forms}
 use Rattle.dcx_nodes.specs.Formed.{ReducedGives}
 use Rattle.dcx_nodes.proofs.AtNode.{the_node}
-use Rattle.dcx_nodes.proofs.Auxiliaries.{first_small, next_graph}
+use Rattle.dcx_nodes.proofs.Auxiliaries.{next_graph}
 use Rattle.dcx_nodes.proofs.Gives.{formed_weaker}
-use Rattle.dcx_nodes.proofs.AtomNodes.{graph_there, graph_of, results_counted, results_fit, rows_fit, AtomGives, atom_gives}
+use Rattle.dcx_nodes.proofs.AtomNodes.{graph_there, graph_of, atom_within, results_here, room_here, fits_here, rows_here, AtomGives, atom_gives}
 use Rattle.dcx_nodes.proofs.calls.atom_node.Goals as goal
 
 pub node_graph-requires : goal.node_graph-requires
-node_graph-requires g c =
-    let p = c.args.given.now.problem.now in
-    let (m, call) = c.requires.call in
-    let (n, at) = the_node p c.args.node.0 (calls.Atom m) call in
-    slice_get_within p.tree c.args.node.0 n at
+node_graph-requires g c = atom_within c.args.given.now.problem.now c.args.node.0 c.requires.call.0 c.requires.call.1
 
 pub atom_entries-requires-clause-size : goal.atom_entries-requires-clause-size
 atom_entries-requires-clause-size g c =
-    let p = c.args.given.now.problem.now in
-    let i = c.args.node.0 in
-    let (m, call) = c.requires.call in
-    let (n, at) = the_node p i (calls.Atom m) call in
-    let graph : IsNodeGraph p.tree i (Some c.in-Ok-Some.graph) = rw c.in-Ok-Some.field-0-is at c.in-Ok-Some.ensures in
-    results_counted p i m call n at c.in-Ok-Some.graph graph ∙ sym (c.size-size.ensures.value ∙ ap entries_of (c.shape.ensures ∙ sides_are p.tree i n at))
+    let graph : IsNodeGraph c.args.given.now.problem.now.tree c.args.node.0 (Some c.in-Ok-Some.graph) = rw c.in-Ok-Some.field-0-is at c.in-Ok-Some.ensures in
+    results_here c.args.given.now.problem.now c.args.node.0 c.requires.call.0 c.requires.call.1 c.in-Ok-Some.graph graph ∙ sym (c.size-size.ensures.value ∙ ap entries_of c.shape.ensures)
 
 pub atom_entries-requires-clause-few : goal.atom_entries-requires-clause-few
 atom_entries-requires-clause-few g c =
-    let p = c.args.given.now.problem.now in
-    let reduced = c.args.given.now.reduced.now in
-    let i = c.args.node.0 in
-    let (m, call) = c.requires.call in
-    let (n, at) = the_node p i (calls.Atom m) call in
-    let lt = slice_get_within p.tree i n at in
-    let graph : IsNodeGraph p.tree i (Some c.in-Ok-Some.graph) = rw c.in-Ok-Some.field-0-is at c.in-Ok-Some.ensures in
-    let small = first_small p reduced c.requires.ready.few (i + 1) (omega (arith, lt)) in
-    let next = next_graph p reduced i c.in-Ok-Some.graph lt c.requires.reduced graph in
-    results_fit p i m call n at c.in-Ok-Some.graph graph c.args.next.now (omega (arith, small, next, c.requires.next))
+    let graph : IsNodeGraph c.args.given.now.problem.now.tree c.args.node.0 (Some c.in-Ok-Some.graph) = rw c.in-Ok-Some.field-0-is at c.in-Ok-Some.ensures in
+    fits_here c.args.given.now.problem.now c.args.node.0 c.requires.call.0 c.requires.call.1 c.in-Ok-Some.graph graph c.args.given.now.reduced.now c.requires.ready.few c.requires.reduced c.args.next.now c.requires.next
 
 pub atom_entries-requires-clause-there : goal.atom_entries-requires-clause-there
 atom_entries-requires-clause-there g c =
-    let p = c.args.given.now.problem.now in
-    let reduced = c.args.given.now.reduced.now in
-    let i = c.args.node.0 in
-    let (m, call) = c.requires.call in
-    let (n, at) = the_node p i (calls.Atom m) call in
-    let lt = slice_get_within p.tree i n at in
-    let graph : IsNodeGraph p.tree i (Some c.in-Ok-Some.graph) = rw c.in-Ok-Some.field-0-is at c.in-Ok-Some.ensures in
-    let small = first_small p reduced c.requires.ready.few (i + 1) (omega (arith, lt)) in
-    let next = next_graph p reduced i c.in-Ok-Some.graph lt c.requires.reduced graph in
-    rows_fit p i m call n at c.in-Ok-Some.graph graph c.args.next.now (omega (arith, small, next, c.requires.next))
+    let graph : IsNodeGraph c.args.given.now.problem.now.tree c.args.node.0 (Some c.in-Ok-Some.graph) = rw c.in-Ok-Some.field-0-is at c.in-Ok-Some.ensures in
+    rows_here c.args.given.now.problem.now c.args.node.0 c.requires.call.0 c.requires.call.1 c.in-Ok-Some.graph graph c.args.given.now.reduced.now c.requires.ready.few c.requires.reduced c.args.next.now c.requires.next
 
 pub returns-in_err-entries-in-Ok-Some-clause-entries : goal.returns-in_err-entries-in-Ok-Some-clause-entries
 returns-in_err-entries-in-Ok-Some-clause-entries g c =
@@ -84,31 +58,17 @@ returns-in_err-entries-in-Ok-Some-clause-entries g c =
 
 pub overflow_cast-next : goal.overflow_cast-next
 overflow_cast-next g c =
-    let p = c.args.given.now.problem.now in
-    let reduced = c.args.given.now.reduced.now in
-    let i = c.args.node.0 in
-    let (m, call) = c.requires.call in
-    let (n, at) = the_node p i (calls.Atom m) call in
-    let lt = slice_get_within p.tree i n at in
-    let graph : IsNodeGraph p.tree i (Some c.in-Ok-Some.graph) = rw c.in-Ok-Some.field-0-is at c.in-Ok-Some.ensures in
-    let small = first_small p reduced c.requires.ready.few (i + 1) (omega (arith, lt)) in
-    let next = next_graph p reduced i c.in-Ok-Some.graph lt c.requires.reduced graph in
+    let graph : IsNodeGraph c.args.given.now.problem.now.tree c.args.node.0 (Some c.in-Ok-Some.graph) = rw c.in-Ok-Some.field-0-is at c.in-Ok-Some.ensures in
+    let room = room_here c.args.given.now.problem.now c.args.node.0 c.requires.call.0 c.requires.call.1 c.in-Ok-Some.graph graph c.args.given.now.reduced.now c.requires.ready.few c.requires.reduced c.args.next.now c.requires.next in
     let many = ap length c.as_slice.ensures in
-    omega (arith, small, next, many)
+    omega (arith, room, many)
 
 pub overflow_add-next : goal.overflow_add-next
 overflow_add-next g c =
-    let p = c.args.given.now.problem.now in
-    let reduced = c.args.given.now.reduced.now in
-    let i = c.args.node.0 in
-    let (m, call) = c.requires.call in
-    let (n, at) = the_node p i (calls.Atom m) call in
-    let lt = slice_get_within p.tree i n at in
-    let graph : IsNodeGraph p.tree i (Some c.in-Ok-Some.graph) = rw c.in-Ok-Some.field-0-is at c.in-Ok-Some.ensures in
-    let small = first_small p reduced c.requires.ready.few (i + 1) (omega (arith, lt)) in
-    let next = next_graph p reduced i c.in-Ok-Some.graph lt c.requires.reduced graph in
+    let graph : IsNodeGraph c.args.given.now.problem.now.tree c.args.node.0 (Some c.in-Ok-Some.graph) = rw c.in-Ok-Some.field-0-is at c.in-Ok-Some.ensures in
+    let room = room_here c.args.given.now.problem.now c.args.node.0 c.requires.call.0 c.requires.call.1 c.in-Ok-Some.graph graph c.args.given.now.reduced.now c.requires.ready.few c.requires.reduced c.args.next.now c.requires.next in
     let many = ap length c.as_slice.ensures in
-    omega (arith, small, next, many, c.requires.next)
+    omega (arith, room, many)
 
 pub unreachable-requires : goal.unreachable-requires
 unreachable-requires g c =
@@ -147,13 +107,7 @@ returns-in_ok-entries-in-Ok-Some-clause-entries g c =
 
 pub returns-in_ok-entries-in-Ok-Some-clause-next : goal.returns-in_ok-entries-in-Ok-Some-clause-next
 returns-in_ok-entries-in-Ok-Some-clause-next g c =
-    let p = c.args.given.now.problem.now in
-    let reduced = c.args.given.now.reduced.now in
-    let i = c.args.node.0 in
-    let (m, call) = c.requires.call in
-    let (n, at) = the_node p i (calls.Atom m) call in
-    let lt = slice_get_within p.tree i n at in
-    let graph : IsNodeGraph p.tree i (Some c.in-Ok-Some.graph) = rw c.in-Ok-Some.field-0-is at c.in-Ok-Some.ensures in
-    let next = next_graph p reduced i c.in-Ok-Some.graph lt c.requires.reduced graph in
+    let graph : IsNodeGraph c.args.given.now.problem.now.tree c.args.node.0 (Some c.in-Ok-Some.graph) = rw c.in-Ok-Some.field-0-is at c.in-Ok-Some.ensures in
+    let next = next_graph c.args.given.now.problem.now c.args.given.now.reduced.now c.args.node.0 c.in-Ok-Some.graph (atom_within c.args.given.now.problem.now c.args.node.0 c.requires.call.0 c.requires.call.1) c.requires.reduced graph in
     let many = ap length c.as_slice.ensures in
     omega (arith, next, many, c.requires.next)

@@ -1,12 +1,11 @@
 -- Each call forms its own entries.
-use Rattle.std.proofs.Common.{◌≡◌, ◌+◌, Some, refl, sym, ap, ◌∙◌}
+use Rattle.std.proofs.Common.{◌≡◌, ◌+◌, Some, refl, ap, ◌∙◌}
 use Rattle.dcx_arena.specs.Nodes.{sides_at}
 use Rattle.dcx_call.specs.declared.call.Call.TheVariants as calls
 use Rattle.dcx_entries.specs.Standing.{all_forms}
 use Rattle.dcx_nodes.specs.Given.{first_marked}
 use Rattle.dcx_nodes.specs.Formed.{ValueGives, ReducedGives}
-use Rattle.dcx_nodes.proofs.Auxiliaries.{next_without}
-use Rattle.dcx_nodes.proofs.Standings.{forms_sides, forms_by, forms_on, value_sides, value_by, standing_weaker, on_ok, constant_given, constant_gives}
+use Rattle.dcx_nodes.proofs.Standings.{forms_sides, forms_by, forms_on, value_sides, value_by, standing_weaker, next_stays, constant_given, constant_gives}
 use Rattle.dcx_nodes.proofs.node.form_reduced.Goals as goal
 
 pub returns-in-Variable-clause-sides : goal.returns-in-Variable-clause-sides
@@ -21,9 +20,7 @@ returns-in-Variable-clause-entries g c =
 
 pub returns-in-Variable-clause-next : goal.returns-in-Variable-clause-next
 returns-in-Variable-clause-next g c =
-    let t = g.C.Coef in
-    on_ok c.as_forms.result (c.args.next.now ≡ first_marked c.args.given.now.problem.now c.args.given.now.reduced.now (c.args.node.0 + 1))
-    (c.requires.next ∙ sym (next_without c.args.given.now.problem.now c.args.given.now.reduced.now c.args.node.0 (calls.Variable c.in-Variable.variable) (c.call.ensures ∙ ap Some c.in-Variable.is) (λ n. refl) c.requires.reduced))
+    next_stays c.args.given.now.problem.now c.args.given.now.reduced.now c.args.node.0 c.args.next.now c.requires.next c.requires.reduced (calls.Variable c.in-Variable.variable) (c.call.ensures ∙ ap Some c.in-Variable.is) (λ n. refl) c.as_forms.result
 
 pub returns-in-Parameter-clause-sides : goal.returns-in-Parameter-clause-sides
 returns-in-Parameter-clause-sides g c =
@@ -37,9 +34,7 @@ returns-in-Parameter-clause-entries g c =
 
 pub returns-in-Parameter-clause-next : goal.returns-in-Parameter-clause-next
 returns-in-Parameter-clause-next g c =
-    let t = g.C.Coef in
-    on_ok c.as_forms-in-Parameter.result (c.args.next.now ≡ first_marked c.args.given.now.problem.now c.args.given.now.reduced.now (c.args.node.0 + 1))
-    (c.requires.next ∙ sym (next_without c.args.given.now.problem.now c.args.given.now.reduced.now c.args.node.0 (calls.Parameter c.in-Parameter.parameter) (c.call.ensures ∙ ap Some c.in-Parameter.is) (λ n. refl) c.requires.reduced))
+    next_stays c.args.given.now.problem.now c.args.given.now.reduced.now c.args.node.0 c.args.next.now c.requires.next c.requires.reduced (calls.Parameter c.in-Parameter.parameter) (c.call.ensures ∙ ap Some c.in-Parameter.is) (λ n. refl) c.as_forms-in-Parameter.result
 
 pub returns-in-Linear-clause-sides : goal.returns-in-Linear-clause-sides
 returns-in-Linear-clause-sides g c =
@@ -53,9 +48,7 @@ returns-in-Linear-clause-entries g c =
 
 pub returns-in-Linear-clause-next : goal.returns-in-Linear-clause-next
 returns-in-Linear-clause-next g c =
-    let t = g.C.Coef in
-    on_ok c.as_forms-in-Linear.result (c.args.next.now ≡ first_marked c.args.given.now.problem.now c.args.given.now.reduced.now (c.args.node.0 + 1))
-    (c.requires.next ∙ sym (next_without c.args.given.now.problem.now c.args.given.now.reduced.now c.args.node.0 (calls.Linear c.in-Linear.call) (c.call.ensures ∙ ap Some c.in-Linear.is) (λ n. refl) c.requires.reduced))
+    next_stays c.args.given.now.problem.now c.args.given.now.reduced.now c.args.node.0 c.args.next.now c.requires.next c.requires.reduced (calls.Linear c.in-Linear.call) (c.call.ensures ∙ ap Some c.in-Linear.is) (λ n. refl) c.as_forms-in-Linear.result
 
 pub returns-in-Pairing-clause-sides : goal.returns-in-Pairing-clause-sides
 returns-in-Pairing-clause-sides g c =
@@ -69,9 +62,7 @@ returns-in-Pairing-clause-entries g c =
 
 pub returns-in-Pairing-clause-next : goal.returns-in-Pairing-clause-next
 returns-in-Pairing-clause-next g c =
-    let t = g.C.Coef in
-    on_ok c.as_forms-in-Pairing.result (c.args.next.now ≡ first_marked c.args.given.now.problem.now c.args.given.now.reduced.now (c.args.node.0 + 1))
-    (c.requires.next ∙ sym (next_without c.args.given.now.problem.now c.args.given.now.reduced.now c.args.node.0 (calls.Pairing c.in-Pairing.pairing) (c.call.ensures ∙ ap Some c.in-Pairing.is) (λ n. refl) c.requires.reduced))
+    next_stays c.args.given.now.problem.now c.args.given.now.reduced.now c.args.node.0 c.args.next.now c.requires.next c.requires.reduced (calls.Pairing c.in-Pairing.pairing) (c.call.ensures ∙ ap Some c.in-Pairing.is) (λ n. refl) c.as_forms-in-Pairing.result
 
 pub node_value-requires-clause-given : goal.node_value-requires-clause-given
 node_value-requires-clause-given g c =
@@ -94,9 +85,7 @@ returns-in-Constant-clause-entries g c =
 
 pub returns-in-Constant-clause-next : goal.returns-in-Constant-clause-next
 returns-in-Constant-clause-next g c =
-    let t = g.C.Coef in
-    on_ok c.as_value.result (c.args.next.now ≡ first_marked c.args.given.now.problem.now c.args.given.now.reduced.now (c.args.node.0 + 1))
-    (c.requires.next ∙ sym (next_without c.args.given.now.problem.now c.args.given.now.reduced.now c.args.node.0 (calls.Constant c.in-Constant.field-0) (c.call.ensures ∙ ap Some c.in-Constant.is) (λ n. refl) c.requires.reduced))
+    next_stays c.args.given.now.problem.now c.args.given.now.reduced.now c.args.node.0 c.args.next.now c.requires.next c.requires.reduced (calls.Constant c.in-Constant.field-0) (c.call.ensures ∙ ap Some c.in-Constant.is) (λ n. refl) c.as_value.result
 
 pub atom_node-requires-clause-call : goal.atom_node-requires-clause-call
 atom_node-requires-clause-call g c =
