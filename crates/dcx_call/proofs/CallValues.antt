@@ -64,10 +64,10 @@ number_get (x ∷ xs) zero b = refl
 number_get (x ∷ xs) (suc j) b = number_get xs j (omega arith)
 
 -- ---- numbers of arrays are representable
-zero_fits : IsRepresentable (whole (pos 0))
+pub zero_fits : IsRepresentable (whole (pos 0))
 zero_fits = subst IsRepresentable value-zero_frac (value_representable zero_frac)
 
-number_fits : (xs : List Frac) (j : ℕ) → IsRepresentable (number_at xs j)
+pub number_fits : (xs : List Frac) (j : ℕ) → IsRepresentable (number_at xs j)
 number_fits [] j = zero_fits
 number_fits (x ∷ xs) zero = value_representable x
 number_fits (x ∷ xs) (suc j) = number_fits xs j
@@ -76,14 +76,14 @@ entry_fits : (args : List Array) (i j : ℕ) → IsRepresentable (numbers_of arg
 entry_fits args i j = number_fits (get_or (map (λ x. x.entries) args) i []) j
 
 -- ---- what is formed is exact
-formed_ok : (j : ℕ) (r : Result Frac Passes) (x : Frac) → or_passes j r ≡ Ok x → r ≡ Ok x
+pub formed_ok : (j : ℕ) (r : Result Frac Passes) (x : Frac) → or_passes j r ≡ Ok x → r ≡ Ok x
 formed_ok j (Ok y) x e = cc
 formed_ok j (Err passes) x e = cc
 
-exactly : (r : Result Frac Passes) (z : ℚ) (x : Frac) → IfOk r (λ y. value y ≡ z) → r ≡ Ok x → value x ≡ z
+pub exactly : (r : Result Frac Passes) (z : ℚ) (x : Frac) → IfOk r (λ y. value y ≡ z) → r ≡ Ok x → value x ≡ z
 exactly r z x h e = let k = subst (λ q. IfOk q (λ y. value y ≡ z)) e h in k
 
-summed_exact : {A : Type 0} (f : A → ℚ × ℚ) (xs : List A) (j : ℕ) (x : Frac) → All AreRepresentable (map f xs) → or_passes j (products_in_order (map f xs)) ≡ Ok x →
+pub summed_exact : {A : Type 0} (f : A → ℚ × ℚ) (xs : List A) (j : ℕ) (x : Frac) → All AreRepresentable (map f xs) → or_passes j (products_in_order (map f xs)) ≡ Ok x →
     value x ≡ rat_sum_by (λ a. (f a).0 *ℚ (f a).1) xs
 summed_exact {A = A} f xs j x fit e = exactly (products_in_order (map f xs)) _ x (products_exact (map f xs) fit) (formed_ok j (products_in_order (map f xs)) x e) ∙ over xs
   where
@@ -95,11 +95,11 @@ terms_fit : (ts : List Triple) (a : Entries) → ((i j : ℕ) → IsRepresentabl
 terms_fit [] a h = All-nil AreRepresentable
 terms_fit (t ∷ ts) a h = All-cons AreRepresentable (value t.coefficient, a t.argument t.entry) _ (value_representable t.coefficient, h t.argument t.entry) (terms_fit ts a h)
 
-pairs_fit : (ps : List Pair) (x y : ℕ → ℚ) → ((j : ℕ) → IsRepresentable (x j)) → ((j : ℕ) → IsRepresentable (y j)) → All AreRepresentable (map (λ (p : Pair). (x p.left, y p.right)) ps)
+pub pairs_fit : (ps : List Pair) (x y : ℕ → ℚ) → ((j : ℕ) → IsRepresentable (x j)) → ((j : ℕ) → IsRepresentable (y j)) → All AreRepresentable (map (λ (p : Pair). (x p.left, y p.right)) ps)
 pairs_fit [] x y h k = All-nil AreRepresentable
 pairs_fit (p ∷ ps) x y h k = All-cons AreRepresentable (x p.left, y p.right) _ (h p.left, k p.right) (pairs_fit ps x y h k)
 
-divided_exact : (j : ℕ) (x y : ℚ) (z : Frac) → IsRepresentable x → IsRepresentable y → divided j x y ≡ Ok z → value z ≡ x /ℚ y
+pub divided_exact : (j : ℕ) (x y : ℚ) (z : Frac) → IsRepresentable x → IsRepresentable y → divided j x y ≡ Ok z → value z ≡ x /ℚ y
 divided_exact j x y z fx fy e = by (rat_eq y (whole (pos 0))) refl e
   where
     by : (t : Bool) → rat_eq y (whole (pos 0)) ≡ t → (if t then Err (stops.ZeroDivisor j) else or_passes j (quotient_of (frac_at x) (frac_at y))) ≡ Ok z → value z ≡ x /ℚ y
@@ -109,7 +109,7 @@ divided_exact j x y z fx fy e = by (rat_eq y (whole (pos 0))) refl e
         ∙ ap₂ ◌/ℚ◌ (value-frac_at x fx) (value-frac_at y fy)
 
 -- a product is the sum of its pairs, and a quotient the only pair's
-pairing_exact : (p : Pairing) (l r : Sides) (x y : ℕ → ℚ) (j : ℕ) (z : Frac) → ((k : ℕ) → IsRepresentable (x k)) → ((k : ℕ) → IsRepresentable (y k)) →
+pub pairing_exact : (p : Pairing) (l r : Sides) (x y : ℕ → ℚ) (j : ℕ) (z : Frac) → ((k : ℕ) → IsRepresentable (x k)) → ((k : ℕ) → IsRepresentable (y k)) →
     pairing_formed p (pairs_at p l r j) x y j ≡ Ok z → value z ≡ pairing_value p (pairs_at p l r j) x y
 pairing_exact Times l r x y j z fx fy e = summed_exact (λ (p : Pair). (x p.left, y p.right)) (pairs_at Times l r j) j z (pairs_fit (pairs_at Times l r j) x y fx fy) e
 pairing_exact MatTimes l r x y j z fx fy e = summed_exact (λ (p : Pair). (x p.left, y p.right)) (pairs_at MatTimes l r j) j z (pairs_fit (pairs_at MatTimes l r j) x y fx fy) e

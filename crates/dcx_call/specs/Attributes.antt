@@ -1,9 +1,9 @@
 -- What attributes tell of a value: its sign, and the arrays that are within them.
-use Rattle.std.specs.Prelude.{◌≡◌, ◌≢◌, ℕ, ◌<◌, true, false, pos}
+use Rattle.std.specs.Prelude.{◌≡◌, ◌≢◌, ℕ, ◌<◌, true, false, List, All, pos}
 use Rattle.dcx_math.specs.Rational.{ℚ, whole, ◌≤ℚ◌}
 use Rattle.dcx_shape.specs.declared.shape.Sides.{Sides}
 use Rattle.dcx_shape.specs.Shape.{sides_of}
-use Rattle.dcx_shape.specs.Sides.{entries_of}
+use Rattle.dcx_shape.specs.Sides.{rows_of, cols_of, entries_of}
 use Rattle.dcx_shape.specs.Places.{HasEntry}
 use Rattle.dcx_atom.specs.declared.flags.Sign.{Sign}
 use Rattle.dcx_atom.specs.Arrays.{entry_at}
@@ -39,3 +39,17 @@ IsWithin Diag sides x = (i j : ℕ) → HasEntry sides i j → i ≢ j → entry
 -- an array is in the domain of a variable
 abbrev pub IsInDomain : Variable → (ℕ → ℚ) → Type 0
 IsInDomain v x = IsWithin (counted v.whole v.attribute) (sides_of v.shape) x
+
+-- ---- symmetric and diagonal variables are square matrices
+abbrev pub IsSquareFor : Attribute → Sides → Type 0
+IsSquareFor Free sides = Unit {0}
+IsSquareFor Nonneg sides = Unit {0}
+IsSquareFor Nonpos sides = Unit {0}
+IsSquareFor Symmetric sides = rows_of sides ≡ cols_of sides
+IsSquareFor Diag sides = rows_of sides ≡ cols_of sides
+
+abbrev pub IsSquare : Variable → Type 0
+IsSquare v = IsSquareFor (counted v.whole v.attribute) (sides_of v.shape)
+
+abbrev pub AreSquare : List Variable → Type 0
+AreSquare vs = All IsSquare vs

@@ -1,4 +1,6 @@
 //! Variables and parameters, as a script declares them.
+ghost use Rattle.std.specs.Prelude.{◌≡◌};
+ghost use Rattle.dcx_call.specs.Attributes.{counted};
 
 use dcx_shape::{Name, Shape};
 
@@ -39,6 +41,18 @@ pub struct Variable {
     pub attribute: Attribute,
     /// Which entries are whole.
     pub whole: Whole,
+}
+
+impl Variable {
+    /// What is demanded of its entries: what is to be 0 or 1 counts as nonneg. Takes no memory.
+    pub fn demanded(&self) -> Attribute
+        ensures { result ≡ counted self.now.whole self.now.attribute }
+    {
+        match self.whole {
+            Whole::Boolean => Attribute::Nonneg,
+            _ => self.attribute,
+        }
+    }
 }
 
 /// An array that a setting gives.

@@ -6,11 +6,11 @@ ghost use Rattle.dcx_frac.specs.Frac.{value};
 ghost use Rattle.dcx_shape.specs.Shape.{sides_of};
 ghost use Rattle.dcx_atom.specs.Arrays.{sides_list};
 ghost use Rattle.dcx_atom.specs.Signs.{sign_at, no_trend};
-ghost use Rattle.dcx_call.specs.Attributes.{attribute_sign, counted};
+ghost use Rattle.dcx_call.specs.Attributes.{attribute_sign};
 ghost use Rattle.dcx_call.specs.Calls.{own_sides, sides_of_two, shape_of, numbers_sign, is_zero, product_sign, sign_of, by_other, pairing_trend, trend_of};
 
 use crate::atoms::AtomCall;
-use crate::attribute::{Attribute, Parameter, Variable, Whole};
+use crate::attribute::{Attribute, Parameter, Variable};
 use crate::linears::LinearCall;
 use dcx_affine::Pairing;
 use dcx_atom::{Array, Atom, LinearOp, Sign, Trend, is_at_most};
@@ -55,7 +55,7 @@ impl Call {
         ensures { result ≡ sign_of self.now args.now }
     {
         match self {
-            Call::Variable(variable) => attribute_sign(counted(variable.whole, variable.attribute)),
+            Call::Variable(variable) => attribute_sign(variable.demanded()),
             Call::Parameter(parameter) => attribute_sign(parameter.attribute),
             Call::Constant(array) => numbers_sign(array.entries.as_slice()),
             Call::Atom(atom) => atom.sign(args),
@@ -106,16 +106,6 @@ fn attribute_sign(attribute: Attribute) -> Sign
     Sign {
         nonneg: attribute == Attribute::Nonneg,
         nonpos: attribute == Attribute::Nonpos,
-    }
-}
-
-/// What is demanded of a variable: what is to be 0 or 1 counts as nonneg.
-fn counted(whole: Whole, attribute: Attribute) -> Attribute
-    ensures { result ≡ counted whole attribute }
-{
-    match whole {
-        Whole::Boolean => Attribute::Nonneg,
-        _ => attribute,
     }
 }
 

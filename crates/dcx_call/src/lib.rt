@@ -8,7 +8,7 @@
 //! |---|---|
 //! | each nonlinear and each linear call is what its own crate says, and keeps the laws | `AtomCall`, `LinearCall`, `specs/Atoms.antt`, `specs/Linears.antt` |
 //! | shape, sign and trend of a call | `Call::shape`, `Call::sign`, `Call::trend`, `specs/Calls.antt` |
-//! | what an attribute tells, and which arrays are in a variable's domain | `specs/Attributes.antt` |
+//! | what an attribute tells, which arrays are in a variable's domain, and which variables are square | `Variable::demanded`, `specs/Attributes.antt` |
 //! | the value of a call over exact numbers of any size | `specs/Values.antt` |
 //! | the value that is formed is that one, or names the first operation that passes 128 bits or the first divisor that is 0 | `Call::value`, `specs/Forming.antt` |
 //! | each value has the sign that is told, and moves with each argument as the trend says | `laws::calls`, `specs/Laws.antt` |

@@ -5,7 +5,7 @@ use Rattle.dcx_convex.specs.Rules.{Parametrized}
 use Rattle.dcx_tree.specs.declared.problem.Problem.{Problem}
 use Rattle.dcx_linear.specs.declared.param_form.ParamForm.{ParamForm}
 use Rattle.dcx_linear.specs.ParamForms.{form_of_number, number_of_form, sum_gives_form, change_gives_form, IsEntryForm}
-use Rattle.dcx_unknowns.specs.Unknowns.{AreSquare}
+use Rattle.dcx_call.specs.Attributes.{AreSquare}
 use Rattle.dcx_graph.specs.declared.stop.ReduceStop.{ReduceStop}
 use Rattle.dcx_graph.specs.Reduced.{Reduction}
 use Rattle.dcx_graph.specs.Reducing.{Reduces, OrMemory}

@@ -2,7 +2,7 @@
 ghost use Rattle.std.specs.Prelude.{◌≡◌, ◌<◌, IfOk, IsSome};
 ghost use Rattle.dcx_convex.specs.Rules.{Plain};
 ghost use Rattle.dcx_linear.specs.Parameters.{entry_of};
-ghost use Rattle.dcx_unknowns.specs.Unknowns.{AreSquare};
+ghost use Rattle.dcx_call.specs.Attributes.{AreSquare};
 ghost use Rattle.dcx_rules.specs.Verdicts.{IsVerdictOf};
 ghost use Rattle.dcx_graph.specs.Reducing.{ParametersAreGiven};
 ghost use Rattle.dcx_graph.specs.Fixing.{IsListedProgram};

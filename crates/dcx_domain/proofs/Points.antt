@@ -33,7 +33,7 @@ use Rattle.dcx_domain.specs.Laws.{HoldsForPoints}
 
 -- ---- one variable
 -- what is demanded of a variable, in the terms of disciplined convex programming
-same_attribute : (a : Attribute) (s : Sides) (x : Numbers) → Keeps (variable_attribute Not a) s x ↔ IsWithin a s x
+pub same_attribute : (a : Attribute) (s : Sides) (x : Numbers) → Keeps (variable_attribute Not a) s x ↔ IsWithin a s x
 same_attribute Free s x = ((λ h. h), (λ h. h))
 same_attribute Nonneg s x = ((λ h. h), (λ h. h))
 same_attribute Nonpos s x = ((λ h. h), (λ h. h))
@@ -86,14 +86,14 @@ module _ (nodes : List Node) (vs : List Variable) (ps : List Parameter) (d : Are
       subst (λ (z : convex.Node). VariableKeeps (numbers_by names.variables given) z.head) is (call_keeps h n.call (arg_sides nodes n) n.sides (d.listed i n in_nodes))
 
 -- ---- of a problem
-keeps_prop : (a : convex.Attribute) (s : Sides) (x : Numbers) → IsProp (Keeps a s x)
+pub keeps_prop : (a : convex.Attribute) (s : Sides) (x : Numbers) → IsProp (Keeps a s x)
 keeps_prop convex.Free s x = hlevel props
 keeps_prop convex.Nonneg s x = hlevel ≤ℚ_prop
 keeps_prop convex.Nonpos s x = hlevel ≤ℚ_prop
 keeps_prop convex.Symmetric s x = hlevel ≡ℚ_prop
 keeps_prop convex.Diag s x = hlevel ≡ℚ_prop
 
-within_prop : (a : Attribute) (s : Sides) (x : Numbers) → IsProp (IsWithin a s x)
+pub within_prop : (a : Attribute) (s : Sides) (x : Numbers) → IsProp (IsWithin a s x)
 within_prop Free s x = hlevel props
 within_prop Nonneg s x = hlevel ≤ℚ_prop
 within_prop Nonpos s x = hlevel ≤ℚ_prop

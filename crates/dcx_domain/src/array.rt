@@ -2,12 +2,12 @@
 ghost use Rattle.std.specs.Prelude.{◌≡◌, ◌↔◌, IsNone, IfSome};
 ghost use Rattle.dcx_shape.specs.Shape.{sides_of};
 ghost use Rattle.dcx_atom.specs.Arrays.{number_at};
-ghost use Rattle.dcx_call.specs.Attributes.{counted, IsWithin, IsInDomain};
+ghost use Rattle.dcx_call.specs.Attributes.{IsWithin, IsInDomain};
 ghost use Rattle.dcx_domain.specs.Entries.{LeavesFirstAt, LeavesDomainFirstAt};
 
 use crate::entry::keeps_at;
 use dcx_atom::Array;
-use dcx_call::{Attribute, Variable, Whole};
+use dcx_call::{Attribute, Variable};
 use dcx_frac::Frac;
 use dcx_shape::Shape;
 
@@ -19,22 +19,16 @@ pub fn outside(variable: &Variable, array: &Array) -> Option<u32>
     ensures inside { IsNone result ↔ IsInDomain variable.now (number_at array.now.entries) }
     ensures first { IfSome result (LeavesDomainFirstAt variable.now (number_at array.now.entries)) }
 {
-    let demanded = counted(variable.whole, variable.attribute);
-    first_left(demanded, variable.shape, array.entries.as_slice())
+    first_left(
+        variable.demanded(),
+        variable.shape,
+        array.entries.as_slice(),
+    )
 }
 
-/// What is demanded of a variable: what is to be 0 or 1 counts as nonneg.
-fn counted(whole: Whole, attribute: Attribute) -> Attribute
-    ensures { result ≡ counted whole attribute }
-{
-    match whole {
-        Whole::Boolean => Attribute::Nonneg,
-        _ => attribute,
-    }
-}
-
-/// The first entry of an array of this shape with these numbers that isn't as the attribute demands.
-fn first_left(attribute: Attribute, shape: Shape, numbers: &[Frac]) -> Option<u32>
+/// The first entry, in row-major order, of an array of this shape with these numbers that isn't as the attribute demands; `None`
+/// where each is. Of two entries that mirror each other the one below the diagonal is named, and a number past the end counts as 0.
+pub fn first_left(attribute: Attribute, shape: Shape, numbers: &[Frac]) -> Option<u32>
     ensures inside { IsNone result ↔ IsWithin attribute (sides_of shape) (number_at numbers.now) }
     ensures first { IfSome result (LeavesFirstAt attribute (sides_of shape) (number_at numbers.now)) }
 {

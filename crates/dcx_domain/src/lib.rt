@@ -10,15 +10,19 @@
 //! | which entries keep what an attribute demands, and which leave it; of two that mirror each other the one below the diagonal is asked | `specs/Entries.antt` |
 //! | an array is in the domain exactly where each entry keeps it; each entry keeps it or leaves it, and not both; of a square the entries below the diagonal are asked | `laws::entries` |
 //! | the first entry of an array that leaves it, and none exactly where the array is in the domain | `outside` |
+//! | the same of numbers under an attribute and a shape, without a variable | `first_left` |
 //! | a point is in the domain of a problem exactly where each variable's array is | `laws::points` |
 //! | the first variable, and its first entry, at which a point leaves the domain; none exactly where the point is in it | `point_outside`, `specs/Points.antt` |
 //! | whether a point gives each variable an array of its shape and lies in the domain | `is_domain_point` |
+//! | whether symmetric and diagonal variables are square matrices, as those of a problem are | `are_square` |
 #![tactic(auto)]
 
 mod array;
 mod entry;
 pub mod laws;
 mod point;
+mod square;
 
-pub use array::outside;
+pub use array::{first_left, outside};
 pub use point::{Outside, is_domain_point, point_outside};
+pub use square::are_square;

@@ -13,7 +13,7 @@ use Rattle.dcx_linear.specs.Forms.{sum_gives_linear, change_gives_linear}
 use Rattle.dcx_linear.specs.FormLaws.{one_linear_sum, one_linear_change}
 use Rattle.dcx_linear.specs.Multiples.{multiple_gives}
 use Rattle.dcx_linear.specs.Parts.{Follows, sums_parts}
-use Rattle.dcx_linear.proofs.PartSums.{one_parts}
+use Rattle.dcx_linear.proofs.PartSums.{one_follows, one_parts}
 use Rattle.dcx_linear.proofs.MultipleLaws.{one_multiple}
 use Rattle.dcx_entries.specs.declared.entries.EntryForms.{EntryForms}
 use Rattle.dcx_entries.specs.declared.scaling.Scaling.{Scaling}
@@ -23,31 +23,6 @@ use Rattle.dcx_entries.specs.Parts.{Arguments, zero_form, left_scaled, right_sca
 use Rattle.dcx_entries.specs.Sums.{adds, adds_multiple, adds_pair, adds_each}
 use Rattle.dcx_entries.specs.Entries.{alone, LinearEntry, EachSum, AtomEntry, PairSum, PairEntryBy, PairEntry}
 use Rattle.dcx_entries.proofs.Each.{some_before}
-
--- where each of two operations has one answer, the one after the other has one
-one_follows : {A B : Type 0} (First : Result A Passes → Type 0) (Second : A → Result B Passes → Type 0) → ((r s : Result A Passes) → First r → First s → r ≡ s) → ((x : A) (r s : Result B Passes) → Second x r → Second x s → r ≡ s)
-    → (r s : Result B Passes) → Follows First Second r → Follows First Second s → r ≡ s
-one_follows First Second one two (Ok y) (Ok z) h k =
-    let e = one (Ok h.0) (Ok k.0) h.1 k.1 in
-    let d : h.0 ≡ k.0 = cc in
-    two k.0 (Ok y) (Ok z) (subst (λ x. Second x (Ok y)) d h.2) k.2
-one_follows First Second one two (Ok y) (Err q) h (inl k) = let e = one (Ok h.0) (Err q) h.1 k in cc
-one_follows First Second one two (Ok y) (Err q) h (inr k) =
-    let e = one (Ok h.0) (Ok k.0) h.1 k.1 in
-    let d : h.0 ≡ k.0 = cc in
-    two k.0 (Ok y) (Err q) (subst (λ x. Second x (Ok y)) d h.2) k.2
-one_follows First Second one two (Err p) (Ok z) (inl h) k = let e = one (Err p) (Ok k.0) h k.1 in cc
-one_follows First Second one two (Err p) (Ok z) (inr h) k =
-    let e = one (Ok h.0) (Ok k.0) h.1 k.1 in
-    let d : h.0 ≡ k.0 = cc in
-    two k.0 (Err p) (Ok z) (subst (λ x. Second x (Err p)) d h.2) k.2
-one_follows First Second one two (Err p) (Err q) (inl h) (inl k) = let e = one (Err p) (Err q) h k in cc
-one_follows First Second one two (Err p) (Err q) (inl h) (inr k) = let e = one (Err p) (Ok k.0) h k.1 in cc
-one_follows First Second one two (Err p) (Err q) (inr h) (inl k) = let e = one (Ok h.0) (Err q) h.1 k in cc
-one_follows First Second one two (Err p) (Err q) (inr h) (inr k) =
-    let e = one (Ok h.0) (Ok k.0) h.1 k.1 in
-    let d : h.0 ≡ k.0 = cc in
-    two k.0 (Err p) (Err q) (subst (λ x. Second x (Err p)) d h.2) k.2
 
 -- lists that are the same place by place
 same_lists : {A : Type 0} (xs ys : List A) → length xs ≡ length ys → ((j : ℕ) (x y : A) → slice_get xs j ≡ Some x → slice_get ys j ≡ Some y → x ≡ y) → xs ≡ ys

@@ -30,7 +30,8 @@ use Rattle.dcx_call.specs.declared.linears.LinearCall.{LinearCall}
 use Rattle.dcx_call.specs.declared.linears.LinearCall.TheVariants as calls
 use Rattle.dcx_call.specs.Linears.{linear_meaning}
 use Rattle.dcx_exact.specs.Exact.{HaveFewEntries}
-use Rattle.dcx_exact.proofs.Fractions.{zero_fits, negative_fits}
+use Rattle.dcx_call.proofs.CallValues.{zero_fits}
+use Rattle.dcx_exact.proofs.Fractions.{negative_fits}
 
 abbrev pub FitsIn : LinearTerm → Type 0
 FitsIn t = IsRepresentable t.coefficient

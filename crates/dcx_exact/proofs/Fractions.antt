@@ -18,14 +18,6 @@ use Rattle.dcx_atom.specs.Formed.{zero_frac, frac_at, sum_in_order}
 use Rattle.dcx_atom.proofs.FormedSums.{value-zero_frac, value-sum_from}
 use Rattle.dcx_call.proofs.Products.{value-frac_at}
 
-pub zero_fits : IsRepresentable (whole (pos 0))
-zero_fits = subst IsRepresentable value-zero_frac (value_representable zero_frac)
-
-pub number_fits : (xs : List Frac) (j : ℕ) → IsRepresentable (number_at xs j)
-number_fits [] j = zero_fits
-number_fits (x ∷ xs) zero = value_representable x
-number_fits (x ∷ xs) (suc j) = number_fits xs j
-
 -- ---- the negative
 unsigned_abs-neg : (z : ℤ) → unsigned_abs (neg_ℤ z) ≡ unsigned_abs z
 unsigned_abs-neg z = omega (arith, ints)

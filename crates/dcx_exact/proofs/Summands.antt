@@ -20,8 +20,9 @@ use Rattle.dcx_fold.specs.Sorted.{All-falling}
 use Rattle.dcx_call.specs.declared.atoms.AtomCall.{AtomCall}
 use Rattle.dcx_call.specs.declared.atoms.AtomCall.TheVariants as atoms
 use Rattle.dcx_call.specs.Atoms.{atom_meaning}
+use Rattle.dcx_call.proofs.CallValues.{zero_fits}
 use Rattle.dcx_exact.specs.Exact.{AreFractions}
-use Rattle.dcx_exact.proofs.Fractions.{zero_fits, negative_fits}
+use Rattle.dcx_exact.proofs.Fractions.{negative_fits}
 
 one : (x : ℚ) → IsRepresentable x → All IsRepresentable (x ∷ [])
 one x h = All-cons IsRepresentable x [] h (All-nil IsRepresentable)

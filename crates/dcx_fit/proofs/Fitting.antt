@@ -26,20 +26,13 @@ use Rattle.dcx_tree.proofs.Lawful.{mapped}
 use Rattle.dcx_tree.proofs.Names.{found_in}
 use Rattle.dcx_tree.proofs.Sublists.{contains_at}
 use Rattle.dcx_tree.proofs.Values.{taken}
+use Rattle.dcx_domain.proofs.Points.{same_attribute, keeps_prop, within_prop}
 use Rattle.dcx_fit.specs.Laws.{HoldsForFitting}
 use Rattle.dcx_fit.proofs.Misfits.{holds_at}
 
 -- the numbers that the setting gives the parameter are as its attribute demands
 abbrev KeptBy : Pairs → Parameter → Type 0
 KeptBy given q = IsWithin q.attribute (sides_of q.shape) (given_by given q.name)
-
--- what is demanded, in the terms of disciplined convex programming
-same_demand : (a : Attribute) (s : Sides) (x : Numbers) → Keeps (attribute_of a) s x ↔ IsWithin a s x
-same_demand Free s x = ((λ h. h), (λ h. h))
-same_demand Nonneg s x = ((λ h. h), (λ h. h))
-same_demand Nonpos s x = ((λ h. h), (λ h. h))
-same_demand Symmetric s x = ((λ h. h), (λ h. h))
-same_demand Diag s x = ((λ h. h), (λ h. h))
 
 -- ---- the parameters and the nodes
 module _ (nodes : List Node) (vs : List Variable) (ps : List Parameter) (d : AreDeclared nodes vs ps) (names : Names) (are : names.parameters ≡ map (λ q. q.name) ps) (given : Pairs) where
@@ -48,7 +41,7 @@ module _ (nodes : List Node) (vs : List Variable) (ps : List Parameter) (d : Are
   demand k q at args sides =
       let named : slice_get names.parameters k ≡ Some q.name = ap (λ ns. slice_get ns k) are ∙ slice_get-map (λ (p : Parameter). p.name) ps k ∙ ap (option_map (λ (p : Parameter). p.name)) at in
       subst (λ (f : Numbers). Keeps (attribute_of q.attribute) (sides_of q.shape) f ↔ KeptBy given q) (sym (taken names.parameters given k q.name named))
-      (same_demand q.attribute (sides_of q.shape) (given_by given q.name))
+      (same_attribute q.attribute (sides_of q.shape) (given_by given q.name))
 
   -- a parameter that has a node
   stands_kept : EachNode (convex_nodes names nodes) (λ n. ParameterKeeps (numbers_by names.parameters given) n.head) → (k : ℕ) (q : Parameter) → slice_get ps k ≡ Some q → (i : ℕ) → call_at nodes i ≡ Some (calls.Parameter q) → KeptBy given q
@@ -74,20 +67,6 @@ module _ (nodes : List Node) (vs : List Variable) (ps : List Parameter) (d : Are
       subst (λ (z : convex.Node). ParameterKeeps (numbers_by names.parameters given) z.head) is (call_keeps h n.call (arg_sides nodes n) n.sides (d.listed i n in_nodes))
 
 -- ---- of a problem
-keeps_prop : (a : convex.Attribute) (s : Sides) (x : Numbers) → IsProp (Keeps a s x)
-keeps_prop convex.Free s x = hlevel props
-keeps_prop convex.Nonneg s x = hlevel ≤ℚ_prop
-keeps_prop convex.Nonpos s x = hlevel ≤ℚ_prop
-keeps_prop convex.Symmetric s x = hlevel ≡ℚ_prop
-keeps_prop convex.Diag s x = hlevel ≡ℚ_prop
-
-within_prop : (a : Attribute) (s : Sides) (x : Numbers) → IsProp (IsWithin a s x)
-within_prop Free s x = hlevel props
-within_prop Nonneg s x = hlevel ≤ℚ_prop
-within_prop Nonpos s x = hlevel ≤ℚ_prop
-within_prop Symmetric s x = hlevel ≡ℚ_prop
-within_prop Diag s x = hlevel ≡ℚ_prop
-
 parameter_prop : (s : convex.Setting) (h : convex.Head) → IsProp (ParameterKeeps s h)
 parameter_prop s (convex.Variable d) = hlevel props
 parameter_prop s (convex.Parameter d) = keeps_prop d.attribute d.sides (s d.number)

@@ -5,18 +5,17 @@ ghost use Rattle.dcx_shape.specs.Shape.{sides_of};
 ghost use Rattle.dcx_atom.specs.Arrays.{number_at};
 ghost use Rattle.dcx_point.specs.Pairs.{names_of, same_name};
 ghost use Rattle.dcx_call.specs.Attributes.{IsWithin};
-ghost use Rattle.dcx_call.specs.declared.attribute.Whole.TheVariants.{Not};
 ghost use Rattle.dcx_fit.specs.Fit.{IsNamed, IsMet, FitsParameters, IsFirstLeft, IsUnknown, IsUnmet, IsFaultOf, IsFirstMisfit};
 ghost use Rattle.dcx_fit.specs.Faults.{stop_of};
 
 use crate::fault::{Fault, stop_of};
 use dcx_answer::Stop;
 use dcx_atom::Array;
-use dcx_domain::outside;
+use dcx_domain::first_left;
 use dcx_frac::Frac;
 use dcx_point::Setting;
 use dcx_shape::Name;
-use dcx_tree::{Parameter, Problem, Variable, Whole};
+use dcx_tree::{Parameter, Problem};
 use std::alloc::Global;
 
 /// Whether a setting fits a problem.
@@ -61,7 +60,7 @@ fn are_met(alloc: Global, parameters: &[Parameter], setting: &Setting) -> Result
     ensures { MatchResult result (λ _. All (IsMet setting.now) parameters.now) (IsUnmet parameters.now setting.now) }
 {
     for parameter in parameters {
-        if let Some(fault) = fault_of(alloc, parameter, setting) {
+        if let Some(fault) = fault_of(parameter, setting) {
             return Err(stop_of(alloc, &parameter.name, fault));
         }
     }
@@ -69,7 +68,7 @@ fn are_met(alloc: Global, parameters: &[Parameter], setting: &Setting) -> Result
 }
 
 /// What is wrong with the array that a setting gives a parameter.
-fn fault_of(alloc: Global, parameter: &Parameter, setting: &Setting) -> Option<Fault>
+fn fault_of(parameter: &Parameter, setting: &Setting) -> Option<Fault>
     ensures { MatchOption result (IsMet setting.now parameter.now) (λ fault. IsFaultOf setting.now parameter.now (stop_of parameter.now.name fault)) }
 {
     let Some(array) = setting.get(&parameter.name) else {
@@ -81,30 +80,16 @@ fn fault_of(alloc: Global, parameter: &Parameter, setting: &Setting) -> Option<F
             given: array.shape,
         });
     }
-    let (entry, value) = first_left(alloc, parameter, array)?;
+    let (entry, value) = left_of(parameter, array)?;
     Some(Fault::Sign { entry, value })
 }
 
 /// The first entry, and its number, of an array of a parameter's shape that isn't as the parameter's attribute demands.
-fn first_left(alloc: Global, parameter: &Parameter, array: &Array) -> Option<(u32, Frac)>
+fn left_of(parameter: &Parameter, array: &Array) -> Option<(u32, Frac)>
     requires { sides_of array.now.shape ≡ sides_of parameter.now.shape }
     ensures { MatchOption result (IsWithin parameter.now.attribute (sides_of parameter.now.shape) (number_at array.now.entries)) (λ left. IsFirstLeft parameter.now array.now left.0 left.1) }
 {
-    let alike = unnamed(alloc, parameter);
-    let entry = outside(&alike, array)?;
-    Some((entry, array.entries.as_slice()[entry as usize]))
-}
-
-/// A variable of which the same is demanded as of a parameter. Takes no memory.
-fn unnamed(alloc: Global, parameter: &Parameter) -> Variable
-    ensures shape { result.shape ≡ parameter.now.shape }
-    ensures attribute { result.attribute ≡ parameter.now.attribute }
-    ensures whole { result.whole ≡ Not }
-{
-    Variable {
-        name: Name::from_vec(Vec::new(alloc)),
-        shape: parameter.shape,
-        attribute: parameter.attribute,
-        whole: Whole::Not,
-    }
+    let numbers = array.entries.as_slice();
+    let entry = first_left(parameter.attribute, parameter.shape, numbers)?;
+    Some((entry, numbers[entry as usize]))
 }

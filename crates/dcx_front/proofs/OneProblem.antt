@@ -6,13 +6,14 @@ use Rattle.std.proofs.Math.Logic.{∥∥₁_prop}
 use mathlib.Core.HLevel.{is_prop→PathP}
 use Rattle.dcx_call.specs.declared.attribute.Variable.{Variable}
 use Rattle.dcx_call.specs.declared.attribute.Parameter.{Parameter}
+use Rattle.dcx_call.specs.Attributes.{AreSquare}
 use Rattle.dcx_call.specs.Calls.{shape_of}
 use Rattle.dcx_arena.specs.Nodes.{AreNodes}
 use Rattle.dcx_tree.specs.declared.constraint.Constraint.{Constraint}
 use Rattle.dcx_tree.specs.declared.problem.Problem.{Problem}
 use Rattle.dcx_tree.specs.declared.roots.Roots.{Roots}
 use Rattle.dcx_tree.specs.Nodes.{Node}
-use Rattle.dcx_tree.specs.Kept.{AreNodes-prop}
+use Rattle.dcx_tree.specs.Kept.{AreNodes-prop, AreSquare-prop}
 use Rattle.dcx_tree.specs.Problems.{IsObjective, AreConstraints, IsNumbered, AreDeclared, sides_in, roots_of}
 use Rattle.dcx_tree.specs.Gather.{positions_of, has_variable, has_parameter, Demand, demand_of, IsProblemOf}
 use Rattle.dcx_front.proofs.OneGathering.{one_gathering}
@@ -55,6 +56,7 @@ same_parts p q t v w s o l c = λ i. record {
   constraints_kept = is_prop→PathP (λ j. AreConstraints (t j) (c j)) (λ j. hlevel props) p.constraints_kept q.constraints_kept i;
   numbered = is_prop→PathP (λ j. IsNumbered (t j) (o j) (c j)) (λ j. hlevel props) p.numbered q.numbered i;
   declared = is_prop→PathP (λ j. ∥ AreDeclared (t j) (v j) (w j) ∥₁) (λ j. ∥∥₁_prop) p.declared q.declared i;
+  squares = is_prop→PathP (λ j. AreSquare (v j)) (λ j. AreSquare-prop (v j)) p.squares q.squares i;
 }
 
 pub one_problem : (source : List Node) (roots : Roots) (p q : Problem) → IsProblemOf source roots p → IsProblemOf source roots q → p ≡ q

@@ -25,7 +25,8 @@ use Rattle.dcx_std.specs.Solutions.{HasKinds, linear_program, unknowns_at}
 use Rattle.dcx_std.proofs.ScaledProgram.{scaled_program}
 use Rattle.dcx_std.proofs.RightAnswers.{shown_of}
 use Rattle.dcx_unknowns.specs.Layout.{constraint_rows}
-use Rattle.dcx_unknowns.specs.Unknowns.{point_at, AreSquare}
+use Rattle.dcx_unknowns.specs.Unknowns.{point_at}
+use Rattle.dcx_call.specs.Attributes.{AreSquare}
 use Rattle.dcx_unknowns.specs.Laws.{AreAlike}
 use Rattle.dcx_mapping.specs.Programs.{multipliers_of, bound_row}
 use Rattle.dcx_postsolve.specs.Points.{numbered}

@@ -12,7 +12,7 @@ use Rattle.dcx_linear.specs.Changes.{changed_frac}
 use Rattle.dcx_linear.specs.Parameters.{Parameters, entry_of}
 use Rattle.dcx_linear.specs.ParamForms.{form_of_number, number_of_form, sum_gives_form, change_gives_form, form_value, IsEntryForm}
 use Rattle.dcx_linear.specs.FormsAt.{frac_value}
-use Rattle.dcx_unknowns.specs.Unknowns.{AreSquare}
+use Rattle.dcx_call.specs.Attributes.{AreSquare}
 use Rattle.dcx_graph.specs.declared.stop.ReduceStop.{ReduceStop}
 use Rattle.dcx_graph.specs.Program.{Program}
 use Rattle.dcx_graph.specs.Reducing.{Reduces}

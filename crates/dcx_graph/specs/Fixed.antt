@@ -12,7 +12,7 @@ use Rattle.dcx_linear.specs.declared.param_form.ParamForm.{ParamForm}
 use Rattle.dcx_linear.specs.Parameters.{Parameters}
 use Rattle.dcx_linear.specs.ParamForms.{form_of_number, number_of_form, sum_gives_form, change_gives_form, form_value, IsEntryForm}
 use Rattle.dcx_linear.specs.FormsAt.{frac_value}
-use Rattle.dcx_unknowns.specs.Unknowns.{AreSquare}
+use Rattle.dcx_call.specs.Attributes.{AreSquare}
 use Rattle.dcx_entries.specs.Nodes.{Table, AreFormed}
 use Rattle.dcx_within.specs.Within.{IsKnown}
 use Rattle.dcx_graph.specs.Program.{Program, IsProgram}

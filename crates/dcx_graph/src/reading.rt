@@ -3,7 +3,7 @@ ghost use Rattle.std.specs.Prelude.{◌≡◌, ◌<◌, ◌≤◌, ◌^◌, List
 ghost use Rattle.dcx_linear.specs.declared.row.UnknownKind.{UnknownKind};
 ghost use Rattle.dcx_lp_answer.specs.declared.answer.LpStatus.TheVariants as status;
 ghost use Rattle.dcx_unknowns.specs.Layout.{constraint_rows};
-ghost use Rattle.dcx_unknowns.specs.Unknowns.{AreSquare};
+ghost use Rattle.dcx_call.specs.Attributes.{AreSquare};
 ghost use Rattle.dcx_tree.specs.Meaning.{setting_of};
 ghost use Rattle.dcx_postsolve.specs.Duals.{AreDuals};
 ghost use Rattle.dcx_graph.specs.Answers.{IsAnswered, TellUnknowns, CanBeRead, IsPointRead, IsRead, StopsReading, IsRightFor, answer_stop};

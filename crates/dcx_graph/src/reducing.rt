@@ -1,6 +1,6 @@
 //! The reduced program of a problem.
 ghost use Rattle.std.specs.Prelude.{◌≡◌, ◌+◌, ◌≤◌, false, length, IfOk, OnOk};
-ghost use Rattle.dcx_unknowns.specs.Unknowns.{AreSquare};
+ghost use Rattle.dcx_call.specs.Attributes.{AreSquare};
 ghost use Rattle.dcx_unknowns.specs.Layout.{marked, AreReduced, kinds_with, rows_with, columns_with, AreFew};
 ghost use Rattle.dcx_nodes.specs.Marks.{AreFixed};
 ghost use Rattle.dcx_rules.specs.Verdicts.{IsVerdictOf};

@@ -19,7 +19,7 @@ use Rattle.dcx_linear.proofs.Widths.{sum_width, change_width}
 use Rattle.dcx_linear.proofs.Coefficients.{OfAll, sum_keeps, change_keeps}
 
 -- where each of two operations has one answer, the one after the other has one
-one_follows : {A B : Type 0} (First : Result A Passes → Type 0) (Second : A → Result B Passes → Type 0) → ((r s : Result A Passes) → First r → First s → r ≡ s) → ((x : A) (r s : Result B Passes) → Second x r → Second x s → r ≡ s)
+pub one_follows : {A B : Type 0} (First : Result A Passes → Type 0) (Second : A → Result B Passes → Type 0) → ((r s : Result A Passes) → First r → First s → r ≡ s) → ((x : A) (r s : Result B Passes) → Second x r → Second x s → r ≡ s)
     → (r s : Result B Passes) → Follows First Second r → Follows First Second s → r ≡ s
 one_follows First Second one two (Ok y) (Ok z) h k =
     let e = one (Ok h.0) (Ok k.0) h.1 k.1 in

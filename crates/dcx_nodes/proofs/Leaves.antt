@@ -29,7 +29,8 @@ use Rattle.dcx_tree.proofs.NodeValues.{sides_are}
 use Rattle.dcx_tree.proofs.Sublists.{contains_at}
 use Rattle.dcx_domain.proofs.Few.{few_parameters}
 use Rattle.dcx_unknowns.specs.Own.{own_count}
-use Rattle.dcx_unknowns.specs.Unknowns.{demanded, sides_in, variable_unknowns, variable_kinds, first_unknown, unknown_from, IsSquareFor, IsSquare, AreSquare}
+use Rattle.dcx_unknowns.specs.Unknowns.{demanded, sides_in, variable_unknowns, variable_kinds, first_unknown, unknown_from}
+use Rattle.dcx_call.specs.Attributes.{IsSquareFor, IsSquare, AreSquare}
 use Rattle.dcx_unknowns.specs.Layout.{marked, aux_kind, aux_below}
 use Rattle.dcx_unknowns.proofs.Domains.{number_is}
 use Rattle.dcx_unknowns.proofs.Owners.{are_numbered, first_fits}

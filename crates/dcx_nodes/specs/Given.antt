@@ -12,7 +12,8 @@ use Rattle.dcx_call.specs.declared.call.Call.TheVariants as calls
 use Rattle.dcx_call.specs.Values.{IsGiven}
 use Rattle.dcx_tree.specs.declared.problem.Problem.{Problem}
 use Rattle.dcx_tree.specs.Nodes.{Node}
-use Rattle.dcx_unknowns.specs.Unknowns.{first_unknown, variable_unknowns, AreSquare}
+use Rattle.dcx_unknowns.specs.Unknowns.{first_unknown, variable_unknowns}
+use Rattle.dcx_call.specs.Attributes.{AreSquare}
 use Rattle.dcx_unknowns.specs.Layout.{marked, aux_below, kinds_with}
 
 -- the entries of a parameter may be asked for

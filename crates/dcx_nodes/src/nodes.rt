@@ -1,7 +1,8 @@
 //! The forms of all nodes of a problem.
 ghost use Rattle.std.specs.Prelude.{◌≡◌, ◌≤◌, ◌+◌, length, IfOk, IfErr, OnOk};
 ghost use Rattle.dcx_convex.specs.Rules.{Rules};
-ghost use Rattle.dcx_unknowns.specs.Unknowns.{variable_unknowns, AreSquare};
+ghost use Rattle.dcx_unknowns.specs.Unknowns.{variable_unknowns};
+ghost use Rattle.dcx_call.specs.Attributes.{AreSquare};
 ghost use Rattle.dcx_unknowns.specs.Layout.{AreReduced};
 ghost use Rattle.dcx_entries.specs.Kept.{IsKept, IsStop};
 ghost use Rattle.dcx_nodes.specs.Given.{IsReady, HasFewUnknowns, NumbersAreGiven, ParametersAreReadable};

@@ -21,12 +21,12 @@ use Rattle.dcx_call.specs.declared.attribute.Attribute.TheVariants as attributes
 use Rattle.dcx_call.specs.declared.attribute.Whole.{Whole}
 use Rattle.dcx_call.specs.declared.attribute.Whole.TheVariants.{Not, Integer, Boolean}
 use Rattle.dcx_call.specs.declared.attribute.Variable.{Variable}
-use Rattle.dcx_call.specs.Attributes.{counted}
+use Rattle.dcx_call.specs.Attributes.{counted, IsSquareFor, AreSquare}
 use Rattle.dcx_tree.specs.declared.problem.Problem.{Problem}
 use Rattle.dcx_tree.specs.Nodes.{attribute_of, arg_sides, convex_node, variable_attribute}
 use Rattle.dcx_tree.specs.Meaning.{names_in, convex_problem, convex_constraint, value_at, objective_at, sense_of, IsInDomain, IsFeasible, IsOptimal, IsInfeasible, IsUnbounded}
 use Rattle.dcx_tree.proofs.Lawful.{mapped}
-use Rattle.dcx_unknowns.specs.Unknowns.{demanded, sides_in, IsSquareFor, AreSquare}
+use Rattle.dcx_unknowns.specs.Unknowns.{demanded, sides_in}
 use Rattle.dcx_unknowns.specs.Laws.{AreAlike}
 use Rattle.dcx_unknowns.proofs.Domains.{to_domain, to_variables}
 use Rattle.dcx_reduced.proofs.Variables.{node_same, same_value}

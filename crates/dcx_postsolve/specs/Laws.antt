@@ -21,7 +21,8 @@ use Rattle.dcx_lp_answer.specs.Multipliers.{is_at_most, passing_from}
 use Rattle.dcx_std.specs.GivenRows.{GivenRows}
 use Rattle.dcx_std.specs.IntegerRows.{IsMade}
 use Rattle.dcx_std.specs.Solutions.{unknowns_at}
-use Rattle.dcx_unknowns.specs.Unknowns.{point_at, AreSquare}
+use Rattle.dcx_unknowns.specs.Unknowns.{point_at}
+use Rattle.dcx_call.specs.Attributes.{AreSquare}
 use Rattle.dcx_unknowns.specs.Layout.{constraint_rows}
 use Rattle.dcx_unknowns.specs.Laws.{AreAlike}
 use Rattle.dcx_postsolve.specs.Numbers.{unknown_numbers, HasColumns, AreOneSided}

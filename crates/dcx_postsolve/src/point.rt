@@ -4,7 +4,8 @@ ghost use Rattle.std.specs.List.{IsDistinct};
 ghost use Rattle.dcx_frac.specs.Frac.{value};
 ghost use Rattle.dcx_point.specs.Pairs.{same_name, with_array};
 ghost use Rattle.dcx_unknowns.specs.Own.{own_count};
-ghost use Rattle.dcx_unknowns.specs.Unknowns.{demanded, sides_in, variable_unknowns, number_at, IsSquare, AreSquare};
+ghost use Rattle.dcx_unknowns.specs.Unknowns.{demanded, sides_in, variable_unknowns, number_at};
+ghost use Rattle.dcx_call.specs.Attributes.{IsSquare, AreSquare};
 ghost use Rattle.dcx_postsolve.specs.Points.{numbered, IsArrayFrom, PutsArray, IsPointOf};
 
 use dcx_atom::Array;

@@ -18,7 +18,8 @@ use Rattle.dcx_tree.specs.declared.problem.Problem.{Problem}
 use Rattle.dcx_tree.specs.Nodes.{Node, arg_sides, convex_node}
 use Rattle.dcx_tree.specs.Meaning.{names_in, convex_problem, IsInDomain}
 use Rattle.dcx_linear.specs.Rows.{IsOfKind, AreOfKinds}
-use Rattle.dcx_unknowns.specs.Unknowns.{variable_kinds, point_at, unknowns_of, AreSquare}
+use Rattle.dcx_unknowns.specs.Unknowns.{variable_kinds, point_at, unknowns_of}
+use Rattle.dcx_call.specs.Attributes.{AreSquare}
 use Rattle.dcx_unknowns.specs.Laws.{AreAlike}
 use Rattle.dcx_unknowns.specs.Layout.{is_reduced, call_aux, aux_if, call_rows, rows_if, aux_kind, aux_at, aux_before, unknown_kinds}
 use Rattle.dcx_unknowns.proofs.Owners.{are_numbered}

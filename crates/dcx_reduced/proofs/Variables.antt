@@ -19,7 +19,8 @@ use Rattle.dcx_tree.specs.Meaning.{names_in}
 use Rattle.dcx_tree.proofs.Sublists.{contains_at}
 use Rattle.dcx_linear.specs.FormTerms.{Unknowns}
 use Rattle.dcx_unknowns.specs.Own.{own_before, source_of}
-use Rattle.dcx_unknowns.specs.Unknowns.{demanded, sides_in, owners, variable_unknowns, first_unknown, unknown_from, number_at, array_from, point_at, IsSquare, AreSquare}
+use Rattle.dcx_unknowns.specs.Unknowns.{demanded, sides_in, owners, variable_unknowns, first_unknown, unknown_from, number_at, array_from, point_at}
+use Rattle.dcx_call.specs.Attributes.{IsSquare, AreSquare}
 use Rattle.dcx_unknowns.specs.Laws.{IsVariable, AreAlike}
 use Rattle.dcx_unknowns.proofs.Sources.{source_own}
 use Rattle.dcx_unknowns.proofs.Owners.{are_numbered}

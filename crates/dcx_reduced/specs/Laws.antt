@@ -5,7 +5,7 @@ use Rattle.dcx_convex.specs.Rules.{Rules}
 use Rattle.dcx_convex.specs.Reductions.{Unknowns, IsReduction}
 use Rattle.dcx_tree.specs.declared.problem.Problem.{Problem}
 use Rattle.dcx_tree.specs.Meaning.{convex_problem}
-use Rattle.dcx_unknowns.specs.Unknowns.{AreSquare}
+use Rattle.dcx_call.specs.Attributes.{AreSquare}
 use Rattle.dcx_reduced.specs.Equations.{Forms, AllStand, reduced_with}
 
 -- forms that meet the equation of each node, with the rows of the graphs, are a reduced program of the problem

@@ -1,7 +1,8 @@
-//! The variables and parameters that are declared, of which no two have the same name.
+//! The variables and parameters that are declared, of which no two have the same name. Symmetric and diagonal variables are square.
 ghost use Rattle.std.specs.Prelude.{◌≡◌, false, [], ◌∷◌, ◌++◌, OnOk, OnErr};
 ghost use Rattle.std.specs.List.{IsDistinct};
 ghost use Rattle.dcx_point.specs.Pairs.{same_name};
+ghost use Rattle.dcx_call.specs.Attributes.{IsSquare, AreSquare};
 ghost use Rattle.dcx_tree.specs.Problems.{declared_names};
 ghost use Rattle.dcx_state.specs.Lists.{is_among};
 
@@ -57,6 +58,7 @@ impl Declared {
     pub(crate) fn variables(&self) -> &[Variable]
         ensures items { result.now ≡ self.now.variables }
         ensures distinct { IsDistinct same_name (declared_names self.now.variables self.now.parameters) }
+        ensures squares { AreSquare self.now.variables }
     {
         self.variables.as_slice()
     }
@@ -68,13 +70,14 @@ impl Declared {
         self.parameters.as_slice()
     }
 
-    /// One variable more, whose name is new. Where there is no memory, all is as it was.
+    /// One variable more, whose name is new, and which is square if it must be. Where there is no memory, all is as it was.
     pub(crate) fn add_variable(
         &mut self,
         alloc: Global,
         variable: Variable,
     ) -> Result<(), AllocError>
-        requires { is_among variable.name self.old.variables self.old.parameters ≡ false }
+        requires new { is_among variable.name self.old.variables self.old.parameters ≡ false }
+        requires square { IsSquare variable }
         ensures ok { OnOk result (self.new ≡ record self.old { variables = self.old.variables ++ variable ∷ [] }) }
         ensures err { OnErr result (self.new ≡ self.old) }
     {

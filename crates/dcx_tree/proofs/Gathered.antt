@@ -67,6 +67,7 @@ pub record IsWhole (source : List Node) (roots : Roots) (part : List Node) (o : 
   pub constraints : AreConstraints part cs
   pub numbered : IsNumbered part o cs
   pub declared : problems.AreDeclared part vs ps
+  pub squares : AreSquare vs
 
 module _ (source : List Node) (roots : Roots) (objective : IsObjective source roots.objective) (constraints : AreConstraints source roots.constraints) (declared : AreDeclarations source roots)
     (ids ends : List ℕ) (part : List Node) (o : NodeId) (cs : List Constraint) (vs : List Variable) (ps : List Parameter)
@@ -89,5 +90,8 @@ module _ (source : List Node) (roots : Roots) (objective : IsObjective source ro
       let d = parts.declared_kept source (positions_of roots) part (roots_of o cs) gathered_is roots.variables roots.parameters declared.reached declared.distinct in
       subst (λ v. problems.AreDeclared part v ps) (sym vs_are) (subst (problems.AreDeclared part (filter (λ (v : Variable). has_variable part v.name) roots.variables)) (sym ps_are) d)
 
+  squares_are : AreSquare vs
+  squares_are = subst AreSquare (sym vs_are) (All-filter IsSquare (λ (v : Variable). has_variable part v.name) roots.variables declared.squares)
+
   pub whole : IsWhole source roots part o cs vs ps
-  whole = record { nodes = gathered_is; objective = objective_is; constraints = constraints_are; numbered = numbered_is; declared = declared_are }
+  whole = record { nodes = gathered_is; objective = objective_is; constraints = constraints_are; numbered = numbered_is; declared = declared_are; squares = squares_are }

@@ -7,6 +7,7 @@ use Rattle.dcx_point.specs.Pairs.{same_name}
 use Rattle.dcx_arena.specs.Nodes.{IsNode}
 use Rattle.dcx_arena.specs.Gather.{has, order_of, IsGathered}
 use Rattle.dcx_call.specs.declared.call.Call.{Call}
+use Rattle.dcx_call.specs.Attributes.{AreSquare}
 use Rattle.dcx_call.specs.declared.call.Call.TheVariants as calls
 use Rattle.dcx_tree.specs.declared.constraint.Kind.{Kind}
 use Rattle.dcx_tree.specs.declared.constraint.Constraint.{Constraint}
@@ -23,10 +24,12 @@ positions_of roots = roots_of roots.objective roots.constraints
 abbrev pub declared_in : Roots → Names
 declared_in roots = record { variables = map (λ v. v.name) roots.variables; parameters = map (λ q. q.name) roots.parameters }
 
--- each variable and each parameter that the roots reach is declared with all its fields, and no name is declared twice
+-- each variable and each parameter that the roots reach is declared with all its fields, no name is declared twice, and symmetric and
+-- diagonal variables are square
 pub record AreDeclarations (source : List Node) (roots : Roots) : Type 0 where
   pub reached : (i : ℕ) (n : Node) → has (order_of source (positions_of roots)) i ≡ true → IsNode source i n → IsListed roots.variables roots.parameters n.call
   pub distinct : IsDistinct same_name (declared_names roots.variables roots.parameters)
+  pub squares : AreSquare roots.variables
 
 -- the call is a variable of this name
 abbrev pub is_variable : List ℕ → Call → Bool

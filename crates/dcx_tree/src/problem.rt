@@ -1,7 +1,8 @@
 //! A problem: what is asked of the expressions of a tree.
 ghost use Rattle.dcx_arena.specs.Nodes.{AreNodes};
+ghost use Rattle.dcx_call.specs.Attributes.{AreSquare};
 ghost use Rattle.dcx_call.specs.Calls.{shape_of};
-ghost use Rattle.dcx_tree.specs.Kept.{AreNodes-prop};
+ghost use Rattle.dcx_tree.specs.Kept.{AreNodes-prop, AreSquare-prop};
 ghost use Rattle.dcx_tree.specs.Problems.{IsObjective, AreConstraints, IsNumbered, AreDeclared};
 
 use crate::constraint::Sense;
@@ -10,7 +11,7 @@ use crate::tree::Tree;
 use dcx_arena::NodeId;
 use dcx_shape::Place;
 
-/// An objective over a domain, under constraints.
+/// An objective over a domain, under constraints. Its symmetric and diagonal variables are square matrices.
 #[derive(Drop)]
 pub struct Problem {
     /// The expressions that the problem reaches.
@@ -32,4 +33,5 @@ pub struct Problem {
     pub ghost constraints_kept: { AreConstraints tree constraints },
     pub ghost numbered: { IsNumbered tree objective constraints },
     pub ghost declared: { ∥ AreDeclared tree variables parameters ∥₁ },
+    pub ghost squares: { AreSquare variables } by { AreSquare-prop variables },
 }

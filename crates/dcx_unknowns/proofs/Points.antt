@@ -16,7 +16,7 @@ use Rattle.dcx_call.specs.declared.attribute.Attribute.TheVariants.{Free, Nonneg
 use Rattle.dcx_call.specs.declared.attribute.Whole.{Whole}
 use Rattle.dcx_call.specs.declared.attribute.Whole.TheVariants.{Not, Integer, Boolean}
 use Rattle.dcx_call.specs.declared.attribute.Variable.{Variable}
-use Rattle.dcx_call.specs.Attributes.{counted}
+use Rattle.dcx_call.specs.Attributes.{counted, IsSquareFor, AreSquare}
 use Rattle.dcx_convex.specs.Nodes as convex
 use Rattle.dcx_convex.specs.Nodes.{Numbers, Point, zeros, first_of, Keeps}
 use Rattle.dcx_convex.specs.Reductions.{further}
@@ -26,7 +26,7 @@ use Rattle.dcx_linear.specs.FormTerms.{Unknowns}
 use Rattle.dcx_linear.specs.Rows.{IsOfKind, AreOfKinds}
 use Rattle.dcx_domain.proofs.Places.{entry_here, place_here}
 use Rattle.dcx_unknowns.specs.Own.{row_in, column_in, mirror_of, source_of, own_before}
-use Rattle.dcx_unknowns.specs.Unknowns.{demanded, sides_in, Owner, kind_of, variable_kinds, first_unknown, unknown_in, unknown_from, number_at, array_from, point_at, nobody, owners, unknowns_of, IsSquareFor, AreSquare}
+use Rattle.dcx_unknowns.specs.Unknowns.{demanded, sides_in, Owner, kind_of, variable_kinds, first_unknown, unknown_in, unknown_from, number_at, array_from, point_at, nobody, owners, unknowns_of}
 use Rattle.dcx_unknowns.specs.Laws.{IsVariable, HasOwn, AreKept, AreAlike, StandForPoints}
 use Rattle.dcx_unknowns.proofs.Sources.{Owns, source_own, source_mirror, source_off, mirror_entry}
 use Rattle.dcx_unknowns.proofs.Owners.{owner_of, are_numbered, owned}

@@ -14,7 +14,8 @@ use Rattle.dcx_call.specs.declared.attribute.Attribute.{Attribute}
 use Rattle.dcx_call.specs.declared.attribute.Attribute.TheVariants.{Free, Nonneg, Nonpos, Symmetric, Diag}
 use Rattle.dcx_domain.proofs.Places.{entry_here, place_here}
 use Rattle.dcx_unknowns.specs.Own.{row_in, column_in, is_own, mirror_of, source_of, own_before, listed_for}
-use Rattle.dcx_unknowns.specs.Unknowns.{IsSquareFor, unknown_in}
+use Rattle.dcx_unknowns.specs.Unknowns.{unknown_in}
+use Rattle.dcx_call.specs.Attributes.{IsSquareFor}
 use Rattle.dcx_unknowns.proofs.Places.{places_next, own_more, own_no_more}
 
 -- ---- rows and columns of places

@@ -12,7 +12,8 @@ use Rattle.dcx_tree.specs.Meaning.{IsInDomain}
 use Rattle.dcx_linear.specs.FormTerms.{Unknowns}
 use Rattle.dcx_linear.specs.Rows.{AreOfKinds}
 use Rattle.dcx_unknowns.specs.Own.{is_own, own_before}
-use Rattle.dcx_unknowns.specs.Unknowns.{demanded, sides_in, owners, variable_unknowns, kind_of, variable_kinds, first_unknown, point_at, unknowns_of, AreSquare}
+use Rattle.dcx_unknowns.specs.Unknowns.{demanded, sides_in, owners, variable_unknowns, kind_of, variable_kinds, first_unknown, point_at, unknowns_of}
+use Rattle.dcx_call.specs.Attributes.{AreSquare}
 
 -- v is variable k
 abbrev pub IsVariable : List Variable → ℕ → Variable → Type 0

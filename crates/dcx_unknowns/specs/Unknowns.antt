@@ -1,10 +1,10 @@
 -- The unknowns of variables: one for each entry that has its own, in order of declaration and row-major order. Points are
 -- read from unknowns, and unknowns from points.
-use Rattle.std.specs.Prelude.{◌≡◌, ℕ, suc, ◌+◌, List, [], ◌∷◌, ◌++◌, length, map, take, Option, Some, None, option_map, slice_get, slice_index_or, flat_map, sum_by, All, pos}
+use Rattle.std.specs.Prelude.{◌≡◌, ℕ, suc, ◌+◌, List, [], ◌∷◌, ◌++◌, length, map, take, Option, Some, None, option_map, slice_get, slice_index_or, flat_map, sum_by, pos}
 use Rattle.dcx_math.specs.Rational.{ℚ, whole}
 use Rattle.dcx_shape.specs.declared.shape.Sides.{Sides}
 use Rattle.dcx_shape.specs.Shape.{sides_of}
-use Rattle.dcx_shape.specs.Sides.{rows_of, cols_of, entries_of}
+use Rattle.dcx_shape.specs.Sides.{entries_of}
 use Rattle.dcx_call.specs.declared.attribute.Attribute.{Attribute}
 use Rattle.dcx_call.specs.declared.attribute.Attribute.TheVariants.{Free, Nonneg, Nonpos, Symmetric, Diag}
 use Rattle.dcx_call.specs.declared.attribute.Variable.{Variable}
@@ -93,17 +93,3 @@ owner_at vs n = slice_index_or (owners vs) n nobody
 
 abbrev pub unknowns_of : List Variable → Point → Unknowns
 unknowns_of vs x n = x (owner_at vs n).variable (owner_at vs n).entry
-
--- ---- symmetric and diagonal variables are square matrices
-abbrev pub IsSquareFor : Attribute → Sides → Type 0
-IsSquareFor Free sides = Unit {0}
-IsSquareFor Nonneg sides = Unit {0}
-IsSquareFor Nonpos sides = Unit {0}
-IsSquareFor Symmetric sides = rows_of sides ≡ cols_of sides
-IsSquareFor Diag sides = rows_of sides ≡ cols_of sides
-
-abbrev pub IsSquare : Variable → Type 0
-IsSquare v = IsSquareFor (demanded v) (sides_in v)
-
-abbrev pub AreSquare : List Variable → Type 0
-AreSquare vs = All IsSquare vs

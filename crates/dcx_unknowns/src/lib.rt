@@ -14,7 +14,6 @@
 //! | the point of unknowns along a ray goes along a ray | `laws::rays_are_unknowns` |
 //! | the kinds of all unknowns, and how many rows and columns there are; `TooLarge` exactly over 600 rows or 2,400 columns | `lay_out` |
 //! | the graph of a node is that of its atom | `node_graph` |
-//! | whether symmetric and diagonal variables are square | `are_square` |
 //! | a problem has few unknowns of variables | `laws::unknowns_are_few` |
 #![tactic(auto)]
 
@@ -29,4 +28,4 @@ mod variable;
 pub use graph::node_graph;
 pub use layout::{Layout, lay_out};
 pub use stop::LayoutStop;
-pub use variable::{are_square, entry_unknowns, first_unknowns};
+pub use variable::{entry_unknowns, first_unknowns};

@@ -5,17 +5,7 @@ ghost use Rattle.dcx_unknowns.specs.Own.{is_own, own_count, mirror_of};
 ghost use Rattle.dcx_unknowns.specs.Unknowns.{demanded, sides_in, kind_of};
 
 use dcx_linear::UnknownKind;
-use dcx_tree::{Attribute, Variable, Whole};
-
-/// What is demanded of a variable: what is to be 0 or 1 counts as nonneg.
-pub(crate) fn demanded(variable: &Variable) -> Attribute
-    ensures { result ≡ demanded variable.now }
-{
-    match variable.whole {
-        Whole::Boolean => Attribute::Nonneg,
-        _ => variable.attribute,
-    }
-}
+use dcx_tree::{Attribute, Variable};
 
 /// The kind of the unknowns of a variable of which this is demanded.
 pub(crate) fn kind_of(attribute: Attribute) -> UnknownKind
@@ -36,7 +26,7 @@ pub(crate) fn is_own(variable: &Variable, entry: u32) -> bool
     let columns = variable.shape.cols();
     let row = entry / columns;
     let column = entry % columns;
-    match demanded(variable) {
+    match variable.demanded() {
         Attribute::Symmetric => row <= column,
         Attribute::Diag => row == column,
         _ => true,

@@ -5,7 +5,7 @@ ghost use Rattle.dcx_unknowns.specs.Unknowns.{own_kinds, variable_kinds};
 ghost use Rattle.dcx_unknowns.specs.Layout.{marked, constraint_rows, constraint_slacks, rows_with, columns_with};
 
 use crate::graph::graph_size;
-use crate::own::{demanded, kind_of, own_count};
+use crate::own::{kind_of, own_count};
 use dcx_tree::{Constraint, Kind, Problem, Variable};
 use std::alloc::{AllocError, Global};
 
@@ -31,7 +31,7 @@ fn variable_columns(variables: &[Variable]) -> u32
 fn own_columns(variable: &Variable) -> u32
     ensures { result ≡ sum_by columns_for (own_kinds variable.now) }
 {
-    own_count(variable) * kind_of(demanded(variable)).columns()
+    own_count(variable) * kind_of(variable.demanded()).columns()
 }
 
 /// The rows of constraints.

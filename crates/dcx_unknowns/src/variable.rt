@@ -3,9 +3,10 @@ ghost use Rattle.std.specs.Prelude.{◌≡◌, ◌↔◌, ◌+◌, ◌<◌, ◌^
 ghost use Rattle.dcx_shape.specs.Sides.{entries_of};
 ghost use Rattle.dcx_shape.specs.Places.{places_below};
 ghost use Rattle.dcx_unknowns.specs.Own.{is_own, own_count, source_of, listed_for};
-ghost use Rattle.dcx_unknowns.specs.Unknowns.{demanded, sides_in, own_kinds, variable_unknowns, variable_kinds, first_unknown, unknown_from, IsSquare, AreSquare};
+ghost use Rattle.dcx_unknowns.specs.Unknowns.{demanded, sides_in, own_kinds, variable_unknowns, variable_kinds, first_unknown, unknown_from};
+ghost use Rattle.dcx_call.specs.Attributes.{IsSquare, AreSquare};
 
-use crate::own::{demanded, is_own, kind_of, mirror, own_count};
+use crate::own::{is_own, kind_of, mirror, own_count};
 use dcx_linear::UnknownKind;
 use dcx_tree::{Attribute, Variable};
 use std::alloc::{AllocError, Global};
@@ -58,7 +59,7 @@ fn mirrored(variable: &Variable, entry: u32, unknowns: &[Option<u32>]) -> Option
     requires listed { length unknowns.now ≡ entry }
     ensures { result ≡ listed_for unknowns.now (source_of (demanded variable.now) (sides_in variable.now) entry) }
 {
-    match demanded(variable) {
+    match variable.demanded() {
         Attribute::Symmetric => unknowns[mirror(variable, entry) as usize],
         _ => None,
     }
@@ -81,32 +82,9 @@ pub(crate) fn push_kinds(
 fn push_own(kinds: &mut Vec<UnknownKind>, variable: &Variable) -> Result<(), AllocError>
     ensures { OnOk result (kinds.new.items ≡ kinds.old.items ++ own_kinds variable.now) }
 {
-    let kind = kind_of(demanded(variable));
+    let kind = kind_of(variable.demanded());
     'own: for _ in 0..own_count(variable) {
         kinds.push(kind)?;
     }
     Ok(())
-}
-
-/// Whether symmetric and diagonal variables are square matrices.
-pub fn are_square(variables: &[Variable]) -> bool
-    ensures { IsTrue result ↔ AreSquare variables.now }
-{
-    'variables: for variable in variables {
-        if !is_square(variable) {
-            return false;
-        }
-    }
-    true
-}
-
-/// Whether a variable is a square matrix, if it must be one.
-fn is_square(variable: &Variable) -> bool
-    ensures { IsTrue result ↔ IsSquare variable.now }
-{
-    let square = variable.shape.rows() == variable.shape.cols();
-    match demanded(variable) {
-        Attribute::Symmetric | Attribute::Diag => square,
-        _ => true,
-    }
 }

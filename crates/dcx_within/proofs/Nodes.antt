@@ -33,7 +33,8 @@ use Rattle.dcx_tree.proofs.Sublists.{contains_at}
 use Rattle.dcx_linear.specs.declared.change.Change.{Change}
 use Rattle.dcx_linear.specs.declared.form.Form.{Form}
 use Rattle.dcx_linear.specs.Forms.{is_constant}
-use Rattle.dcx_unknowns.specs.Unknowns.{first_unknown, unknown_from, AreSquare}
+use Rattle.dcx_unknowns.specs.Unknowns.{first_unknown, unknown_from}
+use Rattle.dcx_call.specs.Attributes.{AreSquare}
 use Rattle.dcx_unknowns.specs.Layout.{is_reduced, first_aux, aux_at, call_aux, aux_if, unknown_kinds}
 use Rattle.dcx_unknowns.proofs.Domains.{number_is}
 use Rattle.dcx_reduced.proofs.Lists.{Each, each_nil, each_map}

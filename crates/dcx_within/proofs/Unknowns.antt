@@ -9,7 +9,8 @@ use Rattle.dcx_convex.specs.Rules.{Rules}
 use Rattle.dcx_tree.specs.declared.problem.Problem.{Problem}
 use Rattle.dcx_shape.specs.Sides.{entries_of}
 use Rattle.dcx_unknowns.specs.Own.{own_before, source_of}
-use Rattle.dcx_unknowns.specs.Unknowns.{demanded, sides_in, owners, variable_unknowns, variable_kinds, first_unknown, unknown_from, IsSquare, AreSquare}
+use Rattle.dcx_unknowns.specs.Unknowns.{demanded, sides_in, owners, variable_unknowns, variable_kinds, first_unknown, unknown_from}
+use Rattle.dcx_call.specs.Attributes.{IsSquare, AreSquare}
 use Rattle.dcx_unknowns.specs.Laws.{IsVariable}
 use Rattle.dcx_unknowns.specs.Layout.{aux_kind, aux_at, aux_before, first_aux, unknown_kinds}
 use Rattle.dcx_unknowns.proofs.Places.{joined_next}

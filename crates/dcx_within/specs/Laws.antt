@@ -8,7 +8,7 @@ use Rattle.dcx_tree.specs.declared.problem.Problem.{Problem}
 use Rattle.dcx_linear.specs.declared.change.Change.{Change}
 use Rattle.dcx_linear.specs.declared.param_form.ParamForm.{ParamForm}
 use Rattle.dcx_linear.specs.ParamForms.{form_of_number, number_of_form, sum_gives_form, change_gives_form, IsEntryForm}
-use Rattle.dcx_unknowns.specs.Unknowns.{AreSquare}
+use Rattle.dcx_call.specs.Attributes.{AreSquare}
 use Rattle.dcx_unknowns.specs.Layout.{unknown_kinds}
 use Rattle.dcx_entries.specs.Nodes.{Table, AreFormed}
 use Rattle.dcx_within.specs.Within.{OfTable, IsNarrow, IsKnown}

@@ -36,7 +36,7 @@ invariant_of-result c =
     (ap (map demand_of) c.from_vec-3.ensures ∙ c.in_ok-constraints.ensures.demands ∙ ap (map demand_of) c.as_slice-2.ensures)
     (c.from_vec.ensures ∙ c.in_ok-variables.ensures ∙ ap (filter (λ (x : Variable). has_variable c.in_ok-tree.tree x.name)) c.as_slice-3.ensures)
     (c.from_vec-2.ensures ∙ c.in_ok-parameters.ensures ∙ ap (filter (λ (x : Parameter). has_parameter c.in_ok-tree.tree x.name)) c.as_slice-4.ensures) in
-    record { nodes = c.in_ok-tree.ensures.nodes; objective_kept = w.objective; constraints_kept = w.constraints; numbered = w.numbered; declared = ∣ w.declared ∣₁ }
+    record { nodes = c.in_ok-tree.ensures.nodes; objective_kept = w.objective; constraints_kept = w.constraints; numbered = w.numbered; declared = ∣ w.declared ∣₁; squares = w.squares }
 
 pub returns-clause-ok : goal.returns-clause-ok
 returns-clause-ok c =

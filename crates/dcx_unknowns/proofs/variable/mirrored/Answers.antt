@@ -4,7 +4,8 @@ use Rattle.dcx_shape.specs.Sides.{rows_of, cols_of}
 use Rattle.dcx_call.specs.declared.attribute.Attribute.{Attribute}
 use Rattle.dcx_call.specs.declared.attribute.Attribute.TheVariants.{Symmetric}
 use Rattle.dcx_unknowns.specs.Own.{is_own, mirror_of}
-use Rattle.dcx_unknowns.specs.Unknowns.{demanded, sides_in, IsSquareFor}
+use Rattle.dcx_unknowns.specs.Unknowns.{demanded, sides_in}
+use Rattle.dcx_call.specs.Attributes.{IsSquareFor}
 use Rattle.dcx_unknowns.proofs.Sources.{mirror_before}
 use Rattle.dcx_unknowns.proofs.variable.mirrored.Goals as goal
 

@@ -1,9 +1,9 @@
 -- Each variable is tested.
 use Rattle.std.proofs.Common.{refl, subst}
 use Rattle.std.proofs.lemmas.List.Elements.{All-more}
-use Rattle.dcx_unknowns.specs.Unknowns.{IsSquare}
+use Rattle.dcx_call.specs.Attributes.{IsSquare}
 use Rattle.dcx_domain.proofs.Variables.{all_taken}
-use Rattle.dcx_unknowns.proofs.variable.are_square.Goals as goal
+use Rattle.dcx_domain.proofs.square.are_square.Goals as goal
 
 pub variables-preserved : goal.variables-preserved
 variables-preserved c =
