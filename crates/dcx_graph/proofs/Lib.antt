@@ -22,3 +22,4 @@ pub mod Mapped
 pub mod Correct
 pub mod OneReduction
 pub mod OneReading
+pub mod OneWay

@@ -1,7 +1,8 @@
-pub mod Words
-pub mod Outcome
-pub mod Answers
-pub mod Checking
-pub mod Ended
+-- What contracts cite.
+pub mod Commands
+pub mod Files
+pub mod Runs
 pub mod Headline
 pub mod OneRun
+pub mod Verdicts
+pub mod Ended

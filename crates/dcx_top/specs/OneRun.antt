@@ -1,64 +1,36 @@
--- The run of a script that is checked is the only one, and refuses it exactly where it is at fault.
-use Rattle.std.specs.Prelude.{◌≡◌, ◌↔◌, ℕ, List, Option, Some, None, ⊤}
-use Rattle.dcx_front.specs.OneAnswer.{IsAtFault, IsWithoutFault}
+-- Words and told files have one run, where neither a file nor memory is wanting.
+use Rattle.std.specs.Prelude.{◌≡◌, ⊤, ℕ, List, Option, Some, None}
 use Rattle.dcx_host.specs.Files.{Files}
+use Rattle.dcx_report.specs.declared.outcome.Outcome.{Outcome}
 use Rattle.dcx_report.specs.declared.run.Run.{Run}
-use Rattle.dcx_report.specs.declared.run.Run.TheVariants.{Refused, Checked, ReadFault as NotHad, Memory}
-use Rattle.dcx_top.specs.declared.words.Verb.TheVariants.{Check}
-use Rattle.dcx_top.specs.Words.{form_of}
-use Rattle.dcx_top.specs.Checking.{ChecksBytes}
-
--- ---- one run
--- two runs are one, where neither wants memory
-abbrev pub AreOneRun : Run → Run → Type 0
-AreOneRun Memory other = ⊤
-AreOneRun run Memory = ⊤
-AreOneRun run other = run ≡ other
-
--- each run that the bytes have is this one
-abbrev pub IsOnlyRun : List ℕ → Run → Type 0
-IsOnlyRun bytes run = (other : Run) → ChecksBytes bytes other → AreOneRun run other
-
--- bytes have one run where they are checked; want of memory is free
-abbrev pub HasOneRun : Type 0
-HasOneRun = (bytes : List ℕ) (run : Run) → ChecksBytes bytes run → IsOnlyRun bytes run
-
--- ---- refused, or accepted
-abbrev pub IsRefusal : Run → Type 0
-IsRefusal (Refused r) = ⊤
-IsRefusal run = ⊥
-
-abbrev pub IsAcceptance : Run → Type 0
-IsAcceptance (Checked c) = ⊤
-IsAcceptance run = ⊥
-
--- the run refuses the bytes exactly where they are at fault, and accepts them exactly where they are not
-pub record IsVerdictOn (bytes : List ℕ) (run : Run) : Type 0 where
-  pub refused : IsRefusal run ↔ IsAtFault bytes
-  pub accepted : IsAcceptance run ↔ IsWithoutFault bytes
-
--- ---- of a whole run
--- the files are told, and these are the bytes of the name
-abbrev pub Tells : Option Files → List ℕ → List ℕ → Type 0
-Tells None name bytes = ⊥
-Tells (Some files) name bytes = files name ≡ Some bytes
-
--- the words ask for a check of the file that has these bytes
-pub record AsksCheck (words : List (List ℕ)) (told : Option Files) (bytes : List ℕ) : Type 0 where
-  pub name : List ℕ
-  pub form : form_of words ≡ Some (Check, name)
-  pub tells : Tells told name bytes
+use Rattle.dcx_report.specs.declared.run.Run.TheVariants as run
+use Rattle.dcx_front.specs.declared.accepted.Accepted.{Accepted}
+use Rattle.dcx_words.specs.Commands.{Command, command_of}
+use Rattle.dcx_outcomes.specs.Laws.{AreAlike}
+use Rattle.dcx_top.specs.Runs.{GivesProblem, Causes}
 
 -- neither the library nor memory failed
 abbrev pub IsAnswered : Run → Type 0
-IsAnswered NotHad = ⊥
-IsAnswered Memory = ⊥
-IsAnswered run = ⊤
+IsAnswered run.ReadFault = ⊥
+IsAnswered run.Memory = ⊥
+IsAnswered run.Usage = ⊤
+IsAnswered (run.Refused r) = ⊤
+IsAnswered (run.Checked c) = ⊤
+IsAnswered (run.Solved word sense outcomes) = ⊤
+IsAnswered (run.Trial size outcomes) = ⊤
 
--- where a check is answered, the bytes have no other run
-abbrev pub IsOnlyCheck : List (List ℕ) → Option Files → Run → Type 0
-IsOnlyCheck words told run = IsAnswered run → (bytes : List ℕ) → AsksCheck words told bytes → IsOnlyRun bytes run
+-- of the problem that a command's script gives, the outcomes are alike: the same answers, but for what their arrays hold past their
+-- ends, and the same stops; want of memory at a setting is free
+abbrev pub AreAlikeOver : List (List ℕ) → Files → List Outcome → List Outcome → Type 0
+AreAlikeOver words files os qs = (command : Command) (a : Accepted) → command_of words ≡ Some command → GivesProblem (Some files) command a → AreAlike a.work.problem os qs
 
--- where a check is answered, it refuses the bytes exactly where they are at fault, and accepts them exactly where they are not
-abbrev pub IsRightVerdict : List (List ℕ) → Option Files → Run → Type 0
-IsRightVerdict words told run = IsAnswered run → (bytes : List ℕ) → AsksCheck words told bytes → IsVerdictOn bytes run
+-- two runs that tell the same
+abbrev pub AreOneRun : List (List ℕ) → Files → Run → Run → Type 0
+AreOneRun words files (run.Solved word sense os) (run.Solved other way qs) = (word ≡ other) × (sense ≡ way) × AreAlikeOver words files os qs
+AreOneRun words files (run.Trial size os) (run.Trial other qs) = (size ≡ other) × AreAlikeOver words files os qs
+AreOneRun words files r s = r ≡ s
+
+-- where the run is answered and files are told, each run with a cause tells the same
+abbrev pub IsOnlyRun : List (List ℕ) → Option Files → Run → Type 0
+IsOnlyRun words None r = ⊤
+IsOnlyRun words (Some files) r = IsAnswered r → (other : Run) (risen : Type 0) (old new : ℕ) → Causes words (Some files) risen old new other → IsAnswered other → AreOneRun words files r other

@@ -1,19 +1,21 @@
-//! A script is checked: its bytes give an accepted problem, of which the report tells, or the one refusal.
-ghost use Rattle.dcx_top.specs.Checking.{ChecksBytes};
-ghost use Rattle.dcx_top.specs.OneRun.{IsOnlyRun};
+//! A script is checked: its file gives an accepted problem, of which the report tells, or the run that ends there.
+ghost use Rattle.std.specs.Prelude.{◌≡◌, ℕ, List, Some};
+ghost use Rattle.dcx_host.specs.Faults.{Rose};
+ghost use Rattle.dcx_words.specs.Commands.{check as checks, command_of};
+ghost use Rattle.dcx_top.specs.Runs.{Causes};
 
-use dcx_front::{FrontFault, accept};
+use crate::files::read_script;
+use dcx_host::Library;
 use dcx_report::Run;
 use std::alloc::Global;
 
-/// What the bytes of a script give where it is checked, and they give nothing else.
-pub(crate) fn check_bytes(alloc: Global, bytes: &[u8]) -> Run
-    ensures gives { ChecksBytes bytes.now result }
-    ensures only { IsOnlyRun bytes.now result }
+/// What a script gives that is checked.
+pub(crate) fn check<L: Library>(alloc: Global, script: &str, library: &mut L) -> Run
+    ensures causes { (words : List (List ℕ)) (steps : ℕ) → command_of words ≡ Some (checks script.now) → Causes words (L.told library.old) (Rose (L.faults library.old) (L.faults library.new)) steps steps result }
+    ensures same { L.told library.new ≡ L.told library.old }
 {
-    match accept(alloc, bytes) {
+    match read_script(alloc, script, library) {
         Ok(accepted) => Run::Checked(accepted.checked()),
-        Err(FrontFault::Refused(refusal)) => Run::Refused(refusal),
-        Err(FrontFault::Memory) => Run::Memory,
+        Err(run) => run,
     }
 }

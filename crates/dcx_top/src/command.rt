@@ -2,95 +2,58 @@
 //!
 //! | what must hold | the clause of `run` |
 //! |---|---|
-//! | an accepted problem is what the script's bytes stand for, the rules accept it, and it is convex at every fitting setting | `headline` |
-//! | each answer is right for the problem that the script's bytes spell, as it shows itself | `headline` |
-//! | each refusal, each answer and each stop has its cause, the script's bytes among it | `answers` |
-//! | a script that is checked has one run: the refusal for the first fault of its bytes, or what is found of its problem | `only` |
-//! | a script that is checked is refused exactly where its bytes are at fault, and accepted exactly where they are not | `verdict` |
+//! | an accepted problem is what the script's bytes stand for, the rules accept it, and it is convex at every fitting setting; each answer is right for it at its setting, as it shows itself | `headline` |
+//! | each run has its cause: each refusal, each outcome, each answer and each stop; so many steps are counted | `causes` |
+//! | words and told files have one run, with one outcome at each setting, all of whose numbers are the same | `only` |
+//! | files are refused exactly where they are at fault, and the problem checked or solved exactly where they are not | `verdict` |
 //! | the usage line comes exactly where the words are no plain form | `usage` |
 //! | the report's text or a front of it is written, with its status | `reports` |
-//! | no file changes, and no step is counted | `same`, `counted` |
-ghost use Rattle.std.specs.Prelude.{◌≡◌, ◌↔◌, map, string_bytes, None, IfOk};
+//! | no file changes | `same` |
+ghost use Rattle.std.specs.Prelude.{◌≡◌, ◌↔◌, map, string_bytes, None};
 ghost use Rattle.std.specs.List.{list_any};
 ghost use Rattle.dcx_host.specs.Faults.{Rose};
-ghost use Rattle.dcx_plain.specs.Plain.{IsPlain};
-ghost use Rattle.dcx_top.specs.Words.{form_of};
-ghost use Rattle.dcx_top.specs.Answers.{Answers, HasOneEnd, SolvesBytes, GivesRun};
-ghost use Rattle.dcx_top.specs.Headline.{AnswersAreRight};
-ghost use Rattle.dcx_top.specs.OneRun.{IsOnlyCheck, IsRightVerdict};
+ghost use Rattle.dcx_words.specs.Commands.{command_of};
+ghost use Rattle.dcx_top.specs.Runs.{Causes};
+ghost use Rattle.dcx_top.specs.Headline.{IsRightRun};
+ghost use Rattle.dcx_top.specs.OneRun.{IsOnlyRun};
+ghost use Rattle.dcx_top.specs.Verdicts.{IsRightVerdict};
 ghost use Rattle.dcx_top.specs.Ended.{Reports, outcomes_status as outcomes_status_of, status_of, is_stop, wants_memory};
 
-use crate::checking::check_bytes;
+use crate::checking::check;
 use crate::ended::Ended;
-use crate::outcome::end_of;
-use crate::words::{Verb, plain_form};
+use crate::solving::{resolve, solve, trial};
 use crate::write::write_all;
-use dcx_host::{FetchFault, Library, Sink, SinkFault};
-use dcx_plain::{Script, read};
-use dcx_report::{
-    Outcome, OutcomeEnd, Outcomes, Refusal, RefusalSource, Run, Sense, Stop, Word, report_text,
-};
+use dcx_answer::Stop;
+use dcx_host::{Library, Sink, SinkFault};
+use dcx_report::{Outcome, OutcomeEnd, Run, report_text};
 use dcx_steps::Steps;
-use std::alloc::{AllocError, Global};
+use dcx_words::{Form, plain_form};
+use std::alloc::Global;
 use std::sync::ledger::Ledger;
 
-/// How many bytes a script has at most.
-const SCRIPT_LIMIT: usize = 1_048_576;
-
-/// The one outcome of a plain script.
-fn outcomes(alloc: Global, script: &Script) -> Result<Outcomes, AllocError>
-    requires { IsPlain script.now }
-    ensures { IfOk result (HasOneEnd script.now) }
-{
-    let end = end_of(alloc, script);
-    let outcome = Outcome { end, place: None };
-    let items = vec![in alloc; outcome]?;
-    Ok(Outcomes::from_vec(items))
-}
-
-/// What the bytes of a script give.
-fn solved(alloc: Global, bytes: &[u8]) -> Run
-    ensures { SolvesBytes bytes.now result }
-{
-    match read(alloc, bytes) {
-        Ok(None) => Run::Refused(Refusal::not_yet()),
-        Ok(Some(script)) => match outcomes(alloc, &script) {
-            Ok(outcomes) => Run::Solved {
-                word: Word::Solve,
-                sense: Sense::Minimize,
-                outcomes,
-            },
-            Err(_) => Run::Memory,
-        },
-        Err(_) => Run::Memory,
-    }
-}
-
-/// What the bytes of a script give under a command.
-fn given(alloc: Global, verb: Verb, bytes: &[u8]) -> Run
-    ensures { GivesRun verb bytes.now result }
-{
-    match verb {
-        Verb::Check => check_bytes(alloc, bytes),
-        Verb::Solve => solved(alloc, bytes),
-    }
-}
-
 /// What the words give.
-fn answer<L: Library>(alloc: Global, words: &[String], library: &mut L) -> Run
-    ensures answers { Answers (map string_bytes words.now) (L.told library.old) (Rose (L.faults library.old) (L.faults library.new)) result }
-    ensures usage { (result ≡ Run.Usage) ↔ (form_of (map string_bytes words.now) ≡ None) }
+fn answer<L: Library, S: Ledger>(
+    alloc: Global,
+    words: &[String],
+    library: &mut L,
+    steps: &mut Steps<S>,
+) -> Run
+    ensures causes { Causes (map string_bytes words.now) (L.told library.old) (Rose (L.faults library.old) (L.faults library.new)) steps.old steps.new result }
+    ensures usage { (result ≡ Run.Usage) ↔ (command_of (map string_bytes words.now) ≡ None) }
     ensures same { L.told library.new ≡ L.told library.old }
 {
     let Some(form) = plain_form(words) else {
         return Run::Usage;
     };
-    match library.fetch(alloc, form.script, SCRIPT_LIMIT) {
-        Ok(bytes) => given(alloc, form.verb, bytes.as_slice()),
-        Err(FetchFault::TooLong) => Run::Refused(Refusal::too_long(RefusalSource::Script)),
-        Err(FetchFault::Absent) => Run::ReadFault,
-        Err(FetchFault::Failed) => Run::ReadFault,
-        Err(FetchFault::Memory) => Run::Memory,
+    match form {
+        Form::Check { script } => check(alloc, script, library),
+        Form::Solve { script, limit } => solve(alloc, script, limit, library, steps),
+        Form::Resolve {
+            script,
+            settings,
+            limit,
+        } => resolve(alloc, script, settings, limit, library, steps),
+        Form::Trial { size, limit } => trial(alloc, size, limit, steps),
     }
 }
 
@@ -132,6 +95,7 @@ fn status(run: &Run) -> u8
         Run::Refused(_) => 1,
         Run::Checked(_) => 0,
         Run::Solved { outcomes, .. } => outcomes_status(outcomes.as_slice()),
+        Run::Trial { outcomes, .. } => outcomes_status(outcomes.as_slice()),
         Run::ReadFault => 3,
         Run::Memory => 5,
     }
@@ -139,9 +103,9 @@ fn status(run: &Run) -> u8
 
 /// All that the program does: it carries out the words and writes the report of the run to the sink.
 ///
-/// `words` are the words after the program's name. The script is fetched from `library`, and `steps` counts the
-/// nodes that are reduced, which are none yet. Want of memory is the one free answer: as `Run::Memory`, as the stop
-/// of an outcome, or in place of the report, and each has the status 5.
+/// `words` are the words after the program's name. Files are fetched from `library`: the script first, and the settings file once the
+/// script gives an accepted problem. `steps` counts the nodes that are reduced. Want of memory is the one free answer: as
+/// `Run::Memory`, as the stop of an outcome, or in place of the report, and each has the status 5.
 pub fn run<L: Library, K: Sink, S: Ledger>(
     alloc: Global,
     words: &[String],
@@ -149,16 +113,15 @@ pub fn run<L: Library, K: Sink, S: Ledger>(
     sink: &mut K,
     steps: &mut Steps<S>,
 ) -> Ended
-    ensures headline { AnswersAreRight (map string_bytes words.now) (L.told library.old) result.run }
-    ensures answers { Answers (map string_bytes words.now) (L.told library.old) (Rose (L.faults library.old) (L.faults library.new)) result.run }
-    ensures only { IsOnlyCheck (map string_bytes words.now) (L.told library.old) result.run }
+    ensures headline { IsRightRun (map string_bytes words.now) (L.told library.old) result.run }
+    ensures causes { Causes (map string_bytes words.now) (L.told library.old) (Rose (L.faults library.old) (L.faults library.new)) steps.old steps.new result.run }
+    ensures only { IsOnlyRun (map string_bytes words.now) (L.told library.old) result.run }
     ensures verdict { IsRightVerdict (map string_bytes words.now) (L.told library.old) result.run }
-    ensures usage { (result.run ≡ Run.Usage) ↔ (form_of (map string_bytes words.now) ≡ None) }
+    ensures usage { (result.run ≡ Run.Usage) ↔ (command_of (map string_bytes words.now) ≡ None) }
     ensures reports { Reports (K.written sink.old) (K.written sink.new) (Rose (K.faults sink.old) (K.faults sink.new)) result }
     ensures same { L.told library.new ≡ L.told library.old }
-    ensures counted { steps.new ≡ steps.old }
 {
-    let run = answer(alloc, words, library);
+    let run = answer(alloc, words, library, steps);
     let Ok(text) = report_text(alloc, &run) else {
         return Ended { status: 5, run };
     };

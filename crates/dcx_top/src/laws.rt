@@ -1,7 +1,24 @@
-//! Laws above the definitions of `specs/`. There is no code: the clause is a statement about all bytes.
-ghost use Rattle.dcx_top.specs.OneRun.{HasOneRun};
+//! Laws above the definitions of `specs/`. There is no code: each clause is a statement about all words and files.
+ghost use Rattle.std.specs.Prelude.{ℕ, List};
+ghost use Rattle.std.specs.declared.option.Option.{Option};
+ghost use Rattle.dcx_host.specs.Files.{Files};
+ghost use Rattle.dcx_report.specs.declared.run.Run.{Run};
+ghost use Rattle.dcx_top.specs.Runs.{Causes};
+ghost use Rattle.dcx_top.specs.Headline.{IsRightRun};
+ghost use Rattle.dcx_top.specs.OneRun.{IsOnlyRun};
+ghost use Rattle.dcx_top.specs.Verdicts.{IsRightVerdict};
 
-/// The bytes of a script have one run where it is checked; want of memory is free.
+/// Whatever run has its cause is right: so is its answer at each setting.
+pub fn caused_are_right()
+    ensures { (words : List (List ℕ)) (told : Option Files) (risen : Type 0) (old new : ℕ) (run : Run) → Causes words told risen old new run → IsRightRun words told run }
+{}
+
+/// Words and told files have one run, where neither a file nor memory is wanting.
 pub fn one_run()
-    ensures { HasOneRun }
+    ensures { (words : List (List ℕ)) (told : Option Files) (risen : Type 0) (old new : ℕ) (run : Run) → Causes words told risen old new run → IsOnlyRun words told run }
+{}
+
+/// A run with its cause refuses its files exactly where they are at fault, and goes on exactly where they are not.
+pub fn right_verdict()
+    ensures { (words : List (List ℕ)) (told : Option Files) (risen : Type 0) (old new : ℕ) (run : Run) → Causes words told risen old new run → IsRightVerdict words told run }
 {}

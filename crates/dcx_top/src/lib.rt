@@ -1,12 +1,14 @@
-//! What the program does: it reads its words, fetches a script, checks or solves it, and writes a report and a status.
+//! What the program does: it reads its words, fetches its files, checks or solves a problem, and writes a report and a status.
+//!
+//! One function a command: `checking`, `solving`; `files` has what reading a file gives, or the run that ends there.
 #![tactic(auto)]
 
 mod checking;
 mod command;
 mod ended;
+mod files;
 pub mod laws;
-mod outcome;
-mod words;
+mod solving;
 mod write;
 
 pub use command::run;

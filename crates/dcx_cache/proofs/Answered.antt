@@ -1,0 +1,84 @@
+-- What is read from an answer of the session's rows is right for the problem.
+use Rattle.std.proofs.Common.{◌≡◌, ℕ, IsTrue, length, Ok, refl, sym, ◌∙◌}
+use Rattle.dcx_frac.specs.declared.fraction.Frac.{Frac}
+use Rattle.dcx_point.specs.Pairs.{Pairs}
+use Rattle.dcx_convex.specs.Rules.{Rules, Plain, Parametrized}
+use Rattle.dcx_convex.specs.Problems.{accepted_by}
+use Rattle.dcx_tree.specs.declared.problem.Problem.{Problem}
+use Rattle.dcx_tree.specs.Meaning.{convex_problem, IsAccepted, IsFitting, setting_of}
+use Rattle.dcx_answer.specs.declared.answer.Answer.{Answer}
+use Rattle.dcx_fit.specs.Fit.{FitsParameters}
+use Rattle.dcx_linear.specs.declared.param_form.ParamForm.{ParamForm}
+use Rattle.dcx_quotients.proofs.LawsHold.{formed_are_fitting}
+use Rattle.dcx_tab.specs.declared.program.Program as tab
+use Rattle.dcx_tab.specs.Table.{Table}
+use Rattle.dcx_lp_answer.specs.declared.answer.LpStatus.TheVariants as status
+use Rattle.dcx_lp_answer.specs.declared.answer.LpAnswer.{LpAnswer}
+use Rattle.dcx_simplex.specs.declared.run.LpEnd.{LpEnd}
+use Rattle.dcx_simplex.specs.declared.run.LpEnd.TheVariants as ends
+use Rattle.dcx_simplex.specs.Reading.{IsRead as IsReadAt}
+use Rattle.dcx_std.specs.Solutions.{linear_program}
+use Rattle.dcx_solved.specs.declared.solving.Solved.{Solved}
+use Rattle.dcx_solved.specs.Solved.{IsSolved}
+use Rattle.dcx_graph.specs.Program.{Program}
+use Rattle.dcx_graph.specs.AsLinear.{IsReductionAt}
+use Rattle.dcx_graph.specs.Answers.{rows_of, HasParts, IsAnswered, IsRead, IsRightFor}
+use Rattle.dcx_graph.proofs.Correct.{numbers_are_reductions, affine_are_reductions, affine_are_known}
+use Rattle.dcx_graph.proofs.AtSetting.{fixed_are_reductions}
+use Rattle.dcx_cache.specs.Programs.{SessionGives, mapped, anew}
+use Rattle.dcx_cache.specs.Answers.{IsAnswerOf, Answers}
+use Rattle.dcx_cache.specs.Laws.{AnswersAreRight}
+use Rattle.dcx_cache.proofs.Arrays.{have_arrays}
+
+-- ---- the parts of an answer that is read at a tableau
+parts_of : (q : tab.Program) (t : Table) (end : LpEnd) (a : LpAnswer) → IsReadAt q.rows q.columns t end a → HasParts q a
+parts_of q t (ends.Optimal n) a h = record { columns = h.0.columns; ray = λ e. absurd (let d = sym h.0.status ∙ e in cc); notes = h.0.notes }
+parts_of q t (ends.Infeasible n) a h = record { columns = h.0.columns; ray = λ e. absurd (let d = sym h.0.status ∙ e in cc); notes = h.0.notes }
+parts_of q t (ends.Unbounded n c) a h = record { columns = h.0.columns; ray = λ e. h.1.ray; notes = h.0.notes }
+parts_of q t (ends.Wide n r c) a h = absurd h
+parts_of q t (ends.PivotLimit n) a h = absurd h
+
+-- ---- a program of the session
+-- by some rules the problem is accepted, the setting fits it, and the program is a reduced program there
+record IsSound (p : Problem) (setting : Pairs) (q : Program Frac) : Type 0 where
+  rules : Rules
+  accepted : IsTrue (accepted_by rules (convex_problem p))
+  fitting : IsFitting p setting
+  reduction : IsReductionAt rules p (setting_of p setting) (linear_program (rows_of q))
+
+module _ (p : Problem) (setting : Pairs) (ok : IsAccepted p) (fits : FitsParameters p.parameters setting) where
+  sound : (q : Program Frac) → SessionGives p setting (Ok q) → IsSound p setting q
+  sound q (mapped map m f) = record {
+    rules = Parametrized;
+    accepted = m.dpp.1;
+    fitting = (formed_are_fitting p).param_forms m.dpp [] setting m.reduces.nodes.table m.reduces.nodes.formed fits;
+    reduction = fixed_are_reductions Parametrized p setting map q (setting_of p setting) (affine_are_known p [] map m.reduces) (have_arrays p setting fits) f
+        (affine_are_reductions p [] map m.dpp m.reduces (setting_of p setting));
+  }
+  sound q (anew n h) = record {
+    rules = Plain;
+    accepted = ok;
+    fitting = (formed_are_fitting p).fracs ok setting h.nodes.table h.nodes.formed fits;
+    reduction = numbers_are_reductions p setting q (setting_of p setting) ok h;
+  }
+
+  -- the answer of its rows can be read
+  pub is_answered : (limit : ℕ) (q : Program Frac) (s : Solved) → SessionGives p setting (Ok q) → IsSolved limit (rows_of q) s → IsAnswered p (setting_of p setting) q s.answer
+  is_answered limit q s g h = let w = sound q g in record {
+    rules = w.rules;
+    accepted = w.accepted;
+    fits = w.fitting.fits;
+    reduction = w.reduction;
+    integer = s.program;
+    made = h.made;
+    parts = parts_of s.program _ h.solved.end s.answer h.solved.read;
+    right = h.solved.right;
+  }
+
+  -- and the setting fits
+  pub is_fitting : (q : Program Frac) → SessionGives p setting (Ok q) → IsFitting p setting
+  is_fitting q g = (sound q g).fitting
+
+pub answers_are_right : AnswersAreRight
+answers_are_right p setting limit a ok (q, s, h) =
+    (is_fitting p setting ok h.fits q h.program, read_right p (setting_of p setting) q s.answer (is_answered p setting ok h.fits limit q s h.program h.is_solved) a h.read)

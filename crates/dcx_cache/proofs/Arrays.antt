@@ -1,0 +1,63 @@
+-- A setting that fits has an array for each parameter, wherever that stands.
+use Rattle.std.proofs.Common.{◌≡◌, ℕ, ◌<◌, List, Option, Some, None, sym, ap, ◌∙◌}
+use Rattle.std.proofs.Props.{props}
+use Rattle.std.proofs.Math.Logic.{∥∥₁_elim}
+use Rattle.std.proofs.lemmas.Option.{none-some, same_Some}
+use Rattle.dcx_shape.specs.declared.shape.Sides.{Sides}
+use Rattle.dcx_shape.specs.Shape.{sides_of}
+use Rattle.dcx_atom.specs.declared.array.Array.{Array}
+use Rattle.dcx_point.specs.Pairs.{Pairs, array_of}
+use Rattle.dcx_arena.specs.Nodes.{IsNode}
+use Rattle.dcx_call.specs.declared.attribute.Parameter.{Parameter}
+use Rattle.dcx_call.specs.declared.call.Call.{Call}
+use Rattle.dcx_call.specs.declared.call.Call.TheVariants as calls
+use Rattle.dcx_call.specs.Values.{HasArray}
+use Rattle.dcx_convex.specs.Rules.{Plain, Parametrized}
+use Rattle.dcx_tree.specs.declared.problem.Problem.{Problem}
+use Rattle.dcx_tree.specs.Nodes.{Node}
+use Rattle.dcx_tree.specs.Problems.{IsListed, AreDeclared}
+use Rattle.dcx_tree.proofs.Sublists.{contains_at}
+use Rattle.dcx_fit.specs.Fit.{FitsParameters}
+use Rattle.dcx_fit.proofs.Misfits.{holds_at}
+use Rattle.dcx_graph.specs.Reducing.{IsGivenFor, ParametersAreGiven}
+use Rattle.dcx_graph.specs.Fixed.{HaveArrays}
+
+-- there is one array, or none, under a name
+one_array : {D : Type 0} (given : Pairs) (name : List ℕ) (sides : Sides) (o : Option Array) → array_of given name ≡ o → ∥ D ∥₁ → (D → HasArray given name sides) → HasArray given name sides
+one_array given name sides None e d f = absurd (∥∥₁_elim d (hlevel props) (λ x. none-some (f x).array (sym e ∙ (f x).there)))
+one_array given name sides (Some a) e d f = record {
+  array = a;
+  there = e;
+  shape = ∥∥₁_elim d (hlevel props) (λ x. ap (λ (b : Array). sides_of b.shape) (same_Some a (f x).array (sym e ∙ (f x).there)) ∙ (f x).shape);
+}
+
+module _ (p : Problem) (setting : Pairs) (fits : FitsParameters p.parameters setting) where
+  pub have_arrays : HaveArrays p setting
+  have_arrays = λ k e lt. (fits.met k e lt).shaped
+
+  has_array : (q : Parameter) → ∥ IsListed p.variables p.parameters (calls.Parameter q) ∥₁ → HasArray setting q.name (sides_of q.shape)
+  has_array q l = one_array setting q.name (sides_of q.shape) (array_of setting q.name) refl l (λ there.
+      let (k, at) = contains_at p.parameters q there in (holds_at _ p.parameters k q fits.met at).shaped)
+
+  given_for : (can_read : Pairs → List ℕ → ℕ → Type 0) (call : Call) → ∥ IsListed p.variables p.parameters call ∥₁ → IsGivenFor Plain can_read setting call
+  given_for can_read (calls.Variable v) l = tt
+  given_for can_read (calls.Parameter q) l = has_array q l
+  given_for can_read (calls.Constant x) l = tt
+  given_for can_read (calls.Atom m) l = tt
+  given_for can_read (calls.Linear m) l = tt
+  given_for can_read (calls.Pairing m) l = tt
+
+  pub parameters_are_given : (can_read : Pairs → List ℕ → ℕ → Type 0) → ParametersAreGiven Plain can_read p setting
+  parameters_are_given can_read i n at = given_for can_read n.call (∥∥₁_map (λ (d : AreDeclared p.tree p.variables p.parameters). d.listed i n at) p.declared)
+
+-- where parameters are affine, none is asked for
+affine_given : (setting : Pairs) (call : Call) → IsGivenFor Parametrized (λ s name entry. Unit {0}) setting call
+affine_given setting (calls.Variable v) = tt
+affine_given setting (calls.Parameter q) = λ j b. tt
+affine_given setting (calls.Constant x) = tt
+affine_given setting (calls.Atom m) = tt
+affine_given setting (calls.Linear m) = tt
+affine_given setting (calls.Pairing m) = tt
+
+pub affine_are_given : (p : Problem) (setting : Pairs) → ParametersAreGiven Parametrized (λ s name entry. Unit {0}) p setting
+affine_are_given p setting i n at = affine_given setting n.call

@@ -1,0 +1,7 @@
+-- Lemmas of this crate.
+pub mod Arrays
+pub mod Maps
+pub mod Answered
+pub mod Stopped
+pub mod OneEnd
+pub mod Agreeing

@@ -1,0 +1,54 @@
+-- What stops a part of the way stops the setting.
+use Rattle.std.proofs.Common.{◌≡◌, ◌≢◌, ℕ, Ok, Err, refl}
+use Rattle.dcx_frac.specs.declared.fraction.Frac.{Frac}
+use Rattle.dcx_point.specs.Pairs.{Pairs}
+use Rattle.dcx_tree.specs.declared.problem.Problem.{Problem}
+use Rattle.dcx_answer.specs.declared.stop.Stop.{Stop}
+use Rattle.dcx_answer.specs.declared.stop.Stop.TheVariants as why
+use Rattle.dcx_fit.specs.Fit.{FitsParameters, IsFirstMisfit}
+use Rattle.dcx_solved.specs.declared.solving.Solved.{Solved}
+use Rattle.dcx_solved.specs.declared.stop.SolveStop.{SolveStop}
+use Rattle.dcx_solved.specs.declared.stop.SolveStop.TheVariants as solves
+use Rattle.dcx_solved.specs.Solved.{IsSolved, Stops as RowsStop}
+use Rattle.dcx_graph.specs.declared.stop.ReduceStop.{ReduceStop}
+use Rattle.dcx_graph.specs.declared.stop.ReduceStop.TheVariants as reduces
+use Rattle.dcx_graph.specs.declared.reading.AnswerStop.{AnswerStop}
+use Rattle.dcx_graph.specs.declared.reading.AnswerStop.TheVariants as reads
+use Rattle.dcx_graph.specs.Program.{Program}
+use Rattle.dcx_graph.specs.Reduced.{Reduction}
+use Rattle.dcx_graph.specs.Reducing.{OrMemory}
+use Rattle.dcx_graph.specs.Answers.{rows_of, StopsReading}
+use Rattle.dcx_cache.specs.Programs.{SessionGives}
+use Rattle.dcx_cache.specs.Answers.{at_program, at_run, at_reading, Stops}
+use Rattle.dcx_cache.specs.Stops.{program_stop, run_stop, reading_stop}
+
+module _ (p : Problem) (setting : Pairs) (limit : ℕ) where
+  -- the first misfit
+  pub misfit_stops : (e : Stop) → IsFirstMisfit p.parameters setting e → Stops p setting limit e
+  misfit_stops (why.UnknownParam name) h = h
+  misfit_stops (why.MissingParam name) h = h
+  misfit_stops (why.ParamShape name declared given) h = h
+  misfit_stops (why.ParamSign name entry value) h = h
+  misfit_stops (why.TooLarge rows columns) h = absurd h
+  misfit_stops (why.ZeroDivisor node entry) h = absurd h
+  misfit_stops (why.Wide site) h = absurd h
+  misfit_stops (why.PivotLimit count) h = absurd h
+  misfit_stops why.Memory h = tt
+
+  module _ (fits : FitsParameters p.parameters setting) where
+    pub program_stops : (e : ReduceStop) → OrMemory {A = Reduction Frac} (Err e) (λ x. x.program) (SessionGives p setting) → Stops p setting limit (program_stop e)
+    program_stops (reduces.TooLarge rows columns) h = record { fits = fits; stops = at_program (reduces.TooLarge rows columns) h refl }
+    program_stops (reduces.ZeroDivisor node entry) h = record { fits = fits; stops = at_program (reduces.ZeroDivisor node entry) h refl }
+    program_stops (reduces.Wide site) h = record { fits = fits; stops = at_program (reduces.Wide site) h refl }
+    program_stops reduces.Memory h = tt
+
+    module _ (q : Program Frac) (g : SessionGives p setting (Ok q)) where
+      pub run_stops : (e : SolveStop) → RowsStop limit (rows_of q) e → Stops p setting limit (run_stop e)
+      run_stops (solves.TooLarge rows columns) h = record { fits = fits; stops = at_run q g (solves.TooLarge rows columns) (λ d. cc) h refl }
+      run_stops (solves.Wide site) h = record { fits = fits; stops = at_run q g (solves.Wide site) (λ d. cc) h refl }
+      run_stops (solves.PivotLimit count) h = record { fits = fits; stops = at_run q g (solves.PivotLimit count) (λ d. cc) h refl }
+      run_stops solves.Memory h = tt
+
+      pub reading_stops : (s : Solved) → IsSolved limit (rows_of q) s → (e : AnswerStop) → StopsReading p s.answer e → Stops p setting limit (reading_stop e)
+      reading_stops s h (reads.Wide site) k = record { fits = fits; stops = at_reading q g s h (reads.Wide site) (λ d. cc) k refl }
+      reading_stops s h reads.Memory k = tt

@@ -1,0 +1,6 @@
+-- What contracts cite.
+pub mod Stops
+pub mod Programs
+pub mod Answers
+pub mod Sessions
+pub mod Laws

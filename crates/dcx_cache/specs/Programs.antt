@@ -1,0 +1,41 @@
+-- Which program a session solves at a setting, and what stops it.
+use Rattle.std.specs.Prelude.{List, [], Result, Ok, Err}
+use Rattle.dcx_frac.specs.declared.fraction.Frac.{Frac}
+use Rattle.dcx_point.specs.Pairs.{Pairs}
+use Rattle.dcx_tree.specs.declared.problem.Problem.{Problem}
+use Rattle.dcx_tree.specs.Meaning.{IsDpp}
+use Rattle.dcx_answer.specs.declared.site.Site.TheVariants as sites
+use Rattle.dcx_linear.specs.declared.param_form.ParamForm.{ParamForm}
+use Rattle.dcx_graph.specs.declared.stop.ReduceStop.{ReduceStop}
+use Rattle.dcx_graph.specs.declared.stop.ReduceStop.TheVariants as stops
+use Rattle.dcx_graph.specs.Program.{Program}
+use Rattle.dcx_graph.specs.Fixing.{FixGives}
+use Rattle.dcx_graph.specs.Correct.{ReducesNumbers, ReducesAffine}
+
+-- the problem is accepted also where parameters are affine, and this is its program with affine coefficients, in building which
+-- no setting is read
+pub record IsMapOf (p : Problem) (q : Program ParamForm) : Type 0 where
+  pub dpp : IsDpp p
+  pub reduces : ReducesAffine p [] (Ok q)
+
+-- the problem has such a program: there are few rows and columns, no divisor is 0, and no operation passes 128 bits
+abbrev pub HasMap : Problem → Type 0
+HasMap p = (q : Program ParamForm) × IsMapOf p q
+
+-- the program at a setting, or the first operation that passes there
+abbrev pub Fixes : Pairs → Program ParamForm → Result (Program Frac) ReduceStop → Type 0
+Fixes setting q (Ok r) = FixGives setting q (Ok r)
+Fixes setting q (Err (stops.Wide (sites.Map row passes))) = FixGives setting q (Err (row, passes))
+Fixes setting q (Err (stops.Wide (sites.Node node entry passes))) = ⊥
+Fixes setting q (Err (stops.Wide (sites.Row row passes))) = ⊥
+Fixes setting q (Err (stops.Wide (sites.Pivot pivots row column))) = ⊥
+Fixes setting q (Err (stops.Wide (sites.Answer row passes))) = ⊥
+Fixes setting q (Err (stops.TooLarge rows columns)) = ⊥
+Fixes setting q (Err (stops.ZeroDivisor node entry)) = ⊥
+Fixes setting q (Err stops.Memory) = ⊥
+
+-- the program of a session at a setting, or what stops it: the program with affine coefficients is put at the setting where there is
+-- one, and else the problem is reduced there
+pub data SessionGives (p : Problem) (setting : Pairs) (r : Result (Program Frac) ReduceStop) : Type 0 where
+  mapped : (q : Program ParamForm) → IsMapOf p q → Fixes setting q r → SessionGives p setting r
+  anew : ¬ HasMap p → ReducesNumbers p setting r → SessionGives p setting r

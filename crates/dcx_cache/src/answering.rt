@@ -1,0 +1,41 @@
+//! An answer at a setting.
+ghost use Rattle.std.specs.Prelude.{◌≡◌, Ok, IfOk, IfErr};
+ghost use Rattle.dcx_fit.specs.Fit.{FitsParameters};
+ghost use Rattle.dcx_tree.specs.Meaning.{IsAccepted};
+ghost use Rattle.dcx_cache.specs.Programs.{SessionGives};
+ghost use Rattle.dcx_cache.specs.Answers.{IsAnswerOf, Stops};
+
+use crate::session::Last;
+use crate::stops::{reading_stop, run_stop};
+use dcx_answer::{Answer, Stop};
+use dcx_frac::Frac;
+use dcx_graph::{Reduced, map_back};
+use dcx_point::Setting;
+use dcx_solved::solve_rows;
+use dcx_tree::Problem;
+use std::alloc::Global;
+
+/// The answer that the program of a session shows at a setting that fits, and how it was found.
+pub(crate) fn answered(
+    alloc: Global,
+    problem: &Problem,
+    setting: &Setting,
+    reduced: Reduced<Frac>,
+    limit: u64,
+) -> Result<(Answer, Last), Stop>
+    requires accepted { IsAccepted problem.now }
+    requires fits { FitsParameters problem.now.parameters setting.now }
+    requires program { SessionGives problem.now setting.now (Ok reduced.program) }
+    ensures same { IfOk result (λ r. r.1.reduced ≡ reduced) }
+    ensures answer { IfOk result (λ r. IsAnswerOf problem.now setting.now limit reduced.program r.1.solved r.0) }
+    ensures stops { IfErr result (Stops problem.now setting.now limit) }
+{
+    let solved = match solve_rows(alloc, reduced.rows(), limit) {
+        Ok(solved) => solved,
+        Err(stop) => return Err(run_stop(stop)),
+    };
+    match map_back(alloc, problem, setting, &reduced, &solved.answer) {
+        Ok(answer) => Ok((answer, Last { reduced, solved })),
+        Err(stop) => Err(reading_stop(stop)),
+    }
+}

@@ -1,0 +1,28 @@
+//! Sessions: one problem is reduced once, where that can be, and solved at setting after setting.
+//!
+//! A setting is asked first whether it fits the parameters. Then the session's program is put at the setting: where the rules
+//! accept the problem also with parameters affine, and the program with affine coefficients can be built, that one is kept from
+//! the start and only its coefficients are put at the setting; else the problem is reduced anew. The rows are solved by Bland's
+//! rule over the linked tableau, and the answer is read back to the problem.
+//!
+//! | what must hold | where |
+//! |---|---|
+//! | the program of a session at a setting, or the first thing that stops it | `specs/Programs.antt`: `SessionGives` |
+//! | the map is kept exactly where the problem has one, and then one step is counted for each node | `Session::begin`, `Session::cached` |
+//! | an answer has the numbers of the last basis of the run on the session's program; a stop is that of the first part that stops | `Session::solve`, `specs/Answers.antt`: `Answers` |
+//! | an answer is right for the problem at the setting, which fits | `Session::solve`, `laws::answers_are_right` |
+//! | a setting has one answer, with all its numbers, or one stop | `laws::one_answer` |
+//! | two right answers at a setting, as of a map and of a fresh reduction, have one status and one value | `laws::answers_agree` |
+//! | the pivot limit stops only a run whose limit is small | `laws::limits_are_small` |
+//! | the program, the answer of the rows and the tableau of the last answer are shown, and none after a stop | `Session::last`, `Session::tableau`, `Session::solve` |
+//! | a stop leaves nothing behind for the next setting | `Session::solve`: `same` |
+//! | a session with a map counts no step at a setting, another one at most one for each node | `Session::solve` |
+#![tactic(auto)]
+
+mod answering;
+pub mod laws;
+mod program;
+mod session;
+mod stops;
+
+pub use session::Session;

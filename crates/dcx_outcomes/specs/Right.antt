@@ -1,0 +1,39 @@
+-- What is right of the outcomes of settings.
+use Rattle.std.specs.Prelude.{◌≡◌, ⊤, ℕ, List, length, map, Some, slice_get}
+use Rattle.dcx_shape.specs.declared.shape.Sides.{Sides}
+use Rattle.dcx_shape.specs.Shape.{sides_of}
+use Rattle.dcx_atom.specs.declared.array.Array.{Array}
+use Rattle.dcx_point.specs.Pairs.{Pairs, names_of}
+use Rattle.dcx_tree.specs.declared.problem.Problem.{Problem}
+use Rattle.dcx_tree.specs.Meaning.{IsFitting, names_in, setting_of}
+use Rattle.dcx_answer.specs.declared.answer.Answer.{Answer}
+use Rattle.dcx_answer.specs.declared.answer.Answer.TheVariants.{Optimal, Infeasible, Unbounded}
+use Rattle.dcx_report.specs.declared.outcome.Outcome.{Outcome}
+use Rattle.dcx_report.specs.declared.outcome.OutcomeEnd.TheVariants as the
+use Rattle.dcx_graph.specs.Answers.{IsRightFor}
+
+-- a point names the variables of the problem, in order of declaration
+abbrev pub IsNamed : Problem → Pairs → Type 0
+IsNamed p point = names_of point ≡ (names_in p).variables
+
+-- the multipliers of each constraint have its shape, in order
+abbrev pub AreShaped : Problem → List Array → Type 0
+AreShaped p duals = map (λ a. sides_of a.shape) duals ≡ map (λ c. sides_of c.shape) p.constraints
+
+-- the answer speaks of the variables and the constraints of the problem
+abbrev pub SpeaksOf : Problem → Answer → Type 0
+SpeaksOf p (Optimal value point duals) = IsNamed p point × AreShaped p duals
+SpeaksOf p (Infeasible duals gap) = AreShaped p duals
+SpeaksOf p (Unbounded point ray bound slope) = IsNamed p point × IsNamed p ray
+
+-- The setting fits, and the answer shows itself right there: an optimal point is feasible and the multipliers bound its value; or
+-- multipliers show that no point is feasible; or from a feasible point along a ray the objective falls for ever.
+pub record IsRightAnswer (p : Problem) (setting : Pairs) (a : Answer) : Type 0 where
+  pub fits : IsFitting p setting
+  pub right : IsRightFor p (setting_of p setting) a
+  pub speaks : SpeaksOf p a
+
+-- each answer among the outcomes is right at its setting
+pub record AreRight (p : Problem) (settings : List Pairs) (outcomes : List Outcome) : Type 0 where
+  pub count : length outcomes ≡ length settings
+  pub each : (k : ℕ) (s : Pairs) (o : Outcome) (a : Answer) → slice_get settings k ≡ Some s → slice_get outcomes k ≡ Some o → o.end ≡ the.Answer a → IsRightAnswer p s a

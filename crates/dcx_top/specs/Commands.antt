@@ -1,0 +1,68 @@
+-- What a command asks for: its script, its settings, and how its outcomes are told.
+use Rattle.std.specs.Prelude.{◌≡◌, ⊤, ℕ, List, Option, Some, None}
+use Rattle.dcx_point.specs.Pairs.{Pairs}
+use Rattle.dcx_tree.specs.declared.constraint.Sense.{Sense}
+use Rattle.dcx_host.specs.Files.{Files, IsTold}
+use Rattle.dcx_settings.specs.declared.settings.SettingItem.{SettingItem}
+use Rattle.dcx_settings.specs.File.{SpellSettings}
+use Rattle.dcx_elab.specs.declared.work.Work.{Work}
+use Rattle.dcx_report.specs.declared.outcome.Outcome.{Outcome}
+use Rattle.dcx_report.specs.declared.run.Run.{Run}
+use Rattle.dcx_report.specs.declared.run.Run.TheVariants as run
+use Rattle.dcx_report.specs.declared.run.Word.TheVariants as word
+use Rattle.dcx_words.specs.Commands.{Command, check, solve, resolve, trial}
+use Rattle.dcx_trial.specs.Trial.{trial_text}
+use Rattle.dcx_outcomes.specs.Settings.{AreLaidOver, AreTrialSettings}
+
+-- ---- the script
+-- the bytes of the script: those of the named file, or the text of the trial problem
+abbrev pub IsScriptOf : Option Files → Command → List ℕ → Type 0
+IsScriptOf told (check script) bytes = IsTold told script bytes
+IsScriptOf told (solve script limit) bytes = IsTold told script bytes
+IsScriptOf told (resolve script settings limit) bytes = IsTold told script bytes
+IsScriptOf told (trial size limit) bytes = bytes ≡ trial_text size
+
+-- the file that the script is read from
+abbrev pub script_name : Command → Option (List ℕ)
+script_name (check script) = Some script
+script_name (solve script limit) = Some script
+script_name (resolve script settings limit) = Some script
+script_name (trial size limit) = None
+
+-- the file that settings are read from
+abbrev pub settings_name : Command → Option (List ℕ)
+settings_name (check script) = None
+settings_name (solve script limit) = None
+settings_name (resolve script settings limit) = Some settings
+settings_name (trial size limit) = None
+
+-- ---- the settings
+-- each line of the file, laid over a setting
+pub record AreOfFile (told : Option Files) (name : List ℕ) (last : Pairs) (settings : List Pairs) : Type 0 where
+  pub bytes : List ℕ
+  pub are_told : IsTold told name bytes
+  pub lines : List (List SettingItem)
+  pub spelled : SpellSettings bytes lines
+  pub laid : AreLaidOver last lines settings
+
+-- the settings at which the problem is solved: those of the script's solves, or those of the file, or the two of the trial
+abbrev pub AreSettingsOf : Option Files → Command → Work → List Pairs → Type 0
+AreSettingsOf told (check script) work settings = ⊥
+AreSettingsOf told (solve script limit) work settings = settings ≡ work.events
+AreSettingsOf told (resolve script name limit) work settings = AreOfFile told name work.last settings
+AreSettingsOf told (trial size limit) work settings = AreTrialSettings work.last settings
+
+-- the most pivots at a setting
+abbrev pub limit_of : Command → ℕ
+limit_of (check script) = 0
+limit_of (solve script limit) = limit
+limit_of (resolve script settings limit) = limit
+limit_of (trial size limit) = limit
+
+-- ---- the run
+-- the run tells these outcomes
+abbrev pub TellsOutcomes : Command → Sense → List Outcome → Run → Type 0
+TellsOutcomes (check script) sense outcomes r = ⊥
+TellsOutcomes (solve script limit) sense outcomes r = r ≡ run.Solved word.Solve sense outcomes
+TellsOutcomes (resolve script settings limit) sense outcomes r = r ≡ run.Solved word.Setting sense outcomes
+TellsOutcomes (trial size limit) sense outcomes r = r ≡ run.Trial size outcomes

@@ -1,0 +1,74 @@
+-- What the files of a command give: an accepted problem, and settings; or the run that ends there.
+use Rattle.std.specs.Prelude.{◌≡◌, ⊤, ℕ, ◌⊎◌, List, Option, Some, None, Result, Ok, Err}
+use Rattle.dcx_tokens.specs.declared.fault.ReadFault.{ReadFault}
+use Rattle.dcx_host.specs.Files.{Files, IsTold, Lacks, HasMore}
+use Rattle.dcx_settings.specs.declared.settings.SettingItem.{SettingItem}
+use Rattle.dcx_settings.specs.File.{IsRefused, SpellSettings}
+use Rattle.dcx_front.specs.declared.accepted.Accepted.{Accepted}
+use Rattle.dcx_front.specs.declared.fault.FrontFault.{FrontFault}
+use Rattle.dcx_front.specs.declared.fault.FrontFault.TheVariants as front
+use Rattle.dcx_front.specs.declared.refusal.Refusal.{Refusal}
+use Rattle.dcx_front.specs.declared.refusal.RefusalSource.{RefusalSource}
+use Rattle.dcx_front.specs.declared.refusal.RefusalSource.TheVariants.{Script, Settings}
+use Rattle.dcx_front.specs.Checks.{IsTooLong}
+use Rattle.dcx_front.specs.Accepts.{Gives, IsRefusedBy, read_ending}
+use Rattle.dcx_report.specs.declared.run.Run.{Run}
+use Rattle.dcx_report.specs.declared.run.Run.TheVariants as run
+
+-- how many bytes a script has at most, and a settings file
+abbrev pub file_limit : ℕ
+file_limit = 1048576
+
+-- ---- refusals
+-- the file is refused for its length, which it has where files are told
+abbrev pub IsLong : Option Files → RefusalSource → List ℕ → Refusal → Type 0
+IsLong told source name r = IsTooLong source r × HasMore told name file_limit
+
+-- it has bytes that are refused so
+abbrev pub IsRefusedIn : Option Files → List ℕ → (List ℕ → Refusal → Type 0) → Refusal → Type 0
+IsRefusedIn told name Refuses r = (bytes : List ℕ) × IsTold told name bytes × Refuses bytes r
+
+-- the bytes of a script give this refusal
+abbrev pub RefusesScript : List ℕ → Refusal → Type 0
+RefusesScript bytes r = Gives bytes (Err (front.Refused r))
+
+-- the bytes of a settings file have a fault of reading, which the refusal tells
+pub record RefusesSettings (bytes : List ℕ) (r : Refusal) : Type 0 where
+  pub fault : ReadFault
+  pub refused : IsRefused bytes fault
+  pub told : IsRefusedBy Settings (read_ending fault) r
+
+-- the run of a file that gives nothing
+abbrev pub run_of : FrontFault → Run
+run_of (front.Refused r) = run.Refused r
+run_of front.Memory = run.Memory
+
+-- ---- files
+-- the bytes that are had are those of the name
+abbrev pub GivesBytes : Option Files → List ℕ → Result (List ℕ) Run → Type 0
+GivesBytes told name (Ok bytes) = IsTold told name bytes
+GivesBytes told name (Err r) = ⊤
+
+-- why a file isn't read: the library lacks it, or the count of faults rose in this run
+abbrev pub IsNotHad : Option Files → Type 0 → List ℕ → Type 0
+IsNotHad told risen name = Lacks told name ⊎ risen
+
+-- the run that ends where a file isn't read, or its bytes are refused; want of memory is free
+abbrev pub EndsAt : Option Files → Type 0 → RefusalSource → List ℕ → (List ℕ → Refusal → Type 0) → Run → Type 0
+EndsAt told risen source name Refuses run.ReadFault = IsNotHad told risen name
+EndsAt told risen source name Refuses (run.Refused r) = IsLong told source name r ⊎ IsRefusedIn told name Refuses r
+EndsAt told risen source name Refuses run.Memory = ⊤
+EndsAt told risen source name Refuses run.Usage = ⊥
+EndsAt told risen source name Refuses (run.Checked c) = ⊥
+EndsAt told risen source name Refuses (run.Solved word sense outcomes) = ⊥
+EndsAt told risen source name Refuses (run.Trial size outcomes) = ⊥
+
+-- what a script in a file gives
+abbrev pub ReadsScript : Option Files → Type 0 → List ℕ → Result Accepted Run → Type 0
+ReadsScript told risen name (Ok a) = (bytes : List ℕ) × IsTold told name bytes × Gives bytes (Ok a)
+ReadsScript told risen name (Err r) = EndsAt told risen Script name RefusesScript r
+
+-- what a settings file gives
+abbrev pub ReadsSettings : Option Files → Type 0 → List ℕ → Result (List (List SettingItem)) Run → Type 0
+ReadsSettings told risen name (Ok lines) = (bytes : List ℕ) × IsTold told name bytes × SpellSettings bytes lines
+ReadsSettings told risen name (Err r) = EndsAt told risen Settings name RefusesSettings r

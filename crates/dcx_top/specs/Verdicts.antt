@@ -1,0 +1,66 @@
+-- A run refuses its files exactly where they are at fault, and goes on exactly where they are not.
+use Rattle.std.specs.Prelude.{◌≡◌, ◌↔◌, ⊤, ℕ, List, Option, Some, None}
+use Rattle.dcx_tokens.specs.declared.fault.ReadFault.{ReadFault}
+use Rattle.dcx_host.specs.Files.{Files}
+use Rattle.dcx_settings.specs.declared.settings.SettingItem.{SettingItem}
+use Rattle.dcx_settings.specs.File.{IsRefused, SpellSettings}
+use Rattle.dcx_front.specs.OneAnswer.{IsAtFault, IsWithoutFault}
+use Rattle.dcx_report.specs.declared.run.Run.{Run}
+use Rattle.dcx_report.specs.declared.run.Run.TheVariants as run
+use Rattle.dcx_words.specs.Commands.{Command, command_of}
+use Rattle.dcx_top.specs.Commands.{IsScriptOf, settings_name}
+use Rattle.dcx_top.specs.OneRun.{IsAnswered}
+
+abbrev pub IsRefusal : Run → Type 0
+IsRefusal (run.Refused r) = ⊤
+IsRefusal run.Usage = ⊥
+IsRefusal (run.Checked c) = ⊥
+IsRefusal (run.Solved word sense outcomes) = ⊥
+IsRefusal (run.Trial size outcomes) = ⊥
+IsRefusal run.ReadFault = ⊥
+IsRefusal run.Memory = ⊥
+
+abbrev pub IsAcceptance : Run → Type 0
+IsAcceptance (run.Checked c) = ⊤
+IsAcceptance (run.Solved word sense outcomes) = ⊤
+IsAcceptance (run.Trial size outcomes) = ⊤
+IsAcceptance run.Usage = ⊥
+IsAcceptance (run.Refused r) = ⊥
+IsAcceptance run.ReadFault = ⊥
+IsAcceptance run.Memory = ⊥
+
+-- ---- the files of a command
+-- these files are told, and have these bytes
+pub record Has (files : Files) (command : Command) (script settings : List ℕ) : Type 0 where
+  pub is_script : IsScriptOf (Some files) command script
+  pub are_settings : (name : List ℕ) → settings_name command ≡ Some name → files name ≡ Some settings
+
+-- the settings file has a fault, where there is one
+pub record AreFaulty (command : Command) (settings : List ℕ) : Type 0 where
+  pub name : List ℕ
+  pub asked : settings_name command ≡ Some name
+  pub fault : ReadFault
+  pub refused : IsRefused settings fault
+
+abbrev pub AreFaultless : Command → List ℕ → Type 0
+AreFaultless command settings = (name : List ℕ) → settings_name command ≡ Some name → (lines : List (List SettingItem)) × SpellSettings settings lines
+
+-- the script is at fault, or else the settings file is
+pub data AreAtFault (command : Command) (script settings : List ℕ) : Type 0 where
+  bad_script : IsAtFault script → AreAtFault command script settings
+  bad_settings : IsWithoutFault script → AreFaulty command settings → AreAtFault command script settings
+
+-- neither is
+pub record AreWithoutFault (command : Command) (script settings : List ℕ) : Type 0 where
+  pub no_script_fault : IsWithoutFault script
+  pub no_settings_fault : AreFaultless command settings
+
+-- ---- of a run
+pub record IsVerdictOn (command : Command) (script settings : List ℕ) (r : Run) : Type 0 where
+  pub refused : IsRefusal r ↔ AreAtFault command script settings
+  pub accepted : IsAcceptance r ↔ AreWithoutFault command script settings
+
+-- where the run is answered and files are told
+abbrev pub IsRightVerdict : List (List ℕ) → Option Files → Run → Type 0
+IsRightVerdict words None r = ⊤
+IsRightVerdict words (Some files) r = IsAnswered r → (command : Command) (script settings : List ℕ) → command_of words ≡ Some command → Has files command script settings → IsVerdictOn command script settings r
