@@ -1,2 +1,4 @@
 -- The lemmas.
 pub mod Ends
+pub mod OneReading
+pub mod OneSolution

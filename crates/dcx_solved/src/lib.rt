@@ -5,8 +5,12 @@
 //! | the answer is right for the integer program of the rows, and has the numbers of the last basis of the run on it | `solve_rows`, `specs/Solved.antt`: `IsSolved` |
 //! | the tableau that is handed out is the one from which the answer is read | `solve_rows`, `IsSolved` |
 //! | rows stop where they have no integer program, and else exactly where the run ends at a pivot that passes 128 bits or at the limit | `solve_rows`, `specs/Solved.antt`: `Stops` |
+//! | rows have one program, one tableau at the end and one answer under a limit | `laws::answers_are_one` |
+//! | rows that are solved have no stop, and rows have one stop at most under a limit, want of memory aside | `laws::solved_or_stopped`, `laws::stops_are_one` |
+//! | rows stop at the limit only where it is below 2 ^ (columns + 1) + rows, of their program with its artificials | `laws::few_pivots` |
 #![tactic(auto)]
 
+pub mod laws;
 mod solving;
 mod stop;
 

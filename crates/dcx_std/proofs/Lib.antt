@@ -18,3 +18,4 @@ pub mod Solutions
 pub mod Assignments
 pub mod RowSolutions
 pub mod RightAnswers
+pub mod OneProgram

@@ -1,5 +1,5 @@
 -- A whole row is a row of fractions times its factor.
-use Rattle.std.proofs.Common.{◌≡◌, ◌≢◌, ℕ, zero, suc, ◌+◌, ◌*◌, ◌/◌, ◌<◌, ◌^◌, List, [], ◌∷◌, ◌++◌, map, get_or, Option, Some, None, Ok, refl, sym, ap, ap₂, ◌∙◌, subst, ℤ, pos, negsuc, unsigned_abs, lit<, arith}
+use Rattle.std.proofs.Common.{◌≡◌, ◌≢◌, ℕ, zero, suc, ◌+◌, ◌*◌, ◌/◌, ◌<◌, ◌^◌, List, [], ◌∷◌, ◌++◌, map, get_or, Option, Some, None, Ok, refl, sym, ap, ap₂, ◌∙◌, ℤ, pos, negsuc, unsigned_abs, lit<, arith}
 use Rattle.std.specs.Prelude.{◌<ℤ◌, ◌*ℤ◌, neg_ℤ}
 use Rattle.std.specs.List.{All, range_with_len}
 use Rattle.std.proofs.lemmas.Int.{ints}
@@ -17,7 +17,7 @@ use Rattle.dcx_math.proofs.Divisors.{divided_is}
 use Rattle.dcx_math.proofs.Primitive.{gcd_of-dvd}
 use Rattle.dcx_math.proofs.Ratios.{ratio-*ℚ-whole}
 use Rattle.dcx_frac.specs.declared.fraction.Frac.{Frac}
-use Rattle.dcx_frac.specs.Frac.{num_of, den_of, value}
+use Rattle.dcx_frac.specs.Frac.{num_of, value}
 use Rattle.dcx_frac.specs.Results.{product_of}
 use Rattle.dcx_frac.proofs.Results.{product_of_is}
 use Rattle.dcx_atom.specs.Formed.{zero_frac, frac_at}

@@ -8,3 +8,4 @@ pub mod IntegerRows
 pub mod ScaledProgram
 pub mod Solutions
 pub mod Answers
+pub mod OneProgram

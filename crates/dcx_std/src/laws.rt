@@ -10,6 +10,7 @@ ghost use Rattle.dcx_lp_answer.specs.declared.answer.LpAnswer.{LpAnswer};
 ghost use Rattle.dcx_lp_answer.specs.Right.{IsSolution, IsRight, cost_at_columns};
 ghost use Rattle.dcx_std.specs.GivenRows.{GivenRows};
 ghost use Rattle.dcx_std.specs.IntegerRows.{IsMade};
+ghost use Rattle.dcx_std.specs.OneProgram.{ProgramsAreOne, MadeOrStopped, StopsAreOne};
 ghost use Rattle.dcx_std.specs.ScaledProgram.{IsScaledProgram};
 ghost use Rattle.dcx_std.specs.Solutions.{HasKinds, linear_program, unknowns_at, form_number};
 ghost use Rattle.dcx_std.specs.Answers.{IsRightForRows};
@@ -38,4 +39,19 @@ pub fn solutions_come_from_columns()
 /// multipliers times the factors of the rows, turned where an equality was negated.
 pub fn right_answers_carry_over()
     ensures { (rows : GivenRows) (q : Program) (a : LpAnswer) → HasKinds rows → IsMade rows q → IsRight q a → IsRightForRows rows q a }
+{}
+
+/// Rows have one integer program.
+pub fn programs_are_one()
+    ensures { ProgramsAreOne }
+{}
+
+/// Rows that have an integer program have no stop but want of memory.
+pub fn made_or_stopped()
+    ensures { MadeOrStopped }
+{}
+
+/// Rows have one stop, want of memory aside.
+pub fn stops_are_one()
+    ensures { StopsAreOne }
 {}

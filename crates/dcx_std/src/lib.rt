@@ -10,6 +10,8 @@
 //! | a row is multiplied by the least common multiple of its denominators, or the first multiple that passes is told | `least_multiple` |
 //! | the program has the columns and rows that the written order of operations gives | `integer_rows`: `made` |
 //! | an operation is said to pass only where it does, and it is the first, with its row and operands | `integer_rows`: `stops` |
+//! | rows have one integer program | `laws::programs_are_one` |
+//! | rows that have one have no stop, and rows have one stop at most, want of memory aside | `laws::made_or_stopped`, `laws::stops_are_one` |
 //! | each row of the program is a row of fractions times its factor | `laws::rows_are_scaled` |
 //! | columns that solve the program stand for unknowns that solve the rows | `laws::solutions_carry_over` |
 //! | the cost at columns is the objective at these unknowns | `laws::objective_carries_over` |
@@ -17,8 +19,9 @@
 //! | an answer that is right for the program is right for the rows, with multipliers times the factors of the rows | `laws::right_answers_carry_over` |
 //!
 //! `specs/Columns.antt` says which columns a program has, `specs/WholeRows.antt` and `specs/IntegerRows.antt` how its
-//! rows are formed, `specs/ScaledProgram.antt` and `specs/Solutions.antt` what they have to do with the given rows, and
-//! `specs/Answers.antt` what an answer to the program shows of these.
+//! rows are formed, `specs/OneProgram.antt` that rows have one program, `specs/ScaledProgram.antt` and
+//! `specs/Solutions.antt` what its rows have to do with the given ones, and `specs/Answers.antt` what an answer to the
+//! program shows of these.
 #![tactic(auto)]
 
 mod columns;
