@@ -1,15 +1,21 @@
 -- What holds of all answers of sessions.
-use Rattle.std.specs.Prelude.{◌≡◌, ⊤, ℕ, Result, Ok, Err}
+use Rattle.std.specs.Prelude.{◌≡◌, ◌≢◌, ⊤, ℕ, ◌+◌, ◌^◌, ◌<◌, length, Result, Ok, Err}
 use Rattle.dcx_math.specs.Rational.{ℚ}
 use Rattle.dcx_frac.specs.Frac.{value}
 use Rattle.dcx_point.specs.Pairs.{Pairs}
 use Rattle.dcx_tree.specs.declared.problem.Problem.{Problem}
-use Rattle.dcx_tree.specs.Meaning.{Setting, IsAccepted, IsFitting, setting_of}
+use Rattle.dcx_convex.specs.Nodes.{Setting}
+use Rattle.dcx_tree.specs.Meaning.{IsAccepted, IsFitting, setting_of}
 use Rattle.dcx_answer.specs.declared.answer.Answer.{Answer}
 use Rattle.dcx_answer.specs.declared.answer.Answer.TheVariants.{Optimal, Infeasible, Unbounded}
 use Rattle.dcx_answer.specs.declared.stop.Stop.{Stop}
 use Rattle.dcx_answer.specs.declared.stop.Stop.TheVariants as why
-use Rattle.dcx_graph.specs.Answers.{IsRightFor, IsSameAnswer}
+use Rattle.dcx_frac.specs.declared.fraction.Frac.{Frac}
+use Rattle.dcx_tab.specs.declared.program.Program as tab
+use Rattle.dcx_std.specs.IntegerRows.{IsMade}
+use Rattle.dcx_graph.specs.Program.{Program}
+use Rattle.dcx_graph.specs.Answers.{rows_of, IsRightFor, IsSameAnswer}
+use Rattle.dcx_cache.specs.Programs.{SessionGives}
 use Rattle.dcx_cache.specs.Answers.{Answers}
 
 -- where a setting is answered, it fits, and the answer is right for the problem there
@@ -18,18 +24,29 @@ AnswersAreRight = (p : Problem) (setting : Pairs) (limit : ℕ) (a : Answer) →
     IsFitting p setting × IsRightFor p (setting_of p setting) a
 
 -- ---- one answer
--- two ends of a setting are one: the same answer, but for what its arrays hold past their ends, or the same stop
+-- two ends of a setting are one: the same answer, but for what its arrays hold past their ends, or the same stop; want of memory is
+-- free
 abbrev pub AreOneEnd : Problem → Result Answer Stop → Result Answer Stop → Type 0
-AreOneEnd p (Err why.Memory) s = ⊤
-AreOneEnd p r (Err why.Memory) = ⊤
 AreOneEnd p (Ok a) (Ok b) = IsSameAnswer p a b
-AreOneEnd p (Err stop) (Err other) = stop ≡ other
-AreOneEnd p (Ok a) (Err stop) = ⊥
-AreOneEnd p (Err stop) (Ok a) = ⊥
+AreOneEnd p (Err stop) (Err other) = stop ≢ why.Memory → other ≢ why.Memory → stop ≡ other
+AreOneEnd p (Ok a) (Err stop) = stop ≡ why.Memory
+AreOneEnd p (Err stop) (Ok a) = stop ≡ why.Memory
 
--- a setting has one end; want of memory is free
+-- a setting has one end
 abbrev pub HasOneEnd : Type 0
 HasOneEnd = (p : Problem) (setting : Pairs) (limit : ℕ) (r s : Result Answer Stop) → IsAccepted p → Answers p setting limit r → Answers p setting limit s → AreOneEnd p r s
+
+-- ---- limits
+-- a limit that stops the run on a program is small: its integer program, whose columns are counted with the artificials, bounds it
+pub record BoundsLimit (p : Problem) (setting : Pairs) (limit : ℕ) : Type 0 where
+  pub program : Program Frac
+  pub gives : SessionGives p setting (Ok program)
+  pub integer : tab.Program
+  pub made : IsMade (rows_of program) integer
+  pub small : limit < 2 ^ (length integer.columns + 1) + length integer.rows
+
+abbrev pub LimitsAreSmall : Type 0
+LimitsAreSmall = (p : Problem) (setting : Pairs) (limit count : ℕ) → Answers p setting limit (Err (why.PivotLimit count)) → BoundsLimit p setting limit
 
 -- ---- two right answers
 -- the answers are of one kind, with one value where they are optimal

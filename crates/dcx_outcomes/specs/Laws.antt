@@ -1,19 +1,12 @@
--- What holds of all settings and outcomes.
+-- What holds of all outcomes.
 use Rattle.std.specs.Prelude.{◌≡◌, ⊤, ℕ, List, [], ◌∷◌}
 use Rattle.dcx_point.specs.Pairs.{Pairs}
 use Rattle.dcx_tree.specs.declared.problem.Problem.{Problem}
 use Rattle.dcx_tree.specs.Meaning.{IsAccepted}
-use Rattle.dcx_settings.specs.declared.settings.SettingItem.{SettingItem}
 use Rattle.dcx_report.specs.declared.outcome.Outcome.{Outcome}
 use Rattle.dcx_cache.specs.Laws.{AreOneEnd}
-use Rattle.dcx_outcomes.specs.Settings.{AreLaidOver, AreTrialSettings}
 use Rattle.dcx_outcomes.specs.Outcomes.{end_of, AreOutcomes}
 use Rattle.dcx_outcomes.specs.Right.{AreRight}
-
--- lines give one list of settings, and so does the trial
-pub record SettingsAreOne : Type 0 where
-  pub lines : (s : Pairs) (lines : List (List SettingItem)) (ts us : List Pairs) → AreLaidOver s lines ts → AreLaidOver s lines us → ts ≡ us
-  pub trial : (s : Pairs) (ts us : List Pairs) → AreTrialSettings s ts → AreTrialSettings s us → ts ≡ us
 
 -- each answer among the outcomes of an accepted problem is right
 abbrev pub OutcomesAreRight : Type 0

@@ -1,5 +1,4 @@
 -- What contracts cite.
-pub mod Settings
 pub mod Outcomes
 pub mod Right
 pub mod Laws

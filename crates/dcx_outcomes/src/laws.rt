@@ -1,10 +1,5 @@
-//! What holds of all settings and outcomes. There is no code: each clause is a statement about all of them.
-ghost use Rattle.dcx_outcomes.specs.Laws.{SettingsAreOne, OutcomesAreRight, OutcomesAreOne};
-
-/// Lines of a settings file give one list of settings, and so does the trial.
-pub fn settings_are_one()
-    ensures { SettingsAreOne }
-{}
+//! What holds of all outcomes. There is no code: each clause is a statement about all of them.
+ghost use Rattle.dcx_outcomes.specs.Laws.{OutcomesAreRight, OutcomesAreOne};
 
 /// Each answer among the outcomes of an accepted problem is right at its setting, which fits.
 pub fn outcomes_are_right()

@@ -12,7 +12,7 @@ use Rattle.dcx_report.specs.declared.run.Run.TheVariants as run
 use Rattle.dcx_report.specs.declared.run.Word.TheVariants as word
 use Rattle.dcx_words.specs.Commands.{Command, check, solve, resolve, trial}
 use Rattle.dcx_trial.specs.Trial.{trial_text}
-use Rattle.dcx_outcomes.specs.Settings.{AreLaidOver, AreTrialSettings}
+use Rattle.dcx_overlay.specs.Settings.{AreLaidOver, AreTrialSettings}
 
 -- ---- the script
 -- the bytes of the script: those of the named file, or the text of the trial problem

@@ -7,14 +7,15 @@ ghost use Rattle.dcx_settings.specs.Meaning.{IsFull};
 ghost use Rattle.dcx_host.specs.Faults.{Rose};
 ghost use Rattle.dcx_front.specs.Accepts.{IsJudged};
 ghost use Rattle.dcx_words.specs.Commands.{solve as solves, resolve as resolves, trial as tries, command_of};
-ghost use Rattle.dcx_outcomes.specs.Settings.{AreLaidOver, AreTrialSettings};
+ghost use Rattle.dcx_overlay.specs.Settings.{AreLaidOver, AreTrialSettings};
 ghost use Rattle.dcx_host.specs.Files.{Files};
 ghost use Rattle.dcx_top.specs.Runs.{SolvesAt, ResolvesFrom, Causes};
 
 use crate::files::{ended, read_script, read_settings};
 use dcx_front::{Accepted, accept};
 use dcx_host::Library;
-use dcx_outcomes::{all_laid_over, outcomes, trial_settings};
+use dcx_outcomes::outcomes;
+use dcx_overlay::{all_laid_over, trial_settings};
 use dcx_report::{Run, Word};
 use dcx_settings::Settings;
 use dcx_steps::Steps;

@@ -2,7 +2,7 @@
 ghost use Rattle.std.specs.Prelude.{◌≡◌, IfOk, pos};
 ghost use Rattle.dcx_math.specs.Rational.{whole};
 ghost use Rattle.dcx_frac.specs.Frac.{value};
-ghost use Rattle.dcx_outcomes.specs.Settings.{IsScalar, IsTrialSetting, AreTrialSettings};
+ghost use Rattle.dcx_overlay.specs.Settings.{IsScalar, IsTrialSetting, AreTrialSettings};
 
 use crate::copies::copy_setting;
 use dcx_atom::Array;

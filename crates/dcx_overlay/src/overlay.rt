@@ -2,7 +2,7 @@
 ghost use Rattle.std.specs.Prelude.{IfOk};
 ghost use Rattle.std.specs.List.{All};
 ghost use Rattle.dcx_settings.specs.Meaning.{IsFull};
-ghost use Rattle.dcx_outcomes.specs.Settings.{HasNumbers, LaidOver, AreLaidOver};
+ghost use Rattle.dcx_overlay.specs.Settings.{HasNumbers, LaidOver, AreLaidOver};
 
 use crate::copies::copy_setting;
 use dcx_atom::Array;
