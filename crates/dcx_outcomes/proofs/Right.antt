@@ -1,0 +1,50 @@
+-- Each answer among the outcomes is right, and speaks of the problem.
+use Rattle.std.proofs.Common.{◌≡◌, ℕ, List, [], ◌∷◌, map, Some, Ok, refl, sym, ap, ap₂, subst}
+use Rattle.std.specs.List.{slice_get}
+use Rattle.std.specs.Prelude.{drop}
+use Rattle.dcx_shape.specs.Shape.{sides_of}
+use Rattle.dcx_atom.specs.declared.array.Array.{Array}
+use Rattle.dcx_point.specs.Pairs.{Pairs}
+use Rattle.dcx_tree.specs.declared.problem.Problem.{Problem}
+use Rattle.dcx_tree.specs.declared.constraint.Constraint.{Constraint}
+use Rattle.dcx_tree.specs.Meaning.{IsAccepted}
+use Rattle.dcx_linear.specs.declared.row.UnknownKind.{UnknownKind}
+use Rattle.dcx_lp_answer.specs.declared.answer.LpStatus.{LpStatus}
+use Rattle.dcx_lp_answer.specs.declared.answer.LpAnswer.{LpAnswer}
+use Rattle.dcx_lp_answer.specs.declared.answer.RowNote.{RowNote}
+use Rattle.dcx_answer.specs.declared.answer.Answer.{Answer}
+use Rattle.dcx_answer.specs.declared.answer.Answer.TheVariants.{Optimal, Infeasible, Unbounded}
+use Rattle.dcx_report.specs.declared.outcome.Outcome.{Outcome}
+use Rattle.dcx_report.specs.declared.outcome.OutcomeEnd.{OutcomeEnd}
+use Rattle.dcx_report.specs.declared.outcome.OutcomeEnd.TheVariants as the
+use Rattle.dcx_unknowns.specs.Layout.{constraint_rows}
+use Rattle.dcx_postsolve.specs.Duals.{AreDuals}
+use Rattle.dcx_graph.specs.Answers.{IsRead}
+use Rattle.dcx_cache.specs.Answers.{Answers}
+use Rattle.dcx_cache.proofs.Answered.{answers_are_right}
+use Rattle.dcx_outcomes.specs.Outcomes.{end_of, AreOutcomes}
+use Rattle.dcx_outcomes.specs.Right.{SpeaksOf, IsRightAnswer}
+use Rattle.dcx_outcomes.specs.Laws.{OutcomesAreRight}
+
+-- multipliers have the shapes of the constraints
+shaped : (status : LpStatus) (cs : List Constraint) (notes : List RowNote) (xs : List Array) → AreDuals status cs notes xs → map (λ a. sides_of a.shape) xs ≡ map (λ c. sides_of c.shape) cs
+shaped status [] notes [] h = refl
+shaped status [] notes (x ∷ xs) h = absurd h
+shaped status (c ∷ cs) notes [] h = absurd h
+shaped status (c ∷ cs) notes (x ∷ xs) (is, h) = ap₂ ◌∷◌ is.shape (shaped status cs (drop (constraint_rows c) notes) xs h)
+
+speaks : (p : Problem) (kinds : List UnknownKind) (a : LpAnswer) (x : Answer) → IsRead p kinds a x → SpeaksOf p x
+speaks p kinds a (Optimal value point duals) (e, n, at, are) = (at.of_variables.names, shaped a.status p.constraints a.rows duals are)
+speaks p kinds a (Infeasible duals gap) (e, n, are) = shaped a.status p.constraints a.rows duals are
+speaks p kinds a (Unbounded point ray bound slope) (e, b, s, at, along) = (at.of_variables.names, along.of_variables.names)
+
+right_at : (p : Problem) (limit : ℕ) (s : Pairs) (a : Answer) → IsAccepted p → Answers p s limit (Ok a) → IsRightAnswer p s a
+right_at p limit s a ok (q, solved, h) =
+    let right = answers_are_right p s limit a ok (q, solved, h) in
+    record { fits = right.0; right = right.1; speaks = speaks p q.kinds solved.answer a h.read }
+
+pub outcomes_are_right : OutcomesAreRight
+outcomes_are_right p limit settings outcomes ok h = record {
+  count = h.count;
+  each = λ k s o a at here is. right_at p limit s a ok (subst (λ (e : OutcomeEnd). Answers p s limit (end_of e)) is (h.each k s o at here).answers);
+}

@@ -1,0 +1,124 @@
+-- What a refusal says of files that are told: one fault, and no other.
+use Rattle.std.proofs.Common.{◌≡◌, inl, inr, ℕ, ◌<◌, List, length, Option, Some, None, Result, Ok, Err, refl, sym, ap, subst, ◌∙◌}
+use Rattle.std.proofs.lemmas.Option.{none-some, same_Some}
+use Rattle.dcx_tokens.specs.declared.fault.ReadFault.TheVariants as reads
+use Rattle.dcx_tokens.specs.Position.{start_of_text}
+use Rattle.dcx_read.specs.Parses.{no_text as no_script_text}
+use Rattle.dcx_settings.specs.declared.settings.SettingItem.{SettingItem}
+use Rattle.dcx_settings.specs.File.{SpellSettings, no_text as no_settings_text}
+use Rattle.dcx_host.specs.Files.{Files}
+use Rattle.dcx_elab.specs.declared.work.Work.{Work}
+use Rattle.dcx_point.specs.Pairs.{Pairs}
+use Rattle.dcx_front.specs.declared.accepted.Accepted.{Accepted}
+use Rattle.dcx_front.specs.declared.fault.FrontFault.TheVariants as front
+use Rattle.dcx_front.specs.declared.refusal.Refusal.{Refusal}
+use Rattle.dcx_front.specs.declared.refusal.RefusalSource.TheVariants.{Settings}
+use Rattle.dcx_front.specs.Accepts.{Given, Gives, unread, Ending, refused, without_memory, IsRefusedBy, read_ending}
+use Rattle.dcx_front.proofs.OneAnswer.{one_answer}
+use Rattle.dcx_front.proofs.OneCheck.{one_refusal}
+use Rattle.dcx_words.specs.Commands.{Command, check, solve, resolve, trial, command_of}
+use Rattle.dcx_top.specs.Commands.{IsScriptOf, script_name, settings_name, AreSettingsOf}
+use Rattle.dcx_top.specs.Files.{RefusesScript, RefusesSettings}
+use Rattle.dcx_top.specs.Runs.{GivesProblem, IsRefusedRun, long_script, bad_script, bad_settings}
+
+-- ---- answers of the front
+same_accepted : (a b : Accepted) → ◌≡◌ {A = Given} (Ok a) (Ok b) → a ≡ b
+same_accepted a b e = cc
+
+same_refused : (r t : Refusal) → ◌≡◌ {A = Given} (Err (front.Refused r)) (Err (front.Refused t)) → r ≡ t
+same_refused r t e = cc
+
+never_both : (a : Accepted) (r : Refusal) → ◌≡◌ {A = Given} (Ok a) (Err (front.Refused r)) → ⊥
+never_both a r e = cc
+
+pub one_accepted : (bytes : List ℕ) (a b : Accepted) → Gives bytes (Ok a) → Gives bytes (Ok b) → a ≡ b
+one_accepted bytes a b g h = same_accepted a b (one_answer bytes (Ok a) g (Ok b) h)
+
+pub accepted_or_refused : (bytes : List ℕ) (a : Accepted) (r : Refusal) → Gives bytes (Ok a) → RefusesScript bytes r → ⊥
+accepted_or_refused bytes a r g h = never_both a r (one_answer bytes (Ok a) g (Err (front.Refused r)) h)
+
+-- ---- the bytes of a command's files
+module _ (files : Files) where
+  told_once : (name b c : List ℕ) → files name ≡ Some b → files name ≡ Some c → b ≡ c
+  told_once name b c h k = same_Some b c (sym h ∙ k)
+
+  pub one_script : (command : Command) (b c : List ℕ) → IsScriptOf (Some files) command b → IsScriptOf (Some files) command c → b ≡ c
+  one_script (check script) b c h k = told_once script b c h k
+  one_script (solve script limit) b c h k = told_once script b c h k
+  one_script (resolve script settings limit) b c h k = told_once script b c h k
+  one_script (trial size limit) b c h k = h ∙ sym k
+
+  script_is : (command : Command) (name bytes : List ℕ) → script_name command ≡ Some name → files name ≡ Some bytes → IsScriptOf (Some files) command bytes
+  script_is (check script) name bytes e h = subst (λ n. files n ≡ Some bytes) (sym (same_Some script name e)) h
+  script_is (solve script limit) name bytes e h = subst (λ n. files n ≡ Some bytes) (sym (same_Some script name e)) h
+  script_is (resolve script settings limit) name bytes e h = subst (λ n. files n ≡ Some bytes) (sym (same_Some script name e)) h
+  script_is (trial size limit) name bytes e h = absurd (none-some name e)
+
+  -- an accepted problem is one
+  pub one_problem : (command : Command) (a b : Accepted) → GivesProblem (Some files) command a → GivesProblem (Some files) command b → a ≡ b
+  one_problem command a b g h =
+      let same = one_script command g.bytes h.bytes g.are_of h.are_of in
+      one_accepted h.bytes a b (subst (λ x. Gives x (Ok a)) same g.gives) h.gives
+
+  -- settings at which the problem is solved are spelled by the settings file, where there is one
+  pub spelled_by : (command : Command) (work : Work) (settings : List Pairs) (name bytes : List ℕ) → AreSettingsOf (Some files) command work settings → settings_name command ≡ Some name → files name ≡ Some bytes →
+      (lines : List (List SettingItem)) × SpellSettings bytes lines
+  spelled_by (check script) work settings name bytes are e h = absurd (none-some name e)
+  spelled_by (solve script limit) work settings name bytes are e h = absurd (none-some name e)
+  spelled_by (resolve script file limit) work settings name bytes are e h =
+      let same = told_once name are.bytes bytes (subst (λ n. files n ≡ Some are.bytes) (same_Some file name e) are.are_told) h in
+      (are.lines, subst (λ b. SpellSettings b are.lines) same are.spelled)
+  spelled_by (trial size limit) work settings name bytes are e h = absurd (none-some name e)
+
+-- ---- what is refused
+-- the script, or else the settings file
+pub data Refuses (files : Files) (command : Command) (r : Refusal) : Type 0 where
+  in_script : (bytes : List ℕ) → IsScriptOf (Some files) command bytes → RefusesScript bytes r → Refuses files command r
+  in_settings : (a : Accepted) (name bytes : List ℕ) → GivesProblem (Some files) command a → settings_name command ≡ Some name → files name ≡ Some bytes → RefusesSettings bytes r → Refuses files command r
+
+module _ (words : List (List ℕ)) (files : Files) (command : Command) (form : command_of words ≡ Some command) where
+  pub same_command : (c : Command) → command_of words ≡ Some c → c ≡ command
+  same_command c e = same_Some c command (sym e ∙ form)
+
+  -- a file that is too long is no text
+  of_command : (r : Refusal) (c : Command) → command_of words ≡ Some c → Refuses files c r → Refuses files command r
+  of_command r c e h = subst (λ d. Refuses files d r) (same_command c e) h
+
+  pub refuses : (r : Refusal) → IsRefusedRun words (Some files) r → Refuses files command r
+  refuses r (long_script c name e is (long, bytes, there, more)) =
+      of_command r c e (in_script bytes (script_is files c name bytes is there) (unread (reads.TooLong start_of_text.place) (no_script_text (more, refl)) long))
+  refuses r (bad_script c bytes e of h) = of_command r c e (in_script bytes of h)
+  refuses r (bad_settings c a name e g is (inl (long, bytes, there, more))) =
+      of_command r c e (in_settings a name bytes g is there (record { fault = reads.TooLong start_of_text.place; refused = no_settings_text (more, refl); told = long }))
+  refuses r (bad_settings c a name e g is (inr (bytes, there, h))) = of_command r c e (in_settings a name bytes g is there h)
+
+-- an ending is told by one refusal
+one_told : (e : Ending) (r t : Refusal) → IsRefusedBy Settings e r → IsRefusedBy Settings e t → r ≡ t
+one_told (refused number place carried) r t h k = one_refusal Settings number place carried r t h k
+one_told without_memory r t h k = absurd h
+
+module _ (files : Files) (command : Command) where
+  one_settings : (name other b c : List ℕ) → settings_name command ≡ Some name → settings_name command ≡ Some other → files name ≡ Some b → files other ≡ Some c → b ≡ c
+  one_settings name other b c e f h k = same_Some b c (sym h ∙ ap files (same_Some name other (sym e ∙ f)) ∙ k)
+
+  pub one_refused : (r t : Refusal) → Refuses files command r → Refuses files command t → r ≡ t
+  one_refused r t (in_script b of h) (in_script c also k) =
+      same_refused r t (one_answer c (Err (front.Refused r)) (subst (λ x. RefusesScript x r) (one_script files command b c of also) h) (Err (front.Refused t)) k)
+  one_refused r t (in_script b of h) (in_settings a name c g is there k) = absurd (accepted_or_refused g.bytes a r g.gives (subst (λ x. RefusesScript x r) (one_script files command b g.bytes of g.are_of) h))
+  one_refused r t (in_settings a name c g is there k) (in_script b of h) = absurd (accepted_or_refused g.bytes a t g.gives (subst (λ x. RefusesScript x t) (one_script files command b g.bytes of g.are_of) h))
+  one_refused r t (in_settings a name b g is there h) (in_settings d other c i also here k) =
+      let same = one_settings name other b c is also there here in
+      let fault = one_settings_fault c h.fault k.fault (subst (λ x. IsRefused x h.fault) same h.refused) k.refused in
+      one_told (read_ending k.fault) r t (subst (λ f. IsRefusedBy Settings (read_ending f) r) fault h.told) k.told
+
+  -- nothing is refused where the problem is solved
+  pub never_refused : (a : Accepted) (settings : List Pairs) (r : Refusal) → GivesProblem (Some files) command a → AreSettingsOf (Some files) command a.work settings → Refuses files command r → ⊥
+  never_refused a settings r g are (in_script b of h) = accepted_or_refused g.bytes a r g.gives (subst (λ x. RefusesScript x r) (one_script files command b g.bytes of g.are_of) h)
+  never_refused a settings r g are (in_settings d name bytes i is there h) =
+      let (lines, spelled) = spelled_by files command a.work settings name bytes are is there in
+      settings_apart bytes lines h.fault spelled h.refused
+
+  -- nor where it is checked
+  pub never_refused_check : (a : Accepted) (r : Refusal) → settings_name command ≡ None → GivesProblem (Some files) command a → Refuses files command r → ⊥
+  never_refused_check a r none g (in_script b of h) = accepted_or_refused g.bytes a r g.gives (subst (λ x. RefusesScript x r) (one_script files command b g.bytes of g.are_of) h)
+  never_refused_check a r none g (in_settings d name bytes i is there h) = none-some name (sym none ∙ is)

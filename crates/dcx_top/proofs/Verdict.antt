@@ -1,0 +1,70 @@
+-- A run refuses its files exactly where they are at fault.
+use Rattle.std.proofs.Common.{◌≡◌, ℕ, List, Option, Some, None, refl, sym, subst, ◌∙◌, Ok}
+use Rattle.std.proofs.lemmas.Option.{none-some, same_Some}
+use Rattle.dcx_host.specs.Files.{Files}
+use Rattle.dcx_settings.specs.File.{IsRefused}
+use Rattle.dcx_front.specs.declared.accepted.Accepted.{Accepted}
+use Rattle.dcx_front.specs.declared.checked.Checked.{Checked}
+use Rattle.dcx_front.specs.declared.refusal.Refusal.{Refusal}
+use Rattle.dcx_front.specs.Accepts.{Gives}
+use Rattle.dcx_front.proofs.OneVerdict.{apart, refused_for, accepted_for}
+use Rattle.dcx_report.specs.declared.run.Run.{Run}
+use Rattle.dcx_report.specs.declared.run.Run.TheVariants as run
+use Rattle.dcx_words.specs.Commands.{Command, check, command_of}
+use Rattle.dcx_top.specs.Commands.{settings_name, AreSettingsOf}
+use Rattle.dcx_top.specs.Files.{RefusesScript}
+use Rattle.dcx_top.specs.Runs.{GivesProblem, IsChecked, IsSolvedRun, IsRefusedRun, Causes}
+use Rattle.dcx_top.specs.OneRun.{IsAnswered}
+use Rattle.dcx_top.specs.Verdicts.{IsRefusal, IsAcceptance, Has, AreFaultless, AreAtFault, bad_script, bad_settings, AreWithoutFault, IsVerdictOn, IsRightVerdict}
+use Rattle.dcx_top.proofs.Refusals.{one_script, spelled_by, same_command, Refuses, in_script, in_settings, refuses}
+
+module _ (files : Files) (command : Command) (script settings : List ℕ) (has : Has files command script settings) where
+  no_faults : AreWithoutFault command script settings → AreAtFault command script settings → ⊥
+  no_faults w (bad_script f) = apart script w.no_script_fault f
+  no_faults w (bad_settings o f) = let (lines, spelled) = w.no_settings_fault f.name f.asked in settings_apart settings lines f.fault spelled f.refused
+
+  accepted : (a : Accepted) → GivesProblem (Some files) command a → Gives script (Ok a)
+  accepted a g = subst (λ b. Gives b (Ok a)) (one_script files command g.bytes script g.are_of has.is_script) g.gives
+
+  at_fault : (r : Refusal) → Refuses files command r → AreAtFault command script settings
+  at_fault r (in_script bytes of h) = bad_script (refused_for script r (subst (λ b. RefusesScript b r) (one_script files command bytes script of has.is_script) h))
+  at_fault r (in_settings a name bytes g is there h) =
+      bad_settings (accepted_for script a (accepted a g))
+      (record { name = name; asked = is; fault = h.fault; refused = subst (λ b. IsRefused b h.fault) (same_Some bytes settings (sym there ∙ has.are_settings name is)) h.refused })
+
+  without : (a : Accepted) → GivesProblem (Some files) command a → AreFaultless command settings → AreWithoutFault command script settings
+  without a g f = record { no_script_fault = accepted_for script a (accepted a g); no_settings_fault = f }
+
+  refuses_so : (r : Refusal) → AreAtFault command script settings → IsVerdictOn command script settings (run.Refused r)
+  refuses_so r f = record { refused = (λ t. f, λ q. tt); accepted = (λ t. absurd t, λ w. absurd (no_faults w f)) }
+
+  accepts_so : (r : Run) → IsAcceptance r → (IsRefusal r → ⊥) → AreWithoutFault command script settings → IsVerdictOn command script settings r
+  accepts_so r i n w = record { refused = (λ t. absurd (n t), λ q. absurd (no_faults w q)); accepted = (λ t. w, λ q. i) }
+
+  module _ (words : List (List ℕ)) (form : command_of words ≡ Some command) (risen : Type 0) (old new : ℕ) where
+    solved : (r : Run) → IsAcceptance r → (IsRefusal r → ⊥) → IsSolvedRun words (Some files) old new r → IsVerdictOn command script settings r
+    solved r i n h =
+        let same = same_command words files command form h.command h.form in
+        let g = subst (λ c. GivesProblem (Some files) c h.accepted) same h.problem in
+        let asked = subst (λ c. AreSettingsOf (Some files) c h.accepted.work h.settings) same h.asked in
+        accepts_so r i n (without h.accepted g (λ name is. spelled_by files command h.accepted.work h.settings name settings asked is (has.are_settings name is)))
+
+    checked : (c : Checked) → IsChecked words (Some files) c → IsVerdictOn command script settings (run.Checked c)
+    checked c h =
+        let same = same_command words files command form (check h.script) h.form in
+        let g = subst (λ c. GivesProblem (Some files) c h.accepted) same h.problem in
+        let none : settings_name command ≡ None = subst (λ c. settings_name c ≡ None) same refl in
+        accepts_so (run.Checked c) tt (λ t. t) (without h.accepted g (λ name is. absurd (none-some name (sym none ∙ is))))
+
+    verdict_on : (r : Run) → Causes words (Some files) risen old new r → IsAnswered r → IsVerdictOn command script settings r
+    verdict_on run.Usage h i = absurd (none-some command (sym h.0 ∙ form))
+    verdict_on (run.Refused r) h i = refuses_so r (at_fault r (refuses words files command form r h.0))
+    verdict_on (run.Checked c) h i = checked c h.0
+    verdict_on (run.Solved w s os) h i = solved (run.Solved w s os) tt (λ t. t) h
+    verdict_on (run.Trial n os) h i = solved (run.Trial n os) tt (λ t. t) h
+    verdict_on run.ReadFault h i = absurd i
+    verdict_on run.Memory h i = absurd i
+
+pub right_verdict : (words : List (List ℕ)) (told : Option Files) (risen : Type 0) (old new : ℕ) (r : Run) → Causes words told risen old new r → IsRightVerdict words told r
+right_verdict words None risen old new r h = tt
+right_verdict words (Some files) risen old new r h = λ i command script settings form has. verdict_on files command script settings has words form risen old new r h i
