@@ -5,7 +5,8 @@ use Rattle.dcx_tokens.specs.declared.fault.ReadFault.TheVariants as reads
 use Rattle.dcx_tokens.specs.Position.{start_of_text}
 use Rattle.dcx_read.specs.Parses.{no_text as no_script_text}
 use Rattle.dcx_settings.specs.declared.settings.SettingItem.{SettingItem}
-use Rattle.dcx_settings.specs.File.{SpellSettings, no_text as no_settings_text}
+use Rattle.dcx_settings.specs.File.{IsRefused, SpellSettings, no_text as no_settings_text}
+use Rattle.dcx_settings.proofs.OneAnswer.{refused_one, settings_apart}
 use Rattle.dcx_host.specs.Files.{Files}
 use Rattle.dcx_elab.specs.declared.work.Work.{Work}
 use Rattle.dcx_point.specs.Pairs.{Pairs}
@@ -108,7 +109,7 @@ module _ (files : Files) (command : Command) where
   one_refused r t (in_settings a name c g is there k) (in_script b of h) = absurd (accepted_or_refused g.bytes a t g.gives (subst (λ x. RefusesScript x t) (one_script files command b g.bytes of g.are_of) h))
   one_refused r t (in_settings a name b g is there h) (in_settings d other c i also here k) =
       let same = one_settings name other b c is also there here in
-      let fault = one_settings_fault c h.fault k.fault (subst (λ x. IsRefused x h.fault) same h.refused) k.refused in
+      let fault = refused_one c h.fault k.fault (subst (λ x. IsRefused x h.fault) same h.refused) k.refused in
       one_told (read_ending k.fault) r t (subst (λ f. IsRefusedBy Settings (read_ending f) r) fault h.told) k.told
 
   -- nothing is refused where the problem is solved

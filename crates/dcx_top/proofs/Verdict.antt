@@ -3,6 +3,7 @@ use Rattle.std.proofs.Common.{◌≡◌, ℕ, List, Option, Some, None, refl, sy
 use Rattle.std.proofs.lemmas.Option.{none-some, same_Some}
 use Rattle.dcx_host.specs.Files.{Files}
 use Rattle.dcx_settings.specs.File.{IsRefused}
+use Rattle.dcx_settings.proofs.OneAnswer.{settings_apart}
 use Rattle.dcx_front.specs.declared.accepted.Accepted.{Accepted}
 use Rattle.dcx_front.specs.declared.checked.Checked.{Checked}
 use Rattle.dcx_front.specs.declared.refusal.Refusal.{Refusal}
