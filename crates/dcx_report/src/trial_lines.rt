@@ -1,12 +1,22 @@
 //! Appends the lines of a trial.
-ghost use Rattle.std.specs.Prelude.{◌≡◌, ◌++◌, OnOk};
+ghost use Rattle.std.specs.Prelude.{◌≡◌, ◌++◌, OnOk, codes};
+ghost use Rattle.dcx_frac.specs.Text.{frac_text};
 ghost use Rattle.dcx_report.specs.TrialText.{answer_kind, trial_end, trial_line, setting_lines, trial_lines};
 
 use crate::pieces::{put_bytes, put_frac, put_number};
 use crate::stop_line::put_stopped;
 use crate::{Answer, Outcome, OutcomeEnd};
+use dcx_frac::Frac;
 use dcx_shape::Place;
 use std::alloc::AllocError;
+
+/// Appends that an answer is optimal, with its value.
+fn put_optimal(out: &mut Vec<u8>, value: Frac) -> Result<(), AllocError>
+    ensures { OnOk result (out.new.items ≡ out.old.items ++ (codes " optimal value " ++ frac_text value)) }
+{
+    put_bytes(out, b" optimal value ")?;
+    put_frac(out, &value)
+}
 
 /// Appends the kind of an answer, with its value where it is optimal.
 #[tactic(auto, unfolding(crate::specs::TrialText::answer_kind))]
@@ -14,10 +24,7 @@ fn put_kind(out: &mut Vec<u8>, answer: &Answer) -> Result<(), AllocError>
     ensures { OnOk result (out.new.items ≡ out.old.items ++ answer_kind answer.now) }
 {
     match answer {
-        Answer::Optimal { value, .. } => {
-            put_bytes(out, b" optimal value ")?;
-            put_frac(out, value)
-        }
+        Answer::Optimal { value, .. } => put_optimal(out, *value),
         Answer::Infeasible { .. } => put_bytes(out, b" infeasible"),
         Answer::Unbounded { .. } => put_bytes(out, b" unbounded"),
     }
