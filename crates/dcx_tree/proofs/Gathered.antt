@@ -3,12 +3,13 @@ use Rattle.std.proofs.Common.{◌≡◌, ℕ, suc, ◌+◌, ◌-◌, ◌*◌, �
 use Rattle.std.specs.Prelude.{filter}
 use Rattle.std.specs.List.{slice_get, All}
 use Rattle.std.proofs.lemmas.List.{length-map, take_rest}
-use Rattle.std.proofs.lemmas.List.Elements.{All-cons, All-nil}
+use Rattle.std.proofs.lemmas.List.Elements.{All-cons, All-nil, All-filter}
 use Rattle.dcx_arena.specs.declared.node.NodeId.{NodeId}
 use Rattle.dcx_arena.specs.Nodes.{AreNodes, positions}
 use Rattle.dcx_arena.specs.Gather.{order_of, StandFor, IsGathered}
 use Rattle.dcx_call.specs.declared.attribute.Variable.{Variable}
 use Rattle.dcx_call.specs.declared.attribute.Parameter.{Parameter}
+use Rattle.dcx_call.specs.Attributes.{IsSquare, AreSquare}
 use Rattle.dcx_call.specs.Calls.{shape_of}
 use Rattle.dcx_tree.specs.declared.constraint.Constraint.{Constraint}
 use Rattle.dcx_tree.specs.declared.roots.Roots.{Roots}
@@ -91,7 +92,7 @@ module _ (source : List Node) (roots : Roots) (objective : IsObjective source ro
       subst (λ v. problems.AreDeclared part v ps) (sym vs_are) (subst (problems.AreDeclared part (filter (λ (v : Variable). has_variable part v.name) roots.variables)) (sym ps_are) d)
 
   squares_are : AreSquare vs
-  squares_are = subst AreSquare (sym vs_are) (All-filter IsSquare (λ (v : Variable). has_variable part v.name) roots.variables declared.squares)
+  squares_are = subst AreSquare (sym vs_are) (All-filter (λ (v : Variable). has_variable part v.name) IsSquare roots.variables declared.squares)
 
   pub whole : IsWhole source roots part o cs vs ps
   whole = record { nodes = gathered_is; objective = objective_is; constraints = constraints_are; numbered = numbered_is; declared = declared_are; squares = squares_are }

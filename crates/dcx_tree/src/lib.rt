@@ -16,7 +16,7 @@
 //! | the value of a node is the defined one, or the first operation that passes 128 bits or divisor that is 0 is named, where the nodes that it reaches are formed in rising order | `Tree::value`, `specs/Values.antt` |
 //! | the value of a node is that of the finite tree to which its arguments unfold | `laws::values_unfold`, `specs/Expressions.antt` |
 //! | whether each leaf is given an array of its shape | `Tree::is_given` |
-//! | ids are nodes, arguments stand first, each node is reached and numbered as it is first finished, both sides of a constraint have its shape, what is listed is what stands in the tree | the type `Problem`, `specs/Problems.antt` |
+//! | ids are nodes, arguments stand first, each node is reached and numbered as it is first finished, both sides of a constraint have its shape, what is listed is what stands in the tree, symmetric and diagonal variables are square | the type `Problem`, `specs/Problems.antt` |
 //! | whether nodes may be the objective and the sides of the constraints of a problem | `Tree::is_objective`, `Tree::has_shape`, `Tree::is_constraint`, `Tree::are_constraints` |
 //! | a problem is gathered whole and without anything else, and want of memory is the only fault | `gather`, `specs/Gather.antt` |
 //! | gathering keeps the value of each root at every point and setting | `laws::gathering_keeps_values` |
