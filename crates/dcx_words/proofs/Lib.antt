@@ -1,0 +1,6 @@
+-- The lemmas of this crate.
+pub mod Numerals
+pub mod Taking
+pub mod Anywhere
+pub mod Once
+mod Rows

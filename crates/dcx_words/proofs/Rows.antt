@@ -1,0 +1,69 @@
+-- Words that are a plain form, and words that are none.
+use Rattle.std.proofs.Common.{◌≡◌, [], ◌∷◌, refl, Some, None}
+use Rattle.std.specs.Prelude.{codes}
+use Rattle.dcx_words.specs.Commands.{check, solve, resolve, trial, command_of}
+
+-- ---- plain forms
+check_a_script : command_of (codes "check" ∷ codes "a.py" ∷ []) ≡ Some (check (codes "a.py"))
+check_a_script = refl
+
+solve_with_the_usual_limit : command_of (codes "solve" ∷ codes "a.py" ∷ []) ≡ Some (solve (codes "a.py") 200000)
+solve_with_the_usual_limit = refl
+
+resolve_script_and_settings : command_of (codes "resolve" ∷ codes "a.py" ∷ codes "q.txt" ∷ []) ≡ Some (resolve (codes "a.py") (codes "q.txt") 200000)
+resolve_script_and_settings = refl
+
+trial_with_leading_zeros : command_of (codes "trial" ∷ codes "0012" ∷ []) ≡ Some (trial 12 200000)
+trial_with_leading_zeros = refl
+
+option_before_the_operand : command_of (codes "solve" ∷ codes "--max-pivots" ∷ codes "0000000007" ∷ codes "a.py" ∷ []) ≡ Some (solve (codes "a.py") 7)
+option_before_the_operand = refl
+
+option_between_the_operands : command_of (codes "resolve" ∷ codes "a.py" ∷ codes "--max-pivots=1000000000" ∷ codes "q.txt" ∷ []) ≡ Some (resolve (codes "a.py") (codes "q.txt") 1000000000)
+option_between_the_operands = refl
+
+option_behind_the_operand : command_of (codes "trial" ∷ codes "1000" ∷ codes "--max-pivots" ∷ codes "0" ∷ []) ≡ Some (trial 1000 0)
+option_behind_the_operand = refl
+
+-- ---- none
+no_words : command_of [] ≡ None
+no_words = refl
+
+help_word : command_of (codes "--help" ∷ []) ≡ None
+help_word = refl
+
+no_operand : command_of (codes "solve" ∷ []) ≡ None
+no_operand = refl
+
+one_operand_more : command_of (codes "check" ∷ codes "a.py" ∷ codes "b.py" ∷ []) ≡ None
+one_operand_more = refl
+
+check_with_the_option : command_of (codes "check" ∷ codes "--max-pivots=7" ∷ codes "a.py" ∷ []) ≡ None
+check_with_the_option = refl
+
+two_minus_before_the_operand : command_of (codes "solve" ∷ codes "--" ∷ codes "a.py" ∷ []) ≡ None
+two_minus_before_the_operand = refl
+
+limit_too_large : command_of (codes "solve" ∷ codes "--max-pivots=1000000001" ∷ codes "a.py" ∷ []) ≡ None
+limit_too_large = refl
+
+limit_too_long : command_of (codes "solve" ∷ codes "--max-pivots" ∷ codes "00000000007" ∷ codes "a.py" ∷ []) ≡ None
+limit_too_long = refl
+
+option_takes_the_next_word : command_of (codes "solve" ∷ codes "--max-pivots" ∷ codes "a.py" ∷ codes "7" ∷ []) ≡ None
+option_takes_the_next_word = refl
+
+option_twice : command_of (codes "solve" ∷ codes "--max-pivots=1" ∷ codes "a.py" ∷ codes "--max-pivots" ∷ codes "1" ∷ []) ≡ None
+option_twice = refl
+
+file_with_a_minus : command_of (codes "solve" ∷ codes "-a.py" ∷ []) ≡ None
+file_with_a_minus = refl
+
+empty_file : command_of (codes "solve" ∷ codes "" ∷ []) ≡ None
+empty_file = refl
+
+size_zero : command_of (codes "trial" ∷ codes "0" ∷ []) ≡ None
+size_zero = refl
+
+size_too_large : command_of (codes "trial" ∷ codes "1001" ∷ []) ≡ None
+size_too_large = refl

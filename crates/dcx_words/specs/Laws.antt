@@ -1,0 +1,36 @@
+-- What the rules of the option come to.
+use Rattle.std.specs.Prelude.{◌≡◌, ◌≤◌, ℕ, Bool, false, ◌||◌, nat_eq, List, ◌∷◌, ◌++◌, Option, None, Some, option_and_then, bytes_eq}
+use Rattle.std.specs.List.{count_by, list_any, starts_with}
+use Rattle.dcx_words.specs.Commands.{Command, check, solve, resolve, trial, limit_of, option_word, option_front, command_of}
+
+-- the word is the option, or begins with it and an equal sign
+abbrev pub is_option : List ℕ → Bool
+is_option word = bytes_eq word option_word || starts_with nat_eq word option_front
+
+abbrev pub HasNoOption : List (List ℕ) → Type 0
+HasNoOption words = list_any is_option words ≡ false
+
+-- the command with another limit; `check` has none
+abbrev pub with_limit : Command → ℕ → Option Command
+with_limit (check script) limit = None
+with_limit (solve script old) limit = Some (solve script limit)
+with_limit (resolve script settings old) limit = Some (resolve script settings limit)
+with_limit (trial size old) limit = Some (trial size limit)
+
+-- the same command, limited by the number that the text spells; no plain form where it spells none
+abbrev pub limited_by : List ℕ → Command → Option Command
+limited_by text command = option_and_then (with_limit command) (limit_of text)
+
+-- the option among the operands gives this, written in two words and in one
+pub record OptionGives (name : List ℕ) (front back : List (List ℕ)) (text : List ℕ) (found : Option Command) : Type 0 where
+  pub in_two_words : command_of (name ∷ (front ++ option_word ∷ text ∷ back)) ≡ found
+  pub in_one_word : command_of (name ∷ (front ++ (option_front ++ text) ∷ back)) ≡ found
+
+-- the option may stand at any place among the operands of a plain form that has none, and sets its limit
+abbrev pub OptionStandsAnywhere : Type 0
+OptionStandsAnywhere = (name : List ℕ) (front back : List (List ℕ)) (text : List ℕ) (command : Command)
+    → HasNoOption (front ++ back) → command_of (name ∷ (front ++ back)) ≡ Some command → OptionGives name front back text (limited_by text command)
+
+-- the words of a plain form have the option once at most
+abbrev pub OptionStandsOnce : Type 0
+OptionStandsOnce = (name : List ℕ) (words : List (List ℕ)) (command : Command) → command_of (name ∷ words) ≡ Some command → count_by is_option words ≤ 1

@@ -1,0 +1,4 @@
+-- The words that contracts cite.
+pub mod Commands
+pub mod Around
+pub mod Laws

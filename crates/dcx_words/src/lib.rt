@@ -1,0 +1,18 @@
+//! The words of a command line: the plain forms, and what each of them asks for.
+//!
+//! The name of a command comes first, then its operands in order: `check SCRIPT`, `solve SCRIPT`,
+//! `resolve SCRIPT SETTINGS`, `trial SIZE`. All but `check` may have the option `--max-pivots N`, or `--max-pivots=N`.
+//!
+//! | what must hold | where |
+//! |---|---|
+//! | which words are a plain form, and what it asks for: files that are not empty and begin with no minus, a size from 1 to 1,000, a limit of at most 1,000,000,000 | `command_of` of `specs/Commands.antt`; `plain_form` |
+//! | the option stands at any place among the operands and sets the limit alone; it stands there once at most | `specs/Laws.antt`; `laws::option_rules` |
+//! | words that are a plain form, and words that are none | `proofs/Rows.antt` |
+#![tactic(auto)]
+
+pub mod laws;
+mod number;
+mod operands;
+mod words;
+
+pub use words::{Form, plain_form};
