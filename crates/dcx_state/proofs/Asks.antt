@@ -8,6 +8,7 @@ use Rattle.dcx_arena.specs.Nodes.{Node, IsNode}
 use Rattle.dcx_call.specs.declared.attribute.Variable.{Variable}
 use Rattle.dcx_call.specs.declared.attribute.Parameter.{Parameter}
 use Rattle.dcx_call.specs.declared.call.Call.{Call}
+use Rattle.dcx_call.specs.Attributes.{AreSquare}
 use Rattle.dcx_tree.specs.declared.constraint.Constraint.{Constraint}
 use Rattle.dcx_tree.specs.declared.problem.Problem.{Problem}
 use Rattle.dcx_tree.specs.declared.roots.Roots.{Roots}
@@ -40,10 +41,11 @@ kept_asked s before q p k o cs g names = record {
 -- ---- what the problem is gathered from
 -- the lists of declarations are copies
 pub declarations_are : (nodes : List (Node Call)) (roots : Roots) (vs : List Variable) (ps : List Parameter) → roots.variables ≡ vs → roots.parameters ≡ ps →
-    ((i : ℕ) (n : Node Call) → IsNode nodes i n → IsListed vs ps n.call) → IsDistinct same_name (declared_names vs ps) → AreDeclarations nodes roots
-declarations_are nodes roots vs ps e f listed distinct = record {
+    ((i : ℕ) (n : Node Call) → IsNode nodes i n → IsListed vs ps n.call) → IsDistinct same_name (declared_names vs ps) → AreSquare vs → AreDeclarations nodes roots
+declarations_are nodes roots vs ps e f listed distinct squares = record {
   reached = λ i n has at. subst (λ ws. IsListed ws roots.parameters n.call) (sym e) (subst (λ qs. IsListed vs qs n.call) (sym f) (listed i n at));
   distinct = subst (λ ws. IsDistinct same_name (declared_names ws roots.parameters)) (sym e) (subst (λ qs. IsDistinct same_name (declared_names vs qs)) (sym f) distinct);
+  squares = subst AreSquare (sym e) squares;
 }
 
 -- and so is that of constraints

@@ -1,6 +1,6 @@
 -- Nodes that come behind others change nothing of what those reach.
-use Rattle.std.proofs.Common.{◌≡◌, ℕ, zero, suc, ◌<◌, ◌⊎◌, Bool, true, false, List, [], ◌∷◌, ◌++◌, length, Option, option_map, refl, sym, ap, ap₂, subst, ◌∙◌, arith, All, inl, inr}
-use Rattle.std.specs.List.{slice_get, flat_map, list_any}
+use Rattle.std.proofs.Common.{◌≡◌, ℕ, zero, suc, ◌<◌, ◌⊎◌, Bool, true, List, [], ◌∷◌, ◌++◌, length, Option, option_map, refl, ap, ap₂, subst, ◌∙◌, arith, All, inl, inr}
+use Rattle.std.specs.List.{flat_map, list_any}
 use Rattle.std.specs.Option.{unwrap_or}
 use Rattle.dcx_shape.specs.declared.shape.Sides.{Sides}
 use Rattle.dcx_arena.specs.Nodes.{Node, AreNodes, args_at, call_at}

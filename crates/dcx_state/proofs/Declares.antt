@@ -1,5 +1,5 @@
 -- What comes of the steps of a declaration.
-use Rattle.std.proofs.Common.{◌≡◌, ℕ, Bool, true, false, not, ◌&&◌, List, [], ◌∷◌, ◌++◌, Option, Result, Ok, Err, sym, ap₂, subst, ◌∙◌}
+use Rattle.std.proofs.Common.{◌≡◌, ℕ, Bool, true, false, not, ◌&&◌, List, [], ◌∷◌, ◌++◌, Option, Result, Ok, sym, ap₂, ◌∙◌}
 use Rattle.dcx_shape.specs.declared.place.Place.{Place}
 use Rattle.dcx_shape.specs.declared.shape.Shape.{Shape}
 use Rattle.dcx_shape.specs.declared.shape.Sides.{Sides}
@@ -11,7 +11,7 @@ use Rattle.dcx_kinds.specs.declared.fault.ElabFault.TheVariants.{BadArgument, No
 use Rattle.dcx_kinds.specs.Values.{Value, expression, State, Act, and_then, done, unless}
 use Rattle.dcx_kinds.specs.Kinds.{Reading}
 use Rattle.dcx_kinds.specs.Nodes.{push}
-use Rattle.dcx_kinds.specs.View.{Fails, Gives}
+use Rattle.dcx_kinds.specs.View.{Fails}
 use Rattle.dcx_kinds.proofs.Acts.{Fails-then, Fails-same, then_is}
 use Rattle.dcx_state.specs.Declarations.{is_declared, declared_shape, parameter_with, declare_parameter, first_value, set_first}
 

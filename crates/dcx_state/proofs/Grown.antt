@@ -1,7 +1,6 @@
 -- What is so of nodes stays so when nodes come behind them.
-use Rattle.std.proofs.Common.{◌≡◌, ℕ, ◌+◌, ◌<◌, ◌⊎◌, Bool, true, false, List, [], ◌∷◌, ◌++◌, length, map, Option, Some, None, Result, Ok, Err, refl, sym, ap, ◌∙◌, subst, arith, length-append, append-nil, option_map, inl, inr}
-use Rattle.std.specs.List.{slice_get, All, Contains}
-use Rattle.std.specs.HashSet.{contains}
+use Rattle.std.proofs.Common.{◌≡◌, ℕ, ◌<◌, false, List, [], ◌∷◌, ◌++◌, length, map, Option, Some, None, Result, Ok, Err, refl, sym, ap, ◌∙◌, subst, arith, length-append, option_map, inl, inr}
+use Rattle.std.specs.List.{Contains}
 use Rattle.std.specs.Option.{unwrap_or}
 use Rattle.std.specs.Result.{OnErr}
 use Rattle.std.proofs.lemmas.Option.{slice_get_within, none-some}
@@ -9,7 +8,6 @@ use Rattle.dcx_shape.specs.declared.place.Place.{Place}
 use Rattle.dcx_shape.specs.declared.shape.Sides.{Sides}
 use Rattle.dcx_shape.specs.declared.shape.Sides.TheVariants.{Scalar}
 use Rattle.dcx_shape.specs.Sides.{entries_of}
-use Rattle.dcx_point.specs.Pairs.{same_name}
 use Rattle.dcx_arena.specs.declared.node.NodeId.{NodeId}
 use Rattle.dcx_arena.specs.declared.fault.TreeFault.{TreeFault}
 use Rattle.dcx_arena.specs.Nodes.{Node, IsNode, AreNodes, IsPushed, EndsAt, sides_at}
@@ -19,7 +17,7 @@ use Rattle.dcx_call.specs.declared.attribute.Parameter.{Parameter}
 use Rattle.dcx_call.specs.declared.call.Call.{Call}
 use Rattle.dcx_call.specs.declared.call.Call.TheVariants as calls
 use Rattle.dcx_call.specs.Calls.{shape_of}
-use Rattle.dcx_tree.specs.Problems.{IsObjective, HasSides, AreConstraints, IsListed}
+use Rattle.dcx_tree.specs.Problems.{HasSides, IsListed}
 use Rattle.dcx_tree.proofs.Gathered.{roots_below}
 use Rattle.dcx_tree.proofs.Sublists.{contains_at, at_contains}
 use Rattle.dcx_state.specs.declared.state.Asked as code_asked

@@ -10,6 +10,7 @@ mod Reached
 mod Each
 mod Tested
 mod Naming
+mod Squares
 mod Declares
 mod Asks
 mod Solves

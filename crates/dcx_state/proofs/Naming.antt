@@ -1,12 +1,14 @@
 -- Names that are added to those of what is declared.
 use Rattle.std.proofs.Common.{◌≡◌, ℕ, ◌+◌, ◌<◌, Bool, true, false, cond, List, [], ◌∷◌, ◌++◌, map, length, take, get_or, refl, sym, ap, ap₂, ◌∙◌, subst}
 use Rattle.std.proofs.lemmas.List.{take_more}
+use Rattle.std.proofs.lemmas.List.Elements.{All-nil, All-cons, All-append}
 use Rattle.std.specs.Prelude.{◌||◌, Result, Ok, Err, OnOk, is_err}
 use Rattle.std.specs.List.{list_any, AllByRecursion, IsDistinct}
 use Rattle.dcx_point.specs.Pairs.{same_name}
-use Rattle.dcx_point.proofs.Puts.{same_name-refl, same_name-true, same_name-false}
+use Rattle.dcx_point.proofs.Puts.{same_name-refl, same_name-false}
 use Rattle.dcx_call.specs.declared.attribute.Variable.{Variable}
 use Rattle.dcx_call.specs.declared.attribute.Parameter.{Parameter}
+use Rattle.dcx_call.specs.Attributes.{IsSquare}
 use Rattle.dcx_tree.specs.Problems.{declared_names}
 use Rattle.dcx_tree.proofs.Names.{put_name}
 use Rattle.dcx_state.specs.Lists.{is_among, AreNamed}
@@ -89,8 +91,8 @@ map_last f (y ∷ xs) x = ap (λ zs. f y ∷ zs) (map_last f xs x)
 
 module _ (vs : List Variable) (ps : List Parameter) (has now : List ℕ → Bool) (named : AreNamed vs ps has) where
   -- one variable more
-  pub named_variable : (v : Variable) (name : List ℕ) → name ≡ v.name → is_among v.name vs ps ≡ false → ((q : List ℕ) → now q ≡ cond (same_name name q) true (has q)) → AreNamed (vs ++ v ∷ []) ps now
-  named_variable v name is new puts =
+  pub named_variable : (v : Variable) (name : List ℕ) → name ≡ v.name → is_among v.name vs ps ≡ false → IsSquare v → ((q : List ℕ) → now q ≡ cond (same_name name q) true (has q)) → AreNamed (vs ++ v ∷ []) ps now
+  named_variable v name is new square puts =
       let t = either_true (list_any (λ w. same_name v.name w.name) vs) (list_any (λ p. same_name v.name p.name) ps) new in
       record {
         told = λ q.
@@ -99,6 +101,7 @@ module _ (vs : List Variable) (ps : List Parameter) (has now : List ℕ → Bool
             ∙ ap (λ b. b || list_any (λ p. same_name q p.name) ps) (sym (any_more (λ (w : Variable). same_name q w.name) vs v));
         distinct = subst (IsDistinct same_name) (sym (map_more (λ (w : Variable). w.name) vs v (map (λ p. p.name) ps)))
             (distinct_between (λ (w : Variable). w.name) vs (map (λ p. p.name) ps) v.name t.0 (none_of (λ (p : Parameter). p.name) ps v.name t.1) named.distinct);
+        squares = All-append IsSquare vs (v ∷ []) named.squares (All-cons IsSquare v [] square (All-nil IsSquare));
       }
 
   -- one parameter more
@@ -110,6 +113,7 @@ module _ (vs : List Variable) (ps : List Parameter) (has now : List ℕ → Bool
             ∙ or_assoc (list_any (λ w. same_name q w.name) vs) (list_any (λ r. same_name q r.name) ps) (same_name q p.name)
             ∙ ap (λ b. list_any (λ w. same_name q w.name) vs || b) (sym (any_more (λ (r : Parameter). same_name q r.name) ps p));
         distinct = last;
+        squares = named.squares;
       }
     where
       t : (list_any (λ w. same_name p.name w.name) vs ≡ false) × (list_any (λ r. same_name p.name r.name) ps ≡ false)
@@ -124,7 +128,7 @@ module _ (vs : List Variable) (ps : List Parameter) (has now : List ℕ → Bool
 -- nothing is declared
 pub named_start : (has : List ℕ → Bool) → ((q : List ℕ) → has q ≡ false) → AreNamed [] [] has
 unfolding IsDistinct
-named_start has none = record { told = none; distinct = tt }
+named_start has none = record { told = none; distinct = tt; squares = All-nil IsSquare }
 
 -- what is so where there is no error
 pub on_not_err : {T E P : Type 0} (r : Result T E) → OnOk r P → is_err r ≡ false → P

@@ -1,5 +1,5 @@
 -- A push of the tree is that of the definition, with the same fault.
-use Rattle.std.proofs.Common.{◌≡◌, ℕ, ◌+◌, ◌≤◌, ◌<◌, ◌⊎◌, Bool, true, false, nat_le, nat_eq, List, [], ◌∷◌, ◌++◌, length, map, Option, Some, None, Result, Ok, Err, refl, sym, ap, ap₂, ◌∙◌, subst, arith, inl, inr}
+use Rattle.std.proofs.Common.{◌≡◌, ℕ, ◌+◌, ◌≤◌, ◌<◌, Bool, true, false, nat_le, nat_eq, List, [], ◌∷◌, ◌++◌, length, map, Option, Some, None, Result, Ok, Err, refl, sym, ap, ap₂, ◌∙◌, subst, arith, inl, inr}
 use Rattle.std.specs.Bool.{Decides}
 use Rattle.std.specs.List.{position_from}
 use Rattle.std.specs.Cmp.Lexicographic.{pointwise, bytes_decides}
@@ -20,7 +20,7 @@ use Rattle.dcx_kinds.specs.declared.fault.ElabFault.{ElabFault}
 use Rattle.dcx_kinds.specs.declared.fault.ElabFault.TheVariants as faults
 use Rattle.dcx_state.specs.Faults.{told_fault_at}
 use Rattle.dcx_kinds.specs.Values.{State, and_then, or_fault, unless, too_many}
-use Rattle.dcx_kinds.specs.Nodes.{is_of, are_there, found_or_added, add, push}
+use Rattle.dcx_kinds.specs.Nodes.{is_of, are_there, found_or_added, push}
 use Rattle.dcx_kinds.specs.Same.{same_call}
 use Rattle.dcx_kinds.specs.View.{Fails, Gives}
 use Rattle.dcx_state.proofs.SameCalls.{two, calls_decide}

@@ -1,13 +1,12 @@
 -- Values by name, and those of some names.
-use Rattle.std.proofs.Common.{◌≡◌, ◌≢◌, ℕ, zero, suc, ◌+◌, ◌<◌, Bool, true, false, List, [], ◌∷◌, ◌++◌, length, take, map, get_or, Option, Some, None, option_map, refl, sym, ap, ap₂, ◌∙◌, arith, cond, true≢false, subst}
+use Rattle.std.proofs.Common.{◌≡◌, ◌≢◌, ℕ, zero, suc, ◌+◌, ◌<◌, Bool, true, false, List, [], ◌∷◌, ◌++◌, length, take, Option, Some, None, option_map, refl, sym, ap, ap₂, ◌∙◌, arith, cond, true≢false, subst}
 use Rattle.std.specs.Prelude.{filter}
 use Rattle.std.specs.List.{slice_get, AllByRecursion, IsDistinct}
-use Rattle.std.specs.Map.{lookup}
 use Rattle.std.proofs.lemmas.Option.{none-some, same_Some, slice_get_within, get_or_from_slice_get}
 use Rattle.dcx_atom.specs.declared.array.Array.{Array}
 use Rattle.dcx_point.specs.Pairs.{Pairs, same_name, names_of, array_of, with_array, AreDistinct}
 use Rattle.dcx_tree.proofs.Sublists.{filter_kept, filter_dropped}
-use Rattle.dcx_point.proofs.Puts.{same_name-refl, same_name-true, same_name-false, absent}
+use Rattle.dcx_point.proofs.Puts.{same_name-refl, same_name-false, absent}
 
 -- the pair that has a name
 pair_at : (ps : Pairs) (i : ℕ) (name : List ℕ) → slice_get (names_of ps) i ≡ Some name → (a : Array) × (slice_get ps i ≡ Some (name, a))

@@ -1,5 +1,5 @@
 -- Each step of the declaration is that of the definition, with the same fault.
-use Rattle.std.proofs.Common.{◌≡◌, false, not, ◌&&◌, [], ◌∷◌, ◌++◌, option_map, sym, ap, ap₂, ◌∙◌, subst}
+use Rattle.std.proofs.Common.{◌≡◌, false, not, ◌&&◌, [], ◌∷◌, ◌++◌, option_map, sym, ap, ◌∙◌, subst}
 use Rattle.std.specs.List.{Contains}
 use Rattle.std.proofs.lemmas.Result.{err_from_is_err_and}
 use Rattle.dcx_call.specs.declared.attribute.Parameter.{Parameter}

@@ -1,5 +1,5 @@
 -- A name is among the names exactly where it is among the entries.
-use Rattle.std.proofs.Common.{◌≡◌, Bool, Option, Some, None, option_map, is_some, sym, ap, ◌∙◌}
+use Rattle.std.proofs.Common.{is_some, sym, ap, ◌∙◌}
 use Rattle.std.specs.Map.{lookup}
 use Rattle.dcx_point.specs.Pairs.{same_name}
 use Rattle.dcx_kinds.specs.Values.{State}

@@ -3,7 +3,6 @@ use Rattle.std.proofs.Common.{◌≡◌, Err, sym, ap, ◌∙◌, subst}
 use Rattle.dcx_arena.specs.Nodes.{positions}
 use Rattle.dcx_tree.specs.Problems.{IsListed}
 use Rattle.dcx_kinds.specs.Values.{State}
-use Rattle.dcx_kinds.specs.Nodes.{are_there}
 use Rattle.dcx_state.specs.Kept.{state_of}
 use Rattle.dcx_state.proofs.Grown.{push_comes, kept_after}
 use Rattle.dcx_state.proofs.Pushes.{seen_at, pushed_gives}
