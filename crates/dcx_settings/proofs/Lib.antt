@@ -12,3 +12,5 @@ pub mod Lines
 pub mod OneReading
 pub mod Files
 pub mod OneAnswer
+pub mod Full
+pub mod OneList

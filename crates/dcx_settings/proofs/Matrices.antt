@@ -41,7 +41,7 @@ stands : (w : ℕ) (rows : List (List Number)) → AreGoodRows w rows → HasWid
 stands w [] h = let s = h.some in absurd (omega (arith, s))
 stands w (r ∷ rs) h = h.rows_are.0.1
 
-total : (w : ℕ) (rows : List (List Number)) → Every (λ xs. IsGoodRow xs × (length xs ≡ w)) rows → length (joined rows) ≡ length rows * w
+pub total : (w : ℕ) (rows : List (List Number)) → Every (λ xs. IsGoodRow xs × (length xs ≡ w)) rows → length (joined rows) ≡ length rows * w
 total w [] h = grind arith
 total w (r ∷ rs) h =
     let e = length-append r (joined rs) in

@@ -6,3 +6,4 @@ pub mod Machine
 pub mod Meaning
 pub mod Steps
 pub mod File
+pub mod Laws

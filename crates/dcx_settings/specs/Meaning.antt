@@ -6,6 +6,7 @@ use Rattle.dcx_frac.specs.Frac.{value}
 use Rattle.dcx_shape.specs.declared.shape.Sides.{Sides}
 use Rattle.dcx_shape.specs.declared.shape.Sides.TheVariants.{Scalar, Vector, Matrix}
 use Rattle.dcx_shape.specs.Shape.{sides_of}
+use Rattle.dcx_shape.specs.Sides.{entries_of}
 use Rattle.dcx_settings.specs.declared.settings.SettingItem.{SettingItem}
 use Rattle.dcx_settings.specs.Terminal.{Terminal}
 use Rattle.dcx_settings.specs.Reading.{AreSpelled}
@@ -52,6 +53,10 @@ pub record IsItemOf (i : Item) (item : SettingItem) : Type 0 where
   pub name_is : item.name ≡ i.called
   pub sides : sides_of item.shape ≡ value_sides i.value
   pub numbers_are : AreNumbers (value_numbers i.value) item.numbers
+
+-- there is a number for each entry of the shape
+abbrev pub IsFull : SettingItem → Type 0
+IsFull item = length item.numbers ≡ entries_of (sides_of item.shape)
 
 -- one after the other
 abbrev pub AreItemsOf : List Item → List SettingItem → Type 0

@@ -12,6 +12,8 @@
 //! | good lines that the tokens spell, or the first token that no good lines go on with | `specs/Reading.antt`; `read_tokens` |
 //! | where digits are divided by 0; where the 1,001st setting stands; the settings of a file, or the first fault of one order | `specs/File.antt`; `parse_settings` |
 //! | tokens spell one list of good lines at most, and have no unexpected token then; bytes are refused for one fault at most, and spell no settings then | `laws` |
+//! | each value that bytes spell has a number for each entry of its shape | `IsFull` of `specs/Meaning.antt`, `ItemsAreFull` of `specs/Laws.antt`; `laws::items_are_full` |
+//! | bytes spell one list of settings at most | `SettingsAreOne` of `specs/Laws.antt`; `laws::settings_are_one` |
 //!
 //! The proof goes by reading token by token (`specs/Machine.antt`): tokens that are read spell good lines
 //! (`proofs/Soundness.antt`), good lines are read (`proofs/Completeness.antt`), and whatever is read so far begins some
