@@ -5,7 +5,6 @@ use Rattle.dcx_convex.specs.Rules.{Parametrized}
 use Rattle.dcx_tree.specs.declared.problem.Problem.{Problem}
 use Rattle.dcx_linear.specs.declared.param_form.ParamForm.{ParamForm}
 use Rattle.dcx_linear.specs.ParamForms.{form_of_number, number_of_form, sum_gives_form, change_gives_form, IsEntryForm}
-use Rattle.dcx_call.specs.Attributes.{AreSquare}
 use Rattle.dcx_graph.specs.declared.stop.ReduceStop.{ReduceStop}
 use Rattle.dcx_graph.specs.Reduced.{Reduction}
 use Rattle.dcx_graph.specs.Reducing.{Reduces, OrMemory}
@@ -14,8 +13,8 @@ use Rattle.dcx_graph.specs.Fixed.{HaveArrays}
 use Rattle.dcx_graph.proofs.Known.{programs_are_known}
 use Rattle.dcx_graph.proofs.AtSetting.{known_are_listed}
 
-pub listed : (p : Problem) (setting : Pairs) (r : Result (Reduction ParamForm) ReduceStop) → AreSquare p.variables → HaveArrays p setting →
+pub listed : (p : Problem) (setting : Pairs) (r : Result (Reduction ParamForm) ReduceStop) → HaveArrays p setting →
     OrMemory r (λ q. q.program) (Reduces form_of_number number_of_form sum_gives_form change_gives_form (λ position name entry given f. IsEntryForm position name entry f) Parametrized p setting) →
     IfOk r (λ q. IsListedProgram setting q.program)
-listed p setting (Ok q) square arrays is = known_are_listed p setting q.program (programs_are_known Parametrized p setting is.nodes.table q.program square is.nodes.formed is.program) arrays
-listed p setting (Err e) square arrays is = tt
+listed p setting (Ok q) arrays is = known_are_listed p setting q.program (programs_are_known Parametrized p setting is.nodes.table q.program is.nodes.formed is.program) arrays
+listed p setting (Err e) arrays is = tt

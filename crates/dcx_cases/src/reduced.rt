@@ -2,7 +2,6 @@
 ghost use Rattle.std.specs.Prelude.{◌≡◌, ◌<◌, IfOk, IsSome};
 ghost use Rattle.dcx_convex.specs.Rules.{Plain};
 ghost use Rattle.dcx_linear.specs.Parameters.{entry_of};
-ghost use Rattle.dcx_call.specs.Attributes.{AreSquare};
 ghost use Rattle.dcx_rules.specs.Verdicts.{IsVerdictOf};
 ghost use Rattle.dcx_graph.specs.Reducing.{ParametersAreGiven};
 ghost use Rattle.dcx_graph.specs.Fixing.{IsListedProgram};
@@ -17,7 +16,6 @@ use dcx_front::{Accepted, accept};
 use dcx_graph::{ReduceStop, Reduced, fix, reduce};
 use dcx_linear::ParamForm;
 use dcx_steps::Steps;
-use dcx_unknowns::are_square;
 use std::alloc::{AllocError, Global};
 use std::marker::Brand;
 use std::sync::ledger::{Blank, Ledger};
@@ -41,7 +39,6 @@ fn rows_with<L: Ledger>(
     requires parts { blank.parts ≡ L.parts }
     requires some { 0 < blank.parts }
     requires verdict { IsVerdictOf accepted.now.work.problem accepted.now.verdict }
-    requires square { AreSquare accepted.now.work.problem.variables }
     requires given { ParametersAreGiven Plain (λ pairs name entry. IsSome (entry_of pairs name entry)) accepted.now.work.problem accepted.now.work.last }
 {
     let work = &accepted.work;
@@ -65,7 +62,6 @@ fn map_with<L: Ledger>(
     requires parts { blank.parts ≡ L.parts }
     requires some { 0 < blank.parts }
     requires verdict { IsVerdictOf accepted.now.work.problem accepted.now.verdict }
-    requires square { AreSquare accepted.now.work.problem.variables }
     requires arrays { HaveArrays accepted.now.work.problem accepted.now.work.last }
     ensures { IfOk result (λ q. IsListedProgram accepted.now.work.last q.program) }
 {
@@ -94,7 +90,6 @@ fn push_answer<C: Shown>(
 /// Adds the program with numbers.
 fn push_plain(alloc: Global, text: &mut String, accepted: &Accepted) -> Result<(), AllocError>
     requires verdict { IsVerdictOf accepted.now.work.problem accepted.now.verdict }
-    requires square { AreSquare accepted.now.work.problem.variables }
     requires given { ParametersAreGiven Plain (λ pairs name entry. IsSome (entry_of pairs name entry)) accepted.now.work.problem accepted.now.work.last }
 {
     push_answer(text, rows_with::<Brand>(alloc, accepted, Blank::new(1)))
@@ -103,7 +98,6 @@ fn push_plain(alloc: Global, text: &mut String, accepted: &Accepted) -> Result<(
 /// Adds the program with affine coefficients, and the program at the setting.
 fn push_map(alloc: Global, text: &mut String, accepted: &Accepted) -> Result<(), AllocError>
     requires verdict { IsVerdictOf accepted.now.work.problem accepted.now.verdict }
-    requires square { AreSquare accepted.now.work.problem.variables }
     requires arrays { HaveArrays accepted.now.work.problem accepted.now.work.last }
 {
     match map_with::<Brand>(alloc, accepted, Blank::new(1)) {
@@ -122,10 +116,7 @@ fn lines_of(alloc: Global, asked: Asked, accepted: &Accepted) -> Result<Option<S
 {
     let problem = &accepted.work.problem;
     let setting = &accepted.work.last;
-    if !are_given(setting, &problem.tree)
-        || !have_arrays(setting, problem.parameters.as_slice())
-        || !are_square(problem.variables.as_slice())
-    {
+    if !are_given(setting, &problem.tree) || !have_arrays(setting, problem.parameters.as_slice()) {
         return Ok(None);
     }
     let mut text = String::new(alloc);

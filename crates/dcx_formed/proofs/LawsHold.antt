@@ -48,7 +48,7 @@ fracs_meet_equations p setting table params ok formed = record {
   stand = fracs_stand p setting table params ok formed;
   rows = rows_are frac_value (λ f. f) (λ f. Some f) (λ a b r. r ≡ sum_of a b) (λ change a r. r ≡ changed_frac change a) (λ position name entry given f. entry_of given name entry ≡ Some f)
       fracs_are Plain p setting table formed params (setting_of p setting);
-  reduction = λ square. equations_reduce Plain p (setting_of p setting) (forms_at frac_value (λ f. f) params table) square (fracs_stand p setting table params ok formed);
+  reduction = equations_reduce Plain p (setting_of p setting) (forms_at frac_value (λ f. f) params table) (fracs_stand p setting table params ok formed);
 }
 
 -- ---- affine numbers: parameters are affine
@@ -70,5 +70,5 @@ param_forms_meet_equations p setting table ok formed s = record {
   stand = param_forms_stand p setting table ok formed s;
   rows = rows_are form_value form_of_number number_of_form sum_gives_form change_gives_form (λ position name entry given f. IsEntryForm position name entry f)
       param_forms_are Parametrized p setting table formed s s;
-  reduction = λ square. equations_reduce Parametrized p s (forms_at form_value form_of_number s table) square (param_forms_stand p setting table ok formed s);
+  reduction = equations_reduce Parametrized p s (forms_at form_value form_of_number s table) (param_forms_stand p setting table ok formed s);
 }

@@ -14,7 +14,6 @@ use Rattle.dcx_linear.specs.Changes.{changed_frac}
 use Rattle.dcx_linear.specs.Parameters.{Parameters, entry_of}
 use Rattle.dcx_linear.specs.ParamForms.{number_of_form, form_of_number, sum_gives_form, change_gives_form, IsEntryForm}
 use Rattle.dcx_linear.specs.Forms.{linear_value}
-use Rattle.dcx_call.specs.Attributes.{AreSquare}
 use Rattle.dcx_reduced.specs.Equations.{Forms, AllStand, graph_numbers, reduced_with}
 use Rattle.dcx_entries.specs.declared.formed.FormedRow.{FormedRow}
 use Rattle.dcx_entries.specs.Parts.{zero_form}
@@ -30,11 +29,11 @@ abbrev pub rows_at : {C : Type 0} → (C → Parameters → ℚ) → Parameters 
 rows_at value_at params rows = map (λ r u. linear_value value_at r.form u params) rows
 
 -- the forms of a table meet the equation of each node, its rows are those of the graphs, and so both are a reduced program of
--- the problem, where symmetric and diagonal variables are square
+-- the problem
 pub record MeetEquations {C : Type 0} (value_at : C → Parameters → ℚ) (of_number : Frac → C) (params : Parameters) (rules : Rules) (p : Problem) (s : Setting) (table : Table C) : Type 0 where
   pub stand : AllStand rules p s (forms_at value_at of_number params table)
   pub rows : graph_numbers rules p s (forms_at value_at of_number params table) ≡ rows_at value_at params (graph_rows of_number table)
-  pub reduction : AreSquare p.variables → IsReduction rules (convex_problem p) s (reduced_with rules p s (forms_at value_at of_number params table))
+  pub reduction : IsReduction rules (convex_problem p) s (reduced_with rules p s (forms_at value_at of_number params table))
 
 -- all nodes are formed of fractions
 abbrev pub AreFormedOfFracs : Rules → Problem → Pairs → Table Frac → Type 0

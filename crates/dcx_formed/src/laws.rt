@@ -2,8 +2,7 @@
 ghost use Rattle.dcx_formed.specs.Laws.{FracsMeetEquations, ParamFormsMeetEquations};
 
 /// Nodes of an accepted problem that are formed of fractions at a setting: their forms meet the equation of each node at that
-/// setting, their rows are the rows of the graphs, and where symmetric and diagonal variables are square both are a reduced
-/// program of the problem at the setting.
+/// setting, their rows are the rows of the graphs, and so both are a reduced program of the problem at the setting.
 pub fn fracs_meet_equations()
     ensures { FracsMeetEquations }
 {}

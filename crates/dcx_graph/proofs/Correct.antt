@@ -16,22 +16,22 @@ use Rattle.dcx_graph.proofs.AsLinear.{minus_one_value, is_reduction}
 use Rattle.dcx_graph.proofs.Known.{programs_are_known}
 
 pub numbers_are_reductions : NumbersAreReductions
-numbers_are_reductions p setting q params ok square is =
+numbers_are_reductions p setting q params ok is =
     let table = is.nodes.table in
     let meet = fracs_meet_equations p setting table params ok is.nodes.formed in
     is_reduction (λ f. f) (λ f. Some f) (λ a b r. r ≡ sum_of a b) (λ change a r. r ≡ changed_frac change a) frac_value params
     (λ f k r u e. linear_sum_value frac_value (λ f. Some f) (λ d y z l. ap (λ w. frac_value w z) (told_number_lem d y l)) u params (λ a b r. r ≡ sum_of a b) (λ a b d l. sum_value_lem a b d params l) f k r e)
     (λ change f r u e. linear_change_value frac_value (λ f. Some f) (λ d y z l. ap (λ w. frac_value w z) (told_number_lem d y l)) u params (λ change a r. r ≡ changed_frac change a) (λ change a d l. change_value_lem change a d params l) change f r e)
-    minus_one_value (table_forms table) Plain p (setting_of p setting) table q is.program refl meet.rows (meet.reduction square)
+    minus_one_value (table_forms table) Plain p (setting_of p setting) table q is.program refl meet.rows meet.reduction
 
 pub affine_are_reductions : AffineAreReductions
-affine_are_reductions p setting q ok square is s =
+affine_are_reductions p setting q ok is s =
     let table = is.nodes.table in
     let meet = param_forms_meet_equations p setting table ok is.nodes.formed s in
     is_reduction form_of_number number_of_form sum_gives_form change_gives_form form_value s
     (λ f k r u e. linear_sum_value form_value number_of_form (λ d y z l. ap (λ w. form_value w z) (form_told_number d y l) ∙ form_number_value y z) u s sum_gives_form (λ a b d l. form_sum_value a b d s l) f k r e)
     (λ change f r u e. linear_change_value form_value number_of_form (λ d y z l. ap (λ w. form_value w z) (form_told_number d y l) ∙ form_number_value y z) u s change_gives_form (λ change a d l. form_change_value change a d s l) change f r e)
-    minus_one_value (table_forms table) Parametrized p s table q is.program refl meet.rows (meet.reduction square)
+    minus_one_value (table_forms table) Parametrized p s table q is.program refl meet.rows meet.reduction
 
 pub affine_are_known : AffineAreKnown
-affine_are_known p setting q square is = programs_are_known Parametrized p setting is.nodes.table q square is.nodes.formed is.program
+affine_are_known p setting q is = programs_are_known Parametrized p setting is.nodes.table q is.nodes.formed is.program

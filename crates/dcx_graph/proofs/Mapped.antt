@@ -26,7 +26,6 @@ use Rattle.dcx_std.proofs.ScaledProgram.{scaled_program}
 use Rattle.dcx_std.proofs.RightAnswers.{shown_of}
 use Rattle.dcx_unknowns.specs.Layout.{constraint_rows}
 use Rattle.dcx_unknowns.specs.Unknowns.{point_at}
-use Rattle.dcx_call.specs.Attributes.{AreSquare}
 use Rattle.dcx_unknowns.specs.Laws.{AreAlike}
 use Rattle.dcx_mapping.specs.Programs.{multipliers_of, bound_row}
 use Rattle.dcx_postsolve.specs.Points.{numbered}
@@ -112,23 +111,23 @@ module _ (p : Problem) (s : Setting) (q : Program Frac) (a : LpAnswer) (known : 
   right_rows t e = subst (λ t. IsRightForRowsAs t (rows_of q) is.integer a) e (shown_of (rows_of q) is.integer known (scaled_program (rows_of q) is.integer is.made) a is.right)
 
   -- what is read is right
-  pub read_right : AreSquare p.variables → (x : Answer) → IsRead p q.kinds a x → IsRightFor p s x
-  read_right square (answers.Optimal number point duals) (e, same, at, are) =
+  pub read_right : (x : Answer) → IsRead p q.kinds a x → IsRightFor p s x
+  read_right (answers.Optimal number point duals) (e, same, at, are) =
       let rows = right_rows status.Optimal e in
       let h = carries.optimal (value a.number) (unknowns_at is.integer.columns (map value a.columns)) (multiplier_at is.integer.columns a) rows in
       subst (λ n. IsRightFor p s (answers.Optimal n point duals)) (sym same)
-      ((answers_stay p s).optimal square (value a.number) (point_at p.variables (unknowns_at is.integer.columns (map value a.columns))) (point_of p point)
+      ((answers_stay p s).optimal (value a.number) (point_at p.variables (unknowns_at is.integer.columns (map value a.columns))) (point_of p point)
       (multipliers_of (convex_problem p) (multiplier_at is.integer.columns a)) (multipliers_in duals) (point_read a.columns point is.parts.columns at) (duals_read duals are) h)
-  read_right square (answers.Infeasible duals gap) (e, same, are) =
+  read_right (answers.Infeasible duals gap) (e, same, are) =
       let rows = right_rows status.Infeasible e in
       let h = carries.infeasible (value a.number) (multiplier_at is.integer.columns a) rows in
       subst (λ n. IsRightFor p s (answers.Infeasible duals n)) (sym same)
       ((answers_stay p s).infeasible (multipliers_of (convex_problem p) (multiplier_at is.integer.columns a)) (multipliers_in duals) (value a.number) (duals_read duals are) h)
-  read_right square (answers.Unbounded point ray bound slope) (e, same_bound, same_slope, at, along) =
+  read_right (answers.Unbounded point ray bound slope) (e, same_bound, same_slope, at, along) =
       let rows = right_rows status.Unbounded e in
       let h = carries.unbounded (unknowns_at is.integer.columns (map value a.columns)) (unknowns_at is.integer.columns (map value a.ray)) (value a.number) (value a.slope) rows in
       subst (λ n. IsRightFor p s (answers.Unbounded point ray n slope)) (sym same_bound)
       (subst (λ n. IsRightFor p s (answers.Unbounded point ray a.number n)) (sym same_slope)
-      ((answers_stay p s).unbounded square (point_at p.variables (unknowns_at is.integer.columns (map value a.columns))) (point_of p point)
+      ((answers_stay p s).unbounded (point_at p.variables (unknowns_at is.integer.columns (map value a.columns))) (point_of p point)
       (point_at p.variables (unknowns_at is.integer.columns (map value a.ray))) (point_of p ray) (value a.number) (value a.slope)
       (point_read a.columns point is.parts.columns at) (point_read a.ray ray (is.parts.ray e) along) h))

@@ -12,7 +12,6 @@ use Rattle.dcx_linear.specs.Changes.{changed_frac}
 use Rattle.dcx_linear.specs.Parameters.{Parameters, entry_of}
 use Rattle.dcx_linear.specs.ParamForms.{form_of_number, number_of_form, sum_gives_form, change_gives_form, form_value, IsEntryForm}
 use Rattle.dcx_linear.specs.FormsAt.{frac_value}
-use Rattle.dcx_call.specs.Attributes.{AreSquare}
 use Rattle.dcx_graph.specs.declared.stop.ReduceStop.{ReduceStop}
 use Rattle.dcx_graph.specs.Program.{Program}
 use Rattle.dcx_graph.specs.Reducing.{Reduces}
@@ -33,17 +32,17 @@ ReducesAffine p setting =
 -- ---- the statements
 -- where the rules accept a problem, the program is a reduced program of the problem at the setting
 abbrev pub NumbersAreReductions : Type 0
-NumbersAreReductions = (p : Problem) (setting : Pairs) (q : Program Frac) (params : Parameters) → IsAccepted p → AreSquare p.variables → ReducesNumbers p setting (Ok q) →
+NumbersAreReductions = (p : Problem) (setting : Pairs) (q : Program Frac) (params : Parameters) → IsAccepted p → ReducesNumbers p setting (Ok q) →
     IsReductionAt Plain p (setting_of p setting) (linear_at frac_value params q)
 
 -- where they accept it with parameters affine, the program is one at every setting, whatever setting was at hand
 abbrev pub AffineAreReductions : Type 0
-AffineAreReductions = (p : Problem) (setting : Pairs) (q : Program ParamForm) → IsDpp p → AreSquare p.variables → ReducesAffine p setting (Ok q) →
+AffineAreReductions = (p : Problem) (setting : Pairs) (q : Program ParamForm) → IsDpp p → ReducesAffine p setting (Ok q) →
     (s : Setting) → IsReductionAt Parametrized p s (linear_at form_value s q)
 
 -- and it speaks of declared parameters alone
 abbrev pub AffineAreKnown : Type 0
-AffineAreKnown = (p : Problem) (setting : Pairs) (q : Program ParamForm) → AreSquare p.variables → ReducesAffine p setting (Ok q) → IsKnownProgram p q
+AffineAreKnown = (p : Problem) (setting : Pairs) (q : Program ParamForm) → ReducesAffine p setting (Ok q) → IsKnownProgram p q
 
 -- a problem has one answer
 abbrev pub IsOneAnswer : {A : Type 0} → (A → Type 0) → Type 0

@@ -12,7 +12,6 @@ use Rattle.dcx_linear.specs.declared.param_form.ParamForm.{ParamForm}
 use Rattle.dcx_linear.specs.Parameters.{Parameters}
 use Rattle.dcx_linear.specs.ParamForms.{form_of_number, number_of_form, sum_gives_form, change_gives_form, form_value, IsEntryForm}
 use Rattle.dcx_linear.specs.FormsAt.{frac_value}
-use Rattle.dcx_call.specs.Attributes.{AreSquare}
 use Rattle.dcx_entries.specs.Nodes.{Table, AreFormed}
 use Rattle.dcx_within.specs.Within.{IsKnown}
 use Rattle.dcx_graph.specs.Program.{Program, IsProgram}
@@ -32,7 +31,7 @@ HaveArrays p setting = All (λ q. HasArray setting q.name (sides_of q.shape)) p.
 -- the program of formed nodes speaks of declared parameters alone
 abbrev pub ProgramsAreKnown : Type 0
 ProgramsAreKnown =
-    (rules : Rules) (p : Problem) (setting : Pairs) (table : Table ParamForm) (q : Program ParamForm) → AreSquare p.variables →
+    (rules : Rules) (p : Problem) (setting : Pairs) (table : Table ParamForm) (q : Program ParamForm) →
     AreFormed form_of_number number_of_form sum_gives_form change_gives_form (λ position name entry s c. IsEntryForm position name entry c) rules p setting (length p.tree) table →
     IsProgram form_of_number number_of_form sum_gives_form change_gives_form rules p table q → IsKnownProgram p q
 

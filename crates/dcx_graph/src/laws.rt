@@ -63,7 +63,7 @@ pub fn programs_are_known()
     ensures { ProgramsAreKnown }
 {}
 
-/// Where the rules accept a problem whose symmetric and diagonal variables are square, the program with numbers that reducing gives
+/// Where the rules accept a problem, the program with numbers that reducing gives
 /// is a reduced program of the problem at the setting.
 pub fn numbers_are_reductions()
     ensures { NumbersAreReductions }

@@ -3,7 +3,6 @@ ghost use Rattle.std.specs.Prelude.{◌≡◌, ◌<◌, ◌≤◌, ◌^◌, List
 ghost use Rattle.dcx_linear.specs.declared.row.UnknownKind.{UnknownKind};
 ghost use Rattle.dcx_lp_answer.specs.declared.answer.LpStatus.TheVariants as status;
 ghost use Rattle.dcx_unknowns.specs.Layout.{constraint_rows};
-ghost use Rattle.dcx_call.specs.Attributes.{AreSquare};
 ghost use Rattle.dcx_tree.specs.Meaning.{setting_of};
 ghost use Rattle.dcx_postsolve.specs.Duals.{AreDuals};
 ghost use Rattle.dcx_graph.specs.Answers.{IsAnswered, TellUnknowns, CanBeRead, IsPointRead, IsRead, StopsReading, IsRightFor, answer_stop};
@@ -58,7 +57,6 @@ fn point_read(
     kinds: &[UnknownKind],
     columns: &[Frac],
 ) -> Result<Point, AllocError>
-    requires square { AreSquare problem.now.variables }
     requires told { TellUnknowns kinds.now columns.now }
     ensures { IfOk result (λ x. IsPointRead problem.now kinds.now columns.now x) }
 {
@@ -88,7 +86,6 @@ fn optimal(
     answer: &LpAnswer,
 ) -> Result<Answer, AnswerStop>
     requires status { answer.now.status ≡ status.Optimal }
-    requires square { AreSquare problem.now.variables }
     requires there { CanBeRead problem.now kinds.now answer.now }
     ensures read { IfOk result (IsRead problem.now kinds.now answer.now) }
     ensures stops { IfErr result (StopsReading problem.now answer.now) }
@@ -125,7 +122,6 @@ fn unbounded(
     answer: &LpAnswer,
 ) -> Result<Answer, AllocError>
     requires status { answer.now.status ≡ status.Unbounded }
-    requires square { AreSquare problem.now.variables }
     requires there { CanBeRead problem.now kinds.now answer.now }
     ensures read { IfOk result (IsRead problem.now kinds.now answer.now) }
 {
@@ -146,7 +142,6 @@ fn read(
     kinds: &[UnknownKind],
     answer: &LpAnswer,
 ) -> Result<Answer, AnswerStop>
-    requires square { AreSquare problem.now.variables }
     requires there { CanBeRead problem.now kinds.now answer.now }
     ensures read { IfOk result (IsRead problem.now kinds.now answer.now) }
     ensures stops { IfErr result (StopsReading problem.now answer.now) }
@@ -171,7 +166,6 @@ pub fn map_back(
     reduced: &Reduced<Frac>,
     answer: &LpAnswer,
 ) -> Result<Answer, AnswerStop>
-    requires square { AreSquare problem.now.variables }
     requires answered { IsAnswered problem.now (setting_of problem.now setting.now) reduced.now.program answer.now }
     ensures read { IfOk result (IsRead problem.now reduced.now.program.kinds answer.now) }
     ensures right { IfOk result (IsRightFor problem.now (setting_of problem.now setting.now)) }

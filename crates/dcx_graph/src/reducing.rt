@@ -1,6 +1,5 @@
 //! The reduced program of a problem.
 ghost use Rattle.std.specs.Prelude.{◌≡◌, ◌+◌, ◌≤◌, false, length, IfOk, OnOk};
-ghost use Rattle.dcx_call.specs.Attributes.{AreSquare};
 ghost use Rattle.dcx_unknowns.specs.Layout.{marked, AreReduced, kinds_with, rows_with, columns_with, AreFew};
 ghost use Rattle.dcx_nodes.specs.Marks.{AreFixed};
 ghost use Rattle.dcx_rules.specs.Verdicts.{IsVerdictOf};
@@ -62,7 +61,6 @@ fn laid_out<C: Reducible, L: Ledger>(
     kinds: UnknownKinds,
     steps: &mut Steps<L>,
 ) -> Result<Reduced<C>, ReduceStop>
-    requires square { AreSquare problem.now.variables }
     requires given { ParametersAreGiven C.rules C.can_read problem.now setting.now }
     requires counted { length reduced.now ≡ length problem.now.tree }
     requires reduces { AreReduced C.rules problem.now reduced.now }
@@ -81,7 +79,7 @@ fn laid_out<C: Reducible, L: Ledger>(
     }
 }
 
-/// The reduced program of a problem whose verdict is given, whose symmetric and diagonal variables are square: at the setting,
+/// The reduced program of a problem whose verdict is given: at the setting,
 /// which gives each parameter an array of its shape, or with coefficients affine in the parameters, for which the setting isn't
 /// read. One step is counted for each node.
 ///
@@ -96,7 +94,6 @@ pub fn reduce<C: Reducible, L: Ledger>(
     steps: &mut Steps<L>,
 ) -> Result<Reduced<C>, ReduceStop>
     requires verdict { IsVerdictOf problem.now verdict.now }
-    requires square { AreSquare problem.now.variables }
     requires given { ParametersAreGiven C.rules C.can_read problem.now setting.now }
     ensures program { OrMemory result (λ q. q.program) (Reduces C.of_number C.number_of C.sum_gives C.change_gives C.parameter_gives C.rules problem.now setting.now) }
     ensures from_map { IfOk result (λ q. q.from_map ≡ false) }

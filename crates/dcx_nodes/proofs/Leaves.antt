@@ -22,6 +22,7 @@ use Rattle.dcx_call.specs.declared.attribute.Parameter.{Parameter}
 use Rattle.dcx_call.specs.declared.call.Call.TheVariants as calls
 use Rattle.dcx_tree.specs.declared.problem.Problem.{Problem}
 use Rattle.dcx_tree.specs.Nodes.{Node, arg_sides, number_in}
+use Rattle.dcx_tree.specs.Kept.{IsSquareFor-prop}
 use Rattle.dcx_tree.specs.Problems.{IsListed}
 use Rattle.dcx_tree.specs.Meaning.{names_in}
 use Rattle.dcx_tree.proofs.Names.{found_in}
@@ -30,7 +31,7 @@ use Rattle.dcx_tree.proofs.Sublists.{contains_at}
 use Rattle.dcx_domain.proofs.Few.{few_parameters}
 use Rattle.dcx_unknowns.specs.Own.{own_count}
 use Rattle.dcx_unknowns.specs.Unknowns.{demanded, sides_in, variable_unknowns, variable_kinds, first_unknown, unknown_from}
-use Rattle.dcx_call.specs.Attributes.{IsSquareFor, IsSquare, AreSquare}
+use Rattle.dcx_call.specs.Attributes.{IsSquare}
 use Rattle.dcx_unknowns.specs.Layout.{marked, aux_kind, aux_below}
 use Rattle.dcx_unknowns.proofs.Domains.{number_is}
 use Rattle.dcx_unknowns.proofs.Owners.{are_numbered, first_fits}
@@ -62,13 +63,6 @@ first_at vs firsts k d e lt =
     ap (λ xs. get_or xs k d) e ∙ get_or-map (first_unknown vs) (places_below (length vs)) k 0 d within ∙ ap (first_unknown vs) (get_or-range_with_len 0 (length vs) k 0 lt ∙ zero-add k)
 
 -- ---- a variable is listed
-square_prop : (a : Attribute) (s : Sides) → IsProp (IsSquareFor a s)
-square_prop attributes.Free s = hlevel props
-square_prop attributes.Nonneg s = hlevel props
-square_prop attributes.Nonpos s = hlevel props
-square_prop attributes.Symmetric s = hlevel props
-square_prop attributes.Diag s = hlevel props
-
 module _ (p : Problem) (i : ℕ) (v : Variable) (c : call_at p.tree i ≡ Some (calls.Variable v)) where
   abbrev pub place : ℕ
   place = number_in (names_in p).variables v.name
@@ -83,9 +77,9 @@ module _ (p : Problem) (i : ℕ) (v : Variable) (c : call_at p.tree i ≡ Some (
   pub place_there : place < length p.variables
   place_there = listed (place < length p.variables) (hlevel props) (λ there. slice_get_within p.variables place v there)
 
-  pub is_square : AreSquare p.variables → IsSquare v
-  is_square all = listed (IsSquare v) (square_prop (demanded v) (sides_in v)) (λ there.
-      subst IsSquare (get_or_from_slice_get p.variables place v v there) (all place v (slice_get_within p.variables place v there)))
+  pub is_square : IsSquare v
+  is_square = listed (IsSquare v) (IsSquareFor-prop (demanded v) (sides_in v)) (λ there.
+      subst IsSquare (get_or_from_slice_get p.variables place v v there) (p.squares place v (slice_get_within p.variables place v there)))
 
   pub unknowns_within : first_unknown p.variables place + own_count (demanded v) (sides_in v) ≤ variable_unknowns p.variables
   unknowns_within = listed (first_unknown p.variables place + own_count (demanded v) (sides_in v) ≤ variable_unknowns p.variables) (hlevel props) (λ there.

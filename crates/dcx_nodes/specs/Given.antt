@@ -13,7 +13,6 @@ use Rattle.dcx_call.specs.Values.{IsGiven}
 use Rattle.dcx_tree.specs.declared.problem.Problem.{Problem}
 use Rattle.dcx_tree.specs.Nodes.{Node}
 use Rattle.dcx_unknowns.specs.Unknowns.{first_unknown, variable_unknowns}
-use Rattle.dcx_call.specs.Attributes.{AreSquare}
 use Rattle.dcx_unknowns.specs.Layout.{marked, aux_below, kinds_with}
 
 -- the entries of a parameter may be asked for
@@ -45,7 +44,6 @@ AreFirstsOf vs firsts = firsts ≡ map (first_unknown vs) (places_below (length 
 pub record IsReady (can_read : Pairs → List ℕ → ℕ → Type 0) (p : Problem) (reduced fixed : List Bool) (setting : Pairs) (firsts : List ℕ) : Type 0 where
   pub reduced_counted : length reduced ≡ length p.tree
   pub fixed_counted : length fixed ≡ length p.tree
-  pub square : AreSquare p.variables
   pub few : HasFewUnknowns p reduced
   pub numbers : NumbersAreGiven p reduced setting
   pub readable : ParametersAreReadable can_read p reduced setting

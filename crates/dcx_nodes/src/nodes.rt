@@ -2,7 +2,6 @@
 ghost use Rattle.std.specs.Prelude.{◌≡◌, ◌≤◌, ◌+◌, length, IfOk, IfErr, OnOk};
 ghost use Rattle.dcx_convex.specs.Rules.{Rules};
 ghost use Rattle.dcx_unknowns.specs.Unknowns.{variable_unknowns};
-ghost use Rattle.dcx_call.specs.Attributes.{AreSquare};
 ghost use Rattle.dcx_unknowns.specs.Layout.{AreReduced};
 ghost use Rattle.dcx_entries.specs.Kept.{IsKept, IsStop};
 ghost use Rattle.dcx_nodes.specs.Given.{IsReady, HasFewUnknowns, NumbersAreGiven, ParametersAreReadable};
@@ -22,8 +21,7 @@ use std::alloc::Global;
 use std::sync::ledger::Ledger;
 
 /// The forms of all nodes of a problem, in order, each from those of its arguments, and the rows of their graphs. `reduced` tells
-/// of each node whether it is reduced by the rules, and `fixed` whether it reaches no variable. Symmetric and diagonal variables
-/// are square, there are fewer than 2^32 unknowns, the setting has what nodes take that aren't reduced, and the entries of the
+/// of each node whether it is reduced by the rules, and `fixed` whether it reaches no variable. There are fewer than 2^32 unknowns, the setting has what nodes take that aren't reduced, and the entries of the
 /// parameters that are reduced may be asked for. One step is counted for each node that is begun.
 ///
 /// `Passes` or `ZeroDivisor` at the first node and entry with an operation that passes 128 bits or a divisor that is 0; `Memory`
@@ -38,7 +36,6 @@ pub fn form_nodes<C: Coef, L: Ledger>(
 ) -> Result<Formed<C>, FormStop>
     requires reduced { length reduced.now ≡ length problem.now.tree }
     requires fixed { length fixed.now ≡ length problem.now.tree }
-    requires square { AreSquare problem.now.variables }
     requires few { HasFewUnknowns problem.now reduced.now }
     requires numbers { NumbersAreGiven problem.now reduced.now setting.now }
     requires readable { ParametersAreReadable C.can_read problem.now reduced.now setting.now }

@@ -21,7 +21,7 @@ use Rattle.dcx_call.specs.declared.attribute.Attribute.TheVariants as attributes
 use Rattle.dcx_call.specs.declared.attribute.Whole.{Whole}
 use Rattle.dcx_call.specs.declared.attribute.Whole.TheVariants.{Not, Integer, Boolean}
 use Rattle.dcx_call.specs.declared.attribute.Variable.{Variable}
-use Rattle.dcx_call.specs.Attributes.{counted, IsSquareFor, AreSquare}
+use Rattle.dcx_call.specs.Attributes.{counted, IsSquareFor}
 use Rattle.dcx_tree.specs.declared.problem.Problem.{Problem}
 use Rattle.dcx_tree.specs.Nodes.{attribute_of, arg_sides, convex_node, variable_attribute}
 use Rattle.dcx_tree.specs.Meaning.{names_in, convex_problem, convex_constraint, value_at, objective_at, sense_of, IsInDomain, IsFeasible, IsOptimal, IsInfeasible, IsUnbounded}
@@ -105,18 +105,18 @@ weighed_same gap (c ∷ cs) m n same =
 
 -- ---- answers
 module _ (p : Problem) (s : Setting) where
-  domain_alike : AreSquare p.variables → (x y : Point) → AreAlike p.variables x y → IsInDomain p x → IsInDomain p y
-  domain_alike square x y alike dom =
+  domain_alike : (x y : Point) → AreAlike p.variables x y → IsInDomain p x → IsInDomain p y
+  domain_alike x y alike dom =
       to_domain p y (λ k v at.
-      let here : IsSquareFor (demanded v) (sides_in v) = subst (λ (w : Variable). IsSquareFor (demanded w) (sides_in w)) (get_or_from_slice_get p.variables k v v at) (square k v (slice_get_within p.variables k v at)) in
+      let here : IsSquareFor (demanded v) (sides_in v) = subst (λ (w : Variable). IsSquareFor (demanded w) (sides_in w)) (get_or_from_slice_get p.variables k v v at) (p.squares k v (slice_get_within p.variables k v at)) in
       keeps_alike (variable_attribute v.whole v.attribute) (sides_in v) (x k) (y k) (square_as v.whole v.attribute (sides_in v) here) (alike k v at) (to_variables p x dom k v at))
 
   objective_alike : (x y : Point) → AreAlike p.variables x y → objective_at p s x ≡ objective_at p s y
   objective_alike x y alike = ap (problems.minimized (sense_of p.sense)) (alike_value p s x y alike p.objective.0 0)
 
-  feasible_alike : AreSquare p.variables → (x y : Point) → AreAlike p.variables x y → IsFeasible p s x → IsFeasible p s y
-  feasible_alike square x y alike feasible = record {
-    domain = domain_alike square x y alike feasible.domain;
+  feasible_alike : (x y : Point) → AreAlike p.variables x y → IsFeasible p s x → IsFeasible p s y
+  feasible_alike x y alike feasible = record {
+    domain = domain_alike x y alike feasible.domain;
     holds = λ k c at j l. subst (problems.Holds c.relation) (ap₂ (λ a b. a -ℚ b) (alike_value p s x y alike c.left j) (alike_value p s x y alike c.right j)) (feasible.holds k c at j l);
   }
 
@@ -139,9 +139,9 @@ module _ (p : Problem) (s : Setting) where
       bound = λ x dom. subst (λ z. gap ≤ℚ z) (penalty_same x) (h.bound x dom);
     }
 
-    optimal_stays : AreSquare p.variables → (v : ℚ) (x y : Point) → AreAlike p.variables x y → IsOptimal p s v x m → IsOptimal p s v y n
-    optimal_stays square v x y alike h = record {
-      feasible = feasible_alike square x y alike h.feasible;
+    optimal_stays : (v : ℚ) (x y : Point) → AreAlike p.variables x y → IsOptimal p s v x m → IsOptimal p s v y n
+    optimal_stays v x y alike h = record {
+      feasible = feasible_alike x y alike h.feasible;
       value = sym (objective_alike x y alike) ∙ h.value;
       multipliers = multipliers_same h.multipliers;
       bound = λ z dom. subst (λ a. v ≤ℚ objective_at p s z +ℚ a) (penalty_same z) (h.bound z dom);
@@ -150,16 +150,16 @@ module _ (p : Problem) (s : Setting) where
   shifted_alike : (x y d e : Point) (k : ℚ) → AreAlike p.variables x y → AreAlike p.variables d e → AreAlike p.variables (shifted x k d) (shifted y k e)
   shifted_alike x y d e k points rays = λ i v at j l. ap₂ (λ a b. a +ℚ k *ℚ b) (points i v at j l) (rays i v at j l)
 
-  unbounded_stays : AreSquare p.variables → (x y d e : Point) (bound slope : ℚ) → AreAlike p.variables x y → AreAlike p.variables d e → IsUnbounded p s x d bound slope → IsUnbounded p s y e bound slope
-  unbounded_stays square x y d e bound slope points rays h = record {
+  unbounded_stays : (x y d e : Point) (bound slope : ℚ) → AreAlike p.variables x y → AreAlike p.variables d e → IsUnbounded p s x d bound slope → IsUnbounded p s y e bound slope
+  unbounded_stays x y d e bound slope points rays h = record {
     positive = h.positive;
-    feasible = λ k low. feasible_alike square (shifted x k d) (shifted y k e) (shifted_alike x y d e k points rays) (h.feasible k low);
+    feasible = λ k low. feasible_alike (shifted x k d) (shifted y k e) (shifted_alike x y d e k points rays) (h.feasible k low);
     falls = λ k low. subst (λ z. z ≤ℚ bound -ℚ k *ℚ slope) (objective_alike (shifted x k d) (shifted y k e) (shifted_alike x y d e k points rays)) (h.falls k low);
   }
 
   pub answers_stay : StayAnswers p s
   answers_stay = record {
-    optimal = λ square v x y m n alike same. optimal_stays m n same square v x y alike;
+    optimal = λ v x y m n alike same. optimal_stays m n same v x y alike;
     infeasible = λ m n gap same. infeasible_stays m n same gap;
     unbounded = unbounded_stays;
   }

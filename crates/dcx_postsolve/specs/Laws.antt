@@ -22,7 +22,6 @@ use Rattle.dcx_std.specs.GivenRows.{GivenRows}
 use Rattle.dcx_std.specs.IntegerRows.{IsMade}
 use Rattle.dcx_std.specs.Solutions.{unknowns_at}
 use Rattle.dcx_unknowns.specs.Unknowns.{point_at}
-use Rattle.dcx_call.specs.Attributes.{AreSquare}
 use Rattle.dcx_unknowns.specs.Layout.{constraint_rows}
 use Rattle.dcx_unknowns.specs.Laws.{AreAlike}
 use Rattle.dcx_postsolve.specs.Numbers.{unknown_numbers, HasColumns, AreOneSided}
@@ -75,12 +74,12 @@ AlikePointsHaveValues = (p : Problem) (s : Setting) (x y : Point) → AreAlike p
 abbrev pub AreSameMultipliers : List Constraint → Multipliers → Multipliers → Type 0
 AreSameMultipliers constraints m n = (k : ℕ) (c : Constraint) → slice_get constraints k ≡ Some c → (j : ℕ) → j < constraint_rows c → m k j ≡ n k j
 
--- answers stay answers at points that are alike, where symmetric and diagonal variables are square, and at multipliers that are
+-- answers stay answers at points that are alike and at multipliers that are
 -- the same
 pub record StayAnswers (p : Problem) (s : Setting) : Type 0 where
-  pub optimal : AreSquare p.variables → (v : ℚ) (x y : Point) (m n : Multipliers) → AreAlike p.variables x y → AreSameMultipliers p.constraints m n → IsOptimal p s v x m → IsOptimal p s v y n
+  pub optimal : (v : ℚ) (x y : Point) (m n : Multipliers) → AreAlike p.variables x y → AreSameMultipliers p.constraints m n → IsOptimal p s v x m → IsOptimal p s v y n
   pub infeasible : (m n : Multipliers) (gap : ℚ) → AreSameMultipliers p.constraints m n → IsInfeasible p s m gap → IsInfeasible p s n gap
-  pub unbounded : AreSquare p.variables → (x y d e : Point) (bound slope : ℚ) → AreAlike p.variables x y → AreAlike p.variables d e → IsUnbounded p s x d bound slope → IsUnbounded p s y e bound slope
+  pub unbounded : (x y d e : Point) (bound slope : ℚ) → AreAlike p.variables x y → AreAlike p.variables d e → IsUnbounded p s x d bound slope → IsUnbounded p s y e bound slope
 
 abbrev pub AnswersStay : Type 0
 AnswersStay = (p : Problem) (s : Setting) → StayAnswers p s

@@ -23,13 +23,13 @@ use Rattle.dcx_reduced.proofs.Lifted.{lifted}
 use Rattle.dcx_reduced.proofs.Formed.{formed, formed_stand}
 
 pub equations_reduce : EquationsReduce
-equations_reduce rules p s forms square all = record {
-  domain = λ u a. (unknowns.domains_are_unknowns p square).point u
+equations_reduce rules p s forms all = record {
+  domain = λ u a. (unknowns.domains_are_unknowns p).point u
       (kinds_left (variable_kinds p.variables) (map aux_kind (aux_before rules p (length p.tree))) u (assigned_kinds rules p s forms u a));
   ray = unknowns.rays_are_unknowns p.variables;
   sound = λ u a holds. all_stand rules p s forms u all (assigned_kinds rules p s forms u a) holds;
   lift = lift rules p s;
-  lifts = λ y dom. lifted rules p s y square dom forms all;
+  lifts = λ y dom. lifted rules p s y dom forms all;
 }
 
 -- ---- forms that meet the equations

@@ -19,7 +19,6 @@ use Rattle.dcx_tree.specs.Nodes.{Node, arg_sides, convex_node}
 use Rattle.dcx_tree.specs.Meaning.{names_in, convex_problem, IsInDomain}
 use Rattle.dcx_linear.specs.Rows.{IsOfKind, AreOfKinds}
 use Rattle.dcx_unknowns.specs.Unknowns.{variable_kinds, point_at, unknowns_of}
-use Rattle.dcx_call.specs.Attributes.{AreSquare}
 use Rattle.dcx_unknowns.specs.Laws.{AreAlike}
 use Rattle.dcx_unknowns.specs.Layout.{is_reduced, call_aux, aux_if, call_rows, rows_if, aux_kind, aux_at, aux_before, unknown_kinds}
 use Rattle.dcx_unknowns.proofs.Owners.{are_numbered}
@@ -45,7 +44,7 @@ module _ (rules : Rules) (p : Problem) (s : Setting) (y : Point) where
       by true (Some n) e = filled_kinds p.tree n (arguments (map (convex.value_at (nodes_of p) s y) n.args)) n.call (p.nodes.shaped i n e)
       by false (Some n) e = λ k z. absurd (free_kinds 0 k z)
 
-  module _ (square : AreSquare p.variables) (dom : IsInDomain p y) where
+  module _ (dom : IsInDomain p y) where
     lifted_kinds : AreOfKinds (unknown_kinds rules p) (lift rules p s y)
     lifted_kinds =
         let own = variable_kinds p.variables in
@@ -53,7 +52,7 @@ module _ (rules : Rules) (p : Problem) (s : Setting) (y : Point) where
         let count = (are_numbered p.variables).kinds in
         let first : AreOfKinds own (lift rules p s y) =
         λ n kind e. let b = slice_get_within own n kind e in
-        subst (IsOfKind kind) (sym (lift_variable rules p s y n (omega (arith, count, b)))) ((stand_for_domain p square).kinds y dom n kind e) in
+        subst (IsOfKind kind) (sym (lift_variable rules p s y n (omega (arith, count, b)))) ((stand_for_domain p).kinds y dom n kind e) in
         let zipped = zip_flat IsOfAuxKind (aux_at rules p) (numbers_at rules p s y) (range_with_len 0 (length p.tree))
         (λ i. taken_kinds (aux_at rules p i) (filling_at rules p s y i) (node_filled i)) in
         kinds_both own (map aux_kind others) (lift rules p s y) first
@@ -63,8 +62,8 @@ module _ (rules : Rules) (p : Problem) (s : Setting) (y : Point) where
     -- the point of these unknowns has the entries of y
     lifted_point : AreAlike p.variables (point_at p.variables (lift rules p s y)) y
     lifted_point k v at e lt =
-        point_local p.variables square (lift rules p s y) (unknowns_of p.variables y) (lift_variable rules p s y) k v at e lt
-        ∙ (stand_for_domain p square).same y dom k v at e lt
+        point_local p.variables p.squares (lift rules p s y) (unknowns_of p.variables y) (lift_variable rules p s y) k v at e lt
+        ∙ (stand_for_domain p).same y dom k v at e lt
 
     -- ---- forms
     module _ (forms : Forms) (all : AllStand rules p s forms) where

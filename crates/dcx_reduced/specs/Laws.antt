@@ -5,12 +5,11 @@ use Rattle.dcx_convex.specs.Rules.{Rules}
 use Rattle.dcx_convex.specs.Reductions.{Unknowns, IsReduction}
 use Rattle.dcx_tree.specs.declared.problem.Problem.{Problem}
 use Rattle.dcx_tree.specs.Meaning.{convex_problem}
-use Rattle.dcx_call.specs.Attributes.{AreSquare}
 use Rattle.dcx_reduced.specs.Equations.{Forms, AllStand, reduced_with}
 
 -- forms that meet the equation of each node, with the rows of the graphs, are a reduced program of the problem
 abbrev pub EquationsReduce : Type 0
-EquationsReduce = (rules : Rules) (p : Problem) (s : Setting) (forms : Forms) → AreSquare p.variables → AllStand rules p s forms →
+EquationsReduce = (rules : Rules) (p : Problem) (s : Setting) (forms : Forms) → AllStand rules p s forms →
     IsReduction rules (convex_problem p) s (reduced_with rules p s forms)
 
 -- there are forms that meet the equations

@@ -1,8 +1,7 @@
 //! The laws above the definitions of `specs/`. There is no code: each clause is a statement about all problems.
 ghost use Rattle.dcx_reduced.specs.Laws.{EquationsReduce, EquationsHaveForms, EquationsDetermine};
 
-/// Where symmetric and diagonal variables are square, forms that meet the equation of each node, with the rows of the
-/// graphs, are a reduced program of the problem: the point of unknowns of their kinds is in the domain and goes along their
+/// Forms that meet the equation of each node, with the rows of the graphs, are a reduced program of the problem: the point of unknowns of their kinds is in the domain and goes along their
 /// rays, where the rows hold the forms stand for the nodes, and each point of the domain has unknowns at which the forms
 /// are the values.
 pub fn equations_reduce()

@@ -23,7 +23,6 @@ use Rattle.dcx_tree.proofs.Names.{found_in}
 use Rattle.dcx_tree.proofs.Sublists.{contains_at, distinct_front}
 use Rattle.dcx_domain.proofs.Few.{few_variables}
 use Rattle.dcx_unknowns.specs.Unknowns.{sides_in, variable_unknowns, point_at}
-use Rattle.dcx_call.specs.Attributes.{AreSquare}
 use Rattle.dcx_unknowns.specs.Laws.{IsVariable, KeepsDomain, AreKept, StandForDomain}
 use Rattle.dcx_unknowns.proofs.Owners.{few_unknowns}
 use Rattle.dcx_unknowns.proofs.Points.{stand_for_points}
@@ -101,9 +100,9 @@ module _ (p : Problem) where
   pub to_variables : (x : Point) → IsInDomain p x → AreKept p.variables x
   to_variables x dom = λ k v at. ∥∥₁_elim p.declared (keeps_prop (variable_attribute v.whole v.attribute) (sides_in v) (x k)) (λ d. variable_keeps d x dom k v at)
 
-  pub stand_for_domain : AreSquare p.variables → StandForDomain p
-  stand_for_domain sq =
-      let s = stand_for_points p.variables sq in
+  pub stand_for_domain : StandForDomain p
+  stand_for_domain =
+      let s = stand_for_points p.variables p.squares in
       record {
         point = λ u of. to_domain (point_at p.variables u) (s.point u of);
         kinds = λ x dom. s.kinds x (to_variables x dom);

@@ -11,7 +11,7 @@ pub points_are_unknowns : PointsAreUnknowns
 points_are_unknowns vs sq = stand_for_points vs sq
 
 pub domains_are_unknowns : DomainsAreUnknowns
-domains_are_unknowns p sq = stand_for_domain p sq
+domains_are_unknowns p = stand_for_domain p
 
 pub rays_are_unknowns : RaysAreUnknowns
 rays_are_unknowns vs u d k = point_along vs u d k

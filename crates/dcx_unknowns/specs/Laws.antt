@@ -65,7 +65,7 @@ abbrev pub PointsAreUnknowns : Type 0
 PointsAreUnknowns = (vs : List Variable) → AreSquare vs → StandForPoints vs
 
 abbrev pub DomainsAreUnknowns : Type 0
-DomainsAreUnknowns = (p : Problem) → AreSquare p.variables → StandForDomain p
+DomainsAreUnknowns = (p : Problem) → StandForDomain p
 
 -- the point of u + k d is the point of u plus k times the point of d
 abbrev pub RaysAreUnknowns : Type 0

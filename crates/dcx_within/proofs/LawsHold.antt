@@ -48,8 +48,8 @@ module _ {C : Type 0} (of_number : Frac → C) (number_of : C → Option Frac) (
   }
 
   pub forms_are_narrow : FormsAreNarrow of_number number_of Sums Changes Reads
-  forms_are_narrow rules p setting table square formed =
-      table_keeps of_number number_of Sums Changes Reads rules p setting square (IsNarrow (length (unknown_kinds rules p))) (width_kept (length (unknown_kinds rules p))) (λ q j c listed b r. omega arith) table formed
+  forms_are_narrow rules p setting table formed =
+      table_keeps of_number number_of Sums Changes Reads rules p setting (IsNarrow (length (unknown_kinds rules p))) (width_kept (length (unknown_kinds rules p))) (λ q j c listed b r. omega arith) table formed
 
 -- ---- parameters
 module _ (p : Problem) where
@@ -112,6 +112,6 @@ module _ (p : Problem) where
           subst (λ n. j < n) (sym (ap (λ m. slice_index_or (map (λ (r : Parameter). entries_of (sides_of r.shape)) p.parameters) m 0) is ∙ size)) b)
 
 pub forms_are_known : FormsAreKnown
-forms_are_known rules p setting table square formed =
-    table_keeps form_of_number number_of_form sum_gives_form change_gives_form (λ position name entry s c. IsEntryForm position name entry c) rules p setting square (IsKnown p) (known_kept p (length (unknown_kinds rules p)))
+forms_are_known rules p setting table formed =
+    table_keeps form_of_number number_of_form sum_gives_form change_gives_form (λ position name entry s c. IsEntryForm position name entry c) rules p setting (IsKnown p) (known_kept p (length (unknown_kinds rules p)))
     (λ q j c listed b h. entry_known p q j c listed b h) table formed

@@ -34,7 +34,6 @@ use Rattle.dcx_linear.specs.declared.change.Change.{Change}
 use Rattle.dcx_linear.specs.declared.form.Form.{Form}
 use Rattle.dcx_linear.specs.Forms.{is_constant}
 use Rattle.dcx_unknowns.specs.Unknowns.{first_unknown, unknown_from}
-use Rattle.dcx_call.specs.Attributes.{AreSquare}
 use Rattle.dcx_unknowns.specs.Layout.{is_reduced, first_aux, aux_at, call_aux, aux_if, unknown_kinds}
 use Rattle.dcx_unknowns.proofs.Domains.{number_is}
 use Rattle.dcx_reduced.proofs.Lists.{Each, each_nil, each_map}
@@ -57,7 +56,7 @@ forms_there : {C : Type 0} (table : Table C) (a : ℕ) (es : List (EntryForms C)
 forms_there table a es e = get_or_from_slice_get (table_forms table) a (entry_forms es) [] (slice_get-map entry_forms table a ∙ ap (option_map entry_forms) e)
 
 module _ {C : Type 0} (of_number : Frac → C) (number_of : C → Option Frac) (Sums : C → C → Result C Passes → Type 0) (Changes : Change → C → Result C Passes → Type 0)
-    (Reads : ℕ → List ℕ → ℕ → Pairs → C → Type 0) (rules : Rules) (p : Problem) (setting : Pairs) (square : AreSquare p.variables)
+    (Reads : ℕ → List ℕ → ℕ → Pairs → C → Type 0) (rules : Rules) (p : Problem) (setting : Pairs)
     (F : Form C → Type 0) (kept : IsKept of_number number_of Sums Changes F (length (unknown_kinds rules p)))
     (reads : (q : Parameter) (j : ℕ) (c : C) → (AreDeclared p.tree p.variables p.parameters → Contains p.parameters q) → j < entries_of (sides_of q.shape) →
     Reads (number_of_name (names_in p).parameters q.name) q.name j setting c → F (is_constant c)) where
@@ -79,7 +78,7 @@ module _ {C : Type 0} (of_number : Frac → C) (number_of : C → Option Frac) (
     variable_keeps v listed own m is =
         ∥∥₁_elim p.declared (hlevel props)
         (λ d. let (k, there) = contains_at p.variables v (listed d) in
-        variable_within rules p square k v there j (subst (λ s. j < entries_of s) (sym own) lt) m
+        variable_within rules p k v there j (subst (λ s. j < entries_of s) (sym own) lt) m
         (ap (λ h. unknown_from (first_unknown p.variables h) v j) (sym (number_is p d k v there)) ∙ is))
 
     pair_keeps : (scaling : Scaling) (args : Arguments C) (h : (k x : ℕ) → F (args k x)) (xs : List Pair) (zero_there : Bool) → PairEntryBy of_number number_of Sums Changes zero_there scaling args xs j (Ok e) → OfEntry F e

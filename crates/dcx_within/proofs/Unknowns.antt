@@ -10,7 +10,7 @@ use Rattle.dcx_tree.specs.declared.problem.Problem.{Problem}
 use Rattle.dcx_shape.specs.Sides.{entries_of}
 use Rattle.dcx_unknowns.specs.Own.{own_before, source_of}
 use Rattle.dcx_unknowns.specs.Unknowns.{demanded, sides_in, owners, variable_unknowns, variable_kinds, first_unknown, unknown_from}
-use Rattle.dcx_call.specs.Attributes.{IsSquare, AreSquare}
+use Rattle.dcx_call.specs.Attributes.{IsSquare}
 use Rattle.dcx_unknowns.specs.Laws.{IsVariable}
 use Rattle.dcx_unknowns.specs.Layout.{aux_kind, aux_at, aux_before, first_aux, unknown_kinds}
 use Rattle.dcx_unknowns.proofs.Places.{joined_next}
@@ -41,13 +41,13 @@ module _ (rules : Rules) (p : Problem) where
       omega (arith, count_is, part, l)
 
   -- the unknown that stands for an entry of a variable
-  pub variable_within : AreSquare p.variables → (k : ℕ) (v : Variable) → IsVariable p.variables k v → (e : ℕ) → e < entries_of (sides_in v) → (n : ℕ) → unknown_from (first_unknown p.variables k) v e ≡ Some n → n < length (unknown_kinds rules p)
-  variable_within square k v at e b n is = by (source_of (demanded v) (sides_in v) e) refl is
+  pub variable_within : (k : ℕ) (v : Variable) → IsVariable p.variables k v → (e : ℕ) → e < entries_of (sides_in v) → (n : ℕ) → unknown_from (first_unknown p.variables k) v e ≡ Some n → n < length (unknown_kinds rules p)
+  variable_within k v at e b n is = by (source_of (demanded v) (sides_in v) e) refl is
     where
       by : (o : Option ℕ) → source_of (demanded v) (sides_in v) e ≡ o → option_map (λ j. first_unknown p.variables k + own_before (demanded v) (sides_in v) j) o ≡ Some n → n < length (unknown_kinds rules p)
       by None s h = absurd (none-some n h)
       by (Some j) s h =
-          let here : IsSquare v = subst IsSquare (get_or_from_slice_get p.variables k v v at) (square k v (slice_get_within p.variables k v at)) in
+          let here : IsSquare v = subst IsSquare (get_or_from_slice_get p.variables k v v at) (p.squares k v (slice_get_within p.variables k v at)) in
           let own = source_own (demanded v) (sides_in v) e j here b s in
           let m = first_unknown p.variables k + own_before (demanded v) (sides_in v) j in
           let inside = slice_get_within (owners p.variables) m _ ((are_numbered p.variables).owner k v j at (record { within = own.0; own = own.1 })) in

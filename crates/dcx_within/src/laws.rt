@@ -3,7 +3,7 @@ ghost use Rattle.dcx_within.specs.Laws.{FormsAreNarrow, FormsAreKnown};
 
 use dcx_linear::Coef;
 
-/// Where symmetric and diagonal variables are square, the forms and rows of formed nodes speak of unknowns of the layout alone.
+/// The forms and rows of formed nodes speak of unknowns of the layout alone.
 pub fn forms_are_narrow<C: Coef>()
     ensures { FormsAreNarrow C.of_number C.number_of C.sum_gives C.change_gives C.parameter_gives }
 {}

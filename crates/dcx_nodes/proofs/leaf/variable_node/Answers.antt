@@ -23,7 +23,7 @@ offset_bounds-given-position g c =
     omega (arith, is, place_there p c.args.node.0 v c.requires.call, few_variables p)
 
 pub entry_unknowns-requires-clause-square : goal.entry_unknowns-requires-clause-square
-entry_unknowns-requires-clause-square g c = is_square c.args.given.now.problem.now c.args.node.0 c.args.variable.now c.requires.call c.requires.ready.square
+entry_unknowns-requires-clause-square g c = is_square c.args.given.now.problem.now c.args.node.0 c.args.variable.now c.requires.call
 
 pub entry_unknowns-requires-clause-fits : goal.entry_unknowns-requires-clause-fits
 entry_unknowns-requires-clause-fits g c =

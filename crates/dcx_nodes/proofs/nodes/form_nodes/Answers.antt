@@ -11,7 +11,7 @@ first_unknowns-requires g c =
     subst (λ vs. variable_unknowns vs < 2 ^ 32) (sym c.as_slice-variables.ensures) (few_variable_unknowns c.args.problem.now c.args.reduced.now c.requires.few)
 
 pub unknown_count-requires-clause-square : goal.unknown_count-requires-clause-square
-unknown_count-requires-clause-square g c = subst AreSquare (sym c.as_slice-variables.ensures) c.requires.square
+unknown_count-requires-clause-square g c = subst AreSquare (sym c.as_slice-variables.ensures) c.args.problem.now.squares
 
 pub unknown_count-requires-clause-firsts : goal.unknown_count-requires-clause-firsts
 unknown_count-requires-clause-firsts g c = c.deref.ensures.value ∙ c.in-Ok.ensures
@@ -24,7 +24,6 @@ pub all_nodes-requires-clause-ready : goal.all_nodes-requires-clause-ready
 all_nodes-requires-clause-ready g c = record {
   reduced_counted = c.requires.reduced;
   fixed_counted = c.requires.fixed;
-  square = c.requires.square;
   few = c.requires.few;
   numbers = c.requires.numbers;
   readable = c.requires.readable;
