@@ -12,6 +12,7 @@ use Rattle.dcx_shape.specs.Sides.{entries_of}
 use Rattle.dcx_atom.specs.declared.array.Array.{Array}
 use Rattle.dcx_point.specs.Pairs.{Pairs, with_array}
 use Rattle.dcx_settings.specs.declared.settings.SettingItem.{SettingItem}
+use Rattle.dcx_settings.proofs.OneList.{one_shape}
 use Rattle.dcx_overlay.specs.Settings.{HasNumbers, LaidOver, AreLaidOver, IsScalar, IsTrialSetting, AreTrialSettings}
 use Rattle.dcx_overlay.specs.Laws.{SettingsAreOne}
 
@@ -50,7 +51,7 @@ one_number q (x ∷ w ∷ xs) (y ∷ ys) e f = absurd cc
 
 one_trial : (s : Pairs) (n : ℕ) (t u : Pairs) → IsTrialSetting s n t → IsTrialSetting s n u → t ≡ u
 one_trial s n t u (a, h, e) (b, k, f) =
-    e ∙ ap (with_array s (codes "q")) (same_array a b (same_shape a.shape b.shape (h.scalar ∙ sym k.scalar)) (one_number (whole (pos n)) a.entries b.entries h.number k.number)) ∙ sym f
+    e ∙ ap (with_array s (codes "q")) (same_array a b (one_shape a.shape b.shape (h.scalar ∙ sym k.scalar)) (one_number (whole (pos n)) a.entries b.entries h.number k.number)) ∙ sym f
 
 pub settings_are_one : SettingsAreOne
 settings_are_one = record {

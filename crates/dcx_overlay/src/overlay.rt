@@ -1,6 +1,6 @@
 //! Lines of a settings file, laid over the setting that a script ends with.
 ghost use Rattle.std.specs.Prelude.{IfOk};
-ghost use Rattle.std.specs.List.{All};
+ghost use Rattle.dcx_settings.specs.Grammar.{Every};
 ghost use Rattle.dcx_settings.specs.Meaning.{IsFull};
 ghost use Rattle.dcx_overlay.specs.Settings.{HasNumbers, LaidOver, AreLaidOver};
 
@@ -30,7 +30,7 @@ fn laid_over(
     setting: &Setting,
     line: &[SettingItem],
 ) -> Result<Setting, AllocError>
-    requires { All IsFull line.now }
+    requires { Every IsFull line.now }
     ensures { IfOk result (LaidOver setting.now line.now) }
 {
     let mut laid = copy_setting(alloc, setting)?;
@@ -49,7 +49,7 @@ pub fn all_laid_over(
     setting: &Setting,
     lines: &[SettingLine],
 ) -> Result<Vec<Setting>, AllocError>
-    requires { All (All IsFull) lines.now }
+    requires { Every (Every IsFull) lines.now }
     ensures { IfOk result (λ v. AreLaidOver setting.now lines.now v.items) }
 {
     let mut settings = Vec::with_capacity(alloc, lines.len())?;

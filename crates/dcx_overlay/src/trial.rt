@@ -46,7 +46,8 @@ fn trial_setting(alloc: Global, setting: &Setting, number: u32) -> Result<Settin
 pub fn trial_settings(alloc: Global, setting: &Setting) -> Result<Vec<Setting>, AllocError>
     ensures { IfOk result (λ v. AreTrialSettings setting.now v.items) }
 {
-    let first = trial_setting(alloc, setting, 0)?;
-    let second = trial_setting(alloc, setting, 10)?;
-    vec![in alloc; first, second]
+    let mut settings = Vec::with_capacity(alloc, 2)?;
+    settings.push(trial_setting(alloc, setting, 0)?)?;
+    settings.push(trial_setting(alloc, setting, 10)?)?;
+    Ok(settings)
 }

@@ -23,7 +23,7 @@ few_prop : (s : Sides) → IsProp (HasFewEntries s)
 few_prop s = hlevel props
 
 -- shapes with the same sides are equal
-one_shape : (a b : Shape) → sides_of a ≡ sides_of b → a ≡ b
+pub one_shape : (a b : Shape) → sides_of a ≡ sides_of b → a ≡ b
 one_shape a b p = λ i. record { sides = p i; few = is_prop→PathP (λ j. HasFewEntries (p j)) (λ j. few_prop (p j)) a.few b.few i }
 
 -- fractions of the same values are equal

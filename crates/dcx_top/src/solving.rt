@@ -1,7 +1,7 @@
 //! A problem is solved: at the settings of its script's solves, at those of a file, or at the two of the trial.
 ghost use Rattle.std.specs.Prelude.{◌≡◌, ◌⊎◌, ◌≤◌, ℕ, List, Some};
 ghost use Rattle.std.specs.declared.option.Option.{Option};
-ghost use Rattle.std.specs.List.{All};
+ghost use Rattle.dcx_settings.specs.Grammar.{Every};
 ghost use Rattle.dcx_point.specs.Pairs.{Pairs};
 ghost use Rattle.dcx_settings.specs.Meaning.{IsFull};
 ghost use Rattle.dcx_host.specs.Faults.{Rose};
@@ -55,7 +55,7 @@ fn solve_lines<S: Ledger>(
     steps: &mut Steps<S>,
 ) -> Run
     requires judged { IsJudged accepted.work.problem accepted.verdict }
-    requires full { All (All IsFull) lines.now }
+    requires full { Every (Every IsFull) lines.now }
     ensures { (result ≡ Run.Memory) ⊎ ((settings : List Pairs) × AreLaidOver accepted.work.last lines.now settings × SolvesAt accepted.work.problem limit settings (λ os. Run.Solved Word.Setting accepted.work.problem.sense os) steps.old steps.new result) }
 {
     let Accepted { work, verdict } = accepted;

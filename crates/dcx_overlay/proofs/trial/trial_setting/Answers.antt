@@ -1,0 +1,7 @@
+use Rattle.std.proofs.Common.{◌≡◌, sym, ap, ap₂, ◌∙◌, rules}
+use Rattle.dcx_atom.specs.declared.array.Array.{Array}
+use Rattle.dcx_point.specs.Pairs.{Pairs, with_array}
+use Rattle.dcx_overlay.proofs.trial.trial_setting.Goals as goal
+
+pub returns : goal.returns
+returns c = (c.in_ok-scalar.field-0, c.in_ok-scalar.ensures, c.in_ok-put.ensures.ok ∙ search rules)
