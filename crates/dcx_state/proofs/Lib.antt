@@ -3,7 +3,7 @@ mod Behind
 pub mod SameCalls
 mod Found
 mod Bindings
-mod Settings
+pub mod Settings
 mod Pushes
 mod Grown
 mod Reached

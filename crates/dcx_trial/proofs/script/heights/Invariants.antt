@@ -1,0 +1,7 @@
+-- The heights so far.
+use Rattle.std.proofs.Common.{◌≡◌}
+use Rattle.dcx_trial.specs.Trial.{heights}
+use Rattle.dcx_trial.proofs.script.heights.Given as goal
+
+abbrev pub invariant-loop-place : goal.invariant-loop-place
+invariant-loop-place l = l.found.items ≡ heights l.place

@@ -1,0 +1,8 @@
+-- The numbers so far are appended.
+use Rattle.std.proofs.Common.{◌≡◌, ◌++◌, take}
+use Rattle.std.specs.Prelude.{codes, decimal}
+use Rattle.std.specs.List.{flat_map}
+use Rattle.dcx_trial.proofs.script.put_numbers.Given as goal
+
+abbrev pub invariant-loop-number : goal.invariant-loop-number
+invariant-loop-number l = l.out.items ≡ l.initial.out.items ++ flat_map (λ n. codes ", " ++ decimal n) (take l.number-index l.rest)

@@ -1,0 +1,2 @@
+-- The words that contracts cite.
+pub mod Trial
