@@ -11,6 +11,7 @@ use crate::leaves::{parameter, variable};
 use dcx_arena::NodeId;
 use dcx_call::{Call, Parameter, Variable};
 use dcx_case_lines::{CaseFault, Cases, count, words};
+use dcx_domain::are_square;
 use dcx_shape::{Name, Place, Shape};
 use dcx_tree::{
     Constraint, Constraints, Kind, Parameters, Problem, Roots, Sense, Tree, Variables, gather,
@@ -124,8 +125,8 @@ fn variables(alloc: Global) -> Result<Vec<Variable>, CaseFault> {
     Ok(vec![in alloc; variable(alloc, "x", 2)?]?)
 }
 
-/// The problem of these roots. `Unreadable` where they are no roots of the tree, or where what is declared isn't one
-/// variable and one parameter, or two variables.
+/// The problem of these roots. `Unreadable` where they are no roots of the tree, where what is declared isn't one variable
+/// and one parameter, or two variables, or where a symmetric or a diagonal variable isn't square.
 pub(crate) fn problem_of(alloc: Global, tree: &Tree, roots: &Roots) -> Result<Problem, CaseFault> {
     let variables = roots.variables.as_slice();
     let parameters = roots.parameters.as_slice();
@@ -139,6 +140,9 @@ pub(crate) fn problem_of(alloc: Global, tree: &Tree, roots: &Roots) -> Result<Pr
         return Err(CaseFault::Unreadable);
     }
     if !are_listed(variables, parameters, tree) {
+        return Err(CaseFault::Unreadable);
+    }
+    if !are_square(variables) {
         return Err(CaseFault::Unreadable);
     }
     match gather(alloc, tree, roots) {
