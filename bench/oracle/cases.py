@@ -160,8 +160,51 @@ def short_case(line, head, start, words):
     return case
 
 
+def page_cases(path):
+    """The cases of a page: scripts with what a check answers, sessions with what is printed, rows with a refusal."""
+    with open(path) as file:
+        lines = file.read().split("\n")
+    script, is_asked, block, language = "", False, None, ""
+    for number, line in enumerate(lines, 1):
+        if block is not None and line != "```":
+            block.append(line + "\n")
+        elif block is not None:
+            text, block = "".join(block), None
+            was_asked, is_asked = is_asked, language == "python"
+            if language == "python":
+                script = text
+            elif text.startswith("$ ./dcx "):
+                words, _, report = text.removeprefix("$ ./dcx ").partition("\n")
+                yield page_case(path, number, words, None, report)
+            elif was_asked:
+                yield page_case(path, number, "check model.py", script, text)
+        elif line.startswith("```"):
+            block, language = [], line[3:]
+        elif line.startswith("#"):
+            script, is_asked = "", False
+        elif (row := re.match(r"\| `(.*?)` \|.*?`refused script (.*?)`", line)) is not None:
+            yield page_case(path, number, "check model.py", script + row.group(1), f"refused script {row.group(2)}\n")
+
+
+def page_case(path, line, words, script, report):
+    """A case of a page, which states no status. Without a script it is over the file that its words name."""
+    case = Case(line, words)
+    name = words.partition(" ")[2] if script is None else "model.py"
+    case.files[name] = script.encode() if script is not None else body_line(b"< " + name.encode(), os.path.dirname(path))
+    case.wanted = (None, report.encode(), False)
+    return case
+
+
+def run_page(path):
+    """How many cases a page has, and how many of them are met."""
+    met = [judged(path, case) for case in page_cases(path)]
+    return len(met), sum(met)
+
+
 def run_file(path):
     """How many cases a file has, and how many of them are met."""
+    if path.endswith(".md"):
+        return run_page(path)
     start, words, case = b"", "check model.py", None
     count = met = 0
 
