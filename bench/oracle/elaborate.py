@@ -6,8 +6,8 @@ from .faults import Refused
 from .functions import Call
 from .tree import Constraint, Problem, Tree
 from .values import (
-    MOST_ITEMS, Array, Expression, Items, List, Module, Range, Result, Text, TheProblem, Tuple, array_of, at_most, counted, gathered_items,
-    is_flat, is_nested, is_number, is_plain, is_whole, plain_of, plain_operation,
+    MOST_ITEMS, Array, Expression, List, Module, Range, Result, Text, TheProblem, Tuple, array_of, at_most, gathered_items, is_flat, is_nested,
+    is_number, is_plain, is_whole, plain_of, plain_operation,
 )
 
 MOST_STEPS = 100_000

@@ -90,6 +90,7 @@ class Reduction:
             for kind in graph.aux:
                 self.layout.unknown(kind)
         self.test_size()
+        self.terms, self.terms_of = None, None
         self.found = []
         for i in range(len(problem.nodes)):
             self.found.append(self.node(i))
@@ -149,15 +150,16 @@ class Reduction:
         found = self.found[number][entry]
         return found if self.reached[number] else self.forms.number(found)
 
-    def cached_terms(self, number, node):
-        if getattr(self, "terms_of", None) != number:
+    def terms_of_node(self, number, node):
+        """For each entry of a linear call or a product what is added up, listed once for each node."""
+        if self.terms_of != number:
             shapes_of_args = self.problem.arg_shapes(node)
             listed = calls.pairs if node.call[0] in calls.PAIRING else calls.terms
             self.terms, self.terms_of = listed(node.call, shapes_of_args), number
         return self.terms
 
     def linear(self, number, node, entry):
-        terms = self.cached_terms(number, node)[entry]
+        terms = self.terms_of_node(number, node)[entry]
         if not self.reached[number]:
             total = Fraction(0)
             for arg, at, coefficient in terms:
@@ -169,7 +171,7 @@ class Reduction:
         return total
 
     def pairing(self, number, node, entry):
-        pairs = self.cached_terms(number, node)[entry]
+        pairs = self.terms_of_node(number, node)[entry]
         if not self.reached[number]:
             total = Fraction(0)
             for left, right in pairs:

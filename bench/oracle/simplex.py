@@ -7,12 +7,15 @@ from .reduce import Wide
 
 
 class IntegerRow:
-    """Numbers by column, the right side, the positive factor by which the row was multiplied, and whether it was negated."""
+    """Numbers by column, the right side, the positive factor by which the row was multiplied, and whether it was negated.
 
-    def __init__(self, numbers, right, factor):
-        self.numbers, self.right, self.factor = numbers, right, factor
+    An inequality has a column for its slack, and a row that starts without one has one for its artificial.
+    """
+
+    def __init__(self, is_equal, numbers, right, factor):
+        self.is_equal, self.numbers, self.right, self.factor = is_equal, numbers, right, factor
         self.is_negated = False
-        self.note = None
+        self.slack = self.artificial = None
 
 
 def integers(terms, right, row):
@@ -33,16 +36,11 @@ class Tableau:
         self.program = program
         self.column_of = self.unknown_columns(program.kinds)
         self.count = len(program.rows)
-        made = [self.integer_row(r, row) for r, row in enumerate(program.rows)]
-        self.plain = len(self.columns)
-        for row in made:
-            self.plain += row.slack is not None
-        self.z, self.w, self.right = None, None, None
+        self.notes = [self.integer_row(r, row) for r, row in enumerate(program.rows)]
         objective = self.objective()
-        self.place_slacks(made)
-        self.place_artificials(made)
-        self.notes = made
-        self.close(made, objective)
+        self.place_slacks(self.notes)
+        self.place_artificials(self.notes)
+        self.close(self.notes, objective)
 
     # Columns
 
@@ -65,11 +63,8 @@ class Tableau:
         shared = gcd(*terms.values(), right)
         if shared == 0:
             shared = 1
-        result = IntegerRow({u: v // shared for u, v in terms.items()}, right // shared, Fraction(multiple, shared))
-        result.numbers = self.spread(result.numbers)
-        result.slack = None if row.is_equal else 0
-        result.is_equal = row.is_equal
-        return result
+        numbers = self.spread({u: v // shared for u, v in terms.items()})
+        return IntegerRow(row.is_equal, numbers, right // shared, Fraction(multiple, shared))
 
     def objective(self):
         form = self.program.objective
@@ -80,7 +75,7 @@ class Tableau:
     def place_slacks(self, made):
         at = len(self.columns)
         for row in made:
-            if row.slack is not None:
+            if not row.is_equal:
                 row.slack = at
                 row.numbers[at] = 1
                 at += 1
@@ -88,12 +83,12 @@ class Tableau:
                 row.is_negated = True
                 row.numbers = {c: -v for c, v in row.numbers.items()}
                 row.right = -row.right
+        self.plain = at
 
     def place_artificials(self, made):
         self.basis, at = [], self.plain
         for row in made:
-            row.artificial = None
-            if row.slack is None or row.is_negated:
+            if row.is_equal or row.is_negated:
                 row.artificial = at
                 row.numbers[at] = 1
                 at += 1
