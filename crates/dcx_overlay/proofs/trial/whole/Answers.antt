@@ -1,9 +1,18 @@
-use Rattle.std.proofs.Common.{◌≡◌, ◌∙◌, arith}
+use Rattle.std.proofs.Common.{◌≡◌, pos, to_z, sym, ap, ◌∙◌, subst, arith}
+use Rattle.std.specs.Int.{w128}
+use Rattle.std.proofs.lemmas.Int.{to_z_pos}
+use Rattle.dcx_math.specs.Rational.{whole, ◌/ℚ◌}
+use Rattle.dcx_frac.specs.Fits.{IsRepresentable}
 use Rattle.dcx_overlay.proofs.Wholes.{over_one, one_is_some, small_is_fraction}
 use Rattle.dcx_overlay.proofs.trial.whole.Goals as goal
 
 pub returns-in-Some : goal.returns-in-Some
-returns-in-Some c = c.in-Some.ensures.value ∙ over_one c.args.number
+returns-in-Some c =
+    let read : to_z w128 c.args.number ≡ pos c.args.number = to_z_pos w128 c.args.number (omega arith) in
+    c.in-Some.ensures.value ∙ ap (λ z. whole z /ℚ whole (pos 1)) read ∙ over_one c.args.number
 
 pub returns-in-None : goal.returns-in-None
-returns-in-None c = let z = c.in-None.ensures.exists.1 (one_is_some, small_is_fraction c.args.number c.ranges.number.fits) in absurd cc
+returns-in-None c =
+    let read : to_z w128 c.args.number ≡ pos c.args.number = to_z_pos w128 c.args.number (omega arith) in
+    let h = subst (λ z. IsRepresentable (whole z /ℚ whole (pos 1))) (sym read) (small_is_fraction c.args.number c.ranges.number.fits) in
+    let z = c.in-None.ensures.exists.1 (one_is_some, h) in absurd cc

@@ -1,0 +1,142 @@
+"""What the words behind the program's name do: a status and a report."""
+import re
+
+from . import report
+from .elaborate import elaborate
+from .faults import Refused, Stopped
+from .grammar import parse
+from .rules import Verdict
+from .session import Session
+from .settings import parse_settings
+from .tokens import text_of, tokens_of
+from .values import Array
+
+MOST_PIVOTS = 200_000
+OPERANDS = {"check": 1, "solve": 1, "resolve": 2, "trial": 1}
+
+
+class Usage(Exception):
+    pass
+
+
+class ReadFault(Exception):
+    pass
+
+
+def pivots(text):
+    if not re.fullmatch(r"[0-9]{1,10}", text) or int(text) > 1_000_000_000:
+        raise Usage
+    return int(text)
+
+
+def plain_form(words):
+    """The command, its operands and the limit of pivots."""
+    if not words or words[0] not in OPERANDS:
+        raise Usage
+    command, operands, limit = words[0], [], None
+    rest = iter(words[1:])
+    for word in rest:
+        is_option = word == "--max-pivots" or word.startswith("--max-pivots=")
+        if is_option and command != "check":
+            if limit is not None:
+                raise Usage
+            limit = pivots(word.partition("=")[2] if "=" in word else next(rest, ""))
+        else:
+            operands.append(word)
+    if len(operands) != OPERANDS[command] or any(not o or o.startswith("-") for o in operands):
+        raise Usage
+    return command, operands, MOST_PIVOTS if limit is None else limit
+
+
+def trial_script(n):
+    b = [2 * i + 1 + (10 if i % 5 == 0 else 0) for i in range(n)]
+    return "\n".join([
+        "import cvxpy as cp",
+        "import numpy as np",
+        f"t = np.array([{', '.join(str(i) for i in range(n))}])",
+        f"b = np.array([{', '.join(str(v) for v in b)}])",
+        "s = cp.Variable()",
+        "a = cp.Variable()",
+        "q = cp.Parameter(nonneg=True)",
+        "prob = cp.Problem(cp.Minimize(cp.norm1(s*t + a - b) + q*cp.abs(s)))",
+        "",
+    ]).encode()
+
+
+class Accepted:
+    """The problem of a script's bytes that the rules accept, its verdict, and its settings."""
+
+    def __init__(self, data):
+        self.problem, self.events, self.last = elaborate(parse(tokens_of(text_of(data))))
+        self.verdict = Verdict(self.problem)
+
+
+def ends_of(accepted, settings, limit):
+    session = Session(accepted.problem, accepted.verdict)
+    ends = []
+    for setting in settings:
+        try:
+            ends.append(session.solve(setting, limit))
+        except Stopped as stop:
+            ends.append(stop)
+    return ends
+
+
+def laid_over(last, line):
+    """A line of the settings file over the setting at the script's end."""
+    setting = dict(last)
+    for name, (shape, entries) in line:
+        setting[name] = Array(shape, entries)
+    return setting
+
+
+def status_of(ends):
+    return 6 if any(isinstance(end, Stopped) for end in ends) else 0
+
+
+def run_command(command, operands, limit, fetch):
+    if command == "trial":
+        return trial(operands[0], limit)
+    accepted = Accepted(fetch(operands[0]))
+    if command == "check":
+        return 0, report.checked(accepted.problem, accepted.verdict)
+    if command == "solve":
+        ends = ends_of(accepted, accepted.events, limit)
+        return status_of(ends), report.solved(accepted.problem, "solve", ends)
+    lines = settings_of(fetch(operands[1]))
+    ends = ends_of(accepted, [laid_over(accepted.last, line) for line in lines], limit)
+    return status_of(ends), report.solved(accepted.problem, "setting", ends)
+
+
+class SettingsRefused(Refused):
+    pass
+
+
+def settings_of(data):
+    try:
+        return parse_settings(data)
+    except Refused as refused:
+        raise SettingsRefused(refused.kind, refused.place, refused.carried) from None
+
+
+def trial(operand, limit):
+    if not re.fullmatch(r"[0-9]{1,4}", operand) or not 1 <= int(operand) <= 1000:
+        raise Usage
+    accepted = Accepted(trial_script(int(operand)))
+    lines = settings_of(b"q = 0\nq = 10\n")
+    ends = ends_of(accepted, [laid_over(accepted.last, line) for line in lines], limit)
+    return status_of(ends), report.tried(accepted.problem, int(operand), ends)
+
+
+def run(words, fetch):
+    """The status and the report of the words over files, which `fetch` gives, or raises ReadFault."""
+    try:
+        return run_command(*plain_form(words), fetch)
+    except Usage:
+        return 2, report.USAGE
+    except ReadFault:
+        return 3, "fault read\n"
+    except SettingsRefused as refused:
+        return 1, refused.text("settings")
+    except Refused as refused:
+        return 1, refused.text("script")

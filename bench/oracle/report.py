@@ -1,0 +1,82 @@
+"""The text of a run."""
+from . import shapes
+from .faults import Stopped
+from .numbers import number
+
+USAGE = (
+    "usage: dcx check SCRIPT | solve SCRIPT | resolve SCRIPT SETTINGS | certificate SCRIPT SETTINGS | certify SCRIPT SETTINGS CERT | "
+    "trial N\n"
+)
+SIGNS = {(True, True): "zero", (True, False): "nonneg", (False, True): "nonpos", (False, False): "unknown"}
+
+
+def numbers(values):
+    return " ".join(number(v) for v in values)
+
+
+def checked(problem, verdict):
+    def counted(word, listed):
+        return f"{word} {len(listed)} entries {sum(shapes.size(s) for s in listed)}\n"
+
+    objective = verdict.objective
+    return (
+        "accepted\n"
+        f"objective {problem.sense} sign {SIGNS[objective.sign]} curvature {objective.curvature()}\n"
+        f"dpp {'yes' if verdict.dpp else 'no'}\n"
+        + counted("variables", [problem.nodes[n].shape for _, n in problem.variables])
+        + counted("parameters", [problem.nodes[n].shape for _, n in problem.parameters])
+        + counted("constraints", [c.shape for c in problem.constraints])
+    )
+
+
+def users(problem, value):
+    """A value of what is minimized as one of the user's objective."""
+    return number(-value if problem.sense == "maximize" else value)
+
+
+def arrays(problem, word, points):
+    lines = []
+    for (name, n), entries in zip(problem.variables, points):
+        lines.append(f"{word} {name} {shapes.text(problem.nodes[n].shape)} = {numbers(entries)}\n")
+    return "".join(lines)
+
+
+def duals(problem, answer):
+    lines = []
+    for i, (constraint, entries) in enumerate(zip(problem.constraints, answer.duals)):
+        lines.append(f"dual {i + 1} {shapes.text(constraint.shape)} = {numbers(entries)}\n")
+    return "".join(lines)
+
+
+def outcome(problem, word, k, end):
+    """The lines of an answer or a stop."""
+    head = f"{word} {k} "
+    if isinstance(end, Stopped):
+        return f"{head}{end.text()}\n"
+    head += f"{end.kind}\n"
+    if end.kind == "optimal":
+        return head + f"value {users(problem, end.number)}\n" + arrays(problem, "var", end.point) + duals(problem, end)
+    if end.kind == "infeasible":
+        return head + f"gap {number(end.number)}\n" + duals(problem, end)
+    text = f"bound {users(problem, end.number)}\nslope {number(end.slope)}\n"
+    return head + text + arrays(problem, "var", end.point) + arrays(problem, "ray", end.ray)
+
+
+def answered(ends):
+    stops = sum(isinstance(end, Stopped) for end in ends)
+    return f"answered {len(ends) - stops} stopped {stops}\n"
+
+
+def solved(problem, word, ends):
+    return "".join(outcome(problem, word, k, end) for k, end in enumerate(ends, 1)) + answered(ends)
+
+
+def tried(problem, size, ends):
+    lines = [f"trial {size}\n"]
+    for k, end in enumerate(ends, 1):
+        if isinstance(end, Stopped):
+            lines.append(outcome(problem, "setting", k, end))
+        else:
+            value = f" value {users(problem, end.number)}" if end.kind == "optimal" else ""
+            lines.append(f"setting {k} {end.kind}{value}\n")
+    return "".join(lines) + answered(ends)
