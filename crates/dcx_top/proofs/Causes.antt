@@ -9,6 +9,7 @@ use Rattle.dcx_front.specs.declared.accepted.Accepted.{Accepted}
 use Rattle.dcx_front.specs.declared.checked.Checked.{Checked}
 use Rattle.dcx_front.specs.declared.fault.FrontFault.{FrontFault}
 use Rattle.dcx_front.specs.declared.fault.FrontFault.TheVariants as front
+use Rattle.dcx_front.specs.declared.refusal.Refusal.{Refusal}
 use Rattle.dcx_front.specs.declared.refusal.RefusalSource.TheVariants.{Script, Settings}
 use Rattle.dcx_front.specs.Checks.{IsFoundOf}
 use Rattle.dcx_front.specs.Accepts.{Gives, IsJudged}
@@ -19,11 +20,11 @@ use Rattle.dcx_report.specs.declared.run.Run.TheVariants as run
 use Rattle.dcx_report.specs.declared.run.Word.TheVariants as word
 use Rattle.dcx_words.specs.Commands.{Command, check, solve, resolve, trial, command_of}
 use Rattle.dcx_trial.specs.Trial.{trial_text}
-use Rattle.dcx_overlay.specs.Settings.{AreTrialSettings}
 use Rattle.dcx_outcomes.specs.Outcomes.{Counts}
 use Rattle.dcx_top.specs.Commands.{IsScriptOf, script_name, settings_name, AreOfFile, AreSettingsOf, limit_of, TellsOutcomes}
 use Rattle.dcx_top.specs.Files.{run_of, RefusesScript, RefusesSettings, EndsAt, ReadsScript}
-use Rattle.dcx_top.specs.Runs.{GivesProblem, SolvesAt, ResolvesFrom, long_script, bad_script, bad_settings, no_script, no_settings, Causes}
+use Rattle.dcx_top.specs.Whole.{HasNoWhole, IsRefusedForWhole, IsSolving}
+use Rattle.dcx_top.specs.Runs.{GivesProblem, OrWhole, SolvesAt, TriesAt, ResolvesFrom, long_script, bad_script, for_whole, bad_settings, no_script, no_settings, Causes}
 
 pub judged_of : (bytes : List ℕ) (a : Accepted) → Gives bytes (Ok a) → IsJudged a.work.problem a.verdict
 judged_of bytes a g = (acceptance bytes a g).judged
@@ -47,19 +48,24 @@ module _ (words : List (List ℕ)) (told : Option Files) (risen : Type 0) (comma
   made_ends bytes n front.Memory of h = tt
 
   module _ (a : Accepted) (gives : GivesProblem told command a) where
+    -- ---- a variable that is to be whole ends it
+    pub whole_ends : (old new : ℕ) (r : Run) → IsSolving command → (t : Refusal) × IsRefusedForWhole a.work.problem.tree t × (r ≡ run.Refused t) × (new ≡ old) → Causes words told risen old new r
+    whole_ends old new r solving (t, h, e, same) =
+        subst (Causes words told risen old new) (sym e) (for_whole command a form gives solving h, same)
+
     -- ---- the settings file ends it
-    pub settings_end : (name : List ℕ) (n : ℕ) (r : Run) → settings_name command ≡ Some name → EndsAt told risen Settings name RefusesSettings r → Causes words told risen n n r
-    settings_end name n run.ReadFault is h = (no_settings command a name form gives is h, refl)
-    settings_end name n (run.Refused r) is h = (bad_settings command a name form gives is h, refl)
-    settings_end name n run.Memory is h = tt
-    settings_end name n run.Usage is h = absurd h
-    settings_end name n (run.Checked c) is h = absurd h
-    settings_end name n (run.Solved word sense outcomes) is h = absurd h
-    settings_end name n (run.Trial size outcomes) is h = absurd h
+    pub settings_end : (continuous : HasNoWhole a.work.problem.tree) (name : List ℕ) (n : ℕ) (r : Run) → settings_name command ≡ Some name → EndsAt told risen Settings name RefusesSettings r → Causes words told risen n n r
+    settings_end continuous name n run.ReadFault is h = (no_settings command a name form gives continuous is h, refl)
+    settings_end continuous name n (run.Refused r) is h = (bad_settings command a name form gives continuous is h, refl)
+    settings_end continuous name n run.Memory is h = tt
+    settings_end continuous name n run.Usage is h = absurd h
+    settings_end continuous name n (run.Checked c) is h = absurd h
+    settings_end continuous name n (run.Solved word sense outcomes) is h = absurd h
+    settings_end continuous name n (run.Trial size outcomes) is h = absurd h
 
     -- ---- the problem is solved
     module _ (settings : List Pairs) (asked : AreSettingsOf told command a.work settings) (tells : List Outcome → Run)
-        (told_so : (outcomes : List Outcome) → TellsOutcomes command a.work.problem.sense outcomes (tells outcomes)) where
+        (continuous : HasNoWhole a.work.problem.tree) (told_so : (outcomes : List Outcome) → TellsOutcomes command a.work.problem.sense outcomes (tells outcomes)) where
       solved_full : (word : _) (sense : Sense) → ((outcomes : List Outcome) → tells outcomes ≡ run.Solved word sense outcomes) → (old new : ℕ) (r : Run) → SolvesAt a.work.problem (limit_of command) settings tells old new r →
           Causes words told risen old new r
       solved_full word sense is old new r (inl e) = subst (Causes words told risen old new) (sym e) tt
@@ -69,6 +75,7 @@ module _ (words : List (List ℕ)) (told : Option Files) (risen : Type 0) (comma
             form = form;
             accepted = a;
             problem = gives;
+            continuous = continuous;
             settings = settings;
             asked = asked;
             outcomes = outcomes;
@@ -86,6 +93,7 @@ module _ (words : List (List ℕ)) (told : Option Files) (risen : Type 0) (comma
             form = form;
             accepted = a;
             problem = gives;
+            continuous = continuous;
             settings = settings;
             asked = asked;
             outcomes = outcomes;
@@ -101,22 +109,26 @@ module _ (words : List (List ℕ)) (told : Option Files) (risen : Type 0) where
       (record { script = script; form = form; accepted = a; problem = record { bytes = bytes; are_of = there; gives = gives }; found = found }, refl)
 
   pub solved : (script bytes : List ℕ) (limit : ℕ) (a : Accepted) (old new : ℕ) (r : Run) → command_of words ≡ Some (solve script limit) → IsTold told script bytes → Gives bytes (Ok a) →
-      SolvesAt a.work.problem limit a.work.events (λ os. run.Solved word.Solve a.work.problem.sense os) old new r → Causes words told risen old new r
-  solved script bytes limit a old new r form there gives h =
-      solved_full words told risen (solve script limit) form a (record { bytes = bytes; are_of = there; gives = gives }) a.work.events refl (λ os. run.Solved word.Solve a.work.problem.sense os) (λ os. refl)
+      OrWhole a.work.problem (SolvesAt a.work.problem limit a.work.events (λ os. run.Solved word.Solve a.work.problem.sense os) old new) old new r → Causes words told risen old new r
+  solved script bytes limit a old new r form there gives (inl (continuous, h)) =
+      solved_full words told risen (solve script limit) form a (record { bytes = bytes; are_of = there; gives = gives }) a.work.events refl (λ os. run.Solved word.Solve a.work.problem.sense os) continuous (λ os. refl)
       word.Solve a.work.problem.sense (λ os. refl) old new r h
+  solved script bytes limit a old new r form there gives (inr h) = whole_ends words told risen (solve script limit) form a (record { bytes = bytes; are_of = there; gives = gives }) old new r tt h
 
   pub resolved : (script name bytes : List ℕ) (limit : ℕ) (a : Accepted) (old new : ℕ) (r : Run) → command_of words ≡ Some (resolve script name limit) → IsTold told script bytes → Gives bytes (Ok a) →
-      ResolvesFrom told risen a.work name limit old new r → Causes words told risen old new r
-  resolved script name bytes limit a old new r form there gives (inl (settings, are, h)) =
-      solved_full words told risen (resolve script name limit) form a (record { bytes = bytes; are_of = there; gives = gives }) settings are (λ os. run.Solved word.Setting a.work.problem.sense os) (λ os. refl)
+      OrWhole a.work.problem (ResolvesFrom told risen a.work name limit old new) old new r → Causes words told risen old new r
+  resolved script name bytes limit a old new r form there gives (inl (continuous, inl (settings, are, h))) =
+      solved_full words told risen (resolve script name limit) form a (record { bytes = bytes; are_of = there; gives = gives }) settings are (λ os. run.Solved word.Setting a.work.problem.sense os) continuous (λ os. refl)
       word.Setting a.work.problem.sense (λ os. refl) old new r h
-  resolved script name bytes limit a old new r form there gives (inr (h, same)) =
+  resolved script name bytes limit a old new r form there gives (inl (continuous, inr (h, same))) =
       subst (λ n. Causes words told risen old n r) (sym same)
-      (settings_end words told risen (resolve script name limit) form a (record { bytes = bytes; are_of = there; gives = gives }) name old r refl h)
+      (settings_end words told risen (resolve script name limit) form a (record { bytes = bytes; are_of = there; gives = gives }) continuous name old r refl h)
+  resolved script name bytes limit a old new r form there gives (inr h) = whole_ends words told risen (resolve script name limit) form a (record { bytes = bytes; are_of = there; gives = gives }) old new r tt h
 
-  pub tried : (size limit : ℕ) (a : Accepted) (settings : List Pairs) (old new : ℕ) (r : Run) → command_of words ≡ Some (trial size limit) → Gives (trial_text size) (Ok a) → AreTrialSettings a.work.last settings →
-      SolvesAt a.work.problem limit settings (λ os. run.Trial size os) old new r → Causes words told risen old new r
-  tried size limit a settings old new r form gives are h =
-      solved_short words told risen (trial size limit) form a (record { bytes = trial_text size; are_of = refl; gives = gives }) settings are (λ os. run.Trial size os) (λ os. refl)
+  pub tried : (size limit : ℕ) (a : Accepted) (old new : ℕ) (r : Run) → command_of words ≡ Some (trial size limit) → Gives (trial_text size) (Ok a) →
+      OrWhole a.work.problem (TriesAt a.work size limit old new) old new r → Causes words told risen old new r
+  tried size limit a old new r form gives (inl (continuous, inl e)) = subst (Causes words told risen old new) (sym e) tt
+  tried size limit a old new r form gives (inl (continuous, inr (settings, are, h))) =
+      solved_short words told risen (trial size limit) form a (record { bytes = trial_text size; are_of = refl; gives = gives }) settings are (λ os. run.Trial size os) continuous (λ os. refl)
       size (λ os. refl) old new r h
+  tried size limit a old new r form gives (inr h) = whole_ends words told risen (trial size limit) form a (record { bytes = trial_text size; are_of = refl; gives = gives }) old new r tt h

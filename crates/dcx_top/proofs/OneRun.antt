@@ -22,7 +22,7 @@ use Rattle.dcx_outcomes.specs.Outcomes.{AreOutcomes}
 use Rattle.dcx_outcomes.specs.Laws.{AreAlike}
 use Rattle.dcx_outcomes.proofs.OneOutcome.{outcomes_are_one}
 use Rattle.dcx_top.specs.Commands.{settings_name, AreOfFile, AreSettingsOf, limit_of, TellsOutcomes}
-use Rattle.dcx_top.specs.Runs.{GivesProblem, IsChecked, IsSolvedRun, IsRefusedRun, long_script, bad_script, bad_settings, Causes}
+use Rattle.dcx_top.specs.Runs.{GivesProblem, IsChecked, IsSolvedRun, IsRefusedRun, long_script, bad_script, for_whole, bad_settings, Causes}
 use Rattle.dcx_top.specs.OneRun.{IsAnswered, AreAlikeOver, AreOneRun, IsOnlyRun}
 use Rattle.dcx_top.proofs.Refusals.{one_problem, same_command, refuses, one_refused, never_refused, never_refused_check}
 
@@ -87,15 +87,16 @@ module _ (words : List (List ℕ)) (files : Files) where
   checked_or_solved c old new r h k = subst (λ d. TellsOutcomes d k.accepted.work.problem.sense k.outcomes r) (same_command words files (check h.script) h.form k.command k.form) k.tells
 
   refused_or_checked : (r : Refusal) (c : Checked) → IsRefusedRun words (Some files) r → IsChecked words (Some files) c → ⊥
-  refused_or_checked r c h k = never_refused_check files (check k.script) k.accepted r refl k.problem (refuses words files (check k.script) k.form r h)
+  refused_or_checked r c h k = never_refused_check files k.script k.accepted r k.problem (refuses words files (check k.script) k.form r h)
 
   refused_or_solved : (r : Refusal) (old new : ℕ) (s : Run) → IsRefusedRun words (Some files) r → IsSolvedRun words (Some files) old new s → ⊥
-  refused_or_solved r old new s h k = never_refused files k.command k.accepted k.settings r k.problem k.asked (refuses words files k.command k.form r h)
+  refused_or_solved r old new s h k = never_refused files k.command k.accepted k.settings r k.problem k.continuous k.asked (refuses words files k.command k.form r h)
 
   command_of_refused : (r : Refusal) → IsRefusedRun words (Some files) r → (c : Command) × (command_of words ≡ Some c)
   command_of_refused r (long_script c name e is long) = (c, e)
   command_of_refused r (bad_script c bytes e of h) = (c, e)
-  command_of_refused r (bad_settings c a name e g is h) = (c, e)
+  command_of_refused r (for_whole c a e g solving h) = (c, e)
+  command_of_refused r (bad_settings c a name e g free is h) = (c, e)
 
   refused_once : (r t : Refusal) → IsRefusedRun words (Some files) r → IsRefusedRun words (Some files) t → r ≡ t
   refused_once r t h k =

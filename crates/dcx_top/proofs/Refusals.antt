@@ -1,5 +1,5 @@
 -- What a refusal says of files that are told: one fault, and no other.
-use Rattle.std.proofs.Common.{◌≡◌, inl, inr, ℕ, ◌<◌, List, length, Option, Some, None, Result, Ok, Err, refl, sym, ap, subst, ◌∙◌}
+use Rattle.std.proofs.Common.{◌≡◌, inl, inr, ℕ, ◌<◌, List, length, Option, Some, None, Result, Ok, Err, refl, sym, ap, subst, ◌∙◌, arith}
 use Rattle.std.proofs.lemmas.Option.{none-some, same_Some}
 use Rattle.dcx_tokens.specs.declared.fault.ReadFault.TheVariants as reads
 use Rattle.dcx_tokens.specs.Position.{start_of_text}
@@ -10,17 +10,22 @@ use Rattle.dcx_settings.proofs.OneAnswer.{refused_one, settings_apart}
 use Rattle.dcx_host.specs.Files.{Files}
 use Rattle.dcx_elab.specs.declared.work.Work.{Work}
 use Rattle.dcx_point.specs.Pairs.{Pairs}
+use Rattle.dcx_arena.specs.Nodes.{place_at}
+use Rattle.dcx_tree.specs.Nodes.{Node}
 use Rattle.dcx_front.specs.declared.accepted.Accepted.{Accepted}
 use Rattle.dcx_front.specs.declared.fault.FrontFault.TheVariants as front
 use Rattle.dcx_front.specs.declared.refusal.Refusal.{Refusal}
-use Rattle.dcx_front.specs.declared.refusal.RefusalSource.TheVariants.{Settings}
+use Rattle.dcx_front.specs.declared.refusal.Carried.TheVariants.{Nothing}
+use Rattle.dcx_front.specs.declared.refusal.RefusalSource.TheVariants.{Script, Settings}
+use Rattle.dcx_front.specs.Checks.{IsRefusedAs}
 use Rattle.dcx_front.specs.Accepts.{Given, Gives, unread, Ending, refused, without_memory, IsRefusedBy, read_ending}
 use Rattle.dcx_front.proofs.OneAnswer.{one_answer}
 use Rattle.dcx_front.proofs.OneCheck.{one_refusal}
 use Rattle.dcx_words.specs.Commands.{Command, check, solve, resolve, trial, command_of}
 use Rattle.dcx_top.specs.Commands.{IsScriptOf, script_name, settings_name, AreSettingsOf}
 use Rattle.dcx_top.specs.Files.{RefusesScript, RefusesSettings}
-use Rattle.dcx_top.specs.Runs.{GivesProblem, IsRefusedRun, long_script, bad_script, bad_settings}
+use Rattle.dcx_top.specs.Runs.{GivesProblem, IsRefusedRun, long_script, bad_script, for_whole, bad_settings}
+use Rattle.dcx_top.specs.Whole.{HasNoWhole, IsFirstWhole, IsRefusedForWhole, IsSolving}
 
 -- ---- answers of the front
 same_accepted : (a b : Accepted) → ◌≡◌ {A = Given} (Ok a) (Ok b) → a ≡ b
@@ -72,10 +77,11 @@ module _ (files : Files) where
   spelled_by (trial size limit) work settings name bytes are e h = absurd (none-some name e)
 
 -- ---- what is refused
--- the script, or else the settings file
+-- the script, for what stands in it or for a variable that is to be whole, or else the settings file
 pub data Refuses (files : Files) (command : Command) (r : Refusal) : Type 0 where
   in_script : (bytes : List ℕ) → IsScriptOf (Some files) command bytes → RefusesScript bytes r → Refuses files command r
-  in_settings : (a : Accepted) (name bytes : List ℕ) → GivesProblem (Some files) command a → settings_name command ≡ Some name → files name ≡ Some bytes → RefusesSettings bytes r → Refuses files command r
+  in_problem : (a : Accepted) → GivesProblem (Some files) command a → IsSolving command → IsRefusedForWhole a.work.problem.tree r → Refuses files command r
+  in_settings : (a : Accepted) (name bytes : List ℕ) → GivesProblem (Some files) command a → HasNoWhole a.work.problem.tree → settings_name command ≡ Some name → files name ≡ Some bytes → RefusesSettings bytes r → Refuses files command r
 
 module _ (words : List (List ℕ)) (files : Files) (command : Command) (form : command_of words ≡ Some command) where
   pub same_command : (c : Command) → command_of words ≡ Some c → c ≡ command
@@ -89,9 +95,23 @@ module _ (words : List (List ℕ)) (files : Files) (command : Command) (form : c
   refuses r (long_script c name e is (long, bytes, there, more)) =
       of_command r c e (in_script bytes (script_is files c name bytes is there) (unread (reads.TooLong start_of_text.place) (no_script_text (more, refl)) long))
   refuses r (bad_script c bytes e of h) = of_command r c e (in_script bytes of h)
-  refuses r (bad_settings c a name e g is (inl (long, bytes, there, more))) =
-      of_command r c e (in_settings a name bytes g is there (record { fault = reads.TooLong start_of_text.place; refused = no_settings_text (more, refl); told = long }))
-  refuses r (bad_settings c a name e g is (inr (bytes, there, h))) = of_command r c e (in_settings a name bytes g is there h)
+  refuses r (for_whole c a e g solving h) = of_command r c e (in_problem a g solving h)
+  refuses r (bad_settings c a name e g free is (inl (long, bytes, there, more))) =
+      of_command r c e (in_settings a name bytes g free is there (record { fault = reads.TooLong start_of_text.place; refused = no_settings_text (more, refl); told = long }))
+  refuses r (bad_settings c a name e g free is (inr (bytes, there, h))) = of_command r c e (in_settings a name bytes g free is there h)
+
+-- the first variable that is to be whole is one
+one_first : (nodes : List Node) (i j : ℕ) → IsFirstWhole nodes i → IsFirstWhole nodes j → i ≡ j
+one_first nodes i j h k =
+    let low : i < j → ⊥ = (λ l. k.before i l h.is) in
+    let high : j < i → ⊥ = (λ l. h.before j l k.is) in
+    omega (arith, low, high)
+
+one_whole : (nodes : List Node) (r t : Refusal) → IsRefusedForWhole nodes r → IsRefusedForWhole nodes t → r ≡ t
+one_whole nodes r t h k =
+    let node = one_first nodes h.node k.node h.first k.first in
+    let place = same_Some h.place k.place (sym h.stands ∙ ap (place_at nodes) node ∙ k.stands) in
+    one_refusal Script 12 k.place Nothing r t (subst (λ z. IsRefusedAs Script 12 z Nothing r) place h.refusal) k.refusal
 
 -- an ending is told by one refusal
 one_told : (e : Ending) (r t : Refusal) → IsRefusedBy Settings e r → IsRefusedBy Settings e t → r ≡ t
@@ -102,24 +122,43 @@ module _ (files : Files) (command : Command) where
   one_settings : (name other b c : List ℕ) → settings_name command ≡ Some name → settings_name command ≡ Some other → files name ≡ Some b → files other ≡ Some c → b ≡ c
   one_settings name other b c e f h k = same_Some b c (sym h ∙ ap files (same_Some name other (sym e ∙ f)) ∙ k)
 
+  in_script_once : (a : Accepted) (r : Refusal) (b : List ℕ) → GivesProblem (Some files) command a → IsScriptOf (Some files) command b → RefusesScript b r → ⊥
+  in_script_once a r b g of h = accepted_or_refused g.bytes a r g.gives (subst (λ x. RefusesScript x r) (one_script files command b g.bytes of g.are_of) h)
+
+  in_problem_once : (a b : Accepted) (r t : Refusal) → GivesProblem (Some files) command a → GivesProblem (Some files) command b → IsRefusedForWhole a.work.problem.tree r → IsRefusedForWhole b.work.problem.tree t → r ≡ t
+  in_problem_once a b r t g i h k =
+      one_whole b.work.problem.tree r t (subst (λ (x : Accepted). IsRefusedForWhole x.work.problem.tree r) (one_problem files command a b g i) h) k
+
+  whole_or_free : (a b : Accepted) (r : Refusal) → GivesProblem (Some files) command a → GivesProblem (Some files) command b → IsRefusedForWhole a.work.problem.tree r → HasNoWhole b.work.problem.tree → ⊥
+  whole_or_free a b r g i h free =
+      let k = subst (λ (x : Accepted). IsRefusedForWhole x.work.problem.tree r) (one_problem files command a b g i) h in
+      free k.node k.first.is
+
   pub one_refused : (r t : Refusal) → Refuses files command r → Refuses files command t → r ≡ t
   one_refused r t (in_script b of h) (in_script c also k) =
       same_refused r t (one_answer c (Err (front.Refused r)) (subst (λ x. RefusesScript x r) (one_script files command b c of also) h) (Err (front.Refused t)) k)
-  one_refused r t (in_script b of h) (in_settings a name c g is there k) = absurd (accepted_or_refused g.bytes a r g.gives (subst (λ x. RefusesScript x r) (one_script files command b g.bytes of g.are_of) h))
-  one_refused r t (in_settings a name c g is there k) (in_script b of h) = absurd (accepted_or_refused g.bytes a t g.gives (subst (λ x. RefusesScript x t) (one_script files command b g.bytes of g.are_of) h))
-  one_refused r t (in_settings a name b g is there h) (in_settings d other c i also here k) =
+  one_refused r t (in_script b of h) (in_problem a g solving k) = absurd (in_script_once a r b g of h)
+  one_refused r t (in_script b of h) (in_settings a name c g free is there k) = absurd (in_script_once a r b g of h)
+  one_refused r t (in_problem a g solving k) (in_script b of h) = absurd (in_script_once a t b g of h)
+  one_refused r t (in_problem a g solving h) (in_problem b i also k) = in_problem_once a b r t g i h k
+  one_refused r t (in_problem a g solving h) (in_settings b name c i free is there k) = absurd (whole_or_free a b r g i h free)
+  one_refused r t (in_settings a name c g free is there k) (in_script b of h) = absurd (in_script_once a t b g of h)
+  one_refused r t (in_settings b name c i free is there k) (in_problem a g solving h) = absurd (whole_or_free a b t g i h free)
+  one_refused r t (in_settings a name b g free is there h) (in_settings d other c i open also here k) =
       let same = one_settings name other b c is also there here in
       let fault = refused_one c h.fault k.fault (subst (λ x. IsRefused x h.fault) same h.refused) k.refused in
       one_told (read_ending k.fault) r t (subst (λ f. IsRefusedBy Settings (read_ending f) r) fault h.told) k.told
 
   -- nothing is refused where the problem is solved
-  pub never_refused : (a : Accepted) (settings : List Pairs) (r : Refusal) → GivesProblem (Some files) command a → AreSettingsOf (Some files) command a.work settings → Refuses files command r → ⊥
-  never_refused a settings r g are (in_script b of h) = accepted_or_refused g.bytes a r g.gives (subst (λ x. RefusesScript x r) (one_script files command b g.bytes of g.are_of) h)
-  never_refused a settings r g are (in_settings d name bytes i is there h) =
+  pub never_refused : (a : Accepted) (settings : List Pairs) (r : Refusal) → GivesProblem (Some files) command a → HasNoWhole a.work.problem.tree → AreSettingsOf (Some files) command a.work settings → Refuses files command r → ⊥
+  never_refused a settings r g free are (in_script b of h) = in_script_once a r b g of h
+  never_refused a settings r g free are (in_problem b i solving h) = whole_or_free b a r i g h free
+  never_refused a settings r g free are (in_settings d name bytes i open is there h) =
       let (lines, spelled) = spelled_by files command a.work settings name bytes are is there in
       settings_apart bytes lines h.fault spelled h.refused
 
-  -- nor where it is checked
-  pub never_refused_check : (a : Accepted) (r : Refusal) → settings_name command ≡ None → GivesProblem (Some files) command a → Refuses files command r → ⊥
-  never_refused_check a r none g (in_script b of h) = accepted_or_refused g.bytes a r g.gives (subst (λ x. RefusesScript x r) (one_script files command b g.bytes of g.are_of) h)
-  never_refused_check a r none g (in_settings d name bytes i is there h) = none-some name (sym none ∙ is)
+-- nor where it is checked
+pub never_refused_check : (files : Files) (script : List ℕ) (a : Accepted) (r : Refusal) → GivesProblem (Some files) (check script) a → Refuses files (check script) r → ⊥
+never_refused_check files script a r g (in_script b of h) = in_script_once files (check script) a r b g of h
+never_refused_check files script a r g (in_problem b i solving h) = solving
+never_refused_check files script a r g (in_settings d name bytes i free is there h) = none-some name is

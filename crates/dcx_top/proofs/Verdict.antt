@@ -8,6 +8,9 @@ use Rattle.dcx_front.specs.declared.accepted.Accepted.{Accepted}
 use Rattle.dcx_front.specs.declared.checked.Checked.{Checked}
 use Rattle.dcx_front.specs.declared.refusal.Refusal.{Refusal}
 use Rattle.dcx_front.specs.Accepts.{Gives}
+use Rattle.dcx_elab.specs.declared.work.Work.{Work}
+use Rattle.dcx_front.proofs.OneReading.{one_script as one_script_of}
+use Rattle.dcx_front.proofs.OneAnswer.{one_work}
 use Rattle.dcx_front.proofs.OneVerdict.{apart, refused_for, accepted_for}
 use Rattle.dcx_report.specs.declared.run.Run.{Run}
 use Rattle.dcx_report.specs.declared.run.Run.TheVariants as run
@@ -15,13 +18,17 @@ use Rattle.dcx_words.specs.Commands.{Command, check, command_of}
 use Rattle.dcx_top.specs.Commands.{settings_name, AreSettingsOf}
 use Rattle.dcx_top.specs.Files.{RefusesScript}
 use Rattle.dcx_top.specs.Runs.{GivesProblem, IsChecked, IsSolvedRun, IsRefusedRun, Causes}
+use Rattle.dcx_top.specs.Whole.{IsWholeAt, HasNoWhole, IsSolving}
 use Rattle.dcx_top.specs.OneRun.{IsAnswered}
-use Rattle.dcx_top.specs.Verdicts.{IsRefusal, IsAcceptance, Has, AreFaultless, AreAtFault, bad_script, bad_settings, AreWithoutFault, IsVerdictOn, IsRightVerdict}
-use Rattle.dcx_top.proofs.Refusals.{one_script, spelled_by, same_command, Refuses, in_script, in_settings, refuses}
+use Rattle.dcx_top.specs.Verdicts.{IsRefusal, IsAcceptance, Has, AreFaultless, AreAtFault, bad_script, has_whole, bad_settings, AreWithoutFault, IsVerdictOn, IsRightVerdict}
+use Rattle.dcx_top.proofs.Refusals.{one_script, spelled_by, same_command, Refuses, in_script, in_problem, in_settings, refuses}
 
 module _ (files : Files) (command : Command) (script settings : List ℕ) (has : Has files command script settings) where
   no_faults : AreWithoutFault command script settings → AreAtFault command script settings → ⊥
   no_faults w (bad_script f) = apart script w.no_script_fault f
+  no_faults w (has_whole h solving i is) =
+      let same = one_work w.no_script_fault.script h.script (one_script_of script w.no_script_fault.script h.script w.no_script_fault.spelled h.spelled) w.no_script_fault.work h.work w.no_script_fault.stands_for h.stands_for in
+      w.no_whole solving i (subst (λ (x : Work). IsWholeAt x.problem.tree i) (sym same) is)
   no_faults w (bad_settings o f) = let (lines, spelled) = w.no_settings_fault f.name f.asked in settings_apart settings lines f.fault spelled f.refused
 
   accepted : (a : Accepted) → GivesProblem (Some files) command a → Gives script (Ok a)
@@ -29,12 +36,13 @@ module _ (files : Files) (command : Command) (script settings : List ℕ) (has :
 
   at_fault : (r : Refusal) → Refuses files command r → AreAtFault command script settings
   at_fault r (in_script bytes of h) = bad_script (refused_for script r (subst (λ b. RefusesScript b r) (one_script files command bytes script of has.is_script) h))
-  at_fault r (in_settings a name bytes g is there h) =
+  at_fault r (in_problem a g solving h) = has_whole (accepted_for script a (accepted a g)) solving h.node h.first.is
+  at_fault r (in_settings a name bytes g free is there h) =
       bad_settings (accepted_for script a (accepted a g))
       (record { name = name; asked = is; fault = h.fault; refused = subst (λ b. IsRefused b h.fault) (same_Some bytes settings (sym there ∙ has.are_settings name is)) h.refused })
 
-  without : (a : Accepted) → GivesProblem (Some files) command a → AreFaultless command settings → AreWithoutFault command script settings
-  without a g f = record { no_script_fault = accepted_for script a (accepted a g); no_settings_fault = f }
+  without : (a : Accepted) → GivesProblem (Some files) command a → (IsSolving command → HasNoWhole a.work.problem.tree) → AreFaultless command settings → AreWithoutFault command script settings
+  without a g free f = record { no_script_fault = accepted_for script a (accepted a g); no_whole = free; no_settings_fault = f }
 
   refuses_so : (r : Refusal) → AreAtFault command script settings → IsVerdictOn command script settings (run.Refused r)
   refuses_so r f = record { refused = (λ t. f, λ q. tt); accepted = (λ t. absurd t, λ w. absurd (no_faults w f)) }
@@ -48,14 +56,15 @@ module _ (files : Files) (command : Command) (script settings : List ℕ) (has :
         let same = same_command words files command form h.command h.form in
         let g = subst (λ c. GivesProblem (Some files) c h.accepted) same h.problem in
         let asked = subst (λ c. AreSettingsOf (Some files) c h.accepted.work h.settings) same h.asked in
-        accepts_so r i n (without h.accepted g (λ name is. spelled_by files command h.accepted.work h.settings name settings asked is (has.are_settings name is)))
+        accepts_so r i n (without h.accepted g (λ solving. h.continuous) (λ name is. spelled_by files command h.accepted.work h.settings name settings asked is (has.are_settings name is)))
 
     checked : (c : Checked) → IsChecked words (Some files) c → IsVerdictOn command script settings (run.Checked c)
     checked c h =
         let same = same_command words files command form (check h.script) h.form in
         let g = subst (λ c. GivesProblem (Some files) c h.accepted) same h.problem in
         let none : settings_name command ≡ None = subst (λ c. settings_name c ≡ None) same refl in
-        accepts_so (run.Checked c) tt (λ t. t) (without h.accepted g (λ name is. absurd (none-some name (sym none ∙ is))))
+        let only : IsSolving command → ⊥ = subst (λ c. IsSolving c → ⊥) same (λ t. t) in
+        accepts_so (run.Checked c) tt (λ t. t) (without h.accepted g (λ solving. absurd (only solving)) (λ name is. absurd (none-some name (sym none ∙ is))))
 
     verdict_on : (r : Run) → Causes words (Some files) risen old new r → IsAnswered r → IsVerdictOn command script settings r
     verdict_on run.Usage h i = absurd (none-some command (sym h.0 ∙ form))

@@ -1,6 +1,7 @@
 -- What contracts cite.
 pub mod Commands
 pub mod Files
+pub mod Whole
 pub mod Runs
 pub mod Headline
 pub mod OneRun

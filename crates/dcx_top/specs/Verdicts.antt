@@ -9,6 +9,7 @@ use Rattle.dcx_report.specs.declared.run.Run.{Run}
 use Rattle.dcx_report.specs.declared.run.Run.TheVariants as run
 use Rattle.dcx_words.specs.Commands.{Command, command_of}
 use Rattle.dcx_top.specs.Commands.{IsScriptOf, settings_name}
+use Rattle.dcx_top.specs.Whole.{IsWholeAt, HasNoWhole, IsSolving}
 use Rattle.dcx_top.specs.OneRun.{IsAnswered}
 
 abbrev pub IsRefusal : Run → Type 0
@@ -45,14 +46,16 @@ pub record AreFaulty (command : Command) (settings : List ℕ) : Type 0 where
 abbrev pub AreFaultless : Command → List ℕ → Type 0
 AreFaultless command settings = (name : List ℕ) → settings_name command ≡ Some name → (lines : List (List SettingItem)) × SpellSettings settings lines
 
--- the script is at fault, or else the settings file is
+-- the script is at fault, or its problem, which is to be solved, has a variable that is to be whole, or the settings file is at fault
 pub data AreAtFault (command : Command) (script settings : List ℕ) : Type 0 where
   bad_script : IsAtFault script → AreAtFault command script settings
+  has_whole : (h : IsWithoutFault script) → IsSolving command → (i : ℕ) → IsWholeAt h.work.problem.tree i → AreAtFault command script settings
   bad_settings : IsWithoutFault script → AreFaulty command settings → AreAtFault command script settings
 
--- neither is
+-- nothing is
 pub record AreWithoutFault (command : Command) (script settings : List ℕ) : Type 0 where
   pub no_script_fault : IsWithoutFault script
+  pub no_whole : IsSolving command → HasNoWhole no_script_fault.work.problem.tree
   pub no_settings_fault : AreFaultless command settings
 
 -- ---- of a run

@@ -9,6 +9,7 @@ mod ended;
 mod files;
 pub mod laws;
 mod solving;
+mod whole;
 mod write;
 
 pub use command::run;

@@ -7,11 +7,12 @@ ghost use Rattle.dcx_settings.specs.Meaning.{IsFull};
 ghost use Rattle.dcx_host.specs.Faults.{Rose};
 ghost use Rattle.dcx_front.specs.Accepts.{IsJudged};
 ghost use Rattle.dcx_words.specs.Commands.{solve as solves, resolve as resolves, trial as tries, command_of};
-ghost use Rattle.dcx_overlay.specs.Settings.{AreLaidOver, AreTrialSettings};
+ghost use Rattle.dcx_overlay.specs.Settings.{AreLaidOver};
 ghost use Rattle.dcx_host.specs.Files.{Files};
-ghost use Rattle.dcx_top.specs.Runs.{SolvesAt, ResolvesFrom, Causes};
+ghost use Rattle.dcx_top.specs.Runs.{OrWhole, SolvesAt, TriesAt, ResolvesFrom, Causes};
 
 use crate::files::{ended, read_script, read_settings};
+use crate::whole::refuse_whole;
 use dcx_front::{Accepted, accept};
 use dcx_host::Library;
 use dcx_outcomes::outcomes;
@@ -31,8 +32,11 @@ fn solve_events<S: Ledger>(
     steps: &mut Steps<S>,
 ) -> Run
     requires { IsJudged accepted.work.problem accepted.verdict }
-    ensures { SolvesAt accepted.work.problem limit accepted.work.events (λ os. Run.Solved Word.Solve accepted.work.problem.sense os) steps.old steps.new result }
+    ensures { OrWhole accepted.work.problem (SolvesAt accepted.work.problem limit accepted.work.events (λ os. Run.Solved Word.Solve accepted.work.problem.sense os) steps.old steps.new) steps.old steps.new result }
 {
+    if let Some(refusal) = refuse_whole(&accepted.work.problem) {
+        return Run::Refused(refusal);
+    }
     let Accepted { work, verdict } = accepted;
     let sense = work.problem.sense;
     let events = work.events;
@@ -82,8 +86,11 @@ fn solve_trial<S: Ledger>(
     steps: &mut Steps<S>,
 ) -> Run
     requires { IsJudged accepted.work.problem accepted.verdict }
-    ensures { (result ≡ Run.Memory) ⊎ ((settings : List Pairs) × AreTrialSettings accepted.work.last settings × SolvesAt accepted.work.problem limit settings (λ os. Run.Trial size os) steps.old steps.new result) }
+    ensures { OrWhole accepted.work.problem (TriesAt accepted.work size limit steps.old steps.new) steps.old steps.new result }
 {
+    if let Some(refusal) = refuse_whole(&accepted.work.problem) {
+        return Run::Refused(refusal);
+    }
     let Accepted { work, verdict } = accepted;
     let Ok(settings) = trial_settings(alloc, &work.last) else {
         return Run::Memory;
@@ -121,10 +128,13 @@ fn resolve_from<L: Library, S: Ledger>(
     steps: &mut Steps<S>,
 ) -> Run
     requires { IsJudged accepted.work.problem accepted.verdict }
-    ensures { ResolvesFrom (L.told library.old) (Rose (L.faults library.old) (L.faults library.new)) accepted.work settings.now limit steps.old steps.new result }
+    ensures { OrWhole accepted.work.problem (ResolvesFrom (L.told library.old) (Rose (L.faults library.old) (L.faults library.new)) accepted.work settings.now limit steps.old steps.new) steps.old steps.new result }
     ensures same { L.told library.new ≡ L.told library.old }
     ensures never_falls { L.faults library.old ≤ L.faults library.new }
 {
+    if let Some(refusal) = refuse_whole(&accepted.work.problem) {
+        return Run::Refused(refusal);
+    }
     match read_settings(alloc, settings, library) {
         Ok(lines) => solve_lines(alloc, accepted, &lines, limit, steps),
         Err(run) => run,

@@ -1,0 +1,43 @@
+-- Variables whose entries are to be whole: a problem that has one is checked, and not solved.
+use Rattle.std.specs.Prelude.{◌≡◌, ◌≢◌, ⊤, ℕ, ◌<◌, List, Some}
+use Rattle.dcx_shape.specs.declared.place.Place.{Place}
+use Rattle.dcx_arena.specs.Nodes.{call_at, place_at}
+use Rattle.dcx_call.specs.declared.attribute.Variable.{Variable}
+use Rattle.dcx_call.specs.declared.attribute.Whole.TheVariants.{Not}
+use Rattle.dcx_call.specs.declared.call.Call.TheVariants as calls
+use Rattle.dcx_tree.specs.Nodes.{Node}
+use Rattle.dcx_tree.specs.declared.problem.Problem.{Problem}
+use Rattle.dcx_front.specs.declared.refusal.Carried.TheVariants.{Nothing}
+use Rattle.dcx_front.specs.declared.refusal.Refusal.{Refusal}
+use Rattle.dcx_front.specs.declared.refusal.RefusalSource.TheVariants.{Script}
+use Rattle.dcx_front.specs.Checks.{IsRefusedAs}
+use Rattle.dcx_words.specs.Commands.{Command, check, solve, resolve, trial}
+
+-- node i is a variable whose entries are to be whole
+pub record IsWholeAt (nodes : List Node) (i : ℕ) : Type 0 where
+  pub variable : Variable
+  pub there : call_at nodes i ≡ Some (calls.Variable variable)
+  pub marked : variable.whole ≢ Not
+
+abbrev pub HasNoWhole : List Node → Type 0
+HasNoWhole nodes = (i : ℕ) → ¬ IsWholeAt nodes i
+
+-- it is the first one
+pub record IsFirstWhole (nodes : List Node) (i : ℕ) : Type 0 where
+  pub is : IsWholeAt nodes i
+  pub before : (j : ℕ) → j < i → ¬ IsWholeAt nodes j
+
+-- the script is refused for the first one, where it stands
+pub record IsRefusedForWhole (nodes : List Node) (r : Refusal) : Type 0 where
+  pub node : ℕ
+  pub first : IsFirstWhole nodes node
+  pub place : Place
+  pub stands : place_at nodes node ≡ Some place
+  pub refusal : IsRefusedAs Script 12 place Nothing r
+
+-- the command solves the problem of its script
+abbrev pub IsSolving : Command → Type 0
+IsSolving (check script) = ⊥
+IsSolving (solve script limit) = ⊤
+IsSolving (resolve script settings limit) = ⊤
+IsSolving (trial size limit) = ⊤

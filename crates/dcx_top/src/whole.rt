@@ -1,0 +1,42 @@
+//! Variables whose entries are to be whole: a problem that has one is checked, and not solved.
+ghost use Rattle.std.specs.Prelude.{◌↔◌, ◌<◌, length, IsTrue, MatchOption};
+ghost use Rattle.dcx_top.specs.Whole.{IsWholeAt, HasNoWhole, IsFirstWhole, IsRefusedForWhole};
+
+use dcx_front::{Carried, Refusal, RefusalSource};
+use dcx_tree::{Call, NodeId, Problem, Tree, Whole};
+
+/// Whether a node is a variable whose entries are to be whole.
+fn is_whole(tree: &Tree, i: u32) -> bool
+    requires { i < length tree.now }
+    ensures { IsTrue result ↔ IsWholeAt tree.now i }
+{
+    match tree.call(NodeId(i)) {
+        Call::Variable(variable) => variable.whole != Whole::Not,
+        _ => false,
+    }
+}
+
+/// The first such node.
+fn first_whole(tree: &Tree) -> Option<NodeId>
+    ensures { MatchOption result (HasNoWhole tree.now) (λ node. IsFirstWhole tree.now node.0) }
+{
+    for i in 0..tree.nodes() {
+        if is_whole(tree, i) {
+            return Some(NodeId(i));
+        }
+    }
+    None
+}
+
+/// The refusal of a script whose problem has a variable that is to be whole, at the place of the first one.
+pub(crate) fn refuse_whole(problem: &Problem) -> Option<Refusal>
+    ensures { MatchOption result (HasNoWhole problem.now.tree) (IsRefusedForWhole problem.now.tree) }
+{
+    let node = first_whole(&problem.tree)?;
+    Some(Refusal {
+        source: RefusalSource::Script,
+        number: 12,
+        place: problem.tree.place(node),
+        carried: Carried::Nothing,
+    })
+}
