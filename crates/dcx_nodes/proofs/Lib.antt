@@ -2,6 +2,8 @@
 pub mod Positions
 pub mod AtNode
 pub mod Numbers
+pub mod LastUses
+pub mod GivenBack
 pub mod Leaves
 pub mod Gives
 pub mod LinearNodes

@@ -4,7 +4,7 @@ use Rattle.std.specs.Prelude.{slice_get, not, option_map}
 use Rattle.std.specs.List.{list_all}
 use Rattle.std.proofs.Math.ListN.{get_or-append}
 use Rattle.std.proofs.lemmas.List.{length-map, map_push}
-use Rattle.std.proofs.lemmas.List.Elements.{All-head, All-tail}
+use Rattle.std.proofs.lemmas.List.Elements.{All-head, All-tail, All-weaker}
 use Rattle.std.proofs.lemmas.Option.{same_Some, none-some, slice_get_within}
 use Rattle.dcx_frac.specs.declared.fraction.Frac.{Frac}
 use Rattle.dcx_frac.specs.declared.fraction.Passes.{Passes}
@@ -35,7 +35,7 @@ use Rattle.dcx_entries.specs.Entries.{entry_forms, LinearEntry, AtomEntry, PairE
 use Rattle.dcx_entries.specs.Standing.{args_among}
 use Rattle.dcx_entries.specs.Nodes.{has_numbers, Table, table_forms, NumberEntry, side_of, scaling_of, pairing_scaling, ReducedEntry, NodeEntryBy, NodeEntry, NodeGives, AreFormed}
 use Rattle.dcx_nodes.proofs.Gives.{each_alike}
-use Rattle.dcx_nodes.proofs.PairNodes.{arg_below}
+use Rattle.dcx_nodes.proofs.PairNodes.{args_two}
 
 -- what stands in a list that has one more
 pub get_pushed : {A : Type 0} (xs : List A) (x y : A) (j : ℕ) → slice_get (xs ++ x ∷ []) j ≡ Some y → (P : Type 0) → (slice_get xs j ≡ Some y → P) → (j ≡ length xs → x ≡ y → P) → P
@@ -46,21 +46,24 @@ get_pushed (z ∷ zs) x y (suc j) e P f g = get_pushed zs x y j e P f (λ d. g (
 
 module _ {C : Type 0} (of_number : Frac → C) (number_of : C → Option Frac) (Sums : C → C → Result C Passes → Type 0) (Changes : Change → C → Result C Passes → Type 0)
     (Reads : ℕ → List ℕ → ℕ → Pairs → C → Type 0) (rules : Rules) (p : Problem) (setting : Pairs) where
-  -- other forms, which are the same of the nodes before node i
-  module _ (forms other : List (List (Form C))) (i : ℕ) (same : (a : ℕ) → a < i → slice_index_or other a [] ≡ slice_index_or forms a []) (n : Node) (at : IsNode p.tree i n) where
-    found : (ids : List ℕ) → All (λ a. a < i) ids → map (λ a. slice_index_or other a []) ids ≡ map (λ a. slice_index_or forms a []) ids
+  -- other forms, which are the same of the arguments of node i
+  module _ (forms other : List (List (Form C))) (i : ℕ) (n : Node) (at : IsNode p.tree i n) (same : All (λ a. slice_index_or other a [] ≡ slice_index_or forms a []) n.args) where
+    abbrev IsSame : ℕ → Type 0
+    IsSame a = slice_index_or other a [] ≡ slice_index_or forms a []
+
+    found : (ids : List ℕ) → All IsSame ids → map (λ a. slice_index_or other a []) ids ≡ map (λ a. slice_index_or forms a []) ids
     found [] h = refl
-    found (a ∷ ids) h = ap₂ ◌∷◌ (same a (All-head (λ a. a < i) a ids h)) (found ids (All-tail (λ a. a < i) a ids h))
+    found (a ∷ ids) h = ap₂ ◌∷◌ (All-head IsSame a ids h) (found ids (All-tail IsSame a ids h))
 
     args_alike : args_among of_number other n.args ≡ args_among of_number forms n.args
     args_alike =
         let among : List (List (Form C)) → Arguments C = λ m k e. slice_index_or (slice_index_or m k []) e (is_constant (of_number zero_frac)) in
-        ap among (found n.args (p.nodes.earlier i n at))
+        ap among (found n.args same)
 
-    side_alike : (a : ℕ) → a < i → side_of of_number number_of Sums Changes Reads rules p setting other a ≡ side_of of_number number_of Sums Changes Reads rules p setting forms a
-    side_alike a b =
-        ap (λ fs. record { number = not (is_reduced rules p a); fixed = (judgement_at Plain (convex_problem p).nodes a).fixed; numbers = list_all (has_numbers number_of) fs })
-        (same a b)
+    side_alike : (k : ℕ) → k < length n.args → side_of of_number number_of Sums Changes Reads rules p setting other (get_or n.args k 0) ≡ side_of of_number number_of Sums Changes Reads rules p setting forms (get_or n.args k 0)
+    side_alike k b =
+        ap (λ fs. record { number = not (is_reduced rules p (get_or n.args k 0)); fixed = (judgement_at Plain (convex_problem p).nodes (get_or n.args k 0)).fixed; numbers = list_all (has_numbers number_of) fs })
+        (same k 0 b)
 
     abbrev Entry : List (List (Form C)) → Call → ℕ → Result (EntryForms C) ValueStop → Type 0
     Entry fs call j r = ReducedEntry of_number number_of Sums Changes Reads rules p setting fs i n.args call (arg_sides p.tree n) j r
@@ -77,8 +80,8 @@ module _ {C : Type 0} (of_number : Frac → C) (number_of : C → Option Frac) (
         subst (λ a. AtEntry j (LinearEntry of_number number_of Sums Changes (map (term_part a) ((linear_meaning l).terms (arg_sides p.tree n) j))) r) (sym args_alike) h
     reduced_alike (calls.Pairing q) is j r h =
         let call : call_at p.tree i ≡ Some (calls.Pairing q) = ap (option_map (λ (z : Node). z.call)) at ∙ ap Some is in
-        let scaling = ap₂ (pairing_scaling q) (side_alike (get_or n.args 0 0) (arg_below p i q call n at n.args (sym (args_are p.tree i n at)) 0 0 (omega arith)))
-        (side_alike (get_or n.args 1 0) (arg_below p i q call n at n.args (sym (args_are p.tree i n at)) 1 0 (omega arith))) in
+        let two = args_two p i q call n at n.args (sym (args_are p.tree i n at)) in
+        let scaling = ap₂ (pairing_scaling q) (side_alike 0 (omega (arith, two))) (side_alike 1 (omega (arith, two))) in
         subst (λ s. PairEntry of_number number_of Sums Changes s (args_among of_number other n.args) (pairs_at q (sides_at (arg_sides p.tree n) 0) (sides_at (arg_sides p.tree n) 1) j) j r) (sym scaling)
         (subst (λ a. PairEntry of_number number_of Sums Changes (scaling_of of_number number_of Sums Changes Reads rules p setting q forms n.args) a (pairs_at q (sides_at (arg_sides p.tree n) 0) (sides_at (arg_sides p.tree n) 1) j) j r) (sym args_alike) h)
 
@@ -86,11 +89,17 @@ module _ {C : Type 0} (of_number : Frac → C) (number_of : C → Option Frac) (
     by_mark true j r h = reduced_alike n.call refl j r h
     by_mark false j r h = subst (λ a. NumberEntry of_number number_of Sums Changes Reads rules p setting n.call (arg_sides p.tree n) a j r) (sym args_alike) h
 
-    pub entry_alike : (j : ℕ) (r : Result (EntryForms C) ValueStop) → NodeEntry of_number number_of Sums Changes Reads rules p setting forms i n j r → NodeEntry of_number number_of Sums Changes Reads rules p setting other i n j r
+    entry_alike : (j : ℕ) (r : Result (EntryForms C) ValueStop) → NodeEntry of_number number_of Sums Changes Reads rules p setting forms i n j r → NodeEntry of_number number_of Sums Changes Reads rules p setting other i n j r
     entry_alike = by_mark (is_reduced rules p i)
 
+    pub entries_by_args : (size : ℕ) (r : Result (List (EntryForms C)) ValueStop) → FormsEach (NodeEntry of_number number_of Sums Changes Reads rules p setting forms i n) size r → FormsEach (NodeEntry of_number number_of Sums Changes Reads rules p setting other i n) size r
+    entries_by_args size r h = each_alike (NodeEntry of_number number_of Sums Changes Reads rules p setting forms i n) (NodeEntry of_number number_of Sums Changes Reads rules p setting other i n) size r (λ j b. entry_alike j) h
+
+  -- other forms, which are the same of all nodes before node i
+  module _ (forms other : List (List (Form C))) (i : ℕ) (same : (a : ℕ) → a < i → slice_index_or other a [] ≡ slice_index_or forms a []) (n : Node) (at : IsNode p.tree i n) where
     pub entries_alike : (size : ℕ) (r : Result (List (EntryForms C)) ValueStop) → FormsEach (NodeEntry of_number number_of Sums Changes Reads rules p setting forms i n) size r → FormsEach (NodeEntry of_number number_of Sums Changes Reads rules p setting other i n) size r
-    entries_alike size r h = each_alike (NodeEntry of_number number_of Sums Changes Reads rules p setting forms i n) (NodeEntry of_number number_of Sums Changes Reads rules p setting other i n) size r (λ j b. entry_alike j) h
+    entries_alike size r h =
+        entries_by_args forms other i n at (All-weaker (λ a. a < i) (λ a. slice_index_or other a [] ≡ slice_index_or forms a []) same n.args (p.nodes.earlier i n at)) size r h
 
   -- one node more
   pub formed_more : (k : ℕ) (table : Table C) (es : List (EntryForms C)) → AreFormed of_number number_of Sums Changes Reads rules p setting k table →

@@ -24,6 +24,7 @@ use Rattle.dcx_atom.proofs.FormedSums.{value-zero_frac}
 use Rattle.dcx_point.specs.Pairs.{Pairs}
 use Rattle.dcx_arena.specs.declared.node.NodeId.{NodeId}
 use Rattle.dcx_arena.specs.Nodes.{IsNode, call_at, args_at, positions, sides_at}
+use Rattle.dcx_arena.proofs.Positions.{length-positions, position_at}
 use Rattle.dcx_call.specs.declared.call.Call.{Call}
 use Rattle.dcx_call.specs.Calls.{shape_of}
 use Rattle.dcx_call.specs.Values.{given_by, entry_formed, formed_at, IsGiven, IsValue, IsValueStop}
@@ -49,7 +50,7 @@ use Rattle.dcx_entries.specs.Standing.{forms_of, entry_of, all_forms, args_among
 use Rattle.dcx_entries.specs.Nodes.{numbers_in, number_entry, NumberEntry}
 use Rattle.dcx_entries.proofs.Past.{past_end}
 use Rattle.dcx_entries.proofs.Each.{OnStop-weaker}
-use Rattle.dcx_nodes.specs.Formed.{value_entries, IsOfSides, ValueGives, ValueBy}
+use Rattle.dcx_nodes.specs.Formed.{value_entries, IsOfSides, AreOfSides, ValueGives, ValueBy}
 use Rattle.dcx_nodes.specs.Numbers.{HasNumbersOf, HasNumbersAt, HaveNumbersOf, AreOnlyNumbers}
 
 -- ---- numbers of lists
@@ -91,6 +92,12 @@ found_at (y ∷ ys) zero x lt e = ap Some (sym e)
 found_at (y ∷ ys) (suc k) x lt e = found_at ys k x (omega (arith, lt)) e
 
 -- ---- what stands at entries
+-- it has the sides of an argument
+pub sides_here : {C : Type 0} (nodes : List Node) (standing : List (Standing C)) (ids : List NodeId) (k : ℕ) → k < length ids → AreOfSides nodes standing (positions ids) → (s : Standing C) →
+    slice_get standing (get_or ids k (record { 0 = 0 })).0 ≡ Some s → IsOfSides (sides_at nodes (get_or ids k (record { 0 = 0 })).0) s
+sides_here nodes standing ids k lt h =
+    subst (λ a. (s : Standing _) → slice_get standing a ≡ Some s → IsOfSides (sides_at nodes a) s) (position_at ids k) (h k 0 (omega (arith, lt, length-positions ids)))
+
 module _ {C : Type 0} (of_number : Frac → C) where
   pub forms_counted : (sides : Sides) (s : Standing C) → IsOfSides sides s → length (forms_of of_number s) ≡ entries_of sides
   forms_counted sides (Numbers x) h = length-map x.entries (λ n. is_constant (of_number n)) ∙ x.full ∙ ap entries_of h
@@ -168,10 +175,11 @@ module _ {C : Type 0} (of_number : Frac → C) where
           (zip_push (HasNumbersAt of_number number_of nodes standing) (positions (take k ids)) xs (get_or ids k d).0 x h here))
 
       -- an only argument
-      pub only_numbers : (ids : List ℕ) (x : Array) → ((i : ℕ) (s : Standing C) → slice_get standing i ≡ Some s → IsOfSides (sides_at nodes i) s) → AreOnlyNumbers standing ids x →
-          HaveNumbersOf of_number number_of nodes standing ids (x ∷ [])
-      only_numbers ids x sides h = subst (λ zs. HaveNumbersOf of_number number_of nodes standing zs (x ∷ [])) (sym h.ids_are)
-          (record { at = Numbers x; there = h.value_is; sides = sides h.only (Numbers x) h.value_is; numbers = own_numbers x }, tt)
+      pub only_numbers : (ids : List ℕ) (x : Array) → AreOfSides nodes standing ids → AreOnlyNumbers standing ids x → HaveNumbersOf of_number number_of nodes standing ids (x ∷ [])
+      only_numbers ids x sides h =
+          let only : AreOfSides nodes standing (h.only ∷ []) = subst (AreOfSides nodes standing) h.ids_are sides in
+          subst (λ zs. HaveNumbersOf of_number number_of nodes standing zs (x ∷ [])) (sym h.ids_are)
+          (record { at = Numbers x; there = h.value_is; sides = only 0 0 (omega arith) (Numbers x) h.value_is; numbers = own_numbers x }, tt)
 
 -- ---- the value
 few_entries : (xs : List Array) → HaveFewEntries (array_sides xs)

@@ -1,5 +1,6 @@
 -- What is formed of one node.
 use Rattle.std.specs.Prelude.{◌≡◌, ℕ, Bool, List, map, length, Option, Some, Result, Ok, Err, slice_get}
+use Rattle.std.specs.List.{All}
 use Rattle.dcx_frac.specs.declared.fraction.Frac.{Frac}
 use Rattle.dcx_frac.specs.declared.fraction.Passes.{Passes}
 use Rattle.dcx_shape.specs.declared.shape.Sides.{Sides}
@@ -38,9 +39,9 @@ abbrev pub IsOfSides : {C : Type 0} → Sides → Standing C → Type 0
 IsOfSides sides (Numbers x) = sides_of x.shape ≡ sides
 IsOfSides sides (Forms es) = length es ≡ entries_of sides
 
--- all that stands for nodes has
-abbrev pub AreOfSides : {C : Type 0} → List Node → List (Standing C) → Type 0
-AreOfSides nodes standing = (i : ℕ) (s : Standing _) → slice_get standing i ≡ Some s → IsOfSides (sides_at nodes i) s
+-- what stands for each of these nodes has
+abbrev pub AreOfSides : {C : Type 0} → List Node → List (Standing C) → List ℕ → Type 0
+AreOfSides nodes standing ids = All (λ a. (s : Standing _) → slice_get standing a ≡ Some s → IsOfSides (sides_at nodes a) s) ids
 
 -- what stands for a node, as what is formed of its entries
 abbrev pub StandingBy : {C : Type 0} → (Frac → C) → Result (Standing C) ValueStop → (Result (List (EntryForms C)) ValueStop → Type 0) → Type 0

@@ -3,4 +3,5 @@ pub mod Marks
 pub mod Given
 pub mod Formed
 pub mod Numbers
+pub mod Uses
 pub mod SoFar

@@ -4,7 +4,9 @@
 //! a node that is reduced have forms over unknowns: a variable has its own, a parameter its entries, and any other call forms
 //! its entries from the forms of its arguments, as `dcx_entries` says. The auxiliary unknowns of atoms are numbered node by node,
 //! behind the unknowns of the variables. The rows of graphs are kept apart from the forms, with their node, entry and number.
-//! Forming stops at the first node and entry with an operation that passes 128 bits or a divisor that is 0.
+//! The forms of the objective and of the sides of constraints are kept to the end; those of any other node are given back behind
+//! the last node that takes it. Forming stops at the first node and entry with an operation that passes 128 bits or a divisor
+//! that is 0.
 //!
 //! Which nodes are reduced, and which reach no variable, is told by two lists. What is promised holds for all rules by which
 //! these are the marks.
@@ -18,6 +20,7 @@
 //! | a side that is a number, or an affine number where the other side has numbers, scales the other side | `products`, `specs/Marks.antt` |
 //! | rows keep their node, their entry and their number | `rows` |
 //! | nodes are formed in one way, where the entries of parameters have one answer | `laws::one_forming` |
+//! | the forms of a node stand while it is asked for, and behind its last use an empty list | `forming`, `release`, `uses`, `specs/Uses.antt` |
 //! | one step is counted for each node that is begun | `form_nodes` |
 #![tactic(auto)]
 
@@ -31,6 +34,8 @@ mod node;
 mod nodes;
 mod number;
 mod products;
+mod release;
 mod rows;
+mod uses;
 
 pub use nodes::form_nodes;

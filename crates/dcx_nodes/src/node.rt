@@ -50,7 +50,7 @@ fn form_reduced<C: Coef>(
     requires there { node.0 < length given.now.problem.now.tree }
     requires ids { positions args.now.ids.now ≡ args_at given.now.problem.now.tree node.0 }
     requires before { length args.now.standing.now ≡ node.0 }
-    requires sides { AreOfSides given.now.problem.now.tree args.now.standing.now }
+    requires sides { AreOfSides given.now.problem.now.tree args.now.standing.now (positions args.now.ids.now) }
     requires reduced { marked given.now.reduced.now node.0 ≡ true }
     requires next { next.old ≡ first_marked given.now.problem.now given.now.reduced.now node.0 }
     ensures sides { IfOk result (IsOfSides (sides_at given.now.problem.now.tree node.0)) }
@@ -67,34 +67,29 @@ fn form_reduced<C: Coef>(
     }
 }
 
-/// What stands for a node, where this stands for the nodes before it. The auxiliary unknowns of an atom that is reduced are the
-/// next ones, which are then taken.
+/// What stands for a node with these arguments, where this stands for the nodes before it; of these the arguments alone are read.
+/// The auxiliary unknowns of an atom that is reduced are the next ones, which are then taken.
 ///
 /// `Passes` where an operation passes 128 bits, and `ZeroDivisor` where a divisor is 0: the first of both, entry by entry.
 pub(crate) fn form_node<C: Coef>(
     alloc: Global,
     given: &Given,
     node: NodeId,
+    ids: &[NodeId],
     standing: &[Standing<C>],
     next: &mut u32,
 ) -> Result<Standing<C>, ValueStop>
     requires ready { IsReady C.can_read given.now.problem.now given.now.reduced.now given.now.fixed.now given.now.setting.now given.now.firsts.now }
     requires there { node.0 < length given.now.problem.now.tree }
     requires before { length standing.now ≡ node.0 }
-    requires sides { AreOfSides given.now.problem.now.tree standing.now }
+    requires ids { positions ids.now ≡ args_at given.now.problem.now.tree node.0 }
+    requires sides { AreOfSides given.now.problem.now.tree standing.now (positions ids.now) }
     requires next { next.old ≡ first_marked given.now.problem.now given.now.reduced.now node.0 }
     ensures sides { IfOk result (IsOfSides (sides_at given.now.problem.now.tree node.0)) }
     ensures entries { StandingBy C.of_number result (MarkedGives C.of_number C.number_of C.sum_gives C.change_gives C.parameter_gives given.now.problem.now given.now.setting.now given.now.reduced.now given.now.fixed.now (all_forms C.of_number standing.now) node.0) }
     ensures next { OnOk result (next.new ≡ first_marked given.now.problem.now given.now.reduced.now (node.0 + 1)) }
 {
-    let ids = match given.problem.tree.args(alloc, node) {
-        Ok(ids) => ids,
-        Err(_) => return Err(ValueStop::Memory),
-    };
-    let args = Arguments {
-        standing,
-        ids: &ids,
-    };
+    let args = Arguments { standing, ids };
     if given.reduced[node.0 as usize] {
         form_reduced(alloc, given, node, &args, next)
     } else {

@@ -11,6 +11,7 @@ ghost use Rattle.dcx_nodes.specs.SoFar.{IsMarkedKept, IsMarkedStop};
 use crate::count::unknown_count;
 use crate::forming::{Forming, add_nodes};
 use crate::given::Given;
+use crate::uses::last_uses;
 use dcx_entries::{FormStop, Formed, FormedRows, StandingList};
 use dcx_linear::Coef;
 use dcx_point::Setting;
@@ -20,9 +21,11 @@ use dcx_unknowns::first_unknowns;
 use std::alloc::Global;
 use std::sync::ledger::Ledger;
 
-/// The forms of all nodes of a problem, in order, each from those of its arguments, and the rows of their graphs. `reduced` tells
-/// of each node whether it is reduced by the rules, and `fixed` whether it reaches no variable. There are fewer than 2^32 unknowns, the setting has what nodes take that aren't reduced, and the entries of the
-/// parameters that are reduced may be asked for. One step is counted for each node that is begun.
+/// The forms of the objective and of the sides of constraints, and the rows of the graphs of all nodes. All nodes are formed, in
+/// order, each from the forms of its arguments; forms that aren't asked for any more are given back. `reduced` tells of each node
+/// whether it is reduced by the rules, and `fixed` whether it reaches no variable. There are fewer than 2^32 unknowns, the setting
+/// has what nodes take that aren't reduced, and the entries of the parameters that are reduced may be asked for. One step is
+/// counted for each node that is begun.
 ///
 /// `Passes` or `ZeroDivisor` at the first node and entry with an operation that passes 128 bits or a divisor that is 0; `Memory`
 /// where there is none.
@@ -77,12 +80,16 @@ fn all_nodes<C: Coef, L: Ledger>(
     ensures steps { OnOk result (steps.new ≡ steps.old + length given.now.problem.now.tree) }
     ensures begun { steps.new ≤ steps.old + length given.now.problem.now.tree }
 {
+    let uses = match last_uses(alloc, given.problem) {
+        Ok(uses) => uses,
+        Err(_) => return Err(FormStop::Memory),
+    };
     let mut forming = Forming {
         standing: Vec::new(alloc),
         rows: Vec::new(alloc),
         next,
     };
-    add_nodes(alloc, given, &mut forming, steps)?;
+    add_nodes(alloc, given, &uses, &mut forming, steps)?;
     let Forming {
         standing,
         rows,

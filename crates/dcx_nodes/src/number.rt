@@ -78,7 +78,7 @@ fn arrays_of<C: Coef>(
 ) -> Result<Vec<Array>, AllocError>
     requires before { All (λ a. a < length args.now.standing.now) (positions args.now.ids.now) }
     requires few { length args.now.standing.now ≤ length tree.now }
-    requires sides { AreOfSides tree.now args.now.standing.now }
+    requires sides { AreOfSides tree.now args.now.standing.now (positions args.now.ids.now) }
     ensures { IfOk result (λ v. HaveNumbersOf C.of_number C.number_of tree.now args.now.standing.now (positions args.now.ids.now) v.items) }
 {
     let mut arrays = Vec::new(alloc);
@@ -114,7 +114,7 @@ pub(crate) fn node_value<C: Coef>(
     requires there { node.0 < length given.now.problem.now.tree }
     requires ids { positions args.now.ids.now ≡ args_at given.now.problem.now.tree node.0 }
     requires before { length args.now.standing.now ≡ node.0 }
-    requires sides { AreOfSides given.now.problem.now.tree args.now.standing.now }
+    requires sides { AreOfSides given.now.problem.now.tree args.now.standing.now (positions args.now.ids.now) }
     requires given { (n : Node) → IsNode given.now.problem.now.tree node.0 n → IsGiven n.call given.now.setting.now [] }
     ensures sides { IfOk result (λ x. sides_of x.shape ≡ sides_at given.now.problem.now.tree node.0) }
     ensures value { ValueBy C.of_number result (ValueGives C.of_number C.number_of C.sum_gives C.change_gives C.parameter_gives given.now.problem.now given.now.setting.now (all_forms C.of_number args.now.standing.now) node.0) }

@@ -5,7 +5,7 @@ use Rattle.dcx_arena.specs.Nodes.{positions, sides_at}
 use Rattle.dcx_arena.proofs.Positions.{position_below}
 use Rattle.dcx_nodes.specs.Formed.{IsOfSides}
 use Rattle.dcx_nodes.specs.Numbers.{HasNumbersOf, HaveNumbersOf}
-use Rattle.dcx_nodes.proofs.Numbers.{arrays_more, found_at}
+use Rattle.dcx_nodes.proofs.Numbers.{arrays_more, found_at, sides_here}
 use Rattle.dcx_nodes.proofs.number.arrays_of.Goals as goal
 
 pub bounds-args-id : goal.bounds-args-id
@@ -21,7 +21,8 @@ numbers_of-requires g c =
     let standing = c.args.args.now.standing.now in
     let a = (get_or c.args.args.now.ids.now c.ids.id-index (record { 0 = 0 })).0 in
     let below = position_below c.args.args.now.ids.now (length standing) c.ids.id-index c.requires.before c.ids-test.true in
-    let here : IsOfSides (sides_at c.args.tree.now a) c.index-args-id.result = c.requires.sides a c.index-args-id.result (found_at standing a c.index-args-id.result below c.index-args-id.is) in
+    let here : IsOfSides (sides_at c.args.tree.now a) c.index-args-id.result =
+    sides_here c.args.tree.now standing c.args.args.now.ids.now c.ids.id-index c.ids-test.true c.requires.sides c.index-args-id.result (found_at standing a c.index-args-id.result below c.index-args-id.is) in
     subst (λ z. IsOfSides z (get_or standing a c.index-args-id.result)) (sym c.shape.ensures) (subst (IsOfSides (sides_at c.args.tree.now a)) c.index-args-id.is here)
 
 pub ids-preserved : goal.ids-preserved
