@@ -37,10 +37,6 @@ file_start = record { line = 1; column = 1 }
 abbrev pub IsTooLong : RefusalSource → Refusal → Type 0
 IsTooLong source r = IsRefusedAs source 8 file_start carried_is.Nothing r
 
--- the refusal of a whole script for its form
-abbrev pub IsNotYet : Refusal → Type 0
-IsNotYet r = IsRefusedAs Script 29 file_start carried_is.Nothing r
-
 -- where a site stands in the script; None where the problem has no such site
 abbrev pub site_place : Problem → RuleSite → Option Place
 site_place p (Node id) = place_at p.tree id.0

@@ -1,7 +1,7 @@
 //! Refusals as they are made, and their names.
 ghost use Rattle.std.specs.Prelude.{◌≡◌, IsTrue};
 ghost use Rattle.dcx_front.specs.Refusals.{is_refusal, refusal_name};
-ghost use Rattle.dcx_front.specs.Checks.{IsRefusedAs, IsTooLong, IsNotYet};
+ghost use Rattle.dcx_front.specs.Checks.{IsRefusedAs, IsTooLong};
 
 use crate::{Carried, Refusal, RefusalSource};
 use dcx_shape::Place;
@@ -32,7 +32,6 @@ fn name_of(number: u8) -> &'static [u8]
         18 => b"TooMany",
         19 => b"NotDcp",
         20 => b"PlainWide",
-        29 => b"NotYet",
         _ => b"",
     }
 }
@@ -57,14 +56,6 @@ impl Refusal {
     {
         let place = Place { line: 1, column: 1 };
         Refusal::of(source, 8, place, Carried::Nothing)
-    }
-
-    /// The refusal of a whole script for its form.
-    pub fn not_yet() -> Refusal
-        ensures { IsNotYet result }
-    {
-        let place = Place { line: 1, column: 1 };
-        Refusal::of(RefusalSource::Script, 29, place, Carried::Nothing)
     }
 
     /// The name of the refusal.

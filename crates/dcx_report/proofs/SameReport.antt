@@ -16,7 +16,7 @@ use Rattle.dcx_report.specs.declared.outcome.OutcomeEnd.TheVariants as the
 use Rattle.dcx_report.specs.declared.run.Word.{Word}
 use Rattle.dcx_report.specs.declared.run.Word.TheVariants.{Solve, Setting}
 use Rattle.dcx_report.specs.AnswerText.{answer_text}
-use Rattle.dcx_report.specs.StopText.{stop_name, stop_details}
+use Rattle.dcx_report.specs.StopText.{stop_name, stop_details, stopped_text}
 use Rattle.dcx_report.specs.OutcomeText.{word_text, end_text, outcome_text, outcome_lines, count_line}
 use Rattle.dcx_report.specs.ReportText.{text_of}
 use Rattle.dcx_report.specs.SameText.{Layout, IsEndOf, answer_of, answers_of, SameTextSameAnswers}
@@ -37,7 +37,7 @@ feed xs = record { byte = 10; tail = xs; is = refl; without = λ h. h refl }
 
 -- how a setting ends, and what stands behind it
 end_read : (layout : Layout) (sense : Sense) (p q : Option Place) (x y : OutcomeEnd) (r s : List ℕ) → IsEndOf layout x → IsEndOf layout y → end_text sense p x ++ r ≡ end_text sense q y ++ s → (answer_of x ≡ answer_of y) × (r ≡ s)
-unfolding end_text
+unfolding end_text stopped_text
 end_read layout sense p q (the.Answer a) (the.Answer b) r s h k e =
     let parts = answer_read layout sense a b r s h k e in
     (ap Some parts.0, parts.1)

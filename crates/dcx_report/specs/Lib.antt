@@ -8,3 +8,4 @@ pub mod RefusalText
 pub mod ReportText
 pub mod SameText
 pub mod StopText
+pub mod TrialText

@@ -10,7 +10,7 @@ use Rattle.dcx_report.specs.declared.outcome.OutcomeEnd.TheVariants.{Answer, Sto
 use Rattle.dcx_report.specs.declared.run.Word.{Word}
 use Rattle.dcx_report.specs.declared.run.Word.TheVariants.{Solve, Setting}
 use Rattle.dcx_report.specs.AnswerText.{answer_text}
-use Rattle.dcx_report.specs.StopText.{stop_name, stop_details}
+use Rattle.dcx_report.specs.StopText.{stopped_text}
 
 -- the word that an outcome's first line begins with
 unfoldable pub word_text : Word → List ℕ
@@ -20,7 +20,7 @@ word_text Setting = codes "setting"
 -- what stands behind the number of a setting
 unfoldable pub end_text : Sense → Option Place → OutcomeEnd → List ℕ
 end_text sense place (Answer answer) = answer_text sense answer
-end_text sense place (Stop stop) = codes " stopped " ++ stop_name stop ++ stop_details place stop ++ codes "\n"
+end_text sense place (Stop stop) = stopped_text place stop
 
 -- the lines of one outcome, with its number
 unfoldable pub outcome_text : Word → Sense → ℕ × Outcome → List ℕ

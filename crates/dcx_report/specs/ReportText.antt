@@ -1,10 +1,11 @@
 -- The bytes of the report of a run. Each line ends with a line feed.
 use Rattle.std.specs.Prelude.{ℕ, List, ◌++◌, codes}
 use Rattle.dcx_report.specs.declared.run.Run.{Run}
-use Rattle.dcx_report.specs.declared.run.Run.TheVariants.{Usage, Refused, Checked, Solved, ReadFault, Memory}
+use Rattle.dcx_report.specs.declared.run.Run.TheVariants.{Usage, Refused, Checked, Solved, Trial, ReadFault, Memory}
 use Rattle.dcx_report.specs.CheckText.{checked_text}
 use Rattle.dcx_report.specs.OutcomeText.{outcome_lines, count_line}
 use Rattle.dcx_report.specs.RefusalText.{refusal_text}
+use Rattle.dcx_report.specs.TrialText.{trial_lines}
 
 -- the commands, with their operands
 abbrev pub usage_text : List ℕ
@@ -17,5 +18,6 @@ text_of Usage = usage_text
 text_of (Refused refusal) = refusal_text refusal
 text_of (Checked checked) = checked_text checked
 text_of (Solved word sense outcomes) = outcome_lines word sense outcomes ++ count_line outcomes
+text_of (Trial size outcomes) = trial_lines size outcomes ++ count_line outcomes
 text_of ReadFault = codes "fault read\n"
 text_of Memory = codes "want of memory\n"

@@ -48,3 +48,7 @@ stop_details place (Wide site) = site_text place site
 stop_details place (PivotLimit count) = codes " " ++ decimal count
 stop_details place (TooLarge rows columns) = codes " rows " ++ decimal rows ++ codes " columns " ++ decimal columns
 stop_details place Memory = []
+
+-- what stands behind the number of a setting that is stopped
+unfoldable pub stopped_text : Option Place → Stop → List ℕ
+stopped_text place stop = codes " stopped " ++ stop_name stop ++ stop_details place stop ++ codes "\n"

@@ -5,8 +5,10 @@ ghost use Rattle.dcx_report.specs.Negated.{negated};
 ghost use Rattle.dcx_report.specs.AnswerText.{user_number, number_line, named_line, var_lines, ray_lines, dual_line, dual_lines, answer_text};
 
 use crate::pieces::{put_array, put_bytes, put_frac, put_number};
-use crate::{Answer, Array, Point, Sense};
+use crate::{Answer, Sense};
+use dcx_atom::Array;
 use dcx_frac::Frac;
+use dcx_point::Point;
 use dcx_shape::Name;
 use std::alloc::AllocError;
 

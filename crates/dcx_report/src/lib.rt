@@ -1,4 +1,13 @@
 //! How a run ends, and the bytes of its report.
+//!
+//! | what must hold | where |
+//! |---|---|
+//! | the report of a run is its text, byte for byte | `report_text`, `text_of` of `specs/ReportText.antt` |
+//! | a value and a bound are told of the user's objective: negated back where it is maximized | `user_number` of `specs/AnswerText.antt` |
+//! | a trial tells of each setting how it ends, on one line, an optimal value with it | `trial_lines` of `specs/TrialText.antt` |
+//! | the last line counts the settings that are answered and those that are stopped | `count_line` of `specs/OutcomeText.antt` |
+//! | an outcome has a place exactly where its stop names a node | `Outcome`, `names_node` of `specs/NodeStops.antt` |
+//! | two runs over one problem with the same report have the same answers | `laws::same_text_same_answers` |
 #![tactic(auto)]
 
 mod answer_lines;
@@ -11,13 +20,10 @@ mod refusal_line;
 mod report;
 mod run;
 mod stop_line;
+mod trial_lines;
 
-pub use dcx_answer::{Answer, Duals, Site, Stop};
-pub use dcx_arena::{Count, NodeId};
-pub use dcx_atom::{Array, Sign};
-pub use dcx_front::{Carried, Checked, Refusal, RefusalSource};
-pub use dcx_point::Point;
-pub use dcx_rules::{Curvature, Rule};
+pub use dcx_answer::{Answer, Stop};
+pub use dcx_front::Refusal;
 pub use dcx_tree::Sense;
 pub use outcome::{Outcome, OutcomeEnd};
 pub use outcomes::Outcomes;

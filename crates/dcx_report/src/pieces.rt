@@ -4,7 +4,7 @@ ghost use Rattle.std.specs.List.{flat_map};
 ghost use Rattle.dcx_frac.specs.Text.{frac_text};
 ghost use Rattle.dcx_report.specs.Pieces.{place_text, shape_text, entry_text, array_text, op_text, passes_text};
 
-use crate::Array;
+use dcx_atom::Array;
 use dcx_frac::{Frac, Op, Passes, write_frac};
 use dcx_shape::{Place, Shape, Sides};
 use itoa::Buffer;

@@ -7,7 +7,8 @@ use crate::answer_lines::put_answer;
 use crate::check_lines::put_checked;
 use crate::pieces::{put_bytes, put_number};
 use crate::refusal_line::put_refusal;
-use crate::stop_line::{name_of_stop, put_details};
+use crate::stop_line::put_stopped;
+use crate::trial_lines::put_trial;
 use crate::{Outcome, OutcomeEnd, Run, Sense, Word};
 use dcx_shape::{Bytes, Place};
 use std::alloc::{AllocError, Global};
@@ -35,12 +36,7 @@ fn put_end(
 {
     match end {
         OutcomeEnd::Answer(answer) => put_answer(out, sense, answer),
-        OutcomeEnd::Stop(stop) => {
-            put_bytes(out, b" stopped ")?;
-            put_bytes(out, name_of_stop(stop))?;
-            put_details(out, place, stop)?;
-            put_bytes(out, b"\n")
-        }
+        OutcomeEnd::Stop(stop) => put_stopped(out, place, stop),
     }
 }
 
@@ -134,6 +130,10 @@ fn put_run(out: &mut Vec<u8>, run: &Run) -> Result<(), AllocError>
             outcomes,
         } => {
             put_outcomes(out, *word, *sense, outcomes.as_slice())?;
+            put_counts(out, outcomes.as_slice())
+        }
+        Run::Trial { size, outcomes } => {
+            put_trial(out, *size, outcomes.as_slice())?;
             put_counts(out, outcomes.as_slice())
         }
         Run::ReadFault => put_bytes(out, b"fault read\n"),

@@ -1,6 +1,7 @@
 //! How a run ends.
 
-use crate::{Checked, Outcomes, Refusal, Sense};
+use crate::{Outcomes, Refusal, Sense};
+use dcx_front::Checked;
 
 /// The word that a run's outcomes stand under.
 #[derive(Clone, Copy, Debug, PartialEq, Eq)]
@@ -26,6 +27,13 @@ pub enum Run {
         word: Word,
         /// Which way the script's objective goes.
         sense: Sense,
+        /// The outcomes, in order.
+        outcomes: Outcomes,
+    },
+    /// The trial problem of this size was solved, or stopped, at each setting.
+    Trial {
+        /// How many points the trial problem fits a line to.
+        size: u32,
         /// The outcomes, in order.
         outcomes: Outcomes,
     },

@@ -1,10 +1,11 @@
-//! Appends why a setting is stopped.
+//! Appends that a setting is stopped, and why.
 ghost use Rattle.std.specs.Prelude.{◌≡◌, ◌++◌, OnOk, codes, decimal};
 ghost use Rattle.dcx_report.specs.Pieces.{passes_text};
-ghost use Rattle.dcx_report.specs.StopText.{entry_at_text, site_text, stop_name, stop_details};
+ghost use Rattle.dcx_report.specs.StopText.{entry_at_text, site_text, stop_name, stop_details, stopped_text};
 
 use crate::pieces::{put_bytes, put_frac, put_number, put_passes, put_place, put_shape};
-use crate::{Site, Stop};
+use crate::Stop;
+use dcx_answer::Site;
 use dcx_frac::Passes;
 use dcx_shape::Place;
 use std::alloc::AllocError;
@@ -69,7 +70,7 @@ fn put_site(out: &mut Vec<u8>, place: Option<Place>, site: &Site) -> Result<(), 
 
 /// The number and the name of a stop.
 #[tactic(auto, unfolding(crate::specs::StopText::stop_name))]
-pub(crate) fn name_of_stop(stop: &Stop) -> &'static [u8]
+fn name_of_stop(stop: &Stop) -> &'static [u8]
     ensures { result.now ≡ stop_name stop.now }
 {
     match stop {
@@ -87,7 +88,7 @@ pub(crate) fn name_of_stop(stop: &Stop) -> &'static [u8]
 
 /// Appends what a stop carries, with the place of the node that it names.
 #[tactic(auto, unfolding(crate::specs::StopText::stop_details))]
-pub(crate) fn put_details(
+fn put_details(
     out: &mut Vec<u8>,
     place: Option<Place>,
     stop: &Stop,
@@ -128,4 +129,19 @@ pub(crate) fn put_details(
         }
         Stop::Memory => Ok(()),
     }
+}
+
+/// Appends that a setting is stopped, and why, behind its number.
+#[tactic(auto, unfolding(crate::specs::StopText::stopped_text))]
+pub(crate) fn put_stopped(
+    out: &mut Vec<u8>,
+    place: Option<Place>,
+    stop: &Stop,
+) -> Result<(), AllocError>
+    ensures { OnOk result (out.new.items ≡ out.old.items ++ stopped_text place stop.now) }
+{
+    put_bytes(out, b" stopped ")?;
+    put_bytes(out, name_of_stop(stop))?;
+    put_details(out, place, stop)?;
+    put_bytes(out, b"\n")
 }

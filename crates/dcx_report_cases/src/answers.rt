@@ -1,8 +1,10 @@
 //! Answers as they are written: `optimal VALUE`, `infeasible GAP` or `unbounded BOUND SLOPE`, and then `var NAME ARRAY`,
 //! `ray NAME ARRAY` and `dual ARRAY`.
+use dcx_answer::Duals;
 use dcx_case_lines::{CaseFault, array, fraction, name, words};
 use dcx_frac::Frac;
-use dcx_report::{Answer, Duals, Point};
+use dcx_point::Point;
+use dcx_report::Answer;
 use std::alloc::Global;
 
 /// Puts an array under its name, `x () 3`.

@@ -1,7 +1,10 @@
 //! Refusals as they are written: the number, the line and the column, and what is carried.
 use crate::stops::passes;
+use dcx_arena::Count;
 use dcx_case_lines::{CaseFault, count};
-use dcx_report::{Carried, Count, Refusal, RefusalSource, Rule};
+use dcx_front::{Carried, RefusalSource};
+use dcx_report::Refusal;
+use dcx_rules::Rule;
 use dcx_shape::Place;
 
 /// The rule of a word.

@@ -2,11 +2,12 @@
 use crate::answers::answer;
 use crate::refusals::{place, refusal};
 use crate::stops::{stop, stop_at};
-use dcx_case_lines::{CaseFault, Cases, put_between, words};
+use dcx_case_lines::{CaseFault, Cases, count, put_between, words};
 use dcx_report::{Outcome, OutcomeEnd, Outcomes, Run, Sense, Word, report_text};
 use std::alloc::Global;
 
-/// `usage`, `fault`, `memory`, `refused REFUSAL`, or `WORD SENSE | OUTCOME | ..`, and the report, in which each line ends with ` /`.
+/// `usage`, `fault`, `memory`, `refused REFUSAL`, `WORD SENSE | OUTCOME | ..` or `trial SIZE | OUTCOME | ..`, and the report, in
+/// which each line ends with ` /`.
 pub(crate) struct Reports;
 
 impl Cases for Reports {
@@ -29,6 +30,7 @@ fn told(alloc: Global, words: &[&str], rest: &[&str], out: &mut String) -> Resul
         ["refused", ref words @ ..] => put_report(alloc, &Run::Refused(refusal(words)?), out),
         ["solve", sense] => solved_told(alloc, Word::Solve, sense, rest, out),
         ["setting", sense] => solved_told(alloc, Word::Setting, sense, rest, out),
+        ["trial", size] => trial_told(alloc, size, rest, out),
         _ => Err(CaseFault::Unreadable),
     }
 }
@@ -111,4 +113,15 @@ fn solved_told(
         },
         out,
     )
+}
+
+fn trial_told(
+    alloc: Global,
+    size: &str,
+    texts: &[&str],
+    out: &mut String,
+) -> Result<(), CaseFault> {
+    let size = count(size)?;
+    let outcomes = outcomes_of(alloc, texts)?;
+    put_report(alloc, &Run::Trial { size, outcomes }, out)
 }

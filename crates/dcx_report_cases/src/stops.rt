@@ -3,9 +3,11 @@ ghost use Rattle.std.specs.Prelude.{◌≡◌, true, false, IfOk};
 ghost use Rattle.dcx_report.specs.NodeStops.{names_node};
 ghost use Rattle.dcx_report.specs.declared.outcome.OutcomeEnd.TheVariants as ends;
 
+use dcx_answer::Site;
+use dcx_arena::NodeId;
 use dcx_case_lines::{CaseFault, count, fraction, name, shape};
 use dcx_frac::{Op, Passes};
-use dcx_report::{NodeId, Site, Stop};
+use dcx_report::Stop;
 use std::alloc::Global;
 
 /// An operation that passes, with its operands.
