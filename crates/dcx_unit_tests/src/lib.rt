@@ -1,5 +1,5 @@
 //! What no line of a file can say: traits called through their bounds at types of their own, a counter of steps, libraries
-//! and sinks that fail, files of the host, and the solutions of plain linear programs.
+//! and sinks that fail, and files of the host.
 //!
 //! The other cases are lines of the crates whose names end with `_cases`.
 #![tactic(auto)]
@@ -10,5 +10,3 @@ mod counting;
 mod files;
 #[cfg(test)]
 mod laws;
-#[cfg(test)]
-mod solving;

@@ -1,5 +1,0 @@
-use Rattle.std.proofs.Common.{◌≡◌, ◌++◌, replicate, pos}
-use Rattle.dcx_lp.proofs.program.push_zeros.Given as goal
-
-abbrev pub invariant-zeros : goal.invariant-zeros
-invariant-zeros l = l.entries.items ≡ l.fn.entries.items ++ replicate l.counter (pos 0)

@@ -1,2 +1,0 @@
-pub mod IntegerProgram
-pub mod Solution

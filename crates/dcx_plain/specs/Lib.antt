@@ -1,7 +1,0 @@
-pub mod Reading
-pub mod Words
-pub mod Grammar
-pub mod Phrases
-pub mod Plain
-pub mod Meaning
-pub mod Answers
