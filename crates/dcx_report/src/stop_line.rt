@@ -3,8 +3,8 @@ ghost use Rattle.std.specs.Prelude.{◌≡◌, ◌++◌, OnOk, codes, decimal};
 ghost use Rattle.dcx_report.specs.Pieces.{passes_text};
 ghost use Rattle.dcx_report.specs.StopText.{entry_at_text, site_text, stop_name, stop_details, stopped_text};
 
-use crate::pieces::{put_bytes, put_frac, put_number, put_passes, put_place, put_shape};
 use crate::Stop;
+use crate::pieces::{put_bytes, put_frac, put_number, put_passes, put_place, put_shape};
 use dcx_answer::Site;
 use dcx_frac::Passes;
 use dcx_shape::Place;
@@ -88,11 +88,7 @@ fn name_of_stop(stop: &Stop) -> &'static [u8]
 
 /// Appends what a stop carries, with the place of the node that it names.
 #[tactic(auto, unfolding(crate::specs::StopText::stop_details))]
-fn put_details(
-    out: &mut Vec<u8>,
-    place: Option<Place>,
-    stop: &Stop,
-) -> Result<(), AllocError>
+fn put_details(out: &mut Vec<u8>, place: Option<Place>, stop: &Stop) -> Result<(), AllocError>
     ensures { OnOk result (out.new.items ≡ out.old.items ++ stop_details place stop.now) }
 {
     match stop {
