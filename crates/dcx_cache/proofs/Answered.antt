@@ -25,6 +25,7 @@ use Rattle.dcx_graph.specs.AsLinear.{IsReductionAt}
 use Rattle.dcx_graph.specs.Answers.{rows_of, HasParts, IsAnswered, IsRead, IsRightFor}
 use Rattle.dcx_graph.proofs.Correct.{numbers_are_reductions, affine_are_reductions, affine_are_known}
 use Rattle.dcx_graph.proofs.AtSetting.{fixed_are_reductions}
+use Rattle.dcx_graph.proofs.Mapped.{read_right}
 use Rattle.dcx_cache.specs.Programs.{SessionGives, mapped, anew}
 use Rattle.dcx_cache.specs.Answers.{IsAnswerOf, Answers}
 use Rattle.dcx_cache.specs.Laws.{AnswersAreRight}
@@ -81,4 +82,4 @@ module _ (p : Problem) (setting : Pairs) (ok : IsAccepted p) (fits : FitsParamet
 
 pub answers_are_right : AnswersAreRight
 answers_are_right p setting limit a ok (q, s, h) =
-    (is_fitting p setting ok h.fits q h.program, read_right p (setting_of p setting) q s.answer (is_answered p setting ok h.fits limit q s h.program h.is_solved) a h.read)
+    (is_fitting p setting ok h.fits q h.program, read_right p (setting_of p setting) q s.answer h.known (is_answered p setting ok h.fits limit q s h.program h.is_solved) a h.read)

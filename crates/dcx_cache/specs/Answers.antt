@@ -11,6 +11,7 @@ use Rattle.dcx_solved.specs.declared.solving.Solved.{Solved}
 use Rattle.dcx_solved.specs.declared.stop.SolveStop.{SolveStop}
 use Rattle.dcx_solved.specs.declared.stop.SolveStop.TheVariants as solves
 use Rattle.dcx_solved.specs.Solved.{IsSolved, Stops as RowsStop}
+use Rattle.dcx_std.specs.Solutions.{HasKinds}
 use Rattle.dcx_graph.specs.declared.stop.ReduceStop.{ReduceStop}
 use Rattle.dcx_graph.specs.declared.reading.AnswerStop.{AnswerStop}
 use Rattle.dcx_graph.specs.declared.reading.AnswerStop.TheVariants as reads
@@ -20,11 +21,12 @@ use Rattle.dcx_cache.specs.Programs.{SessionGives}
 use Rattle.dcx_cache.specs.Stops.{program_stop, run_stop, reading_stop}
 
 -- ---- answers
--- the setting fits the parameters, this is the session's program there, it is solved so with at most so many pivots, and the answer
--- is read from that
+-- the setting fits the parameters, this is the session's program there, which names unknowns of its own alone, it is solved so with at
+-- most so many pivots, and the answer is read from that
 pub record IsAnswerOf (p : Problem) (setting : Pairs) (limit : ℕ) (q : Program Frac) (s : Solved) (a : Answer) : Type 0 where
   pub fits : FitsParameters p.parameters setting
   pub program : SessionGives p setting (Ok q)
+  pub known : HasKinds (rows_of q)
   pub is_solved : IsSolved limit (rows_of q) s
   pub read : IsRead p q.kinds s.answer a
 

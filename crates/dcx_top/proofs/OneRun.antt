@@ -6,6 +6,7 @@ use Rattle.dcx_tree.specs.declared.constraint.Sense.{Sense}
 use Rattle.dcx_host.specs.Files.{Files}
 use Rattle.dcx_elab.specs.declared.work.Work.{Work}
 use Rattle.dcx_settings.specs.File.{SpellSettings}
+use Rattle.dcx_settings.proofs.OneList.{settings_one}
 use Rattle.dcx_front.specs.declared.accepted.Accepted.{Accepted}
 use Rattle.dcx_front.specs.declared.checked.Checked.{Checked}
 use Rattle.dcx_front.specs.declared.refusal.Refusal.{Refusal}
@@ -31,7 +32,7 @@ module _ (words : List (List ℕ)) (files : Files) where
   one_of_file : (name : List ℕ) (last : Pairs) (ss ts : List Pairs) → AreOfFile (Some files) name last ss → AreOfFile (Some files) name last ts → ss ≡ ts
   one_of_file name last ss ts h k =
       let bytes = same_Some h.bytes k.bytes (sym h.are_told ∙ k.are_told) in
-      let lines = one_lines k.bytes h.lines k.lines (subst (λ b. SpellSettings b h.lines) bytes h.spelled) k.spelled in
+      let lines = settings_one k.bytes h.lines k.lines (subst (λ b. SpellSettings b h.lines) bytes h.spelled) k.spelled in
       settings_are_one.laid last k.lines ss ts (subst (λ l. AreLaidOver last l ss) lines h.laid) k.laid
 
   one_settings : (command : Command) (work : Work) (ss ts : List Pairs) → AreSettingsOf (Some files) command work ss → AreSettingsOf (Some files) command work ts → ss ≡ ts
