@@ -128,7 +128,7 @@ fn resolve_from<L: Library, S: Ledger>(
     steps: &mut Steps<S>,
 ) -> Run
     requires { IsJudged accepted.work.problem accepted.verdict }
-    ensures { OrWhole accepted.work.problem (ResolvesFrom (L.told library.old) (Rose (L.faults library.old) (L.faults library.new)) accepted.work settings.now limit steps.old steps.new) steps.old steps.new result }
+    ensures run { OrWhole accepted.work.problem (ResolvesFrom (L.told library.old) (Rose (L.faults library.old) (L.faults library.new)) accepted.work settings.now limit steps.old steps.new) steps.old steps.new result }
     ensures same { L.told library.new ≡ L.told library.old }
     ensures never_falls { L.faults library.old ≤ L.faults library.new }
 {

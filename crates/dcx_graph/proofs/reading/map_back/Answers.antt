@@ -11,7 +11,7 @@ read-requires c =
     let q = c.args.reduced.now.program in
     let a = c.args.answer.now in
     let known = known_of q c.rows.result.now.kinds c.rows.result.now.rows c.rows.result.now.objective c.rows.ensures.kinds c.rows.ensures.rows c.rows.ensures.objective c.rows.result.now.rows_known c.rows.result.now.objective_known in
-    subst (λ kinds. CanBeRead p kinds a) (sym (c.as_slice.ensures ∙ c.rows.ensures.kinds)) (can_be_read p (setting_of p c.args.setting.now) q a known c.requires)
+    subst (λ kinds. CanBeRead p kinds a) (sym (c.as_slice.ensures ∙ c.rows.ensures.kinds)) (can_be_read p (setting_of p c.args.setting.now) q a known c.requires.answered)
 
 pub returns-clause-read : goal.returns-clause-read
 returns-clause-read c =
@@ -25,6 +25,6 @@ returns-clause-right c =
     let a = c.args.answer.now in
     let known = known_of q c.rows.result.now.kinds c.rows.result.now.rows c.rows.result.now.objective c.rows.ensures.kinds c.rows.ensures.rows c.rows.ensures.objective c.rows.result.now.rows_known c.rows.result.now.objective_known in
     IfOk-weaker c.read.result (IsRead p c.as_slice.result.now a) (IsRightFor p s)
-    (λ x read. read_right p s q a known c.requires x
+    (λ x read. read_right p s q a known c.requires.answered x
     (subst (λ kinds. IsRead p kinds a x) (c.as_slice.ensures ∙ c.rows.ensures.kinds) read))
     c.read.ensures.read
