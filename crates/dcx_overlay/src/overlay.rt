@@ -25,11 +25,7 @@ fn array_of(alloc: Global, item: &SettingItem) -> Result<Array, AllocError>
 }
 
 /// A setting with the items of a line laid over it.
-fn laid_over(
-    alloc: Global,
-    setting: &Setting,
-    line: &[SettingItem],
-) -> Result<Setting, AllocError>
+fn laid_over(alloc: Global, setting: &Setting, line: &[SettingItem]) -> Result<Setting, AllocError>
     requires { Every IsFull line.now }
     ensures { IfOk result (LaidOver setting.now line.now) }
 {

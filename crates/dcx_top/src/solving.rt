@@ -40,7 +40,14 @@ fn solve_events<S: Ledger>(
     let Accepted { work, verdict } = accepted;
     let sense = work.problem.sense;
     let events = work.events;
-    match outcomes(alloc, work.problem, verdict, events.as_slice(), limit, steps) {
+    match outcomes(
+        alloc,
+        work.problem,
+        verdict,
+        events.as_slice(),
+        limit,
+        steps,
+    ) {
         Ok(outcomes) => Run::Solved {
             word: Word::Solve,
             sense,
@@ -160,12 +167,7 @@ pub(crate) fn resolve<L: Library, S: Ledger>(
 }
 
 /// What the trial problem of this size gives. Its script is read as any script is.
-pub(crate) fn trial<S: Ledger>(
-    alloc: Global,
-    size: u32,
-    limit: u64,
-    steps: &mut Steps<S>,
-) -> Run
+pub(crate) fn trial<S: Ledger>(alloc: Global, size: u32, limit: u64, steps: &mut Steps<S>) -> Run
     ensures { (words : List (List ℕ)) (told : Option Files) (risen : Type 0) → command_of words ≡ Some (tries size limit) → Causes words told risen steps.old steps.new result }
 {
     let Ok(bytes) = trial_script(alloc, size) else {
