@@ -11,7 +11,7 @@ read-requires c =
     let q = c.args.reduced.now.program in
     let a = c.args.answer.now in
     let known = known_of q c.rows.result.now.kinds c.rows.result.now.rows c.rows.result.now.objective c.rows.ensures.kinds c.rows.ensures.rows c.rows.ensures.objective c.rows.result.now.rows_known c.rows.result.now.objective_known in
-    subst (λ kinds. CanBeRead p kinds a) (sym (c.as_slice.ensures ∙ c.rows.ensures.kinds)) (can_be_read p (setting_of p c.args.setting.now) q a known c.requires.answered)
+    record { there = subst (λ kinds. CanBeRead p kinds a) (sym (c.as_slice.ensures ∙ c.rows.ensures.kinds)) (can_be_read p (setting_of p c.args.setting.now) q a known c.requires.answered) }
 
 pub returns-clause-read : goal.returns-clause-read
 returns-clause-read c =
