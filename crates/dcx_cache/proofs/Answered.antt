@@ -1,5 +1,5 @@
 -- What is read from an answer of the session's rows is right for the problem.
-use Rattle.std.proofs.Common.{◌≡◌, ℕ, IsTrue, length, Ok, refl, sym, ◌∙◌}
+use Rattle.std.proofs.Common.{◌≡◌, ℕ, IsTrue, [], length, Ok, refl, sym, ◌∙◌}
 use Rattle.dcx_frac.specs.declared.fraction.Frac.{Frac}
 use Rattle.dcx_point.specs.Pairs.{Pairs}
 use Rattle.dcx_convex.specs.Rules.{Rules, Plain, Parametrized}

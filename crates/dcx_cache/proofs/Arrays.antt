@@ -1,7 +1,7 @@
 -- A setting that fits has an array for each parameter, wherever that stands.
-use Rattle.std.proofs.Common.{◌≡◌, ℕ, ◌<◌, List, Option, Some, None, sym, ap, ◌∙◌}
+use Rattle.std.proofs.Common.{◌≡◌, ℕ, ◌<◌, List, Option, Some, None, refl, sym, ap, ◌∙◌}
 use Rattle.std.proofs.Props.{props}
-use Rattle.std.proofs.Math.Logic.{∥∥₁_elim}
+use mathlib.Core.Logic.{∥∥₁_map, ∥∥₁_elim}
 use Rattle.std.proofs.lemmas.Option.{none-some, same_Some}
 use Rattle.dcx_shape.specs.declared.shape.Sides.{Sides}
 use Rattle.dcx_shape.specs.Shape.{sides_of}
@@ -17,7 +17,7 @@ use Rattle.dcx_tree.specs.declared.problem.Problem.{Problem}
 use Rattle.dcx_tree.specs.Nodes.{Node}
 use Rattle.dcx_tree.specs.Problems.{IsListed, AreDeclared}
 use Rattle.dcx_tree.proofs.Sublists.{contains_at}
-use Rattle.dcx_fit.specs.Fit.{FitsParameters}
+use Rattle.dcx_fit.specs.Fit.{IsMet, FitsParameters}
 use Rattle.dcx_fit.proofs.Misfits.{holds_at}
 use Rattle.dcx_graph.specs.Reducing.{IsGivenFor, ParametersAreGiven}
 use Rattle.dcx_graph.specs.Fixed.{HaveArrays}
@@ -37,7 +37,7 @@ module _ (p : Problem) (setting : Pairs) (fits : FitsParameters p.parameters set
 
   has_array : (q : Parameter) → ∥ IsListed p.variables p.parameters (calls.Parameter q) ∥₁ → HasArray setting q.name (sides_of q.shape)
   has_array q l = one_array setting q.name (sides_of q.shape) (array_of setting q.name) refl l (λ there.
-      let (k, at) = contains_at p.parameters q there in (holds_at _ p.parameters k q fits.met at).shaped)
+      let (k, at) = contains_at p.parameters q there in (holds_at (IsMet setting) p.parameters k q fits.met at).shaped)
 
   given_for : (can_read : Pairs → List ℕ → ℕ → Type 0) (call : Call) → ∥ IsListed p.variables p.parameters call ∥₁ → IsGivenFor Plain can_read setting call
   given_for can_read (calls.Variable v) l = tt
@@ -48,7 +48,7 @@ module _ (p : Problem) (setting : Pairs) (fits : FitsParameters p.parameters set
   given_for can_read (calls.Pairing m) l = tt
 
   pub parameters_are_given : (can_read : Pairs → List ℕ → ℕ → Type 0) → ParametersAreGiven Plain can_read p setting
-  parameters_are_given can_read i n at = given_for can_read n.call (∥∥₁_map (λ (d : AreDeclared p.tree p.variables p.parameters). d.listed i n at) p.declared)
+  parameters_are_given can_read i n at = given_for can_read n.call (∥∥₁_map p.declared (λ d. d.listed i n at))
 
 -- where parameters are affine, none is asked for
 affine_given : (setting : Pairs) (call : Call) → IsGivenFor Parametrized (λ s name entry. Unit {0}) setting call

@@ -2,6 +2,7 @@
 pub mod Arrays
 pub mod Maps
 pub mod Answered
+pub mod Given
 pub mod Stopped
 pub mod OneEnd
 pub mod Agreeing

@@ -22,11 +22,11 @@ use Rattle.dcx_cache.proofs.Arrays.{have_arrays}
 
 -- ---- the map
 -- building it stops, so there is none
-pub no_map : (p : Problem) (e : ReduceStop) → e ≢ stops.Memory → OrMemory {A = Program ParamForm} (Err e) (λ q. q) (ReducesAffine p []) → ¬ HasMap p
-no_map p (stops.TooLarge rows columns) ne h (q, m) = let d = one_affine p [] (Ok q) (Err (stops.TooLarge rows columns)) m.reduces h in cc
-no_map p (stops.ZeroDivisor node entry) ne h (q, m) = let d = one_affine p [] (Ok q) (Err (stops.ZeroDivisor node entry)) m.reduces h in cc
-no_map p (stops.Wide site) ne h (q, m) = let d = one_affine p [] (Ok q) (Err (stops.Wide site)) m.reduces h in cc
-no_map p stops.Memory ne h (q, m) = absurd (ne refl)
+pub no_map : {A : Type 0} (view : A → Program ParamForm) (p : Problem) (e : ReduceStop) → e ≢ stops.Memory → OrMemory {A = A} (Err e) view (ReducesAffine p []) → ¬ HasMap p
+no_map view p (stops.TooLarge rows columns) ne h (q, m) = let d = one_affine p [] (Ok q) (Err (stops.TooLarge rows columns)) m.reduces h in cc
+no_map view p (stops.ZeroDivisor node entry) ne h (q, m) = let d = one_affine p [] (Ok q) (Err (stops.ZeroDivisor node entry)) m.reduces h in cc
+no_map view p (stops.Wide site) ne h (q, m) = let d = one_affine p [] (Ok q) (Err (stops.Wide site)) m.reduces h in cc
+no_map view p stops.Memory ne h (q, m) = absurd (ne refl)
 
 -- it lists entries that a fitting setting has
 pub map_is_listed : (p : Problem) (setting : Pairs) (q : Program ParamForm) → IsMapOf p q → FitsParameters p.parameters setting → IsListedProgram setting q

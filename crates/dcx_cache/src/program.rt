@@ -1,9 +1,10 @@
 //! The program that is kept, and the program at a setting.
-ghost use Rattle.std.specs.Prelude.{◌≡◌, ◌+◌, ◌≤◌, length, Some, is_some, IfOk, OnOk};
+ghost use Rattle.std.specs.Prelude.{◌≡◌, ◌+◌, ◌≤◌, [], false, length, Some, is_some, option_copied, IfOk, OnOk};
 ghost use Rattle.dcx_fit.specs.Fit.{FitsParameters};
 ghost use Rattle.dcx_rules.specs.Verdicts.{IsVerdictOf};
 ghost use Rattle.dcx_tree.specs.Meaning.{IsAccepted};
 ghost use Rattle.dcx_graph.specs.Reducing.{OrMemory};
+ghost use Rattle.dcx_graph.specs.Correct.{ReducesNumbers, ReducesAffine};
 ghost use Rattle.dcx_cache.specs.Programs.{IsMapOf, HasMap, SessionGives};
 ghost use Rattle.dcx_cache.specs.Sessions.{KeepsMap};
 
@@ -16,6 +17,39 @@ use dcx_steps::Steps;
 use dcx_tree::Problem;
 use std::alloc::{AllocError, Global};
 use std::sync::ledger::Ledger;
+
+/// The program with affine coefficients, in building which no setting is read.
+fn affine<L: Ledger>(
+    alloc: Global,
+    problem: &Problem,
+    verdict: &Verdict,
+    steps: &mut Steps<L>,
+) -> Result<Reduced<ParamForm>, ReduceStop>
+    requires { IsVerdictOf problem.now verdict.now }
+    ensures program { OrMemory result (λ q. q.program) (ReducesAffine problem.now []) }
+    ensures counted { OnOk result (steps.new ≡ steps.old + length problem.now.tree) }
+    ensures few { steps.new ≤ steps.old + length problem.now.tree }
+{
+    let unread = Setting::empty(alloc);
+    reduce(alloc, problem, verdict, &unread, steps)
+}
+
+/// The program with fractions, at a setting that fits.
+fn numbers<L: Ledger>(
+    alloc: Global,
+    problem: &Problem,
+    verdict: &Verdict,
+    setting: &Setting,
+    steps: &mut Steps<L>,
+) -> Result<Reduced<Frac>, ReduceStop>
+    requires verdict { IsVerdictOf problem.now verdict.now }
+    requires fits { FitsParameters problem.now.parameters setting.now }
+    ensures program { OrMemory result (λ q. q.program) (ReducesNumbers problem.now setting.now) }
+    ensures from_map { IfOk result (λ q. q.from_map ≡ false) }
+    ensures few { steps.new ≤ steps.old + length problem.now.tree }
+{
+    reduce(alloc, problem, verdict, setting, steps)
+}
 
 /// The program with affine coefficients, where the rules accept the problem with parameters affine and the program can be built.
 pub(crate) fn map_of<L: Ledger>(
@@ -32,10 +66,9 @@ pub(crate) fn map_of<L: Ledger>(
     if !verdict.dpp() {
         return Ok(None);
     }
-    let unread = Setting::empty(alloc);
-    match reduce(alloc, problem, verdict, &unread, steps) {
+    match affine(alloc, problem, verdict, steps) {
         Ok(map) => Ok(Some(map)),
-        Err(ReduceStop::Memory) => Err(AllocError),
+        Err(stop) if stop == ReduceStop::Memory => Err(AllocError),
         Err(_) => Ok(None),
     }
 }
@@ -51,7 +84,7 @@ pub(crate) fn program_at<L: Ledger>(
 ) -> Result<Reduced<Frac>, ReduceStop>
     requires verdict { IsVerdictOf problem.now verdict.now }
     requires fits { FitsParameters problem.now.parameters setting.now }
-    requires kept { KeepsMap problem.now map.entry }
+    requires kept { KeepsMap problem.now (option_copied map) }
     ensures program { OrMemory result (λ q. q.program) (SessionGives problem.now setting.now) }
     ensures from_map { IfOk result (λ q. q.from_map ≡ is_some map.entry) }
     ensures counted { HasMap problem.now → steps.new ≡ steps.old }
@@ -59,6 +92,6 @@ pub(crate) fn program_at<L: Ledger>(
 {
     match map {
         Some(map) => fix(alloc, map, setting),
-        None => reduce(alloc, problem, verdict, setting, steps),
+        None => numbers(alloc, problem, verdict, setting, steps),
     }
 }

@@ -49,8 +49,11 @@ pub struct Session {
 impl Model for Session {
     ghost use Rattle.std.specs.Prelude.{is_some};
     ghost use Rattle.dcx_cache.specs.Sessions.{State, IsKept};
+    ghost use Rattle.dcx_cache.specs.Codes.{state_code};
 
     ghost Value = { State };
+
+    ghost coded = { state_code };
 
     ghost view = { λ s. record { problem = s.problem; cached = is_some s.map; last = s.last } };
 
