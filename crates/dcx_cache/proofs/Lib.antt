@@ -1,6 +1,7 @@
 -- Lemmas of this crate.
 pub mod Arrays
 pub mod Maps
+pub mod Kept
 pub mod Answered
 pub mod Given
 pub mod Stopped

@@ -1,5 +1,5 @@
 //! The program that is kept, and the program at a setting.
-ghost use Rattle.std.specs.Prelude.{◌≡◌, ◌+◌, ◌≤◌, [], false, length, Some, is_some, option_copied, IfOk, OnOk};
+ghost use Rattle.std.specs.Prelude.{◌≡◌, ◌+◌, ◌≤◌, false, length, Some, is_some, option_copied, IfOk, OnOk};
 ghost use Rattle.dcx_fit.specs.Fit.{FitsParameters};
 ghost use Rattle.dcx_rules.specs.Verdicts.{IsVerdictOf};
 ghost use Rattle.dcx_tree.specs.Meaning.{IsAccepted};
@@ -18,20 +18,20 @@ use dcx_tree::Problem;
 use std::alloc::{AllocError, Global};
 use std::sync::ledger::Ledger;
 
-/// The program with affine coefficients, in building which no setting is read.
+/// The program with affine coefficients, whatever the setting.
 fn affine<L: Ledger>(
     alloc: Global,
     problem: &Problem,
     verdict: &Verdict,
+    setting: &Setting,
     steps: &mut Steps<L>,
 ) -> Result<Reduced<ParamForm>, ReduceStop>
     requires { IsVerdictOf problem.now verdict.now }
-    ensures program { OrMemory result (λ q. q.program) (ReducesAffine problem.now []) }
+    ensures program { OrMemory result (λ q. q.program) (ReducesAffine problem.now setting.now) }
     ensures counted { OnOk result (steps.new ≡ steps.old + length problem.now.tree) }
     ensures few { steps.new ≤ steps.old + length problem.now.tree }
 {
-    let unread = Setting::empty(alloc);
-    reduce(alloc, problem, verdict, &unread, steps)
+    reduce(alloc, problem, verdict, setting, steps)
 }
 
 /// The program with fractions, at a setting that fits.
@@ -66,7 +66,8 @@ pub(crate) fn map_of<L: Ledger>(
     if !verdict.dpp() {
         return Ok(None);
     }
-    match affine(alloc, problem, verdict, steps) {
+    let unread = Setting::empty(alloc);
+    match affine(alloc, problem, verdict, &unread, steps) {
         Ok(map) => Ok(Some(map)),
         Err(stop) if stop == ReduceStop::Memory => Err(AllocError),
         Err(_) => Ok(None),
