@@ -1,5 +1,7 @@
 -- Lemmas of this crate.
 pub mod Named
+pub mod Placed
 pub mod Right
 pub mod OneOutcome
 pub mod More
+pub mod Counting

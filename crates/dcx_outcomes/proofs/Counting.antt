@@ -1,0 +1,21 @@
+-- How many steps are counted for all settings.
+use Rattle.std.proofs.Common.{◌≡◌, ℕ, ◌+◌, ◌*◌, ◌≤◌, Bool, length, Result, Ok, Err, sym, ◌∙◌, subst, arith}
+use Rattle.std.specs.Prelude.{◌↔◌, IsTrue, OnOk}
+use Rattle.dcx_tree.specs.declared.problem.Problem.{Problem}
+use Rattle.dcx_cache.specs.Programs.{HasMap}
+use Rattle.dcx_outcomes.specs.Outcomes.{Counts}
+
+pub on_ok : {A E : Type 0} (r : Result A E) (P Q R : Type 0) → (P → Q → R) → OnOk r P → OnOk r Q → OnOk r R
+on_ok (Ok x) P Q R f h k = f h k
+on_ok (Err e) P Q R f h k = tt
+
+-- those of the beginning, and those of the settings
+pub counts : (p q : Problem) (cached : Bool) (n old begun new : ℕ) → q ≡ p → (IsTrue cached → begun ≡ old + length p.tree) → (IsTrue cached ↔ HasMap p) → begun ≤ old + length p.tree → (HasMap q → new ≡ begun) →
+    new ≤ begun + n * length q.tree → Counts p n old new
+counts p q cached n old begun new same counted exact few kept more = record {
+  mapped = λ h. kept (subst (λ (z : Problem). HasMap z) (sym same) h) ∙ counted (exact.1 h);
+  anew = within (subst (λ (z : Problem). new ≤ begun + n * length z.tree) same more);
+}
+  where
+    within : new ≤ begun + n * length p.tree → new ≤ old + length p.tree + n * length p.tree
+    within h = omega (arith, few, h)
