@@ -3,6 +3,7 @@ use Rattle.std.proofs.Common.{◌≡◌, ℕ, List, Option, Some, None, refl, sy
 use Rattle.std.proofs.lemmas.Option.{none-some, same_Some}
 use Rattle.dcx_point.specs.Pairs.{Pairs}
 use Rattle.dcx_tree.specs.declared.constraint.Sense.{Sense}
+use Rattle.dcx_host.specs.Faults.{Rose}
 use Rattle.dcx_host.specs.Files.{Files}
 use Rattle.dcx_elab.specs.declared.work.Work.{Work}
 use Rattle.dcx_settings.specs.File.{SpellSettings}
@@ -156,4 +157,4 @@ module _ (words : List (List ℕ)) (files : Files) where
 
 pub only_run : (words : List (List ℕ)) (told : Option Files) (risen : Type 0) (old new : ℕ) (r : Run) → Causes words told risen old new r → IsOnlyRun words told r
 only_run words None risen old new r h = tt
-only_run words (Some files) risen old new r h = λ i s rose was now k j. one words files risen rose old new was now r s h k i j
+only_run words (Some files) risen old new r h = λ i s before after was now k j. one words files risen (Rose before after) old new was now r s h k i j

@@ -168,7 +168,7 @@ pub(crate) fn resolve<L: Library, S: Ledger>(
 
 /// What the trial problem of this size gives. Its script is read as any script is.
 pub(crate) fn trial<S: Ledger>(alloc: Global, size: u32, limit: u64, steps: &mut Steps<S>) -> Run
-    ensures { (words : List (List ℕ)) (told : Option Files) (risen : Type 0) → command_of words ≡ Some (tries size limit) → Causes words told risen steps.old steps.new result }
+    ensures { (words : List (List ℕ)) (told : Option Files) (before now : ℕ) → command_of words ≡ Some (tries size limit) → Causes words told (Rose before now) steps.old steps.new result }
 {
     let Ok(bytes) = trial_script(alloc, size) else {
         return Run::Memory;
