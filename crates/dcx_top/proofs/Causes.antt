@@ -4,18 +4,15 @@ use Rattle.dcx_point.specs.Pairs.{Pairs}
 use Rattle.dcx_tree.specs.declared.problem.Problem.{Problem}
 use Rattle.dcx_tree.specs.declared.constraint.Sense.{Sense}
 use Rattle.dcx_host.specs.Files.{Files, IsTold}
-use Rattle.dcx_tokens.specs.declared.fault.ReadFault.{ReadFault}
-use Rattle.dcx_settings.specs.File.{IsRefused}
 use Rattle.dcx_elab.specs.declared.work.Work.{Work}
 use Rattle.dcx_front.specs.declared.accepted.Accepted.{Accepted}
 use Rattle.dcx_front.specs.declared.checked.Checked.{Checked}
 use Rattle.dcx_front.specs.declared.fault.FrontFault.{FrontFault}
 use Rattle.dcx_front.specs.declared.fault.FrontFault.TheVariants as front
 use Rattle.dcx_front.specs.declared.refusal.Refusal.{Refusal}
-use Rattle.dcx_front.specs.declared.refusal.RefusalSource.{RefusalSource}
 use Rattle.dcx_front.specs.declared.refusal.RefusalSource.TheVariants.{Script, Settings}
 use Rattle.dcx_front.specs.Checks.{IsFoundOf}
-use Rattle.dcx_front.specs.Accepts.{Gives, IsJudged, Tells, read_ending}
+use Rattle.dcx_front.specs.Accepts.{Gives, IsJudged}
 use Rattle.dcx_front.proofs.OneVerdict.{acceptance}
 use Rattle.dcx_report.specs.declared.outcome.Outcome.{Outcome}
 use Rattle.dcx_report.specs.declared.run.Run.{Run}
@@ -135,25 +132,3 @@ module _ (words : List (List ℕ)) (told : Option Files) (risen : Type 0) where
       solved_short words told risen (trial size limit) form a (record { bytes = trial_text size; are_of = refl; gives = gives }) settings are (λ os. run.Trial size os) continuous (λ os. refl)
       size (λ os. refl) old new r h
   tried size limit a old new r form gives (inr h) = whole_ends words told risen (trial size limit) form a (record { bytes = trial_text size; are_of = refl; gives = gives }) old new r tt h
-
--- ---- files
--- a file whose bytes aren't had ends the run, whatever its bytes would be refused for
-pub ends_before : (told : Option Files) (risen : Type 0) (source : RefusalSource) (name : List ℕ) (Refuses : List ℕ → Refusal → Type 0) (r : Run) → EndsAt told risen source name (λ _ _. ⊥) r → EndsAt told risen source name Refuses r
-ends_before told risen source name Refuses run.ReadFault h = h
-ends_before told risen source name Refuses (run.Refused r) (inl long) = inl long
-ends_before told risen source name Refuses (run.Refused r) (inr (bytes, there, h)) = absurd h
-ends_before told risen source name Refuses run.Memory h = tt
-ends_before told risen source name Refuses run.Usage h = absurd h
-ends_before told risen source name Refuses (run.Checked c) h = absurd h
-ends_before told risen source name Refuses (run.Solved word sense outcomes) h = absurd h
-ends_before told risen source name Refuses (run.Trial size outcomes) h = absurd h
-
--- a file whose bytes are had and refused ends it
-pub ends_behind : (told : Option Files) (risen : Type 0) (source : RefusalSource) (name bytes : List ℕ) (Refuses : List ℕ → Refusal → Type 0) (fault : FrontFault) → IsTold told name bytes → ((r : Refusal) → fault ≡ front.Refused r → Refuses bytes r) →
-    EndsAt told risen source name Refuses (run_of fault)
-ends_behind told risen source name bytes Refuses (front.Refused r) there h = inr (bytes, there, h r refl)
-ends_behind told risen source name bytes Refuses front.Memory there h = tt
-
--- a fault of reading a settings file refuses it
-pub settings_refused : (bytes : List ℕ) (fault : ReadFault) (f : FrontFault) → IsRefused bytes fault → Tells Settings (read_ending fault) f → (r : Refusal) → f ≡ front.Refused r → RefusesSettings bytes r
-settings_refused bytes fault f h told r e = record { fault = fault; refused = h; told = subst (Tells Settings (read_ending fault)) e told }

@@ -17,6 +17,7 @@ use Rattle.dcx_front.proofs.OneVerdict.{acceptance}
 use Rattle.dcx_report.specs.declared.outcome.Outcome.{Outcome}
 use Rattle.dcx_report.specs.declared.run.Run.{Run}
 use Rattle.dcx_report.specs.declared.run.Run.TheVariants as run
+use Rattle.dcx_report.specs.declared.run.Word.TheVariants as word
 use Rattle.dcx_words.specs.Commands.{Command, check, solve, resolve, trial, command_of}
 use Rattle.dcx_overlay.specs.Settings.{AreLaidOver}
 use Rattle.dcx_overlay.proofs.OneSetting.{settings_are_one}
@@ -45,8 +46,8 @@ module _ (words : List (List ℕ)) (files : Files) where
   -- ---- two runs that tell outcomes
   tell_one : (command : Command) (sense : Sense) (os qs : List Outcome) (r s : Run) → TellsOutcomes command sense os r → TellsOutcomes command sense qs s → AreAlikeOver words files os qs → AreOneRun words files r s
   tell_one (check script) sense os qs r s h k alike = absurd h
-  tell_one (solve script limit) sense os qs r s h k alike = subst (λ (x : Run). AreOneRun words files x s) (sym h) (subst (λ (y : Run). AreOneRun words files (run.Solved _ sense os) y) (sym k) (refl, refl, alike))
-  tell_one (resolve script name limit) sense os qs r s h k alike = subst (λ (x : Run). AreOneRun words files x s) (sym h) (subst (λ (y : Run). AreOneRun words files (run.Solved _ sense os) y) (sym k) (refl, refl, alike))
+  tell_one (solve script limit) sense os qs r s h k alike = subst (λ (x : Run). AreOneRun words files x s) (sym h) (subst (λ (y : Run). AreOneRun words files (run.Solved word.Solve sense os) y) (sym k) (refl, refl, alike))
+  tell_one (resolve script name limit) sense os qs r s h k alike = subst (λ (x : Run). AreOneRun words files x s) (sym h) (subst (λ (y : Run). AreOneRun words files (run.Solved word.Setting sense os) y) (sym k) (refl, refl, alike))
   tell_one (trial size limit) sense os qs r s h k alike = subst (λ (x : Run). AreOneRun words files x s) (sym h) (subst (λ (y : Run). AreOneRun words files (run.Trial size os) y) (sym k) (refl, alike))
 
   -- the outcomes of one problem at the same settings
