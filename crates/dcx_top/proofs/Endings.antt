@@ -3,7 +3,9 @@ use Rattle.std.proofs.Common.{◌≡◌, ◌⊎◌, inl, inr, ℕ, List, Option,
 use Rattle.dcx_tokens.specs.declared.fault.ReadFault.{ReadFault}
 use Rattle.dcx_tokens.specs.declared.fault.ReadFault.TheVariants as reads
 use Rattle.dcx_host.specs.Files.{Files, IsTold}
-use Rattle.dcx_settings.specs.File.{IsSettingsReading}
+use Rattle.dcx_point.specs.Pairs.{Pairs}
+use Rattle.dcx_settings.specs.declared.settings.SettingItem.{SettingItem}
+use Rattle.dcx_settings.specs.File.{IsSettingsReading, SpellSettings}
 use Rattle.dcx_front.specs.declared.fault.FrontFault.{FrontFault}
 use Rattle.dcx_front.specs.declared.fault.FrontFault.TheVariants as front
 use Rattle.dcx_front.specs.declared.refusal.Refusal.{Refusal}
@@ -14,7 +16,10 @@ use Rattle.dcx_elab.specs.declared.work.Work.{Work}
 use Rattle.dcx_report.specs.declared.run.Run.{Run}
 use Rattle.dcx_report.specs.declared.run.Run.TheVariants as run
 use Rattle.dcx_top.specs.Files.{run_of, RefusesScript, RefusesSettings, EndsAt}
-use Rattle.dcx_top.specs.Runs.{OrWhole, ResolvesFrom}
+use Rattle.dcx_report.specs.declared.run.Word.TheVariants as word
+use Rattle.dcx_overlay.specs.Settings.{AreLaidOver}
+use Rattle.dcx_top.specs.Whole.{HasNoWhole}
+use Rattle.dcx_top.specs.Runs.{OrWhole, SolvesAt, ResolvesFrom}
 
 -- a file whose bytes aren't had ends the run, whatever its bytes would be refused for
 pub ends_before : (told : Option Files) (risen : Type 0) (source : RefusalSource) (name : List ℕ) (Refuses : List ℕ → Refusal → Type 0) (r : Run) → EndsAt told risen source name (λ _ _. ⊥) r → EndsAt told risen source name Refuses r
@@ -77,3 +82,18 @@ pub resolves_rising : (told : Option Files) (risen rose : Type 0) (work : Work) 
 resolves_rising told risen rose work name limit old new r more (inl (continuous, inl h)) = inl (continuous, inl h)
 resolves_rising told risen rose work name limit old new r more (inl (continuous, inr (h, same))) = inl (continuous, inr (ends_rising told risen rose Settings name RefusesSettings r more h, same))
 resolves_rising told risen rose work name limit old new r more (inr h) = inr h
+
+-- the files that are told are the same after a part
+pub resolves_moved : (was told : Option Files) (risen rose : Type 0) (work : Work) (name : List ℕ) (limit old new : ℕ) (r : Run) → was ≡ told → (risen → rose) →
+    OrWhole work.problem (ResolvesFrom was risen work name limit old new) old new r → OrWhole work.problem (ResolvesFrom told rose work name limit old new) old new r
+resolves_moved was told risen rose work name limit old new r same more h =
+    resolves_rising told risen rose work name limit old new r more (subst (λ t. OrWhole work.problem (ResolvesFrom t risen work name limit old new) old new r) same h)
+
+-- ---- settings that are read
+-- an accepted problem is solved at the lines of a settings file
+pub lines_solved : (told : Option Files) (risen : Type 0) (work : Work) (name bytes : List ℕ) (lines : List (List SettingItem)) (limit old new : ℕ) (r : Run) → HasNoWhole work.problem.tree → IsTold told name bytes → SpellSettings bytes lines →
+    ((r ≡ run.Memory) × (new ≡ old)) ⊎ ((settings : List Pairs) × AreLaidOver work.last lines settings × SolvesAt work.problem limit settings (λ os. run.Solved word.Setting work.problem.sense os) old new r) →
+    OrWhole work.problem (ResolvesFrom told risen work name limit old new) old new r
+lines_solved told risen work name bytes lines limit old new r continuous there spelled (inl (e, same)) = inl (continuous, inr (subst (EndsAt told risen Settings name RefusesSettings) (sym e) tt, same))
+lines_solved told risen work name bytes lines limit old new r continuous there spelled (inr (settings, laid, h)) =
+    inl (continuous, inl (settings, record { bytes = bytes; are_told = there; lines = lines; spelled = spelled; laid = laid }, h))

@@ -67,7 +67,7 @@ fn solve_lines<S: Ledger>(
 ) -> Run
     requires judged { IsJudged accepted.work.problem accepted.verdict }
     requires full { Every (Every IsFull) lines.now }
-    ensures { (result ≡ Run.Memory) ⊎ ((settings : List Pairs) × AreLaidOver accepted.work.last lines.now settings × SolvesAt accepted.work.problem limit settings (λ os. Run.Solved Word.Setting accepted.work.problem.sense os) steps.old steps.new result) }
+    ensures { ((result ≡ Run.Memory) × (steps.new ≡ steps.old)) ⊎ ((settings : List Pairs) × AreLaidOver accepted.work.last lines.now settings × SolvesAt accepted.work.problem limit settings (λ os. Run.Solved Word.Setting accepted.work.problem.sense os) steps.old steps.new result) }
 {
     let Accepted { work, verdict } = accepted;
     let sense = work.problem.sense;
