@@ -1,5 +1,6 @@
 -- What each command gives has its cause.
-use Rattle.std.proofs.Common.{◌≡◌, ◌⊎◌, inl, inr, ℕ, List, length, Option, Some, Ok, Err, refl, sym, subst}
+use Rattle.std.proofs.Common.{◌≡◌, ◌↔◌, ◌∙◌, None, ◌⊎◌, inl, inr, ℕ, List, length, Option, Some, Ok, Err, refl, sym, subst}
+use Rattle.std.proofs.lemmas.Option.{none-some}
 use Rattle.dcx_point.specs.Pairs.{Pairs}
 use Rattle.dcx_tree.specs.declared.problem.Problem.{Problem}
 use Rattle.dcx_tree.specs.declared.constraint.Sense.{Sense}
@@ -132,3 +133,8 @@ module _ (words : List (List ℕ)) (told : Option Files) (risen : Type 0) where
       solved_short words told risen (trial size limit) form a (record { bytes = trial_text size; are_of = refl; gives = gives }) settings are (λ os. run.Trial size os) continuous (λ os. refl)
       size (λ os. refl) old new r h
   tried size limit a old new r form gives (inr h) = whole_ends words told risen (trial size limit) form a (record { bytes = trial_text size; are_of = refl; gives = gives }) old new r tt h
+
+-- ---- words
+-- a run with a cause tells the usage line exactly where the words are no plain form
+pub usage_of : (words : List (List ℕ)) (told : Option Files) (risen : Type 0) (old new : ℕ) (command : Command) (r : Run) → command_of words ≡ Some command → Causes words told risen old new r → (r ≡ run.Usage) ↔ (command_of words ≡ None)
+usage_of words told risen old new command r form h = (λ e. (subst (Causes words told risen old new) e h).0, λ e. absurd (none-some command (sym e ∙ form)))

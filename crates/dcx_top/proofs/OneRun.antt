@@ -3,6 +3,7 @@ use Rattle.std.proofs.Common.{◌≡◌, ℕ, List, Option, Some, None, refl, sy
 use Rattle.std.proofs.lemmas.Option.{none-some, same_Some}
 use Rattle.dcx_point.specs.Pairs.{Pairs}
 use Rattle.dcx_tree.specs.declared.constraint.Sense.{Sense}
+use Rattle.dcx_host.specs.Faults.{Rose}
 use Rattle.dcx_host.specs.Files.{Files}
 use Rattle.dcx_elab.specs.declared.work.Work.{Work}
 use Rattle.dcx_settings.specs.File.{SpellSettings}
@@ -16,6 +17,7 @@ use Rattle.dcx_front.proofs.OneVerdict.{acceptance}
 use Rattle.dcx_report.specs.declared.outcome.Outcome.{Outcome}
 use Rattle.dcx_report.specs.declared.run.Run.{Run}
 use Rattle.dcx_report.specs.declared.run.Run.TheVariants as run
+use Rattle.dcx_report.specs.declared.run.Word.TheVariants as word
 use Rattle.dcx_words.specs.Commands.{Command, check, solve, resolve, trial, command_of}
 use Rattle.dcx_overlay.specs.Settings.{AreLaidOver}
 use Rattle.dcx_overlay.proofs.OneSetting.{settings_are_one}
@@ -44,8 +46,8 @@ module _ (words : List (List ℕ)) (files : Files) where
   -- ---- two runs that tell outcomes
   tell_one : (command : Command) (sense : Sense) (os qs : List Outcome) (r s : Run) → TellsOutcomes command sense os r → TellsOutcomes command sense qs s → AreAlikeOver words files os qs → AreOneRun words files r s
   tell_one (check script) sense os qs r s h k alike = absurd h
-  tell_one (solve script limit) sense os qs r s h k alike = subst (λ (x : Run). AreOneRun words files x s) (sym h) (subst (λ (y : Run). AreOneRun words files (run.Solved _ sense os) y) (sym k) (refl, refl, alike))
-  tell_one (resolve script name limit) sense os qs r s h k alike = subst (λ (x : Run). AreOneRun words files x s) (sym h) (subst (λ (y : Run). AreOneRun words files (run.Solved _ sense os) y) (sym k) (refl, refl, alike))
+  tell_one (solve script limit) sense os qs r s h k alike = subst (λ (x : Run). AreOneRun words files x s) (sym h) (subst (λ (y : Run). AreOneRun words files (run.Solved word.Solve sense os) y) (sym k) (refl, refl, alike))
+  tell_one (resolve script name limit) sense os qs r s h k alike = subst (λ (x : Run). AreOneRun words files x s) (sym h) (subst (λ (y : Run). AreOneRun words files (run.Solved word.Setting sense os) y) (sym k) (refl, refl, alike))
   tell_one (trial size limit) sense os qs r s h k alike = subst (λ (x : Run). AreOneRun words files x s) (sym h) (subst (λ (y : Run). AreOneRun words files (run.Trial size os) y) (sym k) (refl, alike))
 
   -- the outcomes of one problem at the same settings
@@ -156,4 +158,4 @@ module _ (words : List (List ℕ)) (files : Files) where
 
 pub only_run : (words : List (List ℕ)) (told : Option Files) (risen : Type 0) (old new : ℕ) (r : Run) → Causes words told risen old new r → IsOnlyRun words told r
 only_run words None risen old new r h = tt
-only_run words (Some files) risen old new r h = λ i s rose was now k j. one words files risen rose old new was now r s h k i j
+only_run words (Some files) risen old new r h = λ i s before after was now k j. one words files risen (Rose before after) old new was now r s h k i j

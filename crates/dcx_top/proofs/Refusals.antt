@@ -92,11 +92,11 @@ module _ (words : List (List ℕ)) (files : Files) (command : Command) (form : c
   of_command r c e h = subst (λ d. Refuses files d r) (same_command c e) h
 
   pub refuses : (r : Refusal) → IsRefusedRun words (Some files) r → Refuses files command r
-  refuses r (long_script c name e is (long, bytes, there, more)) =
+  refuses r (long_script c name e is (long, (bytes, there, more))) =
       of_command r c e (in_script bytes (script_is files c name bytes is there) (unread (reads.TooLong start_of_text.place) (no_script_text (more, refl)) long))
   refuses r (bad_script c bytes e of h) = of_command r c e (in_script bytes of h)
   refuses r (for_whole c a e g solving h) = of_command r c e (in_problem a g solving h)
-  refuses r (bad_settings c a name e g free is (inl (long, bytes, there, more))) =
+  refuses r (bad_settings c a name e g free is (inl (long, (bytes, there, more)))) =
       of_command r c e (in_settings a name bytes g free is there (record { fault = reads.TooLong start_of_text.place; refused = no_settings_text (more, refl); told = long }))
   refuses r (bad_settings c a name e g free is (inr (bytes, there, h))) = of_command r c e (in_settings a name bytes g free is there h)
 
@@ -144,7 +144,7 @@ module _ (files : Files) (command : Command) where
   one_refused r t (in_problem a g solving h) (in_settings b name c i free is there k) = absurd (whole_or_free a b r g i h free)
   one_refused r t (in_settings a name c g free is there k) (in_script b of h) = absurd (in_script_once a t b g of h)
   one_refused r t (in_settings b name c i free is there k) (in_problem a g solving h) = absurd (whole_or_free a b t g i h free)
-  one_refused r t (in_settings a name b g free is there h) (in_settings d other c i open also here k) =
+  one_refused r t (in_settings a name b g free is there h) (in_settings d other c i unmarked also here k) =
       let same = one_settings name other b c is also there here in
       let fault = refused_one c h.fault k.fault (subst (λ x. IsRefused x h.fault) same h.refused) k.refused in
       one_told (read_ending k.fault) r t (subst (λ f. IsRefusedBy Settings (read_ending f) r) fault h.told) k.told
@@ -153,7 +153,7 @@ module _ (files : Files) (command : Command) where
   pub never_refused : (a : Accepted) (settings : List Pairs) (r : Refusal) → GivesProblem (Some files) command a → HasNoWhole a.work.problem.tree → AreSettingsOf (Some files) command a.work settings → Refuses files command r → ⊥
   never_refused a settings r g free are (in_script b of h) = in_script_once a r b g of h
   never_refused a settings r g free are (in_problem b i solving h) = whole_or_free b a r i g h free
-  never_refused a settings r g free are (in_settings d name bytes i open is there h) =
+  never_refused a settings r g free are (in_settings d name bytes i unmarked is there h) =
       let (lines, spelled) = spelled_by files command a.work settings name bytes are is there in
       settings_apart bytes lines h.fault spelled h.refused
 

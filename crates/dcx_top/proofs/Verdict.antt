@@ -1,6 +1,12 @@
 -- A run refuses its files exactly where they are at fault.
-use Rattle.std.proofs.Common.{◌≡◌, ℕ, List, Option, Some, None, refl, sym, subst, ◌∙◌, Ok}
+use Rattle.std.proofs.Common.{◌≡◌, ℕ, List, Option, Some, None, refl, sym, ap, subst, ◌∙◌, Ok}
 use Rattle.std.proofs.lemmas.Option.{none-some, same_Some}
+use Rattle.dcx_tokens.proofs.OneReading.{one_reading}
+use Rattle.dcx_syntax.specs.declared.tree.Script.{Script}
+use Rattle.dcx_syntax.specs.Statements.{lines_text, trimmed_all}
+use Rattle.dcx_syntax.specs.View.{script_view}
+use Rattle.dcx_read.specs.Terminals.{terminals}
+use Rattle.dcx_read.specs.Parses.{IsReading}
 use Rattle.dcx_host.specs.Files.{Files}
 use Rattle.dcx_settings.specs.File.{IsRefused}
 use Rattle.dcx_settings.proofs.OneAnswer.{settings_apart}
@@ -8,10 +14,10 @@ use Rattle.dcx_front.specs.declared.accepted.Accepted.{Accepted}
 use Rattle.dcx_front.specs.declared.checked.Checked.{Checked}
 use Rattle.dcx_front.specs.declared.refusal.Refusal.{Refusal}
 use Rattle.dcx_front.specs.Accepts.{Gives}
+use Rattle.dcx_front.specs.OneAnswer.{IsWithoutFault}
 use Rattle.dcx_elab.specs.declared.work.Work.{Work}
-use Rattle.dcx_front.proofs.OneReading.{one_script as one_script_of}
 use Rattle.dcx_front.proofs.OneAnswer.{one_work}
-use Rattle.dcx_front.proofs.OneVerdict.{apart, refused_for, accepted_for}
+use Rattle.dcx_front.proofs.OneVerdict.{apart, refused_for, acceptance}
 use Rattle.dcx_report.specs.declared.run.Run.{Run}
 use Rattle.dcx_report.specs.declared.run.Run.TheVariants as run
 use Rattle.dcx_words.specs.Commands.{Command, check, command_of}
@@ -23,11 +29,23 @@ use Rattle.dcx_top.specs.OneRun.{IsAnswered}
 use Rattle.dcx_top.specs.Verdicts.{IsRefusal, IsAcceptance, Has, AreFaultless, AreAtFault, bad_script, has_whole, bad_settings, AreWithoutFault, IsVerdictOn, IsRightVerdict}
 use Rattle.dcx_top.proofs.Refusals.{one_script, spelled_by, same_command, Refuses, in_script, in_problem, in_settings, refuses}
 
+-- bytes spell one script
+one_view : (bytes : List ℕ) (script other : Script) → IsReading bytes (Ok script) → IsReading bytes (Ok other) → script_view script ≡ script_view other
+one_view bytes script other h k =
+    let tokens : h.0 ≡ k.0 = (one_reading h.1.0.lexed k.1.0.lexed).0 in
+    let spelled : lines_text h.1.1.tree ≡ terminals bytes k.0 = h.1.1.spelled.spelled ∙ ap (terminals bytes) tokens in
+    h.1.1.kept ∙ ap trimmed_all (k.1.1.spelled.only h.1.1.tree spelled) ∙ sym k.1.1.kept
+
+-- bytes that are accepted stand for the work that is accepted
+abbrev without_fault : (bytes : List ℕ) (a : Accepted) → Gives bytes (Ok a) → IsWithoutFault bytes
+without_fault bytes a g = let h = acceptance bytes a g in
+    record { script = h.script; spelled = h.spelled; work = a.work; stands_for = h.stands_for; accepted = h.judged.accepted }
+
 module _ (files : Files) (command : Command) (script settings : List ℕ) (has : Has files command script settings) where
   no_faults : AreWithoutFault command script settings → AreAtFault command script settings → ⊥
   no_faults w (bad_script f) = apart script w.no_script_fault f
   no_faults w (has_whole h solving i is) =
-      let same = one_work w.no_script_fault.script h.script (one_script_of script w.no_script_fault.script h.script w.no_script_fault.spelled h.spelled) w.no_script_fault.work h.work w.no_script_fault.stands_for h.stands_for in
+      let same = one_work w.no_script_fault.script h.script (one_view script w.no_script_fault.script h.script w.no_script_fault.spelled h.spelled) w.no_script_fault.work h.work w.no_script_fault.stands_for h.stands_for in
       w.no_whole solving i (subst (λ (x : Work). IsWholeAt x.problem.tree i) (sym same) is)
   no_faults w (bad_settings o f) = let (lines, spelled) = w.no_settings_fault f.name f.asked in settings_apart settings lines f.fault spelled f.refused
 
@@ -36,13 +54,13 @@ module _ (files : Files) (command : Command) (script settings : List ℕ) (has :
 
   at_fault : (r : Refusal) → Refuses files command r → AreAtFault command script settings
   at_fault r (in_script bytes of h) = bad_script (refused_for script r (subst (λ b. RefusesScript b r) (one_script files command bytes script of has.is_script) h))
-  at_fault r (in_problem a g solving h) = has_whole (accepted_for script a (accepted a g)) solving h.node h.first.is
+  at_fault r (in_problem a g solving h) = has_whole (without_fault script a (accepted a g)) solving h.node h.first.is
   at_fault r (in_settings a name bytes g free is there h) =
-      bad_settings (accepted_for script a (accepted a g))
+      bad_settings (without_fault script a (accepted a g))
       (record { name = name; asked = is; fault = h.fault; refused = subst (λ b. IsRefused b h.fault) (same_Some bytes settings (sym there ∙ has.are_settings name is)) h.refused })
 
   without : (a : Accepted) → GivesProblem (Some files) command a → (IsSolving command → HasNoWhole a.work.problem.tree) → AreFaultless command settings → AreWithoutFault command script settings
-  without a g free f = record { no_script_fault = accepted_for script a (accepted a g); no_whole = free; no_settings_fault = f }
+  without a g free f = record { no_script_fault = without_fault script a (accepted a g); no_whole = free; no_settings_fault = f }
 
   refuses_so : (r : Refusal) → AreAtFault command script settings → IsVerdictOn command script settings (run.Refused r)
   refuses_so r f = record { refused = (λ t. f, λ q. tt); accepted = (λ t. absurd t, λ w. absurd (no_faults w f)) }

@@ -1,5 +1,6 @@
 -- Words and told files have one run, where neither a file nor memory is wanting.
 use Rattle.std.specs.Prelude.{◌≡◌, ⊤, ℕ, List, Option, Some, None}
+use Rattle.dcx_host.specs.Faults.{Rose}
 use Rattle.dcx_host.specs.Files.{Files}
 use Rattle.dcx_report.specs.declared.outcome.Outcome.{Outcome}
 use Rattle.dcx_report.specs.declared.run.Run.{Run}
@@ -33,4 +34,4 @@ AreOneRun words files r s = r ≡ s
 -- where the run is answered and files are told, each run with a cause tells the same
 abbrev pub IsOnlyRun : List (List ℕ) → Option Files → Run → Type 0
 IsOnlyRun words None r = ⊤
-IsOnlyRun words (Some files) r = IsAnswered r → (other : Run) (risen : Type 0) (old new : ℕ) → Causes words (Some files) risen old new other → IsAnswered other → AreOneRun words files r other
+IsOnlyRun words (Some files) r = IsAnswered r → (other : Run) (before now old new : ℕ) → Causes words (Some files) (Rose before now) old new other → IsAnswered other → AreOneRun words files r other

@@ -1,6 +1,5 @@
 //! What the files of a command give, or the run that ends where one isn't had or is refused.
-ghost use Rattle.std.specs.Prelude.{◌≡◌, ◌≤◌, ℕ, List, IfErr};
-ghost use Rattle.dcx_front.specs.declared.refusal.Refusal.{Refusal};
+ghost use Rattle.std.specs.Prelude.{◌≡◌, ◌≤◌, IfErr};
 ghost use Rattle.dcx_host.specs.Faults.{Rose};
 ghost use Rattle.dcx_top.specs.Files.{run_of, GivesBytes, EndsAt, ReadsScript, ReadsSettings};
 
@@ -22,7 +21,7 @@ fn fetched<L: Library>(
     library: &mut L,
 ) -> Result<Bytes, Run>
     ensures bytes { GivesBytes (L.told library.old) name.now result }
-    ensures ends { IfErr result (λ r. (Refuses : List ℕ → Refusal → Type 0) → EndsAt (L.told library.old) (Rose (L.faults library.old) (L.faults library.new)) source name.now Refuses r) }
+    ensures ends { IfErr result (EndsAt (L.told library.old) (Rose (L.faults library.old) (L.faults library.new)) source name.now (λ _ _. ⊥)) }
     ensures same { L.told library.new ≡ L.told library.old }
     ensures never_falls { L.faults library.old ≤ L.faults library.new }
 {

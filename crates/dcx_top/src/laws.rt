@@ -1,6 +1,8 @@
-//! Laws above the definitions of `specs/`. There is no code: each clause is a statement about all words and files.
+//! Laws above the definitions of `specs/`. There is no code: each clause is a statement about all words and files,
+//! whose library had `before` faults in front of the run and has `now` behind it.
 ghost use Rattle.std.specs.Prelude.{ℕ, List};
 ghost use Rattle.std.specs.declared.option.Option.{Option};
+ghost use Rattle.dcx_host.specs.Faults.{Rose};
 ghost use Rattle.dcx_host.specs.Files.{Files};
 ghost use Rattle.dcx_report.specs.declared.run.Run.{Run};
 ghost use Rattle.dcx_top.specs.Runs.{Causes};
@@ -10,15 +12,15 @@ ghost use Rattle.dcx_top.specs.Verdicts.{IsRightVerdict};
 
 /// Whatever run has its cause is right: so is its answer at each setting.
 pub fn caused_are_right()
-    ensures { (words : List (List ℕ)) (told : Option Files) (risen : Type 0) (old new : ℕ) (run : Run) → Causes words told risen old new run → IsRightRun words told run }
+    ensures { (words : List (List ℕ)) (told : Option Files) (before now old new : ℕ) (run : Run) → Causes words told (Rose before now) old new run → IsRightRun words told run }
 {}
 
 /// Words and told files have one run, where neither a file nor memory is wanting.
 pub fn one_run()
-    ensures { (words : List (List ℕ)) (told : Option Files) (risen : Type 0) (old new : ℕ) (run : Run) → Causes words told risen old new run → IsOnlyRun words told run }
+    ensures { (words : List (List ℕ)) (told : Option Files) (before now old new : ℕ) (run : Run) → Causes words told (Rose before now) old new run → IsOnlyRun words told run }
 {}
 
 /// A run with its cause refuses its files exactly where they are at fault, and goes on exactly where they are not.
 pub fn right_verdict()
-    ensures { (words : List (List ℕ)) (told : Option Files) (risen : Type 0) (old new : ℕ) (run : Run) → Causes words told risen old new run → IsRightVerdict words told run }
+    ensures { (words : List (List ℕ)) (told : Option Files) (before now old new : ℕ) (run : Run) → Causes words told (Rose before now) old new run → IsRightVerdict words told run }
 {}

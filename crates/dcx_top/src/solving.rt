@@ -67,7 +67,7 @@ fn solve_lines<S: Ledger>(
 ) -> Run
     requires judged { IsJudged accepted.work.problem accepted.verdict }
     requires full { Every (Every IsFull) lines.now }
-    ensures { (result ≡ Run.Memory) ⊎ ((settings : List Pairs) × AreLaidOver accepted.work.last lines.now settings × SolvesAt accepted.work.problem limit settings (λ os. Run.Solved Word.Setting accepted.work.problem.sense os) steps.old steps.new result) }
+    ensures { ((result ≡ Run.Memory) × (steps.new ≡ steps.old)) ⊎ ((settings : List Pairs) × AreLaidOver accepted.work.last lines.now settings × SolvesAt accepted.work.problem limit settings (λ os. Run.Solved Word.Setting accepted.work.problem.sense os) steps.old steps.new result) }
 {
     let Accepted { work, verdict } = accepted;
     let sense = work.problem.sense;
@@ -168,7 +168,7 @@ pub(crate) fn resolve<L: Library, S: Ledger>(
 
 /// What the trial problem of this size gives. Its script is read as any script is.
 pub(crate) fn trial<S: Ledger>(alloc: Global, size: u32, limit: u64, steps: &mut Steps<S>) -> Run
-    ensures { (words : List (List ℕ)) (told : Option Files) (risen : Type 0) → command_of words ≡ Some (tries size limit) → Causes words told risen steps.old steps.new result }
+    ensures { (words : List (List ℕ)) (told : Option Files) (before now : ℕ) → command_of words ≡ Some (tries size limit) → Causes words told (Rose before now) steps.old steps.new result }
 {
     let Ok(bytes) = trial_script(alloc, size) else {
         return Run::Memory;

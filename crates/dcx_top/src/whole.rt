@@ -1,9 +1,16 @@
 //! Variables whose entries are to be whole: a problem that has one is checked, and not solved.
-ghost use Rattle.std.specs.Prelude.{◌↔◌, ◌<◌, length, IsTrue, MatchOption};
+ghost use Rattle.std.specs.Prelude.{◌↔◌, ◌≢◌, ◌<◌, length, IsTrue, MatchOption};
 ghost use Rattle.dcx_top.specs.Whole.{IsWholeAt, HasNoWhole, IsFirstWhole, IsRefusedForWhole};
 
 use dcx_front::{Carried, Refusal, RefusalSource};
-use dcx_tree::{Call, NodeId, Problem, Tree, Whole};
+use dcx_tree::{Call, NodeId, Problem, Tree, Variable, Whole};
+
+/// Whether a variable's entries are to be whole.
+fn is_marked(variable: &Variable) -> bool
+    ensures { IsTrue result ↔ (variable.now.whole ≢ Whole.Not) }
+{
+    !matches!(variable.whole, Whole::Not)
+}
 
 /// Whether a node is a variable whose entries are to be whole.
 fn is_whole(tree: &Tree, i: u32) -> bool
@@ -11,7 +18,7 @@ fn is_whole(tree: &Tree, i: u32) -> bool
     ensures { IsTrue result ↔ IsWholeAt tree.now i }
 {
     match tree.call(NodeId(i)) {
-        Call::Variable(variable) => variable.whole != Whole::Not,
+        Call::Variable(variable) => is_marked(variable),
         _ => false,
     }
 }
