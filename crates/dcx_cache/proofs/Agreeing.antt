@@ -1,10 +1,7 @@
 -- Two right answers at a setting are of one kind, with one value.
 use Rattle.dcx_frac.specs.Frac.{value}
-use Rattle.dcx_convex.specs.Nodes.{Setting}
-use Rattle.dcx_tree.specs.declared.problem.Problem.{Problem}
 use Rattle.dcx_tree.specs.Meaning.{point_of}
 use Rattle.dcx_tree.proofs.LawsHold.{answers_agree}
-use Rattle.dcx_answer.specs.declared.answer.Answer.{Answer}
 use Rattle.dcx_answer.specs.declared.answer.Answer.TheVariants.{Optimal, Infeasible, Unbounded}
 use Rattle.dcx_postsolve.specs.Duals.{multipliers_in}
 use Rattle.dcx_cache.specs.Laws.{RightAnswersAgree}

@@ -1,18 +1,15 @@
 -- What is read from an answer of the session's rows is right for the problem.
-use Rattle.std.proofs.Common.{◌≡◌, ℕ, IsTrue, [], length, Ok, refl, sym, ◌∙◌}
+use Rattle.std.proofs.Common.{ℕ, IsTrue, [], Ok, sym, ◌∙◌}
 use Rattle.dcx_frac.specs.declared.fraction.Frac.{Frac}
 use Rattle.dcx_point.specs.Pairs.{Pairs}
 use Rattle.dcx_convex.specs.Rules.{Rules, Plain, Parametrized}
 use Rattle.dcx_convex.specs.Problems.{accepted_by}
 use Rattle.dcx_tree.specs.declared.problem.Problem.{Problem}
 use Rattle.dcx_tree.specs.Meaning.{convex_problem, IsAccepted, IsFitting, setting_of}
-use Rattle.dcx_answer.specs.declared.answer.Answer.{Answer}
 use Rattle.dcx_fit.specs.Fit.{FitsParameters}
-use Rattle.dcx_linear.specs.declared.param_form.ParamForm.{ParamForm}
 use Rattle.dcx_quotients.proofs.LawsHold.{formed_are_fitting}
 use Rattle.dcx_tab.specs.declared.program.Program as tab
 use Rattle.dcx_tab.specs.Table.{Table}
-use Rattle.dcx_lp_answer.specs.declared.answer.LpStatus.TheVariants as status
 use Rattle.dcx_lp_answer.specs.declared.answer.LpAnswer.{LpAnswer}
 use Rattle.dcx_simplex.specs.declared.run.LpEnd.{LpEnd}
 use Rattle.dcx_simplex.specs.declared.run.LpEnd.TheVariants as ends
@@ -22,12 +19,11 @@ use Rattle.dcx_solved.specs.declared.solving.Solved.{Solved}
 use Rattle.dcx_solved.specs.Solved.{IsSolved}
 use Rattle.dcx_graph.specs.Program.{Program}
 use Rattle.dcx_graph.specs.AsLinear.{IsReductionAt}
-use Rattle.dcx_graph.specs.Answers.{rows_of, HasParts, IsAnswered, IsRead, IsRightFor}
+use Rattle.dcx_graph.specs.Answers.{rows_of, HasParts, IsAnswered}
 use Rattle.dcx_graph.proofs.Correct.{numbers_are_reductions, affine_are_reductions, affine_are_known}
 use Rattle.dcx_graph.proofs.AtSetting.{fixed_are_reductions}
 use Rattle.dcx_graph.proofs.Mapped.{read_right}
 use Rattle.dcx_cache.specs.Programs.{SessionGives, mapped, anew}
-use Rattle.dcx_cache.specs.Answers.{IsAnswerOf, Answers}
 use Rattle.dcx_cache.specs.Laws.{AnswersAreRight}
 use Rattle.dcx_cache.proofs.Arrays.{have_arrays}
 

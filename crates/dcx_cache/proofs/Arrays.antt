@@ -1,5 +1,5 @@
 -- A setting that fits has an array for each parameter, wherever that stands.
-use Rattle.std.proofs.Common.{◌≡◌, ℕ, ◌<◌, List, Option, Some, None, refl, sym, ap, ◌∙◌}
+use Rattle.std.proofs.Common.{◌≡◌, ℕ, List, Option, Some, None, refl, sym, ap, ◌∙◌}
 use Rattle.std.proofs.Props.{props}
 use mathlib.Core.Logic.{∥∥₁_map, ∥∥₁_elim}
 use Rattle.std.proofs.lemmas.Option.{none-some, same_Some}
@@ -7,15 +7,13 @@ use Rattle.dcx_shape.specs.declared.shape.Sides.{Sides}
 use Rattle.dcx_shape.specs.Shape.{sides_of}
 use Rattle.dcx_atom.specs.declared.array.Array.{Array}
 use Rattle.dcx_point.specs.Pairs.{Pairs, array_of}
-use Rattle.dcx_arena.specs.Nodes.{IsNode}
 use Rattle.dcx_call.specs.declared.attribute.Parameter.{Parameter}
 use Rattle.dcx_call.specs.declared.call.Call.{Call}
 use Rattle.dcx_call.specs.declared.call.Call.TheVariants as calls
 use Rattle.dcx_call.specs.Values.{HasArray}
 use Rattle.dcx_convex.specs.Rules.{Plain, Parametrized}
 use Rattle.dcx_tree.specs.declared.problem.Problem.{Problem}
-use Rattle.dcx_tree.specs.Nodes.{Node}
-use Rattle.dcx_tree.specs.Problems.{IsListed, AreDeclared}
+use Rattle.dcx_tree.specs.Problems.{IsListed}
 use Rattle.dcx_tree.proofs.Sublists.{contains_at}
 use Rattle.dcx_fit.specs.Fit.{IsMet, FitsParameters}
 use Rattle.dcx_fit.proofs.Misfits.{holds_at}

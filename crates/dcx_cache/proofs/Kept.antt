@@ -1,5 +1,5 @@
 -- Whether a program is kept tells whether the problem has one.
-use Rattle.std.proofs.Common.{◌≡◌, ◌↔◌, IsTrue, true, Option, Some, None, is_some, refl, sym, ap, subst}
+use Rattle.std.proofs.Common.{◌↔◌, IsTrue, Option, Some, None, is_some, refl}
 use Rattle.dcx_tree.specs.declared.problem.Problem.{Problem}
 use Rattle.dcx_linear.specs.declared.param_form.ParamForm.{ParamForm}
 use Rattle.dcx_graph.specs.Reduced.{Reduction}

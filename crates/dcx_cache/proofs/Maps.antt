@@ -1,5 +1,5 @@
 -- The program that is kept, and the program at a setting.
-use Rattle.std.proofs.Common.{◌≡◌, ◌≢◌, inl, inr, ℕ, [], Result, Ok, Err, refl, sym, subst}
+use Rattle.std.proofs.Common.{◌≢◌, inl, inr, [], Result, Ok, Err, refl, sym, subst}
 use Rattle.dcx_frac.specs.declared.fraction.Frac.{Frac}
 use Rattle.dcx_point.specs.Pairs.{Pairs}
 use Rattle.dcx_tree.specs.declared.problem.Problem.{Problem}

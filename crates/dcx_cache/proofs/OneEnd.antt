@@ -4,7 +4,6 @@ use Rattle.dcx_frac.specs.declared.fraction.Frac.{Frac}
 use Rattle.dcx_frac.specs.declared.fraction.Passes.{Passes}
 use Rattle.dcx_point.specs.Pairs.{Pairs}
 use Rattle.dcx_tree.specs.declared.problem.Problem.{Problem}
-use Rattle.dcx_tree.specs.Meaning.{IsAccepted}
 use Rattle.dcx_answer.specs.declared.answer.Answer.{Answer}
 use Rattle.dcx_answer.specs.declared.site.Site.TheVariants as sites
 use Rattle.dcx_answer.specs.declared.stop.Stop.{Stop}
@@ -29,7 +28,7 @@ use Rattle.dcx_graph.proofs.Settings.{one_fixed}
 use Rattle.dcx_cache.specs.Programs.{IsMapOf, Fixes, SessionGives, mapped, anew}
 use Rattle.dcx_cache.specs.Stops.{program_stop, run_stop, reading_stop}
 use Rattle.dcx_cache.specs.Answers.{IsAnswerOf, StopsAt, at_program, at_run, at_reading, IsStopped, Stops, Answers}
-use Rattle.dcx_cache.specs.Laws.{AreOneEnd, HasOneEnd, BoundsLimit, LimitsAreSmall}
+use Rattle.dcx_cache.specs.Laws.{HasOneEnd, BoundsLimit, LimitsAreSmall}
 
 -- ---- one program
 same_ok : {A E : Type 0} (x y : A) → ◌≡◌ {A = Result A E} (Ok x) (Ok y) → x ≡ y

@@ -1,5 +1,5 @@
 -- What stops a part of the way stops the setting.
-use Rattle.std.proofs.Common.{◌≡◌, ◌≢◌, ℕ, Ok, Err, refl}
+use Rattle.std.proofs.Common.{ℕ, Ok, Err, refl}
 use Rattle.dcx_frac.specs.declared.fraction.Frac.{Frac}
 use Rattle.dcx_point.specs.Pairs.{Pairs}
 use Rattle.dcx_tree.specs.declared.problem.Problem.{Problem}

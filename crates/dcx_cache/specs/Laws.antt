@@ -1,6 +1,5 @@
 -- What holds of all answers of sessions.
 use Rattle.std.specs.Prelude.{◌≡◌, ◌≢◌, ⊤, ℕ, ◌+◌, ◌^◌, ◌<◌, length, Result, Ok, Err}
-use Rattle.dcx_math.specs.Rational.{ℚ}
 use Rattle.dcx_frac.specs.Frac.{value}
 use Rattle.dcx_point.specs.Pairs.{Pairs}
 use Rattle.dcx_tree.specs.declared.problem.Problem.{Problem}

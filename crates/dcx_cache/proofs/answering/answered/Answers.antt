@@ -1,6 +1,5 @@
 use Rattle.std.proofs.Common.{sym, subst}
 use Rattle.dcx_solved.specs.Solved.{IsSolved, Stops as RowsStop}
-use Rattle.dcx_graph.specs.Answers.{rows_of}
 use Rattle.dcx_cache.specs.Answers.{Stops}
 use Rattle.dcx_cache.proofs.Answered.{is_answered}
 use Rattle.dcx_cache.proofs.Given.{given_rows}

@@ -1,4 +1,4 @@
-use Rattle.std.proofs.Common.{rules, ◌≢◌, [], Err, subst}
+use Rattle.std.proofs.Common.{rules, ◌≢◌, Err, subst}
 use Rattle.dcx_linear.specs.declared.param_form.ParamForm.{ParamForm}
 use Rattle.dcx_graph.specs.declared.stop.ReduceStop.TheVariants as stops
 use Rattle.dcx_graph.specs.Reduced.{Reduction}

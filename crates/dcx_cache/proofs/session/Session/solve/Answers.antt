@@ -12,10 +12,10 @@ returns-in_err-answer-clause-counted g c = λ m. c.solved.ensures.counted (subst
 
 pub returns-clause-answers : goal.returns-clause-answers
 returns-clause-answers g c = (
-    c.in_ok-answer.last.reduced.program,
-    c.in_ok-answer.last.solved,
-    subst (λ (p : Problem). IsAnswerOf p c.args.setting.now c.args.limit c.in_ok-answer.last.reduced.program c.in_ok-answer.last.solved c.in_ok-answer.answer) (ap (λ (s : State). s.problem) c.self.view_is)
-    (c.in_ok-answer.ensures {u = tt}).answer,
+  c.in_ok-answer.last.reduced.program,
+  c.in_ok-answer.last.solved,
+  subst (λ (p : Problem). IsAnswerOf p c.args.setting.now c.args.limit c.in_ok-answer.last.reduced.program c.in_ok-answer.last.solved c.in_ok-answer.answer) (ap (λ (s : State). s.problem) c.self.view_is)
+      (c.in_ok-answer.ensures {u = tt}).answer,
 )
 
 pub returns-clause-right : goal.returns-clause-right
