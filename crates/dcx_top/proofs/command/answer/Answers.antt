@@ -1,0 +1,26 @@
+use Rattle.std.proofs.Common.{◌≡◌, Some, map, ap, ◌∙◌}
+use Rattle.std.specs.Prelude.{string_bytes}
+use Rattle.dcx_host.specs.Faults.{Rose}
+use Rattle.dcx_words.specs.Commands.{check, trial, command_of}
+use Rattle.dcx_words.specs.Commands.{command_in}
+use Rattle.dcx_top.proofs.Causes.{usage_of}
+use Rattle.dcx_top.proofs.command.answer.Goals as goal
+
+pub returns-in-Check-clause-causes : goal.returns-in-Check-clause-causes
+returns-in-Check-clause-causes g c =
+    c.check.ensures.causes (map string_bytes c.args.words.now) c.args.steps.now (c.in-Some.ensures {u = tt} ∙ ap (λ f. Some (command_in f)) c.in-Check.is)
+
+pub returns-in-Check-clause-usage : goal.returns-in-Check-clause-usage
+returns-in-Check-clause-usage g c =
+    usage_of (map string_bytes c.args.words.now) (g.L.Library.told c.args.library.now) (Rose (g.L.Library.faults c.args.library.now) (g.L.Library.faults c.check.new.library)) c.args.steps.now c.args.steps.now
+    (check c.in-Check.script.now) c.check.result (c.in-Some.ensures {u = tt} ∙ ap (λ f. Some (command_in f)) c.in-Check.is) (returns-in-Check-clause-causes g c)
+
+pub returns-in-Trial-clause-causes : goal.returns-in-Trial-clause-causes
+returns-in-Trial-clause-causes g c =
+    c.trial.ensures (map string_bytes c.args.words.now) (g.L.Library.told c.args.library.now) (g.L.Library.faults c.args.library.now) (g.L.Library.faults c.args.library.now)
+    (c.in-Some.ensures {u = tt} ∙ ap (λ f. Some (command_in f)) c.in-Trial.is)
+
+pub returns-in-Trial-clause-usage : goal.returns-in-Trial-clause-usage
+returns-in-Trial-clause-usage g c =
+    usage_of (map string_bytes c.args.words.now) (g.L.Library.told c.args.library.now) (Rose (g.L.Library.faults c.args.library.now) (g.L.Library.faults c.args.library.now)) c.args.steps.now c.trial.new.steps
+    (trial c.in-Trial.size c.in-Trial.limit) c.trial.result (c.in-Some.ensures {u = tt} ∙ ap (λ f. Some (command_in f)) c.in-Trial.is) (returns-in-Trial-clause-causes g c)
