@@ -17,7 +17,8 @@ same_variable v w e = cc
 pub marked_is_whole : (nodes : List Node) (i : ℕ) (call : Call) (v : Variable) (b : Bool) → call_at nodes i ≡ Some call → call ≡ calls.Variable v → IsTrue b ↔ (v.whole ≢ Not) → IsTrue b ↔ IsWholeAt nodes i
 marked_is_whole nodes i call v b there is h = (
   λ t. record { variable = v; there = there ∙ ap Some is; marked = h.0 t },
-  λ k. h.1 (subst (λ (x : Variable). x.whole ≢ Not) (same_variable k.variable v (sym k.there ∙ there ∙ ap Some is)) k.marked))
+  λ k. h.1 (subst (λ (x : Variable). x.whole ≢ Not) (same_variable k.variable v (sym k.there ∙ there ∙ ap Some is)) k.marked),
+)
 
 pub not_whole : (nodes : List Node) (i : ℕ) (b : Bool) → IsTrue b ↔ IsWholeAt nodes i → b ≡ false → ¬ IsWholeAt nodes i
 not_whole nodes i b h e k = let t : b ≡ true = h.1 k in absurd (cc)
