@@ -5,13 +5,13 @@ use Rattle.dcx_graph.specs.Answers.{CanBeRead, IsRead, IsRightFor}
 use Rattle.dcx_graph.proofs.Mapped.{known_of, can_be_read, read_right}
 use Rattle.dcx_graph.proofs.reading.map_back.Goals as goal
 
-pub read-requires-clause-there : goal.read-requires-clause-there
-read-requires-clause-there c =
+pub read-requires : goal.read-requires
+read-requires c =
     let p = c.args.problem.now in
     let q = c.args.reduced.now.program in
     let a = c.args.answer.now in
     let known = known_of q c.rows.result.now.kinds c.rows.result.now.rows c.rows.result.now.objective c.rows.ensures.kinds c.rows.ensures.rows c.rows.ensures.objective c.rows.result.now.rows_known c.rows.result.now.objective_known in
-    subst (λ kinds. CanBeRead p kinds a) (sym (c.as_slice.ensures ∙ c.rows.ensures.kinds)) (can_be_read p (setting_of p c.args.setting.now) q a known c.requires.answered)
+    record { there = subst (λ kinds. CanBeRead p kinds a) (sym (c.as_slice.ensures ∙ c.rows.ensures.kinds)) (can_be_read p (setting_of p c.args.setting.now) q a known c.requires.answered) }
 
 pub returns-clause-read : goal.returns-clause-read
 returns-clause-read c =

@@ -43,7 +43,7 @@ program-requires-clause-roots g c =
     let size = ap length (c.requires.kinds ∙ ap (kinds_with p) (marks_are rules p c.args.reduced.now c.requires.counted c.requires.reduces)) in
     subst (λ n. All (λ a. All (λ f. form_width f ≤ n) (slice_index_or (all_forms t.of_number c.in-Ok.formed.standing) a [])) (roots_of p.objective p.constraints)) (sym size)
     (roots_kept t.of_number t.number_of t.sum_gives t.change_gives t.parameter_gives rules p c.args.setting.now c.in-Ok.formed kept (IsNarrow (length (unknown_kinds rules p)))
-    (forms_are_narrow t.of_number t.number_of t.sum_gives t.change_gives t.parameter_gives rules p c.args.setting.now kept.table c.requires.square kept.formed))
+    (forms_are_narrow t.of_number t.number_of t.sum_gives t.change_gives t.parameter_gives rules p c.args.setting.now kept.table kept.formed))
 
 pub program-requires-clause-rows : goal.program-requires-clause-rows
 program-requires-clause-rows g c =
@@ -54,7 +54,7 @@ program-requires-clause-rows g c =
     let size = ap length (c.requires.kinds ∙ ap (kinds_with p) (marks_are rules p c.args.reduced.now c.requires.counted c.requires.reduces)) in
     subst (λ n. All (λ r. form_width r.form ≤ n) c.in-Ok.formed.rows) (sym size)
     (rows_kept t.of_number t.number_of t.sum_gives t.change_gives t.parameter_gives rules p c.args.setting.now c.in-Ok.formed kept (IsNarrow (length (unknown_kinds rules p)))
-    (forms_are_narrow t.of_number t.number_of t.sum_gives t.change_gives t.parameter_gives rules p c.args.setting.now kept.table c.requires.square kept.formed))
+    (forms_are_narrow t.of_number t.number_of t.sum_gives t.change_gives t.parameter_gives rules p c.args.setting.now kept.table kept.formed))
 
 pub returns-in-Ok-clause-program : goal.returns-in-Ok-clause-program
 returns-in-Ok-clause-program g c =
