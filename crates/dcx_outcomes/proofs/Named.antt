@@ -1,9 +1,8 @@
 -- A stop names nodes of the problem.
-use Rattle.std.proofs.Common.{◌≡◌, ℕ, ◌<◌, length, Err, sym, ◌∙◌, subst}
+use Rattle.std.proofs.Common.{◌≡◌, ℕ, Err, sym, subst}
 use Rattle.dcx_frac.specs.declared.fraction.Frac.{Frac}
 use Rattle.dcx_frac.specs.declared.fraction.Passes.{Passes}
 use Rattle.dcx_point.specs.Pairs.{Pairs}
-use Rattle.dcx_arena.specs.declared.node.NodeId.{NodeId}
 use Rattle.dcx_tree.specs.declared.problem.Problem.{Problem}
 use Rattle.dcx_answer.specs.declared.site.Site.{Site}
 use Rattle.dcx_answer.specs.declared.site.Site.TheVariants as sites

@@ -1,5 +1,5 @@
 -- A stop has a place exactly where it names a node.
-use Rattle.std.proofs.Common.{◌≡◌, ℕ, zero, suc, ◌<◌, List, [], ◌∷◌, length, Option, true, refl, arith}
+use Rattle.std.proofs.Common.{◌≡◌, ℕ, zero, suc, ◌<◌, List, [], ◌∷◌, length, true, refl, arith}
 use Rattle.std.specs.Prelude.{is_some, option_map, slice_get}
 use Rattle.dcx_tree.specs.declared.problem.Problem.{Problem}
 use Rattle.dcx_answer.specs.declared.site.Site.TheVariants as sites

@@ -1,6 +1,5 @@
 -- Each answer among the outcomes is right, and speaks of the problem.
-use Rattle.std.proofs.Common.{◌≡◌, ℕ, List, [], ◌∷◌, map, Some, Ok, refl, sym, ap, ap₂, subst}
-use Rattle.std.specs.List.{slice_get}
+use Rattle.std.proofs.Common.{◌≡◌, ℕ, List, [], ◌∷◌, map, Ok, refl, ap₂, subst}
 use Rattle.std.specs.Prelude.{drop}
 use Rattle.dcx_shape.specs.Shape.{sides_of}
 use Rattle.dcx_atom.specs.declared.array.Array.{Array}
@@ -14,15 +13,13 @@ use Rattle.dcx_lp_answer.specs.declared.answer.LpAnswer.{LpAnswer}
 use Rattle.dcx_lp_answer.specs.declared.answer.RowNote.{RowNote}
 use Rattle.dcx_answer.specs.declared.answer.Answer.{Answer}
 use Rattle.dcx_answer.specs.declared.answer.Answer.TheVariants.{Optimal, Infeasible, Unbounded}
-use Rattle.dcx_report.specs.declared.outcome.Outcome.{Outcome}
 use Rattle.dcx_report.specs.declared.outcome.OutcomeEnd.{OutcomeEnd}
-use Rattle.dcx_report.specs.declared.outcome.OutcomeEnd.TheVariants as the
 use Rattle.dcx_unknowns.specs.Layout.{constraint_rows}
 use Rattle.dcx_postsolve.specs.Duals.{AreDuals}
 use Rattle.dcx_graph.specs.Answers.{IsRead}
 use Rattle.dcx_cache.specs.Answers.{Answers}
 use Rattle.dcx_cache.proofs.Answered.{answers_are_right}
-use Rattle.dcx_outcomes.specs.Outcomes.{end_of, AreOutcomes}
+use Rattle.dcx_outcomes.specs.Outcomes.{end_of}
 use Rattle.dcx_outcomes.specs.Right.{SpeaksOf, IsRightAnswer}
 use Rattle.dcx_outcomes.specs.Laws.{OutcomesAreRight}
 

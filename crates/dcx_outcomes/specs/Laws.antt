@@ -1,5 +1,5 @@
 -- What holds of all outcomes.
-use Rattle.std.specs.Prelude.{◌≡◌, ⊤, ℕ, List, [], ◌∷◌}
+use Rattle.std.specs.Prelude.{⊤, ℕ, List, [], ◌∷◌}
 use Rattle.dcx_point.specs.Pairs.{Pairs}
 use Rattle.dcx_tree.specs.declared.problem.Problem.{Problem}
 use Rattle.dcx_tree.specs.Meaning.{IsAccepted}

@@ -1,6 +1,5 @@
 -- What is right of the outcomes of settings.
-use Rattle.std.specs.Prelude.{◌≡◌, ⊤, ℕ, List, length, map, Some, slice_get}
-use Rattle.dcx_shape.specs.declared.shape.Sides.{Sides}
+use Rattle.std.specs.Prelude.{◌≡◌, ℕ, List, length, map, Some, slice_get}
 use Rattle.dcx_shape.specs.Shape.{sides_of}
 use Rattle.dcx_atom.specs.declared.array.Array.{Array}
 use Rattle.dcx_point.specs.Pairs.{Pairs, names_of}
