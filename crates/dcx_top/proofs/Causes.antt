@@ -1,11 +1,9 @@
 -- What each command gives has its cause.
-use Rattle.std.proofs.Common.{◌≡◌, ◌↔◌, ◌∙◌, None, ◌⊎◌, inl, inr, ℕ, List, length, Option, Some, Ok, Err, refl, sym, subst}
+use Rattle.std.proofs.Common.{◌≡◌, ◌↔◌, ◌∙◌, None, inl, inr, ℕ, List, Option, Some, Ok, Err, refl, sym, subst}
 use Rattle.std.proofs.lemmas.Option.{none-some}
 use Rattle.dcx_point.specs.Pairs.{Pairs}
-use Rattle.dcx_tree.specs.declared.problem.Problem.{Problem}
 use Rattle.dcx_tree.specs.declared.constraint.Sense.{Sense}
 use Rattle.dcx_host.specs.Files.{Files, IsTold}
-use Rattle.dcx_elab.specs.declared.work.Work.{Work}
 use Rattle.dcx_front.specs.declared.accepted.Accepted.{Accepted}
 use Rattle.dcx_front.specs.declared.checked.Checked.{Checked}
 use Rattle.dcx_front.specs.declared.fault.FrontFault.{FrontFault}
@@ -21,9 +19,8 @@ use Rattle.dcx_report.specs.declared.run.Run.TheVariants as run
 use Rattle.dcx_report.specs.declared.run.Word.TheVariants as word
 use Rattle.dcx_words.specs.Commands.{Command, check, solve, resolve, trial, command_of}
 use Rattle.dcx_trial.specs.Trial.{trial_text}
-use Rattle.dcx_outcomes.specs.Outcomes.{Counts}
-use Rattle.dcx_top.specs.Commands.{IsScriptOf, script_name, settings_name, AreOfFile, AreSettingsOf, limit_of, TellsOutcomes}
-use Rattle.dcx_top.specs.Files.{run_of, RefusesScript, RefusesSettings, EndsAt, ReadsScript}
+use Rattle.dcx_top.specs.Commands.{IsScriptOf, script_name, settings_name, AreSettingsOf, limit_of, TellsOutcomes}
+use Rattle.dcx_top.specs.Files.{run_of, RefusesScript, RefusesSettings, EndsAt}
 use Rattle.dcx_top.specs.Whole.{HasNoWhole, IsRefusedForWhole, IsSolving}
 use Rattle.dcx_top.specs.Runs.{GivesProblem, OrWhole, SolvesAt, TriesAt, ResolvesFrom, long_script, bad_script, for_whole, bad_settings, no_script, no_settings, Causes}
 

@@ -1,5 +1,5 @@
 -- How a file ends a run: where its bytes aren't had, or where they are refused.
-use Rattle.std.proofs.Common.{◌≡◌, ◌⊎◌, inl, inr, ℕ, List, Option, Some, None, Ok, Err, refl, sym, subst}
+use Rattle.std.proofs.Common.{◌≡◌, ◌⊎◌, inl, inr, ℕ, List, Option, Err, refl, sym, subst}
 use Rattle.dcx_tokens.specs.declared.fault.ReadFault.{ReadFault}
 use Rattle.dcx_tokens.specs.declared.fault.ReadFault.TheVariants as reads
 use Rattle.dcx_host.specs.Files.{Files, IsTold}

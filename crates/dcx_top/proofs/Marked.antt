@@ -1,5 +1,5 @@
 -- Variables that are to be whole, among the nodes of a tree.
-use Rattle.std.proofs.Common.{◌≡◌, ◌≢◌, ◌↔◌, IsTrue, ℕ, ◌<◌, ◌≤◌, List, length, Bool, true, false, Some, None, sym, ap, subst, ◌∙◌, arith}
+use Rattle.std.proofs.Common.{◌≡◌, ◌≢◌, ◌↔◌, IsTrue, ℕ, ◌<◌, ◌≤◌, List, length, Bool, true, false, Some, sym, ap, subst, ◌∙◌, arith}
 use Rattle.std.proofs.lemmas.Option.{none-some, slice_get_past}
 use Rattle.std.specs.Prelude.{option_map}
 use Rattle.dcx_arena.specs.Nodes.{call_at}
@@ -8,7 +8,7 @@ use Rattle.dcx_call.specs.declared.attribute.Whole.TheVariants.{Not}
 use Rattle.dcx_call.specs.declared.call.Call.{Call}
 use Rattle.dcx_call.specs.declared.call.Call.TheVariants as calls
 use Rattle.dcx_tree.specs.Nodes.{Node}
-use Rattle.dcx_top.specs.Whole.{IsWholeAt, HasNoWhole, IsFirstWhole}
+use Rattle.dcx_top.specs.Whole.{IsWholeAt, HasNoWhole}
 
 same_variable : (v w : Variable) → Some (calls.Variable v) ≡ Some (calls.Variable w) → v ≡ w
 same_variable v w e = cc

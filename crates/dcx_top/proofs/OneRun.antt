@@ -1,5 +1,5 @@
 -- Words and told files have one run.
-use Rattle.std.proofs.Common.{◌≡◌, ℕ, List, Option, Some, None, refl, sym, ap, ap₂, subst, ◌∙◌}
+use Rattle.std.proofs.Common.{◌≡◌, ℕ, List, Option, Some, None, refl, sym, ap, subst, ◌∙◌}
 use Rattle.std.proofs.lemmas.Option.{none-some, same_Some}
 use Rattle.dcx_point.specs.Pairs.{Pairs}
 use Rattle.dcx_tree.specs.declared.constraint.Sense.{Sense}
@@ -24,7 +24,7 @@ use Rattle.dcx_overlay.proofs.OneSetting.{settings_are_one}
 use Rattle.dcx_outcomes.specs.Outcomes.{AreOutcomes}
 use Rattle.dcx_outcomes.specs.Laws.{AreAlike}
 use Rattle.dcx_outcomes.proofs.OneOutcome.{outcomes_are_one}
-use Rattle.dcx_top.specs.Commands.{settings_name, AreOfFile, AreSettingsOf, limit_of, TellsOutcomes}
+use Rattle.dcx_top.specs.Commands.{AreOfFile, AreSettingsOf, limit_of, TellsOutcomes}
 use Rattle.dcx_top.specs.Runs.{GivesProblem, IsChecked, IsSolvedRun, IsRefusedRun, long_script, bad_script, for_whole, bad_settings, Causes}
 use Rattle.dcx_top.specs.OneRun.{IsAnswered, AreAlikeOver, AreOneRun, IsOnlyRun}
 use Rattle.dcx_top.proofs.Refusals.{one_problem, same_command, refuses, one_refused, never_refused, never_refused_check}

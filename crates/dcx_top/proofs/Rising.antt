@@ -1,5 +1,5 @@
 -- A count of faults that rose in a part of a run rose in the run.
-use Rattle.std.proofs.Common.{ℕ, ◌+◌, ◌-◌, ◌^◌, ◌≤◌, min, arith}
+use Rattle.std.proofs.Common.{ℕ, ◌≤◌, arith}
 use Rattle.dcx_host.specs.Faults.{Rose}
 
 pub rose_before : (a b c : ℕ) → Rose a b → b ≤ c → Rose a c

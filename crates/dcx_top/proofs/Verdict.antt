@@ -23,7 +23,7 @@ use Rattle.dcx_report.specs.declared.run.Run.TheVariants as run
 use Rattle.dcx_words.specs.Commands.{Command, check, command_of}
 use Rattle.dcx_top.specs.Commands.{settings_name, AreSettingsOf}
 use Rattle.dcx_top.specs.Files.{RefusesScript}
-use Rattle.dcx_top.specs.Runs.{GivesProblem, IsChecked, IsSolvedRun, IsRefusedRun, Causes}
+use Rattle.dcx_top.specs.Runs.{GivesProblem, IsChecked, IsSolvedRun, Causes}
 use Rattle.dcx_top.specs.Whole.{IsWholeAt, HasNoWhole, IsSolving}
 use Rattle.dcx_top.specs.OneRun.{IsAnswered}
 use Rattle.dcx_top.specs.Verdicts.{IsRefusal, IsAcceptance, Has, AreFaultless, AreAtFault, bad_script, has_whole, bad_settings, AreWithoutFault, IsVerdictOn, IsRightVerdict}

@@ -1,5 +1,5 @@
 -- What the files of a command give: an accepted problem, and settings; or the run that ends there.
-use Rattle.std.specs.Prelude.{◌≡◌, ⊤, ℕ, ◌⊎◌, List, Option, Some, None, Result, Ok, Err}
+use Rattle.std.specs.Prelude.{⊤, ℕ, ◌⊎◌, List, Option, Result, Ok, Err}
 use Rattle.dcx_tokens.specs.declared.fault.ReadFault.{ReadFault}
 use Rattle.dcx_host.specs.Files.{Files, IsTold, Lacks, HasMore}
 use Rattle.dcx_settings.specs.declared.settings.SettingItem.{SettingItem}

@@ -1,7 +1,7 @@
-use Rattle.std.proofs.Common.{◌≡◌, Some, map, ap, ◌∙◌}
+use Rattle.std.proofs.Common.{Some, map, ap, ◌∙◌}
 use Rattle.std.specs.Prelude.{string_bytes}
 use Rattle.dcx_host.specs.Faults.{Rose}
-use Rattle.dcx_words.specs.Commands.{check, trial, command_of}
+use Rattle.dcx_words.specs.Commands.{check, trial}
 use Rattle.dcx_words.specs.Commands.{command_in}
 use Rattle.dcx_top.proofs.Causes.{usage_of}
 use Rattle.dcx_top.proofs.command.answer.Goals as goal

@@ -1,4 +1,4 @@
-use Rattle.std.proofs.Common.{refl, inl, inr}
+use Rattle.std.proofs.Common.{refl, inr}
 use Rattle.dcx_top.proofs.solving.solve_events.Goals as goal
 
 pub returns-in-Some : goal.returns-in-Some

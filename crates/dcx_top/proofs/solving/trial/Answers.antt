@@ -1,4 +1,4 @@
-use Rattle.std.proofs.Common.{Ok, Err, sym, subst, ◌∙◌}
+use Rattle.std.proofs.Common.{Ok, sym, subst, ◌∙◌}
 use Rattle.dcx_host.specs.Faults.{Rose}
 use Rattle.dcx_words.specs.Commands.{trial}
 use Rattle.dcx_front.specs.Accepts.{Gives}
