@@ -12,3 +12,4 @@ pub mod Turned
 pub mod Rewritten
 pub mod Lines
 pub mod Agreements
+pub mod NarrowRows

@@ -3,3 +3,4 @@ pub mod Rows
 pub mod NewRow
 pub mod Tables
 pub mod Agreement
+pub mod Narrow

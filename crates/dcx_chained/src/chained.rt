@@ -1,10 +1,14 @@
 //! A tableau in linked cells.
-ghost use Rattle.std.specs.Prelude.{◌≡◌, ℕ, ◌+◌, ◌<◌, ◌≤◌, ◌^◌, length};
-ghost use Rattle.dcx_tab.specs.Rows.{AllSmall};
+ghost use Rattle.std.specs.Prelude.{◌≡◌, ◌≢◌, ℕ, ◌+◌, ◌<◌, ◌≤◌, ◌^◌, length, pos, true, IfSome, IfNone};
+ghost use Rattle.dcx_tab.specs.Rows.{entry, AllSmall};
+ghost use Rattle.dcx_tab.specs.Pivot.{turned, IsFirstWideAt, AllFormedAt};
 ghost use Rattle.dcx_links.specs.Matrix.{row_of};
+ghost use Rattle.dcx_chained.specs.Rows.{rows_of};
+ghost use Rattle.dcx_chained.specs.Narrow.{IsNarrow};
 
 use crate::build::{put_line, put_rows};
 use crate::clear::{clear_rows, turn_row};
+use crate::narrow::are_rows_narrow;
 use crate::wide::first_wide;
 use dcx_links::{Entry, Links};
 use dcx_tab::{Program, Tableau, WideAt, first_basis, plain_of};
@@ -19,6 +23,7 @@ pub struct Chained {
     rows: u32,
     columns: u32,
     plain: u32,
+    narrow: bool,
     ghost height: { links.height ≡ rows + 2 },
     ghost width: { links.width ≡ columns + 3 },
     ghost room: { length entries.items ≡ columns + 3 },
@@ -27,6 +32,7 @@ pub struct Chained {
     ghost column_count: { columns + 3 < 2 ^ 32 },
     ghost plain_below: { plain ≤ columns },
     ghost small: { (i : ℕ) → i < rows + 2 → AllSmall (row_of links i) },
+    ghost narrow_rows: { narrow ≡ true → (i : ℕ) → i < rows + 2 → IsNarrow (row_of links i) },
 }
 
 impl Chained {
@@ -64,6 +70,7 @@ impl Chained {
             phase.lead,
             phase.right,
         );
+        let narrow = are_rows_narrow(&links, count + 2);
         Ok(Chained {
             links,
             entries,
@@ -71,7 +78,23 @@ impl Chained {
             rows: count,
             columns,
             plain: plain_of(kinds) as u32,
+            narrow,
         })
+    }
+
+    /// The first row and column at which a pivot is wide. Where all numbers are narrow, none is looked for.
+    fn wide_at(&self, row: u32, column: u32) -> Option<WideAt>
+        requires row { row < self.now.links.height }
+        requires column { column < self.now.links.width }
+        requires some { entry (row_of self.now.links row) column ≢ pos 0 }
+        ensures found { IfSome result (λ at. IsFirstWideAt (turned column (row_of self.now.links row)) row column (rows_of self.now.links) at.row at.column) }
+        ensures none { IfNone result (AllFormedAt (turned column (row_of self.now.links row)) row column (rows_of self.now.links)) }
+    {
+        if self.narrow {
+            None
+        } else {
+            first_wide(&self.links, row, column)
+        }
     }
 }
 
@@ -105,12 +128,13 @@ impl Tableau for Chained {
     }
 
     fn pivot(&mut self, row: u32, column: u32) -> Result<(), WideAt> {
-        if let Some(at) = first_wide(&self.links, row, column) {
+        if let Some(at) = self.wide_at(row, column) {
             return Err(at);
         }
-        clear_rows(&mut self.links, row, column, &mut self.entries);
+        let are_narrow = clear_rows(&mut self.links, row, column, &mut self.entries);
         turn_row(&mut self.links, row, column, &mut self.entries);
         self.basis[row as usize] = column;
+        self.narrow &= are_narrow;
         Ok(())
     }
 }

@@ -1,16 +1,18 @@
 //! The rows of a pivot.
-ghost use Rattle.std.specs.Prelude.{◌≡◌, ◌≢◌, ℕ, ◌<◌, ◌≤◌, length, pos, IfSome, IfNone};
+ghost use Rattle.std.specs.Prelude.{◌≡◌, ◌≢◌, ◌⊎◌, ℕ, ◌<◌, ◌≤◌, length, pos, true, IfSome, IfNone};
 ghost use Rattle.dcx_tab.specs.Rows.{entry, AllSmall};
 ghost use Rattle.dcx_tab.specs.Pivot.{turned, eliminated, IsRowFormed};
 ghost use Rattle.dcx_links.specs.Matrix.{row_of};
 ghost use Rattle.dcx_chained.specs.NewRow.{Clears};
+ghost use Rattle.dcx_chained.specs.Narrow.{IsNarrow};
 
 use crate::factors::factors_of;
 use crate::mix::{divisor_of, mix, put_row};
+use crate::narrow::are_quotients_narrow;
 use dcx_links::{Entry, Links};
 use dcx_tab::Factors;
 
-/// Clears row `i` at the column of a pivot at row `r`, by these factors.
+/// Clears row `i` at the column of a pivot at row `r`, by these factors. Answers whether it is narrow now.
 fn clear_row(
     links: &mut Links,
     i: u32,
@@ -18,7 +20,7 @@ fn clear_row(
     column: u32,
     factors: Factors,
     entries: &mut [Entry],
-)
+) -> bool
     requires row { i < links.old.height }
     requires pivot_row { r < links.old.height }
     requires column { column < links.old.width }
@@ -28,6 +30,7 @@ fn clear_row(
     requires room { links.old.width ≤ length entries.old }
     requires formed { IsRowFormed column (turned column (row_of links.old r)) (row_of links.old i) }
     ensures row { row_of links.new i ≡ eliminated column (turned column (row_of links.old r)) (row_of links.old i) }
+    ensures narrow { result ≡ true → IsNarrow (row_of links.new i) }
     ensures same { (k : ℕ) → k ≢ i → row_of links.new k ≡ row_of links.old k }
     ensures height { links.new.height ≡ links.old.height }
     ensures width { links.new.width ≡ links.old.width }
@@ -35,6 +38,7 @@ fn clear_row(
     let count = mix(links, i, r, factors, entries);
     let divisor = divisor_of(entries, count);
     put_row(links, i, entries, count, divisor);
+    are_quotients_narrow(entries, count, divisor)
 }
 
 /// The first number of a column in a row other than row `r`.
@@ -55,8 +59,8 @@ fn other_row(links: &Links, r: u32, column: u32) -> Option<Entry>
     Some(second)
 }
 
-/// Clears all rows but row `r` at the column of a pivot at row `r`.
-pub(crate) fn clear_rows(links: &mut Links, r: u32, column: u32, entries: &mut [Entry])
+/// Clears all rows but row `r` at the column of a pivot at row `r`. Answers whether those that change are narrow now.
+pub(crate) fn clear_rows(links: &mut Links, r: u32, column: u32, entries: &mut [Entry]) -> bool
     requires pivot_row { r < links.old.height }
     requires column { column < links.old.width }
     requires some { entry (row_of links.old r) column ≢ pos 0 }
@@ -64,15 +68,19 @@ pub(crate) fn clear_rows(links: &mut Links, r: u32, column: u32, entries: &mut [
     requires room { links.old.width ≤ length entries.old }
     requires formed { (i : ℕ) → i < links.old.height → i ≢ r → IsRowFormed column (turned column (row_of links.old r)) (row_of links.old i) }
     ensures rows { (i : ℕ) → i < links.old.height → i ≢ r → row_of links.new i ≡ eliminated column (turned column (row_of links.old r)) (row_of links.old i) }
+    ensures narrow { result ≡ true → (i : ℕ) → i < links.old.height → (row_of links.new i ≡ row_of links.old i) ⊎ IsNarrow (row_of links.new i) }
     ensures same { row_of links.new r ≡ row_of links.old r }
     ensures height { links.new.height ≡ links.old.height }
     ensures width { links.new.width ≡ links.old.width }
 {
     let pivot = links.get(r, column);
+    let mut are_narrow = true;
     'rows: while let Some(met) = other_row(links, r, column) {
         let factors = factors_of(pivot, met.value);
-        clear_row(links, met.at, r, column, factors, entries);
+        let is_narrow = clear_row(links, met.at, r, column, factors, entries);
+        are_narrow &= is_narrow;
     }
+    are_narrow
 }
 
 /// Negates row `r` where its number in a column is negative.

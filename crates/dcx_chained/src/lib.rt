@@ -4,7 +4,7 @@
 //! Its contract is that of the trait, as the contract of `Dense` is: both show the same table, and refuse the same pivots.
 //!
 //! A pivot at row r and column c walks c's chain and, row by row, tests every number that it would form: the row's chain and
-//! that of r are passed together, once. Only then it writes. The rows that c's chain leads to are cleared in rising order, each
+//! that of r are passed together, once. Only then it writes. While all numbers have at most 62 bits no such number is too great, and none is tested. The rows that c's chain leads to are cleared in rising order, each
 //! from the same walk, whose new entries are put into one list of entries that is as long as a row and is made once. A number
 //! that stays other than 0 is changed in its cell. A cell comes or goes only in a column where r has a number, and its place in
 //! that column is looked for from the cell where the row before it was written, so a pivot passes each such column once.
@@ -16,6 +16,7 @@ mod clear;
 mod factors;
 pub mod laws;
 mod mix;
+mod narrow;
 mod wide;
 
 pub use chained::Chained;

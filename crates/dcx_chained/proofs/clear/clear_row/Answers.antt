@@ -4,6 +4,7 @@ use Rattle.std.specs.Int.{w128}
 use Rattle.dcx_chained.specs.NewRow.{column_at}
 use Rattle.dcx_chained.proofs.RowReads.{length-row_of, row_same}
 use Rattle.dcx_chained.proofs.Rewritten.{cleared_is}
+use Rattle.dcx_chained.proofs.NarrowRows.{narrow_row}
 use Rattle.dcx_chained.proofs.clear.clear_row.Goals as goal
 
 pub mix-count-requires-clause-formed : goal.mix-count-requires-clause-formed
@@ -32,3 +33,15 @@ returns-clause-row c =
 
 pub returns-clause-same : goal.returns-clause-same
 returns-clause-same c = λ k other. row_same c.args.links.now c.put_row.new.links k c.put_row.ensures.width (λ j. c.put_row.ensures.same k j (λ e. absurd (other e)))
+
+pub are_quotients_narrow-requires-clause-count : goal.are_quotients_narrow-requires-clause-count
+are_quotients_narrow-requires-clause-count c = let l = c.mix-count.ensures.count in omega (arith, l)
+
+pub returns-clause-narrow : goal.returns-clause-narrow
+returns-clause-narrow c = λ t.
+    let m = c.args.links.now in
+    let p = c.put_row.ensures in
+    let mixed = c.mix-count.ensures.mixed in
+    let f : SFits w128 c.divisor_of-divisor.result = search rules in
+    narrow_row m c.put_row.new.links c.args.i c.args.r c.args.factors.row c.args.factors.by c.mix-count.new.to c.mix-count.result mixed p.width (unsigned_abs c.divisor_of-divisor.result)
+    (λ k lt. simp to_z-of_z at (p.there k lt)) (simp to_z-of_z at (c.are_quotients_narrow.ensures t)) c.args.column c.requires.factors c.requires.some c.requires.met (returns-clause-row c)

@@ -7,8 +7,10 @@ use Rattle.dcx_tab.specs.Pivot.{turned, eliminated, IsRowFormed}
 use Rattle.dcx_tab.proofs.LineSteps.{turned-positive}
 use Rattle.dcx_tab.proofs.Pivots.{turns}
 use Rattle.dcx_links.specs.Matrix.{Matrix, listed, number_at, row_of}
+use Rattle.dcx_chained.specs.Narrow.{IsNarrow}
 use Rattle.dcx_chained.proofs.Counts.{some_count, some_count-less}
 use Rattle.dcx_chained.proofs.RowReads.{length-row_of, entry-row_of, number_of_row}
+use Rattle.dcx_chained.proofs.NarrowRows.{both_left, both_right}
 use Rattle.dcx_chained.proofs.Cleared.{was_row, done_row, small_row, eliminated_there}
 use Rattle.dcx_chained.proofs.clear.clear_rows.Goals as goal
 
@@ -16,22 +18,22 @@ as_long : (m : Matrix) (i r column : ℕ) → entry (row_of m r) column ≢ pos 
 as_long m i r column some = length-row_of m i ∙ sym ((turns column (row_of m r) some).width ∙ length-row_of m r)
 
 pub rows-init : goal.rows-init
-rows-init c = record { height = refl; width = refl; pivot = refl; rows = λ i lt other. inl refl }
+rows-init c = record { height = refl; width = refl; pivot = refl; rows = λ i lt other. inl refl; narrow = λ t i lt. inl refl }
 
 pub other_row-requires : goal.other_row-requires
 other_row-requires c = let w = c.rows.invariant.width in let h = c.requires.column in omega (arith, w, h)
 
-pub clear_row-requires-clause-pivot_row : goal.clear_row-requires-clause-pivot_row
-clear_row-requires-clause-pivot_row c = let w = c.rows.invariant.height in let h = c.requires.pivot_row in omega (arith, w, h)
+pub clear_row-is_narrow-requires-clause-pivot_row : goal.clear_row-is_narrow-requires-clause-pivot_row
+clear_row-is_narrow-requires-clause-pivot_row c = let w = c.rows.invariant.height in let h = c.requires.pivot_row in omega (arith, w, h)
 
-pub clear_row-requires-clause-column : goal.clear_row-requires-clause-column
-clear_row-requires-clause-column c = let w = c.rows.invariant.width in let h = c.requires.column in omega (arith, w, h)
+pub clear_row-is_narrow-requires-clause-column : goal.clear_row-is_narrow-requires-clause-column
+clear_row-is_narrow-requires-clause-column c = let w = c.rows.invariant.width in let h = c.requires.column in omega (arith, w, h)
 
-pub clear_row-requires-clause-some : goal.clear_row-requires-clause-some
-clear_row-requires-clause-some c = subst (λ (w : Row). entry w c.args.column ≢ pos 0) (sym c.rows.invariant.pivot) c.requires.some
+pub clear_row-is_narrow-requires-clause-some : goal.clear_row-is_narrow-requires-clause-some
+clear_row-is_narrow-requires-clause-some c = subst (λ (w : Row). entry w c.args.column ≢ pos 0) (sym c.rows.invariant.pivot) c.requires.some
 
-pub clear_row-requires-clause-met : goal.clear_row-requires-clause-met
-clear_row-requires-clause-met c = λ z. c.in-Some.ensures.some (sym c.in-Some.ensures.met ∙ z)
+pub clear_row-is_narrow-requires-clause-met : goal.clear_row-is_narrow-requires-clause-met
+clear_row-is_narrow-requires-clause-met c = λ z. c.in-Some.ensures.some (sym c.in-Some.ensures.met ∙ z)
 
 pub factors_of-factors-requires-clause-some : goal.factors_of-factors-requires-clause-some
 factors_of-factors-requires-clause-some c =
@@ -60,8 +62,8 @@ factors_of-factors-requires-clause-small c =
     let small : AllSmall (row_of c.rows.links i) = small_row c.args.column (turned c.args.column (row_of m c.args.r)) (row_of m i) (row_of c.rows.links i) (v.rows i i_in n.other) (as_long m i c.args.r c.args.column c.requires.some) (c.requires.small i i_in) (c.requires.formed i i_in n.other) in
     simp to_z-of_z (subst (λ z. unsigned_abs z < 2 ^ 127) n.met (small c.args.column))
 
-pub clear_row-requires-clause-factors : goal.clear_row-requires-clause-factors
-clear_row-requires-clause-factors c =
+pub clear_row-is_narrow-requires-clause-factors : goal.clear_row-is_narrow-requires-clause-factors
+clear_row-is_narrow-requires-clause-factors c =
     let m = c.args.links.now in
     let v = c.rows.invariant in
     let n = c.in-Some.ensures in
@@ -70,11 +72,11 @@ clear_row-requires-clause-factors c =
     let p : entry (row_of c.rows.links c.args.r) c.args.column ≡ c.get-pivot.result = ap (λ (w : Row). entry w c.args.column) v.pivot ∙ entry-row_of m c.args.r c.args.column c.requires.column ∙ sym c.get-pivot.ensures in
     (simp to_z-of_z at c.factors_of-factors.ensures) c.args.column (row_of c.rows.links c.args.r) (row_of c.rows.links c.in-Some.met.at) p n.met
 
-pub clear_row-requires-clause-room : goal.clear_row-requires-clause-room
-clear_row-requires-clause-room c = let w = c.rows.invariant.width in let h = c.requires.room in let l = c.rows.auto.entries in omega (arith, w, h, l)
+pub clear_row-is_narrow-requires-clause-room : goal.clear_row-is_narrow-requires-clause-room
+clear_row-is_narrow-requires-clause-room c = let w = c.rows.invariant.width in let h = c.requires.room in let l = c.rows.auto.entries in omega (arith, w, h, l)
 
-pub clear_row-requires-clause-formed : goal.clear_row-requires-clause-formed
-clear_row-requires-clause-formed c =
+pub clear_row-is_narrow-requires-clause-formed : goal.clear_row-is_narrow-requires-clause-formed
+clear_row-is_narrow-requires-clause-formed c =
     let m = c.args.links.now in
     let v = c.rows.invariant in
     let i = c.in-Some.met.at in
@@ -90,11 +92,11 @@ pub rows-smaller : goal.rows-smaller
 rows-smaller c =
     let m = c.args.links.now in
     let now = c.rows.links in
-    let next = c.clear_row.new.links in
+    let next = c.clear_row-is_narrow.new.links in
     let v = c.rows.invariant in
     let i = c.in-Some.met.at in
     let n = c.in-Some.ensures in
-    let cl = c.clear_row.ensures in
+    let cl = c.clear_row-is_narrow.ensures in
     let w = v.width in
     let column = c.args.column in
     let in_column : column < now.width = let h = c.requires.column in omega (arith, w, h) in
@@ -110,11 +112,11 @@ pub rows-preserved : goal.rows-preserved
 rows-preserved c =
     let m = c.args.links.now in
     let now = c.rows.links in
-    let next = c.clear_row.new.links in
+    let next = c.clear_row-is_narrow.new.links in
     let v = c.rows.invariant in
     let i = c.in-Some.met.at in
     let n = c.in-Some.ensures in
-    let cl = c.clear_row.ensures in
+    let cl = c.clear_row-is_narrow.ensures in
     let h = v.height in
     let b = n.below in
     let i_in : i < m.height = omega (arith, b, h) in
@@ -131,6 +133,13 @@ rows-preserved c =
         | inr d ↦ elim (v.rows k lt other) [
           | inl stays ↦ inl (cl.same k d ∙ stays)
           | inr done ↦ inr (cl.same k d ∙ done)
+        ]
+      ];
+      narrow = λ t k lt. elim (cases_eq k i) [
+        | inl e ↦ inr (subst (λ q. IsNarrow (row_of next q)) (sym e) (cl.narrow (both_right c.rows.are_narrow c.clear_row-is_narrow.result t)))
+        | inr d ↦ elim (v.narrow (both_left c.rows.are_narrow c.clear_row-is_narrow.result t) k lt) [
+          | inl stays ↦ inl (cl.same k d ∙ stays)
+          | inr small ↦ inr (subst IsNarrow (sym (cl.same k d)) small)
         ]
       ];
     }

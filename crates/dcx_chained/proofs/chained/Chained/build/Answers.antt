@@ -132,7 +132,16 @@ invariant_of-result c =
       column_count = omega (arith, kinds, few);
       plain_below = (let l = plain_count_le p.columns in let e = c.plain_of.ensures ∙ ap plain_count c.as_slice-kinds.ensures in omega (arith, l, e, kinds));
       small = λ i lt. first_small p.rows p.columns p.objective p.phase p.form m high put at_objective at_phase i (omega (arith, lt, er));
+      narrow_rows = λ t i lt. c.are_rows_narrow-narrow.ensures t i lt;
     }
+
+pub are_rows_narrow-narrow-requires : goal.are_rows_narrow-narrow-requires
+are_rows_narrow-narrow-requires c =
+    let a = c.put_rows.ensures.height in
+    let b = c.put_line.ensures.height in
+    let d = c.put_line-2.ensures.height in
+    let h = c.in_ok-links.ensures.height in
+    omega (arith, a, b, d, h)
 
 pub returns : goal.returns
 returns c =

@@ -10,26 +10,25 @@ use Rattle.dcx_tab.proofs.Pivots.{IsTableauOf-pivoted, turns}
 use Rattle.dcx_tab.proofs.Programs.{same_table}
 use Rattle.dcx_links.specs.Matrix.{row_of}
 use Rattle.dcx_chained.specs.Rows.{rows_of}
+use Rattle.dcx_chained.specs.Narrow.{IsNarrow}
+use Rattle.dcx_chained.proofs.NarrowRows.{both_left, both_right, narrow-turned}
 use Rattle.dcx_chained.proofs.RowReads.{length-row_of, length-rows_of, row_at-rows_of}
 use Rattle.dcx_chained.proofs.Cleared.{small-eliminated}
 use Rattle.dcx_chained.proofs.Pivoted.{rows_pivoted, all_formed, rows_formed, first_wide_of}
 use Rattle.dcx_chained.proofs.chained.ChainedTableau.pivot.Goals as goal
 
-pub first_wide-requires-clause-pivot_row : goal.first_wide-requires-clause-pivot_row
-first_wide-requires-clause-pivot_row c = let l = length-rows_of c.args.self.now.links in let r = c.requires.row in omega (arith, l, r)
+pub wide_at-requires-clause-row : goal.wide_at-requires-clause-row
+wide_at-requires-clause-row c = let l = length-rows_of c.args.self.now.links in let r = c.requires.row in omega (arith, l, r)
 
-pub first_wide-requires-clause-column : goal.first_wide-requires-clause-column
-first_wide-requires-clause-column c = let w = c.args.self.now.width in let h = c.requires.column in omega (arith, w, h)
+pub wide_at-requires-clause-column : goal.wide_at-requires-clause-column
+wide_at-requires-clause-column c = let w = c.args.self.now.width in let h = c.requires.column in omega (arith, w, h)
 
-pub first_wide-requires-clause-some : goal.first_wide-requires-clause-some
-first_wide-requires-clause-some c =
+pub wide_at-requires-clause-some : goal.wide_at-requires-clause-some
+wide_at-requires-clause-some c =
     let m = c.args.self.now.links in
     let l = length-rows_of m in
     let r = c.requires.row in
     subst (λ (w : Row). entry w c.args.column ≢ pos 0) (row_at-rows_of m c.args.row (omega (arith, l, r))) c.requires.some
-
-pub first_wide-requires-clause-small : goal.first_wide-requires-clause-small
-first_wide-requires-clause-small c = λ k lt. let h = c.args.self.now.height in c.args.self.now.small k (omega (arith, lt, h))
 
 pub returns-in-Some-clause-wide : goal.returns-in-Some-clause-wide
 returns-in-Some-clause-wide c =
@@ -38,18 +37,18 @@ returns-in-Some-clause-wide c =
     let r = c.requires.row in
     first_wide_of m c.args.row c.args.column c.in-Some.at.row c.in-Some.at.column (omega (arith, l, r)) c.in-Some.ensures.found
 
-pub clear_rows-requires-clause-some : goal.clear_rows-requires-clause-some
-clear_rows-requires-clause-some c =
+pub clear_rows-are_narrow-requires-clause-some : goal.clear_rows-are_narrow-requires-clause-some
+clear_rows-are_narrow-requires-clause-some c =
     let m = c.args.self.now.links in
     let l = length-rows_of m in
     let r = c.requires.row in
     subst (λ (w : Row). entry w c.args.column ≢ pos 0) (row_at-rows_of m c.args.row (omega (arith, l, r))) c.requires.some
 
-pub clear_rows-requires-clause-small : goal.clear_rows-requires-clause-small
-clear_rows-requires-clause-small c = λ k lt. let h = c.args.self.now.height in c.args.self.now.small k (omega (arith, lt, h))
+pub clear_rows-are_narrow-requires-clause-small : goal.clear_rows-are_narrow-requires-clause-small
+clear_rows-are_narrow-requires-clause-small c = λ k lt. let h = c.args.self.now.height in c.args.self.now.small k (omega (arith, lt, h))
 
-pub clear_rows-requires-clause-formed : goal.clear_rows-requires-clause-formed
-clear_rows-requires-clause-formed c =
+pub clear_rows-are_narrow-requires-clause-formed : goal.clear_rows-are_narrow-requires-clause-formed
+clear_rows-are_narrow-requires-clause-formed c =
     let m = c.args.self.now.links in
     rows_formed m c.args.row c.args.column (turned c.args.column (row_of m c.args.row)) c.in_default.ensures.none
 
@@ -59,7 +58,7 @@ turn_row-requires-clause-small c =
     let l = length-rows_of m in
     let r = c.requires.row in
     let h = c.args.self.now.height in
-    subst AllSmall (sym c.clear_rows.ensures.same) (c.args.self.now.small c.args.row (omega (arith, l, r, h)))
+    subst AllSmall (sym c.clear_rows-are_narrow.ensures.same) (c.args.self.now.small c.args.row (omega (arith, l, r, h)))
 
 pub index_mut-requires : goal.index_mut-requires
 index_mut-requires c =
@@ -79,8 +78,8 @@ returns-clause-done c =
     let r = c.requires.row in
     let in_row : row < m.height = omega (arith, l, r) in
     same_table _ _
-    (rows_pivoted m n row column (turned column (row_of m row)) in_row (c.turn_row.ensures.height ∙ c.clear_rows.ensures.height) refl
-    (λ i lt other. c.turn_row.ensures.same i other ∙ c.clear_rows.ensures.rows i lt other) (c.turn_row.ensures.row ∙ ap (turned column) c.clear_rows.ensures.same))
+    (rows_pivoted m n row column (turned column (row_of m row)) in_row (c.turn_row.ensures.height ∙ c.clear_rows-are_narrow.ensures.height) refl
+    (λ i lt other. c.turn_row.ensures.same i other ∙ c.clear_rows-are_narrow.ensures.rows i lt other) (c.turn_row.ensures.row ∙ ap (turned column) c.clear_rows-are_narrow.ensures.same))
     refl refl refl
 
 pub returns-clause-kept : goal.returns-clause-kept
@@ -93,8 +92,8 @@ returns-clause-kept c = λ equations t.
     let l = length-rows_of m in
     let r = c.requires.row in
     let in_row : row < m.height = omega (arith, l, r) in
-    let e = rows_pivoted m n row column (turned column (row_of m row)) in_row (c.turn_row.ensures.height ∙ c.clear_rows.ensures.height) refl
-    (λ i lt other. c.turn_row.ensures.same i other ∙ c.clear_rows.ensures.rows i lt other) (c.turn_row.ensures.row ∙ ap (turned column) c.clear_rows.ensures.same) in
+    let e = rows_pivoted m n row column (turned column (row_of m row)) in_row (c.turn_row.ensures.height ∙ c.clear_rows-are_narrow.ensures.height) refl
+    (λ i lt other. c.turn_row.ensures.same i other ∙ c.clear_rows-are_narrow.ensures.rows i lt other) (c.turn_row.ensures.row ∙ ap (turned column) c.clear_rows-are_narrow.ensures.same) in
     subst (IsTableauOf equations (s.columns + 3) (set s.basis.items row column)) (sym e)
     (IsTableauOf-pivoted equations (s.columns + 3) s.basis.items (rows_of m) row column t (omega (arith, l, in_row)) c.requires.some)
 
@@ -105,8 +104,8 @@ returns-clause-formed c =
     let r = c.requires.row in
     all_formed m c.args.row c.args.column (omega (arith, l, r)) c.in_default.ensures.none
 
-pub invariant_of-self-2 : goal.invariant_of-self-2
-invariant_of-self-2 c =
+pub invariant_of-self : goal.invariant_of-self
+invariant_of-self c =
     let s = c.args.self.now in
     let m = s.links in
     let n = c.turn_row.new.links in
@@ -118,23 +117,33 @@ invariant_of-self-2 c =
     let some = subst (λ (w : Row). entry w column ≢ pos 0) (row_at-rows_of m row in_row) c.requires.some in
     let h = s.height in
     record {
-      height = c.turn_row.ensures.height ∙ c.clear_rows.ensures.height ∙ s.height;
-      width = c.turn_row.ensures.width ∙ c.clear_rows.ensures.width ∙ s.width;
-      room = (let w = with_items (with_items s.entries c.clear_rows.new.entries) c.turn_row.new.entries in sym w.ok.0 ∙ s.entries.ok.0 ∙ s.room);
+      height = c.turn_row.ensures.height ∙ c.clear_rows-are_narrow.ensures.height ∙ s.height;
+      width = c.turn_row.ensures.width ∙ c.clear_rows-are_narrow.ensures.width ∙ s.width;
+      room = (let w = with_items (with_items s.entries c.clear_rows-are_narrow.new.entries) c.turn_row.new.entries in sym w.ok.0 ∙ s.entries.ok.0 ∙ s.room);
       basis_size = length-set s.basis.items row column ∙ s.basis_size;
       row_count = s.row_count;
       column_count = s.column_count;
       plain_below = s.plain_below;
       small = λ i lt. let i_in : i < m.height = omega (arith, lt, h) in elim (cases_eq i row) [
-        | inl e ↦ subst AllSmall (sym (ap (row_of n) e ∙ c.turn_row.ensures.row ∙ ap (turned column) c.clear_rows.ensures.same)) (small-turned column (row_of m row) (s.small row (omega (arith, in_row, h))))
-        | inr d ↦ subst AllSmall (sym (c.turn_row.ensures.same i d ∙ c.clear_rows.ensures.rows i i_in d))
+        | inl e ↦ subst AllSmall (sym (ap (row_of n) e ∙ c.turn_row.ensures.row ∙ ap (turned column) c.clear_rows-are_narrow.ensures.same)) (small-turned column (row_of m row) (s.small row (omega (arith, in_row, h))))
+        | inr d ↦ subst AllSmall (sym (c.turn_row.ensures.same i d ∙ c.clear_rows-are_narrow.ensures.rows i i_in d))
             (small-eliminated column (turned column (row_of m row)) (row_of m i) (length-row_of m i ∙ sym ((turns column (row_of m row) some).width ∙ length-row_of m row)) (s.small i lt)
             (rows_formed m row column (turned column (row_of m row)) c.in_default.ensures.none i i_in d))
       ];
+      narrow_rows = λ t i lt.
+          let i_in : i < m.height = omega (arith, lt, h) in
+          let was = s.narrow_rows (both_left s.narrow c.clear_rows-are_narrow.result t) in
+          elim (cases_eq i row) [
+            | inl e ↦ subst IsNarrow (sym (ap (row_of n) e ∙ c.turn_row.ensures.row ∙ ap (turned column) c.clear_rows-are_narrow.ensures.same)) (narrow-turned column (row_of m row) (was row (omega (arith, in_row, h))))
+            | inr d ↦ subst IsNarrow (sym (c.turn_row.ensures.same i d)) (elim (c.clear_rows-are_narrow.ensures.narrow (both_right s.narrow c.clear_rows-are_narrow.result t) i i_in) [
+              | inl stays ↦ subst IsNarrow (sym stays) (was i lt)
+              | inr small ↦ small
+            ])
+          ];
     }
 
-pub clear_rows-requires-clause-pivot_row : goal.clear_rows-requires-clause-pivot_row
-clear_rows-requires-clause-pivot_row c = let l = length-rows_of c.args.self.now.links in let r = c.requires.row in omega (arith, l, r)
+pub clear_rows-are_narrow-requires-clause-pivot_row : goal.clear_rows-are_narrow-requires-clause-pivot_row
+clear_rows-are_narrow-requires-clause-pivot_row c = let l = length-rows_of c.args.self.now.links in let r = c.requires.row in omega (arith, l, r)
 
 pub turn_row-requires-clause-row : goal.turn_row-requires-clause-row
-turn_row-requires-clause-row c = let l = length-rows_of c.args.self.now.links in let r = c.requires.row in let h = c.clear_rows.ensures.height in omega (arith, l, r, h)
+turn_row-requires-clause-row c = let l = length-rows_of c.args.self.now.links in let r = c.requires.row in let h = c.clear_rows-are_narrow.ensures.height in omega (arith, l, r, h)
