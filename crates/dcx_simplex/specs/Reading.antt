@@ -1,8 +1,7 @@
 -- The numbers that are read at the tableau of the last basis.
-use Rattle.std.specs.Prelude.{◌≡◌, ℕ, ◌+◌, ◌<◌, Bool, List, [], map, length, pos}
+use Rattle.std.specs.Prelude.{◌≡◌, ℕ, ◌+◌, ◌<◌, List, [], map, length, pos}
 use Rattle.dcx_math.specs.Rational.{ℚ, whole, neg_ℚ, ◌/ℚ◌}
 use Rattle.dcx_math.specs.Sums.{rat_at}
-use Rattle.dcx_frac.specs.declared.fraction.Frac.{Frac}
 use Rattle.dcx_frac.specs.Frac.{value}
 use Rattle.dcx_tab.specs.declared.rows.ColumnKind.{ColumnKind}
 use Rattle.dcx_tab.specs.declared.rows.ColumnKind.TheVariants.{Slack, Artificial}
@@ -12,7 +11,6 @@ use Rattle.dcx_tab.specs.Table.{Table, entry_at}
 use Rattle.dcx_tab.specs.Program.{kind_at, is_negated}
 use Rattle.dcx_lp_answer.specs.declared.answer.LpStatus.{LpStatus}
 use Rattle.dcx_lp_answer.specs.declared.answer.LpStatus.TheVariants as status
-use Rattle.dcx_lp_answer.specs.declared.answer.RowNote.{RowNote}
 use Rattle.dcx_lp_answer.specs.declared.answer.LpAnswer.{LpAnswer}
 use Rattle.dcx_simplex.specs.declared.run.LpEnd.{LpEnd}
 use Rattle.dcx_simplex.specs.declared.run.LpEnd.TheVariants as lp

@@ -4,6 +4,7 @@
 
 ghost use Rattle.dcx_simplex.specs.Laws.{StaysReady, NeverRises, StaysJustAtZero, NeverRepeats, NeverRepeatsList, MakesFewPivots};
 ghost use Rattle.dcx_simplex.specs.Start.{EndsBelow, EndsOnce, MakesFewInAll, ProgramsStart, RunsNeverRepeat, StopsAtLimit};
+ghost use Rattle.dcx_simplex.specs.Runs.{PhasesAreReady, ProgramsRunShort};
 ghost use Rattle.dcx_simplex.specs.Meaning.{FirstIsBounded, OptimalIsLeast, EndsFeasible, OptimalIsAttained, InfeasibleIsRight, UnboundedIsRight};
 
 /// Along a phase right sides stay at least 0.
@@ -94,4 +95,15 @@ pub fn programs_start()
 /// No run from the start of a program repeats a basis within phase 1, nor within phase 2.
 pub fn runs_never_repeat()
     ensures { RunsNeverRepeat }
+{}
+
+/// Each phase of a run from a start begins where a phase may begin, so what holds of phases holds of the run's.
+pub fn phases_are_ready()
+    ensures { PhasesAreReady }
+{}
+
+/// The run on a program, under any limit, repeats no basis within a phase, makes fewer than `2 ^ (columns + 1) + rows`
+/// pivots, and is ended by the limit only where that is below this number.
+pub fn programs_run_short()
+    ensures { ProgramsRunShort }
 {}
