@@ -1,0 +1,5 @@
+pub mod Digits
+pub mod FracText
+pub mod Numbered
+pub mod Pairs
+pub mod Reading

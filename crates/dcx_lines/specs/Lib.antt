@@ -1,0 +1,4 @@
+-- The texts that reports and certificates share.
+pub mod Lines
+pub mod Pieces
+pub mod Shown

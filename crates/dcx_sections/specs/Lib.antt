@@ -1,0 +1,3 @@
+-- What the contracts on certificates cite.
+pub mod Formats
+pub mod Shown
