@@ -8,14 +8,8 @@ use Rattle.dcx_frac.specs.declared.fraction.Frac.{Frac}
 use Rattle.dcx_frac.specs.Frac.{num_of, den_of}
 use Rattle.dcx_frac.specs.Text.{frac_text}
 use Rattle.dcx_frac.proofs.Parts.{frac_from_parts}
+use Rattle.dcx_lines.specs.Reading.{IsInk, BeginsWithout}
 use Rattle.dcx_lines.proofs.Digits.{IsSigned, signed_bytes, signed_injective, bytes_weaker, bytes_append}
-
--- the list begins with a byte of which the fact doesn't hold
-pub record BeginsWithout (P : ℕ → Type 0) (xs : List ℕ) : Type 0 where
-  pub byte : ℕ
-  pub tail : List ℕ
-  pub is : xs ≡ byte ∷ tail
-  pub without : P byte → ⊥
 
 -- two fronts that are each ended by a byte that isn't of their kind are equal where the wholes are
 pub same_before : (P : ℕ → Type 0) (xs ys r s : List ℕ) → AllByRecursion P xs → AllByRecursion P ys → BeginsWithout P r → BeginsWithout P s → xs ++ r ≡ ys ++ s → (xs ≡ ys) × (r ≡ s)
@@ -34,7 +28,7 @@ same_before P (x ∷ xs) (y ∷ ys) r s own others first second e =
     (let a : xs ≡ ys = rest.0 in cc, rest.1)
 
 -- a byte that isn't among those of a list stands in no part of it
-absent : (P : ℕ → Type 0) (xs ys : List ℕ) (t : ℕ) → AllByRecursion P (xs ++ t ∷ ys) → P t
+pub absent : (P : ℕ → Type 0) (xs ys : List ℕ) (t : ℕ) → AllByRecursion P (xs ++ t ∷ ys) → P t
 absent P [] ys t h = h.0
 absent P (x ∷ xs) ys t h = absent P xs ys t h.1
 
@@ -72,10 +66,6 @@ frac_text_injective f g e = by (text_cases f) (text_cases g)
         let second : 47 ∷ signed_decimal (den_of f) ≡ 47 ∷ signed_decimal (den_of g) = parts.1 in
         let dens : signed_decimal (den_of f) ≡ signed_decimal (den_of g) = cc in
         frac_from_parts f g (signed_injective (num_of f) (num_of g) f.num_fits g.num_fits parts.0) (signed_injective (den_of f) (den_of g) f.den_fits g.den_fits dens)
-
--- a byte of a fraction is above a blank and a line feed
-pub record IsInk (c : ℕ) : Type 0 where
-  pub above : 32 < c
 
 ink_from_signed : (c : ℕ) → IsSigned c → IsInk c
 ink_from_signed c h = record { above = omega (arith, h.low) }

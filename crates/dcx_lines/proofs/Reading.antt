@@ -15,7 +15,8 @@ use Rattle.dcx_point.specs.Pairs.{Pairs}
 use Rattle.dcx_lines.specs.Pieces.{shape_text, entry_text, array_text}
 use Rattle.dcx_lines.specs.Lines.{named_line, dual_line, number_line}
 use Rattle.dcx_lines.specs.Shown.{variables_of, constraints_of}
-use Rattle.dcx_lines.proofs.FracText.{BeginsWithout, IsInk, same_before, frac_ink, frac_text_injective}
+use Rattle.dcx_lines.specs.Reading.{IsInk, BeginsWithout}
+use Rattle.dcx_lines.proofs.FracText.{same_before, frac_ink, frac_text_injective}
 
 -- equal lists have one first byte
 pub first_same : (m n : ℕ) (r s : List ℕ) → m ∷ r ≡ n ∷ s → m ≡ n
@@ -25,7 +26,7 @@ first_same m n r s e = cc
 feed_ends : (xs : List ℕ) → BeginsWithout IsInk (10 ∷ xs)
 feed_ends xs = record { byte = 10; tail = xs; is = refl; without = λ h. omega (arith, h.above) }
 
-entries_end : (xs : List Frac) (r : List ℕ) → BeginsWithout IsInk (flat_map entry_text xs ++ 10 ∷ r)
+pub entries_end : (xs : List Frac) (r : List ℕ) → BeginsWithout IsInk (flat_map entry_text xs ++ 10 ∷ r)
 unfolding entry_text
 entries_end [] r = feed_ends r
 entries_end (x ∷ xs) r =

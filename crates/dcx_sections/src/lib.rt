@@ -15,11 +15,13 @@
 mod cert;
 mod fault;
 mod list;
+mod outline;
 mod section;
 mod weights;
 
 pub use cert::Cert;
 pub use fault::CertFault;
 pub use list::SectionList;
+pub use outline::{AtomRows, Outline, Shown};
 pub use section::{Format, Section, Sections};
 pub use weights::{NodeWeights, Weights};
