@@ -11,9 +11,10 @@ use Rattle.dcx_tree.specs.declared.constraint.Sense.TheVariants.{Minimize, Maxim
 use Rattle.dcx_answer.specs.declared.answer.Answer.{Answer}
 use Rattle.dcx_answer.specs.declared.answer.Answer.TheVariants.{Optimal, Infeasible, Unbounded}
 use Rattle.dcx_report.specs.Negated.{negated}
-use Rattle.dcx_report.specs.AnswerText.{user_number, answer_text, var_lines, ray_lines, dual_lines, number_line}
+use Rattle.dcx_lines.specs.Lines.{number_line}
+use Rattle.dcx_report.specs.AnswerText.{user_number, answer_text, var_lines, ray_lines, dual_lines}
 use Rattle.dcx_report.specs.SameText.{Layout, IsAnswerOf}
-use Rattle.dcx_report.proofs.Reading.{number_read, points_read, duals_read}
+use Rattle.dcx_lines.proofs.Reading.{number_read, points_read, duals_read}
 
 negated_injective : (f g : Frac) → negated f ≡ negated g → f ≡ g
 unfolding negated
@@ -36,7 +37,7 @@ grouped x y z t u = simp append_assoc
 
 -- the text of an answer, and what stands behind it
 pub answer_read : (layout : Layout) (sense : Sense) (a b : Answer) (r s : List ℕ) → IsAnswerOf layout a → IsAnswerOf layout b → answer_text sense a ++ r ≡ answer_text sense b ++ s → (a ≡ b) × (r ≡ s)
-unfolding answer_text var_lines ray_lines
+unfolding answer_text var_lines ray_lines dual_lines
 answer_read layout sense (Optimal v p d) (Optimal w q k) r s h l e =
     let number = number_read (codes "value") (user_number sense v) (user_number sense w) _ _ (append_cancel_left (codes " optimal\n") _ _ (sym (grouped (codes " optimal\n") _ _ (dual_lines d) r) ∙ e ∙ grouped (codes " optimal\n") _ _ (dual_lines k) s)) in
     let values = points_read (codes "var") p q _ _ (h.0 ∙ sym l.0) number.1 in

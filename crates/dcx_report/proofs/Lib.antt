@@ -1,9 +1,5 @@
 pub mod AnswerReading
-pub mod Digits
-pub mod FracText
 pub mod Negation
 pub mod Numbered
-pub mod Pairs
 pub mod OneLine
-pub mod Reading
 pub mod SameReport

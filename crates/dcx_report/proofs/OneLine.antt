@@ -19,11 +19,13 @@ use Rattle.dcx_answer.specs.declared.site.Site.{Site}
 use Rattle.dcx_answer.specs.declared.site.Site.TheVariants.{Node, Row, Map, Pivot, Answer}
 use Rattle.dcx_answer.specs.declared.stop.Stop.{Stop}
 use Rattle.dcx_answer.specs.declared.stop.Stop.TheVariants.{UnknownParam, MissingParam, ParamShape, ParamSign, TooLarge, ZeroDivisor, Wide, PivotLimit, Memory}
-use Rattle.dcx_report.specs.Pieces.{place_text, sides_text, shape_text, entry_text, op_text, passes_text}
+use Rattle.dcx_lines.specs.Pieces.{sides_text, shape_text, entry_text}
+use Rattle.dcx_report.specs.Pieces.{place_text, op_text, passes_text}
 use Rattle.dcx_report.specs.StopText.{entry_at_text, site_text, stop_name, stop_details}
 use Rattle.dcx_report.specs.SameText.{IsOnOneLine, SaysOneLine}
-use Rattle.dcx_report.proofs.Digits.{IsDigit, bytes_weaker, bytes_append, decimal_digits}
-use Rattle.dcx_report.proofs.FracText.{IsInk, frac_ink}
+use Rattle.dcx_lines.proofs.Digits.{IsDigit, bytes_weaker, bytes_append, decimal_digits}
+use Rattle.dcx_lines.specs.Reading.{IsInk}
+use Rattle.dcx_lines.proofs.FracText.{frac_ink}
 
 -- no byte is a line feed
 abbrev pub IsLine : List ℕ → Type 0

@@ -20,8 +20,9 @@ use Rattle.dcx_report.specs.StopText.{stop_name, stop_details, stopped_text}
 use Rattle.dcx_report.specs.OutcomeText.{word_text, end_text, outcome_text, outcome_lines, count_line}
 use Rattle.dcx_report.specs.ReportText.{text_of}
 use Rattle.dcx_report.specs.SameText.{Layout, IsEndOf, answer_of, answers_of, SameTextSameAnswers}
-use Rattle.dcx_report.proofs.FracText.{BeginsWithout, same_before}
-use Rattle.dcx_report.proofs.Reading.{first_same}
+use Rattle.dcx_lines.specs.Reading.{BeginsWithout}
+use Rattle.dcx_lines.proofs.FracText.{same_before}
+use Rattle.dcx_lines.proofs.Reading.{first_same}
 use Rattle.dcx_report.proofs.AnswerReading.{answer_read, second_same}
 use Rattle.dcx_report.proofs.OneLine.{stop_line}
 

@@ -1,25 +1,20 @@
 -- The lines of an answer.
-use Rattle.std.specs.Prelude.{ℕ, List, ◌++◌, codes, decimal}
+use Rattle.std.specs.Prelude.{ℕ, List, ◌++◌, codes}
 use Rattle.std.specs.List.{flat_map, enumerate_from}
 use Rattle.dcx_frac.specs.declared.fraction.Frac.{Frac}
-use Rattle.dcx_frac.specs.Text.{frac_text}
 use Rattle.dcx_atom.specs.declared.array.Array.{Array}
 use Rattle.dcx_point.specs.Pairs.{Pairs}
 use Rattle.dcx_tree.specs.declared.constraint.Sense.{Sense}
 use Rattle.dcx_tree.specs.declared.constraint.Sense.TheVariants.{Minimize, Maximize}
 use Rattle.dcx_answer.specs.declared.answer.Answer.{Answer}
 use Rattle.dcx_answer.specs.declared.answer.Answer.TheVariants.{Optimal, Infeasible, Unbounded}
+use Rattle.dcx_lines.specs.Lines.{named_line, dual_line, number_line}
 use Rattle.dcx_report.specs.Negated.{negated}
-use Rattle.dcx_report.specs.Pieces.{array_text}
 
 -- a number of the minimized objective, as the user's objective has it: negated back where that is maximized
 unfoldable pub user_number : Sense → Frac → Frac
 user_number Minimize number = number
 user_number Maximize number = negated number
-
--- WORD NAME SHAPE = NUMBER NUMBER ..
-unfoldable pub named_line : List ℕ → List ℕ × Array → List ℕ
-named_line word pair = word ++ codes " " ++ pair.0 ++ codes " " ++ array_text pair.1 ++ codes "\n"
 
 -- a line for each variable's value
 unfoldable pub var_lines : Pairs → List ℕ
@@ -29,17 +24,9 @@ var_lines point = flat_map (named_line (codes "var")) point
 unfoldable pub ray_lines : Pairs → List ℕ
 ray_lines ray = flat_map (named_line (codes "ray")) ray
 
--- dual NUMBER SHAPE = NUMBER NUMBER ..
-unfoldable pub dual_line : ℕ × Array → List ℕ
-dual_line numbered = codes "dual " ++ decimal numbered.0 ++ codes " " ++ array_text numbered.1 ++ codes "\n"
-
 -- a line for each constraint, numbered from 1
 unfoldable pub dual_lines : List Array → List ℕ
 dual_lines duals = flat_map dual_line (enumerate_from 1 duals)
-
--- WORD NUMBER
-unfoldable pub number_line : List ℕ → Frac → List ℕ
-number_line word number = word ++ codes " " ++ frac_text number ++ codes "\n"
 
 -- what stands behind the number of a setting that has this answer
 unfoldable pub answer_text : Sense → Answer → List ℕ

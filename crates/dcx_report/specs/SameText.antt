@@ -2,13 +2,12 @@
 use Rattle.std.specs.Prelude.{◌≡◌, ◌≢◌, ℕ, List, All, map, None, Some, ⊤}
 use Rattle.std.specs.declared.option.Option.{Option}
 use Rattle.dcx_shape.specs.declared.shape.Shape.{Shape}
-use Rattle.dcx_atom.specs.declared.array.Array.{Array}
-use Rattle.dcx_point.specs.Pairs.{Pairs}
 use Rattle.dcx_tree.specs.declared.constraint.Sense.{Sense}
 use Rattle.dcx_answer.specs.declared.answer.Answer.{Answer}
 use Rattle.dcx_answer.specs.declared.answer.Answer.TheVariants.{Optimal, Infeasible, Unbounded}
 use Rattle.dcx_answer.specs.declared.stop.Stop.{Stop}
 use Rattle.dcx_answer.specs.declared.stop.Stop.TheVariants.{UnknownParam, MissingParam, ParamShape, ParamSign}
+use Rattle.dcx_lines.specs.Shown.{variables_of, constraints_of}
 use Rattle.dcx_report.specs.declared.outcome.Outcome.{Outcome}
 use Rattle.dcx_report.specs.declared.outcome.OutcomeEnd.{OutcomeEnd}
 use Rattle.dcx_report.specs.declared.outcome.OutcomeEnd.TheVariants as the
@@ -20,14 +19,6 @@ use Rattle.dcx_report.specs.ReportText.{text_of}
 pub record Layout : Type 0 where
   pub variables : List (List ℕ × Shape)
   pub constraints : List Shape
-
--- the name and the shape of each variable of a point
-abbrev pub variables_of : Pairs → List (List ℕ × Shape)
-variables_of point = map (λ p. (p.0, p.1.shape)) point
-
--- the shape of each constraint's multipliers
-abbrev pub constraints_of : List Array → List Shape
-constraints_of duals = map (λ a. a.shape) duals
 
 -- the answer is to a problem with this layout
 abbrev pub IsAnswerOf : Layout → Answer → Type 0

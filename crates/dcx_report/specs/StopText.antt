@@ -7,7 +7,8 @@ use Rattle.dcx_answer.specs.declared.site.Site.{Site}
 use Rattle.dcx_answer.specs.declared.site.Site.TheVariants.{Node, Row, Map, Pivot, Answer}
 use Rattle.dcx_answer.specs.declared.stop.Stop.{Stop}
 use Rattle.dcx_answer.specs.declared.stop.Stop.TheVariants.{UnknownParam, MissingParam, ParamShape, ParamSign, TooLarge, ZeroDivisor, Wide, PivotLimit, Memory}
-use Rattle.dcx_report.specs.Pieces.{place_text, shape_text, passes_text}
+use Rattle.dcx_lines.specs.Pieces.{shape_text}
+use Rattle.dcx_report.specs.Pieces.{place_text, passes_text}
 
 -- the place of the node and the entry, where the stop names a node
 unfoldable pub entry_at_text : Option Place → ℕ → List ℕ

@@ -1,15 +1,15 @@
 //! Appends the lines of an answer.
-ghost use Rattle.std.specs.Prelude.{◌≡◌, ◌++◌, Some, None, IfSome, MatchOption, slice_get, OnOk};
+ghost use Rattle.std.specs.Prelude.{◌≡◌, ◌++◌, IfSome, slice_get, OnOk};
 ghost use Rattle.std.specs.List.{flat_map};
+ghost use Rattle.dcx_lines.specs.Lines.{number_line, named_line, dual_line};
 ghost use Rattle.dcx_report.specs.Negated.{negated};
-ghost use Rattle.dcx_report.specs.AnswerText.{user_number, number_line, named_line, var_lines, ray_lines, dual_line, dual_lines, answer_text};
+ghost use Rattle.dcx_report.specs.AnswerText.{user_number, var_lines, ray_lines, dual_lines, answer_text};
 
-use crate::pieces::{put_array, put_bytes, put_frac, put_number};
 use crate::{Answer, Sense};
 use dcx_atom::Array;
 use dcx_frac::Frac;
+use dcx_lines::{pair_at, put_bytes, put_dual_line, put_named_line, put_number_line};
 use dcx_point::Point;
-use dcx_shape::Name;
 use std::alloc::AllocError;
 
 /// The number with its sign turned.
@@ -17,17 +17,6 @@ fn turned(number: Frac) -> Frac
     ensures { result ≡ negated number }
 {
     number.neg()
-}
-
-/// Appends a line of a word and a number.
-#[tactic(auto, unfolding(crate::specs::AnswerText::number_line))]
-fn put_number_line(out: &mut Vec<u8>, word: &[u8], number: Frac) -> Result<(), AllocError>
-    ensures { OnOk result (out.new.items ≡ out.old.items ++ number_line word.now number) }
-{
-    put_bytes(out, word)?;
-    put_bytes(out, b" ")?;
-    put_frac(out, &number)?;
-    put_bytes(out, b"\n")
 }
 
 /// Appends a line of a word and a number of the minimized objective, as the user's objective has it.
@@ -44,36 +33,6 @@ fn put_user_line(
         Sense::Minimize => put_number_line(out, word, number),
         Sense::Maximize => put_number_line(out, word, turned(number)),
     }
-}
-
-/// Appends a line of a variable under a word.
-#[tactic(auto, unfolding(crate::specs::AnswerText::named_line))]
-fn put_named_line(
-    out: &mut Vec<u8>,
-    word: &[u8],
-    name: &Name,
-    array: &Array,
-) -> Result<(), AllocError>
-    ensures { OnOk result (out.new.items ≡ out.old.items ++ named_line word.now (name.now, array.now)) }
-{
-    put_bytes(out, word)?;
-    put_bytes(out, b" ")?;
-    put_bytes(out, name.as_slice())?;
-    put_bytes(out, b" ")?;
-    put_array(out, array)?;
-    put_bytes(out, b"\n")
-}
-
-/// The name and the array of pair `i`, counted from 0; `None` where there are at most `i` pairs.
-fn pair_at(point: &Point, i: usize) -> Option<(&Name, &Array)>
-    ensures { MatchOption result (slice_get point.now i ≡ None) (λ pair. slice_get point.now i ≡ Some (pair.0.now, pair.1.now)) }
-{
-    if i >= point.len() {
-        return None;
-    }
-    let name = point.name_at(i)?;
-    let array = point.get(name)?;
-    Some((name, array))
 }
 
 /// Appends the line of pair `i`, where there is one, under a word.
@@ -110,18 +69,6 @@ fn put_ray_lines(out: &mut Vec<u8>, ray: &Point) -> Result<(), AllocError>
     ensures { OnOk result (out.new.items ≡ out.old.items ++ ray_lines ray.now) }
 {
     put_named_lines(out, b"ray", ray)
-}
-
-/// Appends the line of a constraint's multipliers under its number.
-#[tactic(auto, unfolding(crate::specs::AnswerText::dual_line))]
-fn put_dual_line(out: &mut Vec<u8>, number: u64, duals: &Array) -> Result<(), AllocError>
-    ensures { OnOk result (out.new.items ≡ out.old.items ++ dual_line (number, duals.now)) }
-{
-    put_bytes(out, b"dual ")?;
-    put_number(out, number)?;
-    put_bytes(out, b" ")?;
-    put_array(out, duals)?;
-    put_bytes(out, b"\n")
 }
 
 /// Appends a line of each constraint's multipliers.

@@ -3,9 +3,10 @@ ghost use Rattle.std.specs.Prelude.{◌≡◌, ◌++◌, OnOk};
 ghost use Rattle.dcx_report.specs.RefusalText.{source_text, count_text, rule_text, carried_text, refusal_text};
 
 use crate::Refusal;
-use crate::pieces::{put_bytes, put_number, put_passes, put_place};
+use crate::pieces::{put_passes, put_place};
 use dcx_arena::Count;
 use dcx_front::{Carried, RefusalSource};
+use dcx_lines::{put_bytes, put_number};
 use dcx_rules::Rule;
 use std::alloc::AllocError;
 

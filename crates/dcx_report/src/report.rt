@@ -5,11 +5,11 @@ ghost use Rattle.dcx_report.specs.ReportText.{text_of};
 
 use crate::answer_lines::put_answer;
 use crate::check_lines::put_checked;
-use crate::pieces::{put_bytes, put_number};
 use crate::refusal_line::put_refusal;
 use crate::stop_line::put_stopped;
 use crate::trial_lines::put_trial;
 use crate::{Outcome, OutcomeEnd, Run, Sense, Word};
+use dcx_lines::{put_bytes, put_number};
 use dcx_shape::{Bytes, Place};
 use std::alloc::{AllocError, Global};
 

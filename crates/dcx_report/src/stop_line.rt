@@ -4,9 +4,10 @@ ghost use Rattle.dcx_report.specs.Pieces.{passes_text};
 ghost use Rattle.dcx_report.specs.StopText.{entry_at_text, site_text, stop_name, stop_details, stopped_text};
 
 use crate::Stop;
-use crate::pieces::{put_bytes, put_frac, put_number, put_passes, put_place, put_shape};
+use crate::pieces::{put_passes, put_place};
 use dcx_answer::Site;
 use dcx_frac::Passes;
+use dcx_lines::{put_bytes, put_frac, put_number, put_shape};
 use dcx_shape::Place;
 use std::alloc::AllocError;
 

@@ -3,10 +3,10 @@ ghost use Rattle.std.specs.Prelude.{◌≡◌, ◌++◌, OnOk, codes};
 ghost use Rattle.dcx_frac.specs.Text.{frac_text};
 ghost use Rattle.dcx_report.specs.TrialText.{answer_kind, trial_end, trial_line, setting_lines, trial_lines};
 
-use crate::pieces::{put_bytes, put_frac, put_number};
 use crate::stop_line::put_stopped;
 use crate::{Answer, Outcome, OutcomeEnd};
 use dcx_frac::Frac;
+use dcx_lines::{put_bytes, put_frac, put_number};
 use dcx_shape::Place;
 use std::alloc::AllocError;
 

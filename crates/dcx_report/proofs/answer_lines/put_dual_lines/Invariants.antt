@@ -1,7 +1,7 @@
 -- The lines so far are appended, and counted.
 use Rattle.std.proofs.Common.{◌≡◌, ◌++◌, take}
 use Rattle.std.specs.List.{flat_map, enumerate_from}
-use Rattle.dcx_report.specs.AnswerText.{dual_line}
+use Rattle.dcx_lines.specs.Lines.{dual_line}
 use Rattle.dcx_report.proofs.answer_lines.put_dual_lines.Given as goal
 
 abbrev pub invariant-loop-array : goal.invariant-loop-array

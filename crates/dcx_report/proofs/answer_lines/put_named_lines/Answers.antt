@@ -1,7 +1,7 @@
 -- Each pair appends its line.
 use Rattle.std.proofs.Common.{arith}
-use Rattle.dcx_report.specs.AnswerText.{named_line}
-use Rattle.dcx_report.proofs.Pairs.{lines_more}
+use Rattle.dcx_lines.specs.Lines.{named_line}
+use Rattle.dcx_lines.proofs.Pairs.{lines_more}
 use Rattle.dcx_report.proofs.answer_lines.put_named_lines.Goals as goal
 
 pub pairs-preserved : goal.pairs-preserved

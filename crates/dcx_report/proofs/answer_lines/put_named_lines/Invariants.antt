@@ -1,7 +1,7 @@
 -- The lines so far are appended.
 use Rattle.std.proofs.Common.{◌≡◌, ◌++◌, take}
 use Rattle.std.specs.List.{flat_map}
-use Rattle.dcx_report.specs.AnswerText.{named_line}
+use Rattle.dcx_lines.specs.Lines.{named_line}
 use Rattle.dcx_report.proofs.answer_lines.put_named_lines.Given as goal
 
 abbrev pub invariant-pairs : goal.invariant-pairs
