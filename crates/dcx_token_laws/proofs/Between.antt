@@ -1,0 +1,109 @@
+-- What a step passes over between tokens: blanks, a comment or a line end.
+use Rattle.std.proofs.Common.{◌≡◌, ◌≢◌, inl, inr, ℕ, suc, ◌+◌, ◌-◌, ◌<◌, Bool, true, false, cond, eqb, ◌||◌, ◌&&◌, List, [], ◌∷◌, length, take, drop, refl, sym, ap, ◌∙◌, subst, arith}
+use Rattle.std.specs.Prelude.{IsTrue, not, nat_lt, get_or, ◌≤◌}
+use Rattle.std.specs.List.{All, prefix_len}
+use Rattle.std.proofs.Math.Numerals.{one-add}
+use Rattle.std.proofs.lemmas.Bool.Decides.{nat_tests}
+use Rattle.std.proofs.lemmas.List.Elements.{All-nil, All-cons, All-weaker, All-take}
+use Rattle.std.proofs.lemmas.List.{take-take}
+use Rattle.std.proofs.Math.Seq.{drop-cons}
+use Rattle.std.proofs.lemmas.List.Sums.{prefix_len_stops}
+use Rattle.std.proofs.lemmas.List.Folds.{length-prefix_len}
+use Rattle.dcx_tokens.specs.Front.{run_of, is_blank, ends_line, line_end_len, up_to_line_end, is_not_line_feed}
+use Rattle.dcx_token_laws.specs.Cut.{AreBlanks, IsLineEnd, EndsLine, IsComment}
+
+-- those that are counted from the front on pass
+pub run_passes : (p : ℕ → Bool) (cs : List ℕ) → All (λ c. IsTrue (p c)) (take (prefix_len p cs) cs)
+run_passes p [] = All-nil (λ c. IsTrue (p c))
+run_passes p (c ∷ cs) = by (p c) refl (run_passes p cs)
+  where
+    by : (b : Bool) → p c ≡ b → All (λ d. IsTrue (p d)) (take (prefix_len p cs) cs) → All (λ d. IsTrue (p d)) (take (cond b (1 + prefix_len p cs) 0) (c ∷ cs))
+    by true e more = rw one-add (All-cons (λ d. IsTrue (p d)) c (take (prefix_len p cs) cs) e more)
+    by false e more = All-nil (λ d. IsTrue (p d))
+
+pub run_is : (p : ℕ → Bool) (cs : List ℕ) → run_of p cs ≡ prefix_len p cs
+run_is p cs = length-prefix_len p cs
+
+pub are_blanks : (c : ℕ) (cs : List ℕ) (n : ℕ) → is_blank c ≡ true → n ≡ 1 + run_of is_blank cs → AreBlanks (take n (c ∷ cs))
+are_blanks c cs n b count =
+    let m : n ≡ suc (prefix_len is_blank cs) = count ∙ ap (λ i. 1 + i) (run_is is_blank cs) ∙ one-add (prefix_len is_blank cs) in
+    rw m (All-cons (λ d. IsTrue (is_blank d)) c (take (prefix_len is_blank cs) cs) b (run_passes is_blank cs))
+
+-- ---- line ends
+is_number : (c n : ℕ) → eqb c n ≡ true → c ≡ n
+is_number c n e = grind (arith, nat_tests)
+
+pub is_line_end : (c : ℕ) (cs : List ℕ) (n : ℕ) → ends_line c cs ≡ true → n ≡ line_end_len c → IsLineEnd (take n (c ∷ cs))
+is_line_end c [] n l count =
+    let c10 = is_number c 10 l in
+    let one : n ≡ 1 = count ∙ ap line_end_len c10 in
+    inl (rw (one, c10) refl)
+is_line_end c (d ∷ ds) n l count = by (eqb c 10) (eqb c 13) (eqb d 10) refl refl refl l
+  where
+    by : (a b e : Bool) → eqb c 10 ≡ a → eqb c 13 ≡ b → eqb d 10 ≡ e → (a || (b && e)) ≡ true → IsLineEnd (take n (c ∷ d ∷ ds))
+    by true b e ea eb ee h = let c10 = is_number c 10 ea in let one : n ≡ 1 = count ∙ ap line_end_len c10 in inl (rw (one, c10) refl)
+    by false true true ea eb ee h =
+        let c13 = is_number c 13 eb in
+        let d10 = is_number d 10 ee in
+        let two : n ≡ 2 = count ∙ ap line_end_len c13 in
+        inr (rw (two, c13, d10) refl)
+    by false true false ea eb ee h = absurd (cc)
+    by false false e ea eb ee h = absurd (cc)
+
+-- ---- comments
+other_than : (c n : ℕ) → not (eqb c n) ≡ true → c ≢ n
+other_than c n e = grind (arith, nat_tests)
+
+no_line_feeds : (cs : List ℕ) (n : ℕ) → n ≤ prefix_len is_not_line_feed cs → All (λ d. d ≢ 10) (take n cs)
+no_line_feeds cs n le =
+    let all = All-weaker (λ d. IsTrue (is_not_line_feed d)) (λ d. d ≢ 10) (λ d e. other_than d 10 e) (take (prefix_len is_not_line_feed cs) cs) (run_passes is_not_line_feed cs) in
+    let shorter = All-take (λ d. d ≢ 10) n (take (prefix_len is_not_line_feed cs) cs) all in
+    subst (All (λ d. d ≢ 10)) (take-take n (prefix_len is_not_line_feed cs) cs le) shorter
+
+-- behind the run stands a line feed, or nothing
+feed_next : (cs : List ℕ) → EndsLine (drop (prefix_len is_not_line_feed cs) cs)
+feed_next [] = tt
+feed_next (c ∷ cs) = by (eqb c 10) refl (feed_next cs)
+  where
+    ends_so : (ds : List ℕ) → eqb c 10 ≡ true → ends_line c ds ≡ true
+    ends_so [] e = e
+    ends_so (d ∷ ds) e = rw e refl
+
+    by : (b : Bool) → eqb c 10 ≡ b → EndsLine (drop (prefix_len is_not_line_feed cs) cs) → EndsLine (drop (cond (not b) (1 + prefix_len is_not_line_feed cs) 0) (c ∷ cs))
+    by true e more = ends_so cs e
+    by false e more = rw one-add more
+
+line_feed : (c : ℕ) → not (eqb c 10) ≡ false → c ≡ 10
+line_feed c e = grind (arith, nat_tests)
+
+-- a carriage return in front of it counts to the line end
+return_next : (cs : List ℕ) (n : ℕ) → 0 < n → n < length cs → n ≡ prefix_len is_not_line_feed cs → eqb (get_or cs (n - 1) 0) 13 ≡ true → EndsLine (drop (n - 1) cs)
+return_next cs n some within is e =
+    let m = n - 1 in
+    let next : suc m ≡ n = omega arith in
+    let feed : get_or cs n 0 ≡ 10 = line_feed (get_or cs n 0) (subst (λ i. is_not_line_feed (get_or cs i 0) ≡ false) (sym is) (prefix_len_stops is_not_line_feed cs 0 (omega arith))) in
+    let return : get_or cs m 0 ≡ 13 = is_number (get_or cs m 0) 13 e in
+    let first : drop m cs ≡ get_or cs m 0 ∷ drop (suc m) cs = drop-cons cs m 0 (omega arith) in
+    let second : drop n cs ≡ get_or cs n 0 ∷ drop (suc n) cs = drop-cons cs n 0 within in
+    let both : drop m cs ≡ 13 ∷ 10 ∷ drop (suc n) cs = first ∙ ap (λ x. x ∷ drop (suc m) cs) return ∙ ap (λ i. 13 ∷ drop i cs) next ∙ ap (λ xs. 13 ∷ xs) (second ∙ ap (λ x. x ∷ drop (suc n) cs) feed) in
+    subst EndsLine (sym both) refl
+
+comment_of : (c : ℕ) (cs : List ℕ) (n m : ℕ) → c ≡ 35 → n ≡ suc m → m ≤ prefix_len is_not_line_feed cs → EndsLine (drop m cs) → IsComment (take n (c ∷ cs)) (drop n (c ∷ cs))
+comment_of c cs n m hash count le ends = rw count (hash, no_line_feeds cs m le, ends)
+
+is_less : (a b : ℕ) → nat_lt a b ≡ true → a < b
+is_less a b e = grind (arith, nat_tests)
+
+comment_by : (c : ℕ) (cs : List ℕ) (n run : ℕ) (a b d : Bool) → c ≡ 35 → run ≡ prefix_len is_not_line_feed cs → nat_lt 0 run ≡ a → nat_lt run (length cs) ≡ b → eqb (get_or cs (run - 1) 0) 13 ≡ d →
+    n ≡ 1 + cond ((a && b) && d) (run - 1) run → IsComment (take n (c ∷ cs)) (drop n (c ∷ cs))
+comment_by c cs n run true true true h is ea eb ed e =
+    let some = is_less 0 run ea in
+    comment_of c cs n (run - 1) h (omega arith) (omega arith) (return_next cs run some (is_less run (length cs) eb) is ed)
+comment_by c cs n run true true false h is ea eb ed e = comment_of c cs n run h (omega arith) (omega arith) (subst (λ i. EndsLine (drop i cs)) (sym is) (feed_next cs))
+comment_by c cs n run true false d h is ea eb ed e = comment_of c cs n run h (omega arith) (omega arith) (subst (λ i. EndsLine (drop i cs)) (sym is) (feed_next cs))
+comment_by c cs n run false b d h is ea eb ed e = comment_of c cs n run h (omega arith) (omega arith) (subst (λ i. EndsLine (drop i cs)) (sym is) (feed_next cs))
+
+pub is_comment : (c : ℕ) (cs : List ℕ) (n : ℕ) → eqb c 35 ≡ true → n ≡ 1 + up_to_line_end cs → IsComment (take n (c ∷ cs)) (drop n (c ∷ cs))
+is_comment c cs n h count =
+    let run = run_of is_not_line_feed cs in
+    comment_by c cs n run (nat_lt 0 run) (nat_lt run (length cs)) (eqb (get_or cs (run - 1) 0) 13) (is_number c 35 h) (run_is is_not_line_feed cs) refl refl refl count
