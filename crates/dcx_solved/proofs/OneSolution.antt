@@ -1,11 +1,9 @@
 -- Rows have one solution, or one stop.
-use Rattle.std.proofs.Common.{◌≡◌, ◌≢◌, ℕ, ◌+◌, ◌<◌, ◌^◌, [], ◌∷◌, length, map, refl, sym, ap, ◌∙◌, subst, ◌⊎◌, inl, inr, arith}
-use Rattle.std.proofs.lemmas.List.{length-map, length-append}
+use Rattle.std.proofs.Common.{◌≡◌, ◌≢◌, ℕ, ◌+◌, ◌<◌, ◌^◌, length, refl, sym, ap, ◌∙◌, subst, ◌⊎◌, inl, inr}
 use Rattle.dcx_answer.specs.declared.site.Site.TheVariants as sites
 use Rattle.dcx_tab.specs.declared.program.Program.{Program}
 use Rattle.dcx_tab.specs.Table.{Table}
 use Rattle.dcx_tab.specs.First.{first_tableau}
-use Rattle.dcx_tab.specs.Program.{tableau_row, objective_row, phase_row}
 use Rattle.dcx_chained.specs.Tables.{table_of}
 use Rattle.dcx_lp_answer.specs.declared.answer.LpAnswer.{LpAnswer}
 use Rattle.dcx_simplex.specs.declared.run.LpEnd.{LpEnd}
@@ -13,7 +11,7 @@ use Rattle.dcx_simplex.specs.declared.run.LpEnd.TheVariants as ends
 use Rattle.dcx_simplex.specs.Whole.{RunEnds}
 use Rattle.dcx_simplex.specs.Reading.{IsRead}
 use Rattle.dcx_simplex.proofs.OneEnd.{ends_once}
-use Rattle.dcx_simplex.proofs.Limits.{ends_below}
+use Rattle.dcx_simplex.proofs.Runs.{programs_run_short}
 use Rattle.dcx_simplex.proofs.Starts.{starts}
 use Rattle.dcx_std.specs.declared.stop.RowStop.{RowStop}
 use Rattle.dcx_std.specs.declared.stop.RowStop.TheVariants as rows
@@ -111,10 +109,4 @@ stops_are_one limit given s t h k n m = one_cause limit given s t (cause_of limi
 
 -- ---- the limit
 pub few_pivots : (limit : ℕ) (given : GivenRows) (count : ℕ) → Stops limit given (stops.PivotLimit count) → (q : Program) × IsMade given q × (limit < 2 ^ (length q.columns + 1) + length q.rows)
-few_pivots limit given count h =
-    let q = h.program in
-    let end = h.stops.1 in
-    let below = ends_below (first_tableau q).rows limit (first_tableau q) end.last count (starts q.rows q.columns q.objective q.phase q.form) end.run in
-    let size = length-append (map tableau_row q.rows) (objective_row q.objective ∷ phase_row q.phase ∷ []) in
-    let rows_count = length-map q.rows tableau_row in
-    (q, h.made, omega (arith, below, size, rows_count))
+few_pivots limit given count h = let end = h.stops.1 in (h.program, h.made, (programs_run_short h.program).limits limit count end.last end.run)

@@ -11,6 +11,7 @@ use Rattle.std.proofs.lemmas.List.Sums.{prefix_len_stops}
 use Rattle.std.proofs.lemmas.List.Folds.{length-prefix_len}
 use Rattle.dcx_tokens.specs.Front.{run_of, is_blank, ends_line, line_end_len, up_to_line_end, is_not_line_feed}
 use Rattle.dcx_token_laws.specs.Cut.{AreBlanks, IsLineEnd, EndsLine, IsComment}
+use Rattle.dcx_token_laws.proofs.Basics.{is_char, is_less}
 
 -- those that are counted from the front on pass
 pub run_passes : (p : ℕ → Bool) (cs : List ℕ) → All (λ c. IsTrue (p c)) (take (prefix_len p cs) cs)
@@ -30,21 +31,18 @@ are_blanks c cs n b count =
     rw m (All-cons (λ d. IsTrue (is_blank d)) c (take (prefix_len is_blank cs) cs) b (run_passes is_blank cs))
 
 -- ---- line ends
-is_number : (c n : ℕ) → eqb c n ≡ true → c ≡ n
-is_number c n e = grind (arith, nat_tests)
-
 pub is_line_end : (c : ℕ) (cs : List ℕ) (n : ℕ) → ends_line c cs ≡ true → n ≡ line_end_len c → IsLineEnd (take n (c ∷ cs))
 is_line_end c [] n l count =
-    let c10 = is_number c 10 l in
+    let c10 = is_char c 10 l in
     let one : n ≡ 1 = count ∙ ap line_end_len c10 in
     inl (rw (one, c10) refl)
 is_line_end c (d ∷ ds) n l count = by (eqb c 10) (eqb c 13) (eqb d 10) refl refl refl l
   where
     by : (a b e : Bool) → eqb c 10 ≡ a → eqb c 13 ≡ b → eqb d 10 ≡ e → (a || (b && e)) ≡ true → IsLineEnd (take n (c ∷ d ∷ ds))
-    by true b e ea eb ee h = let c10 = is_number c 10 ea in let one : n ≡ 1 = count ∙ ap line_end_len c10 in inl (rw (one, c10) refl)
+    by true b e ea eb ee h = let c10 = is_char c 10 ea in let one : n ≡ 1 = count ∙ ap line_end_len c10 in inl (rw (one, c10) refl)
     by false true true ea eb ee h =
-        let c13 = is_number c 13 eb in
-        let d10 = is_number d 10 ee in
+        let c13 = is_char c 13 eb in
+        let d10 = is_char d 10 ee in
         let two : n ≡ 2 = count ∙ ap line_end_len c13 in
         inr (rw (two, c13, d10) refl)
     by false true false ea eb ee h = absurd (cc)
@@ -82,7 +80,7 @@ return_next cs n some within is e =
     let m = n - 1 in
     let next : suc m ≡ n = omega arith in
     let feed : get_or cs n 0 ≡ 10 = line_feed (get_or cs n 0) (subst (λ i. is_not_line_feed (get_or cs i 0) ≡ false) (sym is) (prefix_len_stops is_not_line_feed cs 0 (omega arith))) in
-    let return : get_or cs m 0 ≡ 13 = is_number (get_or cs m 0) 13 e in
+    let return : get_or cs m 0 ≡ 13 = is_char (get_or cs m 0) 13 e in
     let first : drop m cs ≡ get_or cs m 0 ∷ drop (suc m) cs = drop-cons cs m 0 (omega arith) in
     let second : drop n cs ≡ get_or cs n 0 ∷ drop (suc n) cs = drop-cons cs n 0 within in
     let both : drop m cs ≡ 13 ∷ 10 ∷ drop (suc n) cs = first ∙ ap (λ x. x ∷ drop (suc m) cs) return ∙ ap (λ i. 13 ∷ drop i cs) next ∙ ap (λ xs. 13 ∷ xs) (second ∙ ap (λ x. x ∷ drop (suc n) cs) feed) in
@@ -90,9 +88,6 @@ return_next cs n some within is e =
 
 comment_of : (c : ℕ) (cs : List ℕ) (n m : ℕ) → c ≡ 35 → n ≡ suc m → m ≤ prefix_len is_not_line_feed cs → EndsLine (drop m cs) → IsComment (take n (c ∷ cs)) (drop n (c ∷ cs))
 comment_of c cs n m hash count le ends = rw count (hash, no_line_feeds cs m le, ends)
-
-is_less : (a b : ℕ) → nat_lt a b ≡ true → a < b
-is_less a b e = grind (arith, nat_tests)
 
 comment_by : (c : ℕ) (cs : List ℕ) (n run : ℕ) (a b d : Bool) → c ≡ 35 → run ≡ prefix_len is_not_line_feed cs → nat_lt 0 run ≡ a → nat_lt run (length cs) ≡ b → eqb (get_or cs (run - 1) 0) 13 ≡ d →
     n ≡ 1 + cond ((a && b) && d) (run - 1) run → IsComment (take n (c ∷ cs)) (drop n (c ∷ cs))
@@ -106,4 +101,4 @@ comment_by c cs n run false b d h is ea eb ed e = comment_of c cs n run h (omega
 pub is_comment : (c : ℕ) (cs : List ℕ) (n : ℕ) → eqb c 35 ≡ true → n ≡ 1 + up_to_line_end cs → IsComment (take n (c ∷ cs)) (drop n (c ∷ cs))
 is_comment c cs n h count =
     let run = run_of is_not_line_feed cs in
-    comment_by c cs n run (nat_lt 0 run) (nat_lt run (length cs)) (eqb (get_or cs (run - 1) 0) 13) (is_number c 35 h) (run_is is_not_line_feed cs) refl refl refl count
+    comment_by c cs n run (nat_lt 0 run) (nat_lt run (length cs)) (eqb (get_or cs (run - 1) 0) 13) (is_char c 35 h) (run_is is_not_line_feed cs) refl refl refl count

@@ -1,10 +1,10 @@
 -- Along a reading: how far the line stands from the first column, and that its tokens are those of lines.
-use Rattle.std.proofs.Common.{◌≡◌, ◌≢◌, ◌⊎◌, inl, inr, ℕ, zero, suc, ◌+◌, ◌-◌, Bool, true, false, cond, eqb, ◌||◌, List, [], ◌∷◌, ◌++◌, length, take, drop, replicate, Option, Some, None, refl, sym, ap, ◌∙◌, subst, append_assoc, arith}
+use Rattle.std.proofs.Common.{◌≡◌, ◌≢◌, ◌⊎◌, inl, inr, ℕ, zero, suc, ◌+◌, ◌-◌, ◌<◌, Bool, true, false, cond, eqb, ◌||◌, List, [], ◌∷◌, ◌++◌, length, take, drop, replicate, Option, Some, None, refl, sym, ap, ◌∙◌, subst, append_assoc, arith}
 use Rattle.std.specs.Prelude.{IsTrue, slice_get}
 use Rattle.std.specs.List.{All, prefix_len}
 use Rattle.std.proofs.Math.Numerals.{one-add}
 use Rattle.std.proofs.lemmas.Bool.Decides.{nat_tests}
-use Rattle.std.proofs.lemmas.List.Elements.{All-nil, All-cons, All-head, All-tail, All-replicate}
+use Rattle.std.proofs.lemmas.List.Elements.{All-nil, All-cons, All-head, All-tail, All-weaker, All-replicate}
 use Rattle.std.proofs.lemmas.Option.{slice_get-get_or}
 use Rattle.dcx_shape.specs.declared.place.Place.{Place}
 use Rattle.dcx_tokens.specs.declared.fault.ReadFault.{ReadFault}
@@ -21,12 +21,14 @@ use Rattle.dcx_tokens.specs.Reading.{Reads, ends, stops, goes_on, IsLexed, fault
 use Rattle.dcx_tokens.specs.State.{State, Answer, put, moved, dedent_at, line_supplied, all_ended, finished_at, finished, start, led}
 use Rattle.dcx_tokens.proofs.Kept.{token_of}
 use Rattle.dcx_token_laws.specs.Cut.{AreBlanks, IsLineEnd, IsComment, EndsLine}
-use Rattle.dcx_token_laws.specs.Lines.{IsOfWords, depth_of, kinds, Turns, AreLines, ended, line}
+use Rattle.dcx_token_laws.specs.Lines.{IsOfWords, depth_of, kinds, Turns, IsTogether, AreLines, ended, line}
 use Rattle.dcx_token_laws.proofs.Between.{run_is, are_blanks, is_line_end, is_comment}
+use Rattle.dcx_token_laws.proofs.Feeds.{HasNoFeed, token_feeds}
 use Rattle.dcx_token_laws.proofs.Forms.{HasBegun, IsLed, Turned, deeper, back, turns, begun_is, IsNested, nests, Closes, over, inside, begun_closes, empty_ends}
 use Rattle.dcx_token_laws.proofs.Rising.{IsRising, deeper_turns, deeper_rising, back_turns, back_rising}
 use Rattle.dcx_token_laws.proofs.Steps as steps
 use Rattle.dcx_token_laws.proofs.Steps.{IsToken, Step, stepped}
+use Rattle.dcx_token_laws.proofs.Basics.{never_both, other_char, some_is}
 
 -- ---- columns
 is_one : (c : ℕ) → is_blank c ≡ true → (c ≡ 32) ⊎ (c ≡ 9)
@@ -55,6 +57,26 @@ line_end_column : (s : State) (cs : List ℕ) → IsLineEnd cs → (moved_over s
 line_end_column s cs (inl is) = rw is refl
 line_end_column s cs (inr is) = rw is refl
 
+-- without a line feed the row stays
+same_row : (s : State) (cs : List ℕ) → HasNoFeed cs → (moved_over s.at cs).place.line ≡ s.at.place.line
+same_row s [] h = refl
+same_row s (c ∷ cs) h =
+    let stays : (next_at s.at c).place.line ≡ s.at.place.line = let other = other_char c 10 (All-head (λ d. d ≢ 10) c cs h) in rw other refl in
+    same_row (record s { at = next_at s.at c }) cs (All-tail (λ d. d ≢ 10) c cs h) ∙ stays
+
+blank_other : (c : ℕ) → is_blank c ≡ true → c ≢ 10
+blank_other c e is = never_both (is_blank c) e (ap is_blank is)
+
+blanks_feeds : (cs : List ℕ) → AreBlanks cs → HasNoFeed cs
+blanks_feeds cs h = All-weaker (λ d. IsTrue (is_blank d)) (λ d. d ≢ 10) blank_other cs h
+
+hash_other : (c : ℕ) → c ≡ 35 → c ≢ 10
+hash_other c h is = let same : ◌≡◌ {A = ℕ} 35 10 = sym h ∙ is in omega arith
+
+comment_feeds : (front behind : List ℕ) → IsComment front behind → HasNoFeed front
+comment_feeds [] behind h = absurd h
+comment_feeds (x ∷ xs) behind h = All-cons (λ d. d ≢ 10) x xs (hash_other x h.0) h.1
+
 -- ---- where the reading stands in its line
 -- behind blanks comes no other
 abbrev NoMore : List ℕ → List ℕ → Type 0
@@ -75,9 +97,9 @@ no_more c cs n count =
     let m : n ≡ suc (prefix_len is_blank cs) = count ∙ ap (λ i. 1 + i) (run_is is_blank cs) ∙ one-add (prefix_len is_blank cs) in
     rw m (no_more_behind cs c (take (prefix_len is_blank cs) cs))
 
--- the line has a token; or blanks alone, all of them; or it is at its end, and has none
+-- the line has a token, the last on this row, which is the reading's too unless a bracket is open; or blanks alone, all of them; or it is at its end, and has none
 data Stage (s : State) (cs : List ℕ) : Type 0 where
-  within : HasBegun s → Stage s cs
+  within : (row : ℕ) → HasBegun s → (s.at.place.line ≡ row) ⊎ (0 < length s.brackets) → Stage s cs
   leads : (blanks : List ℕ) → IsLed blanks s → length s.brackets ≡ 0 → s.at.place.column ≡ 1 + length blanks → NoMore blanks cs → Stage s cs
   closing : (blanks : List ℕ) → IsLed blanks s → length s.brackets ≡ 0 → EndsLine cs → Stage s cs
 
@@ -87,18 +109,19 @@ kinds-replicate zero d = refl
 kinds-replicate (suc n) d = ap (λ ks. d.kind ∷ ks) (kinds-replicate n d)
 
 -- the rest of a line, and then lines
-record IsInside (blocks : List ℕ) (brackets : ℕ) (new : List Token) : Type 0 where
+record IsInside (blocks : List ℕ) (row brackets : ℕ) (new : List Token) : Type 0 where
   more : List Token
   end : Token
   behind : List Token
   are : new ≡ more ++ end ∷ behind
   words : All (λ t. IsOfWords t.kind) more
   closed : brackets_left brackets more ≡ 0
+  together : IsTogether row brackets (more ++ end ∷ [])
   newline : end.kind ≡ kind.Newline
   lines : AreLines blocks behind
 
 abbrev Goes : (s : State) (cs : List ℕ) → Stage s cs → List Token → Type 0
-Goes s cs (within is) new = IsInside s.indents (length s.brackets) new
+Goes s cs (within row is here) new = IsInside s.indents row (length s.brackets) new
 Goes s cs (leads blanks is none column last) new = AreLines s.indents new
 Goes s cs (closing blanks is none end) new = AreLines s.indents new
 
@@ -124,38 +147,49 @@ is_of_words c cs k n (steps.number x b d is same) = subst IsOfWords (sym same) t
 is_of_words c cs k n (steps.text m b d q is count same) = subst IsOfWords (sym same) tt
 is_of_words c cs k n (steps.sign symbol b d q is count same) = subst IsOfWords (sym same) tt
 
-never_both : (b : Bool) → b ≡ true → b ≡ false → ⊥
-never_both b e f = cc
-
 module _ (s : State) (c : ℕ) (cs : List ℕ) (n : ℕ) (rising : IsRising 0 s.indents) where
   -- ---- in a line that has begun
-  module _ (is : HasBegun s) where
-    line_over : (t : State) → ends_line c cs ≡ true → n ≡ line_end_len c → Closes s t (take n (c ∷ cs)) → Next s t (c ∷ cs) (drop n (c ∷ cs)) (within is)
+  module _ (row : ℕ) (is : HasBegun s) (here : (s.at.place.line ≡ row) ⊎ (0 < length s.brackets)) where
+    abbrev going : Stage s (c ∷ cs)
+    going = within row is here
+
+    -- without a line feed the row is the same
+    stays_here : (ds : List ℕ) → HasNoFeed ds → ((moved_over s.at ds).place.line ≡ row) ⊎ (0 < length s.brackets)
+    stays_here ds h = by here
+      where
+        by : (s.at.place.line ≡ row) ⊎ (0 < length s.brackets) → ((moved_over s.at ds).place.line ≡ row) ⊎ (0 < length s.brackets)
+        by (inl e) = inl (same_row s ds h ∙ e)
+        by (inr some) = inr some
+
+    line_over : (t : State) → ends_line c cs ≡ true → n ≡ line_end_len c → Closes s t (take n (c ∷ cs)) → Next s t (c ∷ cs) (drop n (c ∷ cs)) going
     line_over t l count (over none e) =
         let end = take n (c ∷ cs) in
         let token = token_of s kind.Newline end in
-        subst (λ (w : State). Next s w (c ∷ cs) (drop n (c ∷ cs)) (within is)) (sym e) (record {
+        subst (λ (w : State). Next s w (c ∷ cs) (drop n (c ∷ cs)) going) (sym e) (record {
           here = leads [] refl none (line_end_column s end (is_line_end c cs n l count)) tt;
           rising = rising;
           before = λ ts lined. record {
             new = token ∷ lined.new;
             tokens = lined.tokens ∙ append_assoc s.tokens (token ∷ []) lined.new;
-            goes = record { more = []; end = token; behind = lined.new; are = refl; words = All-nil (λ t. IsOfWords t.kind); closed = none; newline = refl; lines = lined.goes };
+            goes = record { more = []; end = token; behind = lined.new; are = refl; words = All-nil (λ t. IsOfWords t.kind); closed = none; together = (here, tt); newline = refl; lines = lined.goes };
           };
         })
     line_over t l count (inside some e) =
-        subst (λ (w : State). Next s w (c ∷ cs) (drop n (c ∷ cs)) (within is)) (sym e) (record {
-          here = within is;
+        subst (λ (w : State). Next s w (c ∷ cs) (drop n (c ∷ cs)) going) (sym e) (record {
+          here = within row is (inr some);
           rising = rising;
           before = λ ts lined. record { new = lined.new; tokens = lined.tokens; goes = lined.goes };
         })
 
+    row_at : (v : State) → v.at ≡ s.at → v.at.place.line ≡ s.at.place.line
+    row_at v at = rw at refl
+
     -- one token more
-    next_word : (t v : State) (k : TokenKind) → IsToken c cs k n → IsNested s v k → t ≡ put v k (take n (c ∷ cs)) → Next s t (c ∷ cs) (drop n (c ∷ cs)) (within is)
-    next_word t v k token nest same =
+    next_word : (t v : State) (k : TokenKind) → ends_line c cs ≡ false → IsToken c cs k n → IsNested s v k → t ≡ put v k (take n (c ∷ cs)) → Next s t (c ∷ cs) (drop n (c ∷ cs)) going
+    next_word t v k l token nest same =
         let tok = token_of v k (take n (c ∷ cs)) in
-        subst (λ (w : State). Next s w (c ∷ cs) (drop n (c ∷ cs)) (within is)) (sym same) (record {
-          here = within (nest.line ∙ is);
+        subst (λ (w : State). Next s w (c ∷ cs) (drop n (c ∷ cs)) going) (sym same) (record {
+          here = within tok.place.line (nest.line ∙ is) (inl (same_row v (take n (c ∷ cs)) (token_feeds c cs k n l token)));
           rising = subst (IsRising 0) (sym nest.indents) rising;
           before = λ ts lined. let rest = lined.goes in record {
             new = tok ∷ lined.new;
@@ -167,29 +201,30 @@ module _ (s : State) (c : ℕ) (cs : List ℕ) (n : ℕ) (rising : IsRising 0 s.
               are = ap (λ us. tok ∷ us) rest.are;
               words = All-cons (λ t. IsOfWords t.kind) tok rest.more (is_of_words c cs k n token) rest.words;
               closed = ap (λ m. brackets_left m rest.more) (sym nest.brackets) ∙ rest.closed;
+              together = (subst (λ p. (p ≡ row) ⊎ (0 < length s.brackets)) (sym (row_at v nest.at)) here, subst (λ b. IsTogether tok.place.line b (rest.more ++ rest.end ∷ [])) nest.brackets rest.together);
               newline = rest.newline;
               lines = subst (λ blocks. AreLines blocks rest.behind) nest.indents rest.lines;
             };
           };
         })
 
-    next_within : (t : State) → Step s t c cs n → Next s t (c ∷ cs) (drop n (c ∷ cs)) (within is)
+    next_within : (t : State) → Step s t c cs n → Next s t (c ∷ cs) (drop n (c ∷ cs)) going
     next_within t (steps.line_end l count same) = line_over t l count (begun_closes s t (take n (c ∷ cs)) is same)
     next_within t (steps.blank l b count same) =
-        subst (λ (w : State). Next s w (c ∷ cs) (drop n (c ∷ cs)) (within is)) (sym same) (record {
-          here = within (rw is refl);
+        subst (λ (w : State). Next s w (c ∷ cs) (drop n (c ∷ cs)) going) (sym same) (record {
+          here = within row (rw is refl) (stays_here (take n (c ∷ cs)) (blanks_feeds (take n (c ∷ cs)) (are_blanks c cs n b count)));
           rising = rising;
           before = λ ts lined. record { new = lined.new; tokens = lined.tokens; goes = lined.goes };
         })
     next_within t (steps.comment l h count same) =
-        subst (λ (w : State). Next s w (c ∷ cs) (drop n (c ∷ cs)) (within is)) (sym same) (record {
-          here = within is;
+        subst (λ (w : State). Next s w (c ∷ cs) (drop n (c ∷ cs)) going) (sym same) (record {
+          here = within row is (stays_here (take n (c ∷ cs)) (comment_feeds (take n (c ∷ cs)) (drop n (c ∷ cs)) (is_comment c cs n h count)));
           rising = rising;
           before = λ ts lined. record { new = lined.new; tokens = lined.tokens; goes = lined.goes };
         })
     next_within t (steps.word u v k l b begins_so token nested_so same) =
         let nest = subst (λ (w : State). IsNested w v k) (begun_is s u is begins_so) (nests u v k nested_so) in
-        next_word t v k token nest same
+        next_word t v k l token nest same
 
   -- ---- in front of the first token of a line
   module _ (blanks : List ℕ) (is : IsLed blanks s) (none : length s.brackets ≡ 0) where
@@ -252,7 +287,7 @@ module _ (s : State) (c : ℕ) (cs : List ℕ) (n : ℕ) (rising : IsRising 0 s.
       ahead = leads blanks is none column last
 
       -- the first token
-      first_lines : (u v : State) (k : TokenKind) (new : List Token) (turned_so : IsTurned u) → IsToken c cs k n → IsNested u v k → IsInside v.indents (length v.brackets) new →
+      first_lines : (u v : State) (k : TokenKind) (new : List Token) (turned_so : IsTurned u) → IsToken c cs k n → IsNested u v k → IsInside v.indents v.at.place.line (length v.brackets) new →
           AreLines s.indents (turned_so.marks ++ token_of v k (take n (c ∷ cs)) ∷ new)
       first_lines u v k new turned_so token nest rest =
           let tok = token_of v k (take n (c ∷ cs)) in
@@ -264,14 +299,16 @@ module _ (s : State) (c : ℕ) (cs : List ℕ) (n : ℕ) (rising : IsRising 0 s.
           let places : All (λ m. m.place ≡ tok.place) turned_so.marks = subst (λ p. All (λ m. m.place ≡ p) turned_so.marks) (sym place) turned_so.places in
           let closed : brackets_left 0 (tok ∷ rest.more) ≡ 0 = ap (λ b. brackets_left (brackets_behind b k) rest.more) (sym turned_so.brackets) ∙ ap (λ b. brackets_left b rest.more) (sym nest.brackets) ∙ rest.closed in
           let words = All-cons (λ t. IsOfWords t.kind) tok rest.more (is_of_words c cs k n token) rest.words in
-          let made = line turned_so.marks tok rest.more rest.end rest.behind turns_at places words closed rest.newline rest.lines in
+          let brackets : length v.brackets ≡ brackets_behind 0 k = nest.brackets ∙ ap (λ b. brackets_behind b k) turned_so.brackets in
+          let together = subst (λ b. IsTogether tok.place.line b (rest.more ++ rest.end ∷ [])) brackets rest.together in
+          let made = line turned_so.marks tok rest.more rest.end rest.behind turns_at places words closed together rest.newline rest.lines in
           subst (AreLines s.indents) (append_assoc turned_so.marks (tok ∷ rest.more) (rest.end ∷ rest.behind) ∙ ap (λ us. turned_so.marks ++ tok ∷ us) (sym rest.are)) made
 
-      next_first : (t u v : State) (k : TokenKind) → IsTurned u → IsToken c cs k n → IsNested u v k → t ≡ put v k (take n (c ∷ cs)) → Next s t (c ∷ cs) (drop n (c ∷ cs)) ahead
-      next_first t u v k turned_so token nest same =
+      next_first : (t u v : State) (k : TokenKind) → ends_line c cs ≡ false → IsTurned u → IsToken c cs k n → IsNested u v k → t ≡ put v k (take n (c ∷ cs)) → Next s t (c ∷ cs) (drop n (c ∷ cs)) ahead
+      next_first t u v k l turned_so token nest same =
           let tok = token_of v k (take n (c ∷ cs)) in
           subst (λ (w : State). Next s w (c ∷ cs) (drop n (c ∷ cs)) ahead) (sym same) (record {
-            here = within (nest.line ∙ turned_so.begun);
+            here = within tok.place.line (nest.line ∙ turned_so.begun) (inl (same_row v (take n (c ∷ cs)) (token_feeds c cs k n l token)));
             rising = subst (IsRising 0) (sym nest.indents) turned_so.rises;
             before = λ ts lined. record {
               new = turned_so.marks ++ tok ∷ lined.new;
@@ -312,10 +349,10 @@ module _ (s : State) (c : ℕ) (cs : List ℕ) (n : ℕ) (rising : IsRising 0 s.
             before = λ ts lined. record { new = lined.new; tokens = lined.tokens; goes = lined.goes };
           })
       next_leads t (steps.word u v k l b begins_so token nested_so same) =
-          next_first t u v k (turned u (turns s u blanks is begins_so)) token (nests u v k nested_so) same
+          next_first t u v k l (turned u (turns s u blanks is begins_so)) token (nests u v k nested_so) same
 
 next : (s t : State) (c : ℕ) (cs : List ℕ) (n : ℕ) → IsRising 0 s.indents → (stage : Stage s (c ∷ cs)) → Step s t c cs n → Next s t (c ∷ cs) (drop n (c ∷ cs)) stage
-next s t c cs n rising (within is) step = next_within s c cs n rising is t step
+next s t c cs n rising (within row is here) step = next_within s c cs n rising row is here t step
 next s t c cs n rising (leads blanks is none column last) step = next_leads s c cs n rising blanks is none column last t step
 next s t c cs n rising (closing blanks is none end) step = next_closing s c cs n rising blanks is none t end step
 
@@ -330,13 +367,13 @@ no_last (x ∷ xs) e =
 all_end : (n : ℕ) (d : Token) → d.kind ≡ kind.Dedent → kinds (replicate n d) ≡ replicate n kind.Dedent
 all_end n d is = kinds-replicate n d ∙ ap (λ k. replicate n k) is
 
-supplied_begun : (s : State) → HasBegun s → length s.brackets ≡ 0 → (new : List Token) × ((all_ended (line_supplied s s.line)).tokens ≡ s.tokens ++ new) × IsInside s.indents (length s.brackets) new
-supplied_begun s is closed =
+supplied_begun : (s : State) (row : ℕ) → HasBegun s → (s.at.place.line ≡ row) ⊎ (0 < length s.brackets) → length s.brackets ≡ 0 → (new : List Token) × ((all_ended (line_supplied s s.line)).tokens ≡ s.tokens ++ new) × IsInside s.indents row (length s.brackets) new
+supplied_begun s row is here closed =
     let w = put s kind.Newline [] in
     let same : line_supplied s s.line ≡ w = rw is refl in
     let end = token_of s kind.Newline [] in
     let ds = replicate (length s.indents) (dedent_at w (line_behind w.at.place)) in
-    subst (λ (x : State). (new : List Token) × ((all_ended x).tokens ≡ s.tokens ++ new) × IsInside s.indents (length s.brackets) new) (sym same) (
+    subst (λ (x : State). (new : List Token) × ((all_ended x).tokens ≡ s.tokens ++ new) × IsInside s.indents row (length s.brackets) new) (sym same) (
       end ∷ ds,
       append_assoc s.tokens (end ∷ []) ds,
       record {
@@ -346,6 +383,7 @@ supplied_begun s is closed =
         are = refl;
         words = All-nil (λ t. IsOfWords t.kind);
         closed = closed;
+        together = (here, tt);
         newline = refl;
         lines = ended (all_end (length s.indents) (dedent_at w (line_behind w.at.place)) refl);
       },
@@ -359,7 +397,7 @@ supplied_led s blanks is =
     (replicate (length s.indents) d, refl, ended (all_end (length s.indents) d refl))
 
 ended_lined : (s : State) (cs : List ℕ) (stage : Stage s cs) → length s.brackets ≡ 0 → IsLined s cs (all_ended (line_supplied s s.line)).tokens stage
-ended_lined s cs (within is) closed = let x = supplied_begun s is closed in record { new = x.0; tokens = x.1; goes = x.2 }
+ended_lined s cs (within row is here) closed = let x = supplied_begun s row is here closed in record { new = x.0; tokens = x.1; goes = x.2 }
 ended_lined s cs (leads blanks is none column last) closed = let x = supplied_led s blanks is in record { new = x.0; tokens = x.1; goes = x.2 }
 ended_lined s cs (closing blanks is none end) closed = let x = supplied_led s blanks is in record { new = x.0; tokens = x.1; goes = x.2 }
 
@@ -372,9 +410,6 @@ finished_lined s cs stage = by (slice_get s.brackets (length s.brackets - 1)) re
     by None e f = ended_lined s cs stage (no_last s.brackets e)
 
 -- ---- a whole reading
-some_is : (f : ReadFault) (fault : Option ReadFault) → Some f ≡ fault → fault ≢ None
-some_is f fault e none = let no : ◌≡◌ {A = Option ReadFault} (Some f) None = e ∙ none in cc
-
 reads_lined : {s : State} {cs : List ℕ} {ts : List Token} {f : Option ReadFault} (stage : Stage s cs) → IsRising 0 s.indents → f ≡ None → Reads s cs ts f → IsLined s cs ts stage
 reads_lined {s = s} stage rising none (ends {t = t} e are is) =
     let all = subst (λ (p : Answer (Unit {0})). fault_of p.1 ≡ None → IsLined s [] p.0.tokens stage) e (finished_lined s [] stage) in

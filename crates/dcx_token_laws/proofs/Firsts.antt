@@ -1,5 +1,5 @@
 -- The first character tells names, numbers, texts and signs of two characters apart.
-use Rattle.std.proofs.Common.{◌≡◌, ◌≢◌, ℕ, ◌<◌, ◌≤◌, Bool, true, false, cond, eqb, ◌||◌, ◌&&◌, List, [], ◌∷◌, Option, Some, None, refl, sym, ap, ◌∙◌, subst, arith}
+use Rattle.std.proofs.Common.{◌≡◌, ℕ, ◌<◌, ◌≤◌, Bool, true, false, cond, eqb, ◌||◌, ◌&&◌, List, [], ◌∷◌, Some, refl, sym, ap, ◌∙◌, subst, arith}
 use Rattle.std.specs.Prelude.{not, nat_lt, nat_eq, codes}
 use Rattle.std.specs.List.{list_all}
 use Rattle.std.specs.Char.{is_ascii_digit, is_ascii_alphabetic}
@@ -10,6 +10,7 @@ use Prim.Native.String.{String}
 use Rattle.unicode_ident.proofs.IdentLemmas.{is_xid_start-ascii}
 use Rattle.dcx_tokens.specs.declared.token.Symbol.{Symbol}
 use Rattle.dcx_tokens.specs.Front.{is_quote, begins_name, begins_number, long_signs, short_signs, sign_of, long_sign, short_sign, sign_len}
+use Rattle.dcx_token_laws.proofs.Basics.{is_char, is_less, left, none_is, other_char, right, same_some}
 
 -- a character of ASCII that begins no name, no number and no text
 abbrev pub is_plain : ℕ → Bool
@@ -20,29 +21,12 @@ abbrev first_plain : List ℕ → Bool
 first_plain [] = true
 first_plain (x ∷ xs) = is_plain x
 
-same_char : (c x : ℕ) → nat_eq c x ≡ true → c ≡ x
-same_char c x e = grind (arith, nat_tests)
-
-left : (a b : Bool) → (a && b) ≡ true → a ≡ true
-left true b e = refl
-left false b e = cc
-
-right : (a b : Bool) → (a && b) ≡ true → b ≡ true
-right true b e = e
-right false b e = absurd (cc)
-
 text_plain : (c : ℕ) (cs xs : List ℕ) → first_plain xs ≡ true → pointwise nat_eq (c ∷ cs) xs ≡ true → is_plain c ≡ true
 text_plain c cs [] all e = absurd (cc)
-text_plain c cs (x ∷ xs) all e = subst (λ y. is_plain y ≡ true) (sym (same_char c x (left (nat_eq c x) (pointwise nat_eq cs xs) e))) all
-
-never : (s : Symbol) → ◌≡◌ {A = Option Symbol} None (Some s) → ⊥
-never s e = cc
-
-same_sign : (s t : Symbol) → ◌≡◌ {A = Option Symbol} (Some s) (Some t) → s ≡ t
-same_sign s t e = cc
+text_plain c cs (x ∷ xs) all e = subst (λ y. is_plain y ≡ true) (sym (is_char c x (left (nat_eq c x) (pointwise nat_eq cs xs) e))) all
 
 sign_plain : (signs : List (String × Symbol)) (c : ℕ) (cs : List ℕ) (s : Symbol) → list_all (λ (p : String × Symbol). first_plain (codes p.0)) signs ≡ true → sign_of signs (c ∷ cs) ≡ Some s → is_plain c ≡ true
-sign_plain [] c cs s all e = absurd (never s e)
+sign_plain [] c cs s all e = absurd (none_is s e)
 sign_plain (p ∷ ps) c cs s all e = by (pointwise nat_eq (c ∷ cs) (codes p.0)) refl e (sign_plain ps c cs s (right (first_plain (codes p.0)) (list_all (λ (p : String × Symbol). first_plain (codes p.0)) ps) all))
   where
     by : (b : Bool) → pointwise nat_eq (c ∷ cs) (codes p.0) ≡ b → cond b (Some p.1) (sign_of ps (c ∷ cs)) ≡ Some s → (sign_of ps (c ∷ cs) ≡ Some s → is_plain c ≡ true) → is_plain c ≡ true
@@ -54,11 +38,11 @@ long_plain c d s e = sign_plain long_signs c (d ∷ []) s refl e
 
 -- how many characters the signs of a list have
 signs_len : (signs : List (String × Symbol)) (cs : List ℕ) (s : Symbol) (n : ℕ) → list_all (λ (p : String × Symbol). nat_eq (sign_len p.1) n) signs ≡ true → sign_of signs cs ≡ Some s → sign_len s ≡ n
-signs_len [] cs s n all e = absurd (never s e)
+signs_len [] cs s n all e = absurd (none_is s e)
 signs_len (p ∷ ps) cs s n all e = by (pointwise nat_eq cs (codes p.0)) e (signs_len ps cs s n (right (nat_eq (sign_len p.1) n) (list_all (λ (p : String × Symbol). nat_eq (sign_len p.1) n) ps) all))
   where
     by : (b : Bool) → cond b (Some p.1) (sign_of ps cs) ≡ Some s → (sign_of ps cs ≡ Some s → sign_len s ≡ n) → sign_len s ≡ n
-    by true h more = ap sign_len (sym (same_sign p.1 s h)) ∙ same_char (sign_len p.1) n (left (nat_eq (sign_len p.1) n) (list_all (λ (p : String × Symbol). nat_eq (sign_len p.1) n) ps) all)
+    by true h more = ap sign_len (sym (same_some p.1 s h)) ∙ is_char (sign_len p.1) n (left (nat_eq (sign_len p.1) n) (list_all (λ (p : String × Symbol). nat_eq (sign_len p.1) n) ps) all)
     by false h more = more h
 
 pub long_len : (c d : ℕ) (s : Symbol) → long_sign c d ≡ Some s → sign_len s ≡ 2
@@ -78,9 +62,6 @@ not_plain c p e = by (nat_lt c 128) (is_ascii_alphabetic c || eqb c 95) p e
     by true true h k = cc
     by true false h k = cc
     by false b h k = cc
-
-is_less : (a b : ℕ) → nat_lt a b ≡ true → a < b
-is_less a b e = grind (arith, nat_tests)
 
 pub name_not_plain : (c : ℕ) → begins_name c ≡ true → is_plain c ≡ true → ⊥
 name_not_plain c e p =
@@ -117,9 +98,6 @@ below_range c low high h = grind (arith, nat_tests)
 in_range : (c low high : ℕ) → is_in_range low high c ≡ true → (low ≤ c) × (c ≤ high)
 in_range c low high e = (grind (arith, nat_tests), grind (arith, nat_tests))
 
-other : (c n : ℕ) → c ≢ n → eqb c n ≡ false
-other c n h = grind (arith, nat_tests)
-
 -- no letter, no underscore and no quote
 record IsOther (c : ℕ) : Type 0 where
   small : c < 128
@@ -130,9 +108,9 @@ digit_other : (c : ℕ) → 48 ≤ c → c ≤ 57 → IsOther c
 digit_other c low high =
     let upper = below_range c 65 90 (omega arith) in
     let lower = below_range c 97 122 (omega arith) in
-    let line = other c 95 (omega arith) in
-    let single = other c 39 (omega arith) in
-    let double = other c 34 (omega arith) in
+    let line = other_char c 95 (omega arith) in
+    let single = other_char c 39 (omega arith) in
+    let double = other_char c 34 (omega arith) in
     record { small = omega arith; name = rw (upper, lower, line) refl; quote = rw (single, double) refl }
 
 number_small : (c : ℕ) → (is_ascii_digit c || eqb c 46) ≡ true → IsOther c
@@ -140,7 +118,7 @@ number_small c e = by (is_ascii_digit c) (eqb c 46) refl refl e
   where
     by : (a b : Bool) → is_ascii_digit c ≡ a → eqb c 46 ≡ b → (a || b) ≡ true → IsOther c
     by true b ea eb h = let r = in_range c 48 57 ea in digit_other c r.0 r.1
-    by false true ea eb h = subst IsOther (sym (same_char c 46 eb)) (record { small = omega arith; name = refl; quote = refl })
+    by false true ea eb h = subst IsOther (sym (is_char c 46 eb)) (record { small = omega arith; name = refl; quote = refl })
     by false false ea eb h = absurd (cc)
 
 pub name_not_number : (c : ℕ) (cs : List ℕ) → begins_name c ≡ true → begins_number c cs ≡ true → ⊥
@@ -170,8 +148,8 @@ quote_small c e = by (eqb c 39) (eqb c 34) refl refl e
     of n is h = subst (λ m. (m < 128) × ((is_ascii_alphabetic m || eqb m 95) ≡ false)) (sym is) h
 
     by : (a b : Bool) → eqb c 39 ≡ a → eqb c 34 ≡ b → (a || b) ≡ true → (c < 128) × ((is_ascii_alphabetic c || eqb c 95) ≡ false)
-    by true b ea eb h = of 39 (same_char c 39 ea) (omega arith, refl)
-    by false true ea eb h = of 34 (same_char c 34 eb) (omega arith, refl)
+    by true b ea eb h = of 39 (is_char c 39 ea) (omega arith, refl)
+    by false true ea eb h = of 34 (is_char c 34 eb) (omega arith, refl)
     by false false ea eb h = absurd (cc)
 
 pub name_not_quote : (c : ℕ) → begins_name c ≡ true → is_quote c ≡ true → ⊥

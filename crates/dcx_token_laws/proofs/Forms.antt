@@ -2,7 +2,6 @@
 use Rattle.std.proofs.Common.{◌≡◌, ◌⊎◌, inl, inr, ℕ, ◌+◌, ◌-◌, ◌<◌, Bool, true, false, cond, eqb, List, [], ◌∷◌, ◌++◌, length, take, refl, sym, ap, ◌∙◌, subst, arith, length-append}
 use Rattle.std.specs.Prelude.{Result, Ok, Err}
 use Rattle.std.proofs.lemmas.List.{length-take}
-use Rattle.std.proofs.lemmas.Bool.Decides.{nat_tests}
 use Rattle.dcx_tokens.specs.declared.fault.ReadFault.{ReadFault}
 use Rattle.dcx_tokens.specs.declared.fault.ReadFault.TheVariants as fault
 use Rattle.dcx_tokens.specs.declared.token.TokenKind.{TokenKind}
@@ -13,6 +12,7 @@ use Rattle.dcx_tokens.specs.Layout.{is_deeper, is_standing, opens, closes}
 use Rattle.dcx_tokens.specs.Position.{moved_over}
 use Rattle.dcx_tokens.specs.State.{State, Answer, moved, put, is_full, dedented, begin_line, line_begun_at, nested, line_ended, led, start}
 use Rattle.dcx_token_laws.proofs.Steps.{Step, line_end, blank, comment, word}
+use Rattle.dcx_token_laws.proofs.Basics.{is_char, not_zero}
 
 -- the line has a token
 abbrev pub HasBegun : State → Type 0
@@ -110,17 +110,11 @@ pub data LineEnds (s t : State) (end : List ℕ) : Type 0 where
   closes_it : HasBegun s → Closes s t end → LineEnds s t end
   empty : (blanks : List ℕ) → IsLed blanks s → t ≡ record (moved s end) { line = start.line } → LineEnds s t end
 
-not_zero : (n : ℕ) → eqb n 0 ≡ false → 0 < n
-not_zero n e = grind (arith, nat_tests)
-
-is_zero : (n : ℕ) → eqb n 0 ≡ true → n ≡ 0
-is_zero n e = grind (arith, nat_tests)
-
 pub begun_closes : (s t : State) (end : List ℕ) → HasBegun s → t ≡ line_ended s s.line end → Closes s t end
 begun_closes s t end is e = by (eqb (length s.brackets) 0) refl (e ∙ (rw is refl))
   where
     by : (b : Bool) → eqb (length s.brackets) 0 ≡ b → t ≡ cond {A = State} b (record (put s kind.Newline end) { line = start.line }) (moved s end) → Closes s t end
-    by true z same = over (is_zero (length s.brackets) z) same
+    by true z same = over (is_char (length s.brackets) 0 z) same
     by false z same = inside (not_zero (length s.brackets) z) same
 
 pub empty_ends : (s t : State) (end blanks : List ℕ) → IsLed blanks s → t ≡ line_ended s s.line end → t ≡ record (moved s end) { line = start.line }

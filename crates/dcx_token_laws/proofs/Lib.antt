@@ -1,7 +1,9 @@
 -- The lemmas.
+pub mod Basics
 pub mod Steps
 pub mod Forms
 pub mod Spelled
+pub mod Feeds
 pub mod Between
 pub mod Numerals
 pub mod Quotes

@@ -3,7 +3,6 @@ use Rattle.std.proofs.Common.{◌≡◌, ℕ, suc, ◌+◌, ◌<◌, ◌≤◌, 
 use Rattle.std.specs.Prelude.{option_map}
 use Rattle.std.specs.Char.{is_ascii_digit}
 use Rattle.std.specs.List.{take_while, prefix_len}
-use Rattle.std.proofs.lemmas.Bool.Decides.{nat_tests}
 use Rattle.std.proofs.lemmas.List.{take-append-le, drop-append-le, drop-drop, length-drop}
 use Rattle.std.proofs.lemmas.List.Sums.{prefix_len-le-length}
 use Rattle.std.proofs.Math.Numerals.{one-add}
@@ -13,6 +12,7 @@ use Rattle.dcx_frac.specs.declared.fraction.Frac.{Frac}
 use Rattle.dcx_tokens.specs.Front.{run_of}
 use Rattle.dcx_tokens.specs.Number.{digits, fraction_digits, fraction_len, begins_exponent, exponent_sign_len, exponent_digits, is_negative, exponent_len, Spelling, mantissa_len, spelling_at, is_spoiled, frac_of_spelling, number_at}
 use Rattle.dcx_token_laws.proofs.Between.{run_is}
+use Rattle.dcx_token_laws.proofs.Basics.{is_char, never_both, not_zero}
 
 -- ---- runs
 module _ (p : ℕ → Bool) where
@@ -58,9 +58,6 @@ record IsSameExponent (xs ys : List ℕ) : Type 0 where
   ds : exponent_digits xs ≡ exponent_digits ys
   sign : is_negative xs ≡ is_negative ys
 
-is_char : (c n : ℕ) → eqb c n ≡ true → c ≡ n
-is_char c n e = grind (arith, nat_tests)
-
 -- e and E are characters of names
 spoils : (c : ℕ) (cs : List ℕ) → begins_exponent c ≡ true → is_spoiled (c ∷ cs) ≡ true
 spoils c cs e = by (eqb c 101) (eqb c 69) refl refl e
@@ -81,9 +78,6 @@ no_exponent : (c : ℕ) (cs : List ℕ) → begins_exponent c ≡ false → IsSa
 no_exponent c cs e =
     let none : exponent_digits (c ∷ cs) ≡ [] = rw e refl in
     record { len = ap (λ ds. cond (eqb (length ds) 0) 0 (1 + exponent_sign_len cs + length ds)) none; ds = none; sign = none_negative c cs e }
-
-never_both : (b : Bool) → b ≡ true → b ≡ false → ⊥
-never_both b e f = cc
 
 exponent_none : (ys : List ℕ) → exponent_len ys ≤ 0 → is_spoiled (drop (exponent_len ys) ys) ≡ false → IsSameExponent ys []
 exponent_none [] h fine = record { len = refl; ds = refl; sign = refl }
@@ -107,9 +101,6 @@ with_digits d xs ys e begins le =
     let same : digits (drop sign ((d ∷ xs) ++ ys)) ≡ digits (drop sign (d ∷ xs)) = ap digits cut ∙ run_front is_ascii_digit (drop sign (d ∷ xs)) ys (omega arith) in
     let ds : exponent_digits (e ∷ d ∷ (xs ++ ys)) ≡ exponent_digits (e ∷ d ∷ xs) = rw begins same in
     record { len = ap (λ zs. cond (eqb (length zs) 0) 0 (1 + sign + length zs)) ds; ds = ds; sign = refl }
-
-not_zero : (n : ℕ) → eqb n 0 ≡ false → 0 < n
-not_zero n e = grind (arith, nat_tests)
 
 exponent_some : (e : ℕ) (xs ys : List ℕ) → begins_exponent e ≡ true → eqb (length (exponent_digits (e ∷ (xs ++ ys)))) 0 ≡ false → exponent_len (e ∷ (xs ++ ys)) ≤ suc (length xs) → IsSameExponent (e ∷ (xs ++ ys)) (e ∷ xs)
 exponent_some e xs ys begins some le = by xs refl

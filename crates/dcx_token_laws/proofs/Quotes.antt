@@ -2,26 +2,21 @@
 use Rattle.std.proofs.Common.{◌≡◌, ℕ, suc, ◌+◌, ◌≤◌, ◌<◌, Bool, true, false, cond, eqb, List, [], ◌∷◌, ◌++◌, length, Option, Some, None, refl, sym, ap, arith}
 use Rattle.std.specs.Prelude.{option_map}
 use Rattle.dcx_tokens.specs.Quoted.{up_to_quote}
+use Rattle.dcx_token_laws.proofs.Basics.{none_is, same_some}
 
 -- one more
-record More (o : Option ℕ) (n : ℕ) : Type 0 where
-  count : ℕ
-  was : o ≡ Some count
-  is : n ≡ 1 + count
+pub record More (o : Option ℕ) (n : ℕ) : Type 0 where
+  pub count : ℕ
+  pub was : o ≡ Some count
+  pub is : n ≡ 1 + count
 
-one_more : (o : Option ℕ) (n : ℕ) → option_map (λ m. 1 + m) o ≡ Some n → More o n
+pub one_more : (o : Option ℕ) (n : ℕ) → option_map (λ m. 1 + m) o ≡ Some n → More o n
 one_more None n e = absurd (let no : ◌≡◌ {A = Option ℕ} None (Some n) = e in cc)
 one_more (Some m) n e = record { count = m; was = refl; is = let same : ◌≡◌ {A = Option ℕ} (Some (1 + m)) (Some n) = e in cc }
 
-never : (n : ℕ) → ◌≡◌ {A = Option ℕ} None (Some n) → ⊥
-never n e = cc
-
-same_count : (m n : ℕ) → ◌≡◌ {A = Option ℕ} (Some m) (Some n) → n ≡ m
-same_count m n e = cc
-
 -- it has characters, and they are there
 pub quote_some : (quote : ℕ) (is_taken : Bool) (xs : List ℕ) (n : ℕ) → up_to_quote quote is_taken xs ≡ Some n → (0 < n) × (n ≤ length xs)
-quote_some quote is_taken [] n e = absurd (never n e)
+quote_some quote is_taken [] n e = absurd (none_is n e)
 quote_some quote is_taken (c ∷ cs) n e = by (eqb c 10) is_taken (eqb c quote) e (λ b m. quote_some quote b cs m)
   where
     counted : (b : Bool) → option_map (λ m. 1 + m) (up_to_quote quote b cs) ≡ Some n → ((b : Bool) (m : ℕ) → up_to_quote quote b cs ≡ Some m → (0 < m) × (m ≤ length cs)) → (0 < n) × (n ≤ suc (length cs))
@@ -29,9 +24,9 @@ quote_some quote is_taken (c ∷ cs) n e = by (eqb c 10) is_taken (eqb c quote) 
 
     by : (l t q : Bool) → cond l None (cond t (option_map (λ m. 1 + m) (up_to_quote quote false cs)) (cond q (Some 1) (option_map (λ m. 1 + m) (up_to_quote quote (eqb c 92) cs)))) ≡ Some n →
         ((b : Bool) (m : ℕ) → up_to_quote quote b cs ≡ Some m → (0 < m) × (m ≤ length cs)) → (0 < n) × (n ≤ suc (length cs))
-    by true t q h more = absurd (never n h)
+    by true t q h more = absurd (none_is n h)
     by false true q h more = counted false h more
-    by false false true h more = let is = same_count 1 n h in (omega arith, omega arith)
+    by false false true h more = let is = same_some 1 n h in (omega arith, omega arith)
     by false false false h more = counted (eqb c 92) h more
 
 pub quote_front : (quote : ℕ) (is_taken : Bool) (xs ys : List ℕ) (n : ℕ) → up_to_quote quote is_taken (xs ++ ys) ≡ Some n → n ≤ length xs → up_to_quote quote is_taken xs ≡ Some n

@@ -25,9 +25,7 @@ use Rattle.dcx_tokens.proofs.Lengths.{number_some}
 use Rattle.dcx_token_laws.proofs.Numerals.{number_front, number_within, point_long}
 use Rattle.dcx_token_laws.proofs.Quotes.{quote_front, quote_some}
 use Rattle.dcx_token_laws.proofs.Steps.{IsToken, name, number, text, sign}
-
-never_both : (b : Bool) → b ≡ true → b ≡ false → ⊥
-never_both b e f = cc
+use Rattle.dcx_token_laws.proofs.Basics.{never_both}
 
 -- ---- where a run ends
 run_stops : (p : ℕ → Bool) (cs more rest : List ℕ) → drop (prefix_len p cs) cs ≡ more ++ rest → All (λ d. IsTrue (p d)) more → more ≡ []

@@ -23,6 +23,7 @@ use Rattle.dcx_token_laws.proofs.Spelled.{is_word, is_longest}
 use Rattle.dcx_token_laws.proofs.Stops.{Stops, at_once, begun as stop_begun, stopped}
 use Rattle.dcx_token_laws.proofs.Steps as steps
 use Rattle.dcx_token_laws.proofs.Steps.{Step, stepped}
+use Rattle.dcx_token_laws.proofs.Basics.{some_is}
 
 -- ---- positions
 -- the reading stands behind these characters
@@ -206,9 +207,6 @@ stop_cut s t front c cs f h formed (stop_begun e) some =
       cut = subst (λ us. Cut front (c ∷ cs) us (c ∷ cs)) (append-nil m.marks) (marks_cut front (c ∷ cs) m.marks [] (c ∷ cs) m.are cuts.ended);
       whole = λ none. absurd (some none);
     }
-
-some_is : (f : ReadFault) (fault : Option ReadFault) → Some f ≡ fault → fault ≢ None
-some_is f fault e none = let no : ◌≡◌ {A = Option ReadFault} (Some f) None = e ∙ none in cc
 
 -- ---- a whole reading
 step_moved : (s t : State) (c : ℕ) (cs : List ℕ) (n : ℕ) → step s c cs ≡ (t, Ok n) → t.at ≡ moved_over s.at (take n (c ∷ cs))
