@@ -20,10 +20,10 @@ use Rattle.dcx_tokens.specs.Position.{moved_over, next_at, line_behind}
 use Rattle.dcx_tokens.specs.Reading.{Reads, ends, stops, goes_on, IsLexed, fault_of}
 use Rattle.dcx_tokens.specs.State.{State, Answer, put, moved, dedent_at, line_supplied, all_ended, finished_at, finished, start, led}
 use Rattle.dcx_tokens.proofs.Kept.{token_of}
-use Rattle.dcx_token_laws.specs.Cut.{AreBlanks, IsLineEnd, IsComment, EndsLine}
+use Rattle.dcx_token_laws.specs.Cut.{AreBlanks, IsLineEnd, IsComment, EndsLine, HasNoLineEnd}
 use Rattle.dcx_token_laws.specs.Lines.{IsOfWords, depth_of, kinds, Turns, IsTogether, AreLines, ended, line}
 use Rattle.dcx_token_laws.proofs.Between.{run_is, are_blanks, is_line_end, is_comment}
-use Rattle.dcx_token_laws.proofs.Feeds.{HasNoFeed, token_feeds}
+use Rattle.dcx_token_laws.proofs.Feeds.{HasNoFeed, not_end, token_feeds}
 use Rattle.dcx_token_laws.proofs.Forms.{HasBegun, IsLed, Turned, deeper, back, turns, begun_is, IsNested, nests, Closes, over, inside, begun_closes, empty_ends}
 use Rattle.dcx_token_laws.proofs.Rising.{IsRising, deeper_turns, deeper_rising, back_turns, back_rising}
 use Rattle.dcx_token_laws.proofs.Steps as steps
@@ -73,9 +73,13 @@ blanks_feeds cs h = All-weaker (λ d. IsTrue (is_blank d)) (λ d. d ≢ 10) blan
 hash_other : (c : ℕ) → c ≡ 35 → c ≢ 10
 hash_other c h is = let same : ◌≡◌ {A = ℕ} 35 10 = sym h ∙ is in omega arith
 
+no_feeds : (cs behind : List ℕ) → HasNoLineEnd cs behind → HasNoFeed cs
+no_feeds [] behind h = All-nil (λ d. d ≢ 10)
+no_feeds (c ∷ cs) behind h = All-cons (λ d. d ≢ 10) c cs (not_end c (cs ++ behind) h.0) (no_feeds cs behind h.1)
+
 comment_feeds : (front behind : List ℕ) → IsComment front behind → HasNoFeed front
 comment_feeds [] behind h = absurd h
-comment_feeds (x ∷ xs) behind h = All-cons (λ d. d ≢ 10) x xs (hash_other x h.0) h.1
+comment_feeds (x ∷ xs) behind h = All-cons (λ d. d ≢ 10) x xs (hash_other x h.0) (no_feeds xs behind h.1)
 
 -- ---- where the reading stands in its line
 -- behind blanks comes no other

@@ -153,7 +153,7 @@ sign_feeds_at c (d ∷ ds) s h e = by (long_sign c d) refl e
     by None is f = subst (λ n. HasNoFeed (take n (c ∷ d ∷ ds))) (sym (short_len c s f)) (one c h)
 
 -- ---- all
-not_end : (c : ℕ) (cs : List ℕ) → ends_line c cs ≡ false → c ≢ 10
+pub not_end : (c : ℕ) (cs : List ℕ) → ends_line c cs ≡ false → c ≢ 10
 not_end c [] e = not_char c 10 e
 not_end c (d ∷ ds) e = by (eqb c 10) refl e
   where

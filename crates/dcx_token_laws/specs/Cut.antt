@@ -1,5 +1,5 @@
 -- A text cut into stretches: its tokens in their places, and between them blanks, comments and line ends alone.
-use Rattle.std.specs.Prelude.{◌≡◌, ◌≢◌, ◌⊎◌, ℕ, IsTrue, List, [], ◌∷◌, ◌++◌, Option, None}
+use Rattle.std.specs.Prelude.{◌≡◌, ◌⊎◌, ℕ, IsTrue, IsFalse, List, [], ◌∷◌, ◌++◌, Option, None}
 use Rattle.std.specs.List.{All}
 use Rattle.std.specs.Str.{chars}
 use Rattle.dcx_shape.specs.declared.place.Place.{Place}
@@ -25,10 +25,15 @@ abbrev pub EndsLine : List ℕ → Type 0
 EndsLine [] = Unit {0}
 EndsLine (c ∷ cs) = IsTrue (ends_line c cs)
 
+-- no line end begins in the characters, where those others stand behind
+abbrev pub HasNoLineEnd : List ℕ → List ℕ → Type 0
+HasNoLineEnd [] behind = Unit {0}
+HasNoLineEnd (c ∷ cs) behind = IsFalse (ends_line c (cs ++ behind)) × HasNoLineEnd cs behind
+
 -- # and the rest of its line
 abbrev pub IsComment : List ℕ → List ℕ → Type 0
 IsComment [] behind = ⊥
-IsComment (c ∷ cs) behind = (c ≡ 35) × All (λ d. d ≢ 10) cs × EndsLine behind
+IsComment (c ∷ cs) behind = (c ≡ 35) × HasNoLineEnd cs behind × EndsLine behind
 
 abbrev pub IsBetween : List ℕ → List ℕ → Type 0
 IsBetween cs behind = AreBlanks cs ⊎ IsComment cs behind ⊎ IsLineEnd cs
