@@ -1,0 +1,14 @@
+-- The lemmas.
+pub mod Basics
+pub mod Steps
+pub mod Forms
+pub mod Spelled
+pub mod Feeds
+pub mod Between
+pub mod Numerals
+pub mod Quotes
+pub mod Firsts
+pub mod Rising
+pub mod Depths
+pub mod Stops
+pub mod Stretches

@@ -1,0 +1,4 @@
+-- The words of the laws.
+pub mod Words
+pub mod Cut
+pub mod Lines
