@@ -182,16 +182,30 @@ def page_cases(path):
             block, language = [], line[3:]
         elif line.startswith("#"):
             script, is_asked = "", False
-        elif (row := re.match(r"\| `(.*?)` \|.*?`refused script (.*?)`", line)) is not None:
-            yield page_case(path, number, "check model.py", script + row.group(1), f"refused script {row.group(2)}\n")
+        elif (row := re.match(r"\| `(.*?)` \|.*?`refused (script|settings) (.*?)`", line)) is not None:
+            code, source, refusal = row.groups()
+            yield row_case(path, number, script, code, source, f"refused {source} {refusal}\n")
 
 
 def page_case(path, line, words, script, report):
-    """A case of a page, which states no status. Without a script it is over the file that its words name."""
+    """A case of a page, which states no status. Without a script it is over the files of the data that its words name."""
     case = Case(line, words)
-    name = words.partition(" ")[2] if script is None else "model.py"
-    case.files[name] = script.encode() if script is not None else body_line(b"< " + name.encode(), os.path.dirname(path))
+    folder = os.path.dirname(path).removesuffix("docs")
+    if script is not None:
+        case.files["model.py"] = script.encode()
+    for name in case.words if script is None else []:
+        if os.path.isfile(os.path.join(folder, name)):
+            case.files[name] = body_line(b"< " + name.encode(), folder)
     case.wanted = (None, report.encode(), False)
+    return case
+
+
+def row_case(path, line, script, code, source, report):
+    """A case of a row of a page: its code stands behind the script, or is the settings file."""
+    if source == "script":
+        return page_case(path, line, "check model.py", script + code, report)
+    case = page_case(path, line, "resolve model.py settings.txt", script, report)
+    case.files["settings.txt"] = code.encode()
     return case
 
 

@@ -70,6 +70,13 @@ class Accepted:
         self.problem, self.events, self.last = elaborate(parse(tokens_of(text_of(data))))
         self.verdict = Verdict(self.problem)
 
+    def test_solvable(self):
+        """A problem with a variable whose entries are to be whole is not solved."""
+        for _, n in self.problem.variables:
+            node = self.problem.nodes[n]
+            if node.call[3]:
+                raise Refused(12, node.place)
+
 
 def ends_of(accepted, settings, limit):
     session = Session(accepted.problem, accepted.verdict)
@@ -100,6 +107,7 @@ def run_command(command, operands, limit, fetch):
     accepted = Accepted(fetch(operands[0]))
     if command == "check":
         return 0, report.checked(accepted.problem, accepted.verdict)
+    accepted.test_solvable()
     if command == "solve":
         ends = ends_of(accepted, accepted.events, limit)
         return status_of(ends), report.solved(accepted.problem, "solve", ends)

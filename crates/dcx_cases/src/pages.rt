@@ -31,10 +31,10 @@ fn shown(alloc: Global, report: &str) -> Result<Wanted, AllocError> {
     })
 }
 
-/// The code of a row's first cell, and the refusal that a later cell shows.
+/// The code of a row's first cell, and what is refused of it, as a later cell shows.
 fn row(line: &str) -> Option<(&str, &str)> {
     let (code, rest) = line.strip_prefix("| `")?.split_once("` |")?;
-    let (_, rest) = rest.split_once("`refused script ")?;
+    let (_, rest) = rest.split_once("`refused ")?;
     let (refusal, _) = rest.split_once('`')?;
     Some((code, refusal))
 }
@@ -53,7 +53,38 @@ fn run_check(
     run_case(rt, at, given, &shown(alloc, report)?, count)
 }
 
-/// Runs the words that a block shows with the report below them. The second word names a file of the folder.
+/// Runs a script at the settings of a file that is refused.
+fn run_settings(
+    rt: &(impl Print + AllocGlobal),
+    at: At,
+    script: &str,
+    settings: &str,
+    report: &str,
+    count: &mut Count,
+) -> io::Result<()> {
+    let alloc = rt.alloc();
+    let mut given = Given::of(alloc, "resolve model.py settings.txt")?;
+    given.put(alloc, "model.py", script.as_bytes().to_vec(alloc)?)?;
+    given.put(alloc, "settings.txt", settings.as_bytes().to_vec(alloc)?)?;
+    run_case(rt, at, given, &shown(alloc, report)?, count)
+}
+
+/// Adds each file of the folder that one of the words names.
+fn put_files(
+    rt: &(impl Files + AllocGlobal),
+    given: &mut Given,
+    words: &str,
+) -> Result<(), AllocError> {
+    let alloc = rt.alloc();
+    for word in words.split(' ') {
+        if let Ok(bytes) = fs::read(rt, word) {
+            given.put(alloc, word, bytes)?;
+        }
+    }
+    Ok(())
+}
+
+/// Runs the words that a block shows, over the files that they name, with the report below them.
 fn run_words(
     rt: &(impl Files + Print + AllocGlobal),
     at: At,
@@ -63,9 +94,7 @@ fn run_words(
     let alloc = rt.alloc();
     let (words, report) = session.split_once('\n').unwrap_or((session, ""));
     let mut given = Given::of(alloc, words)?;
-    if let Some((_, name)) = words.split_once(' ') {
-        given.put(alloc, name, fs::read(rt, name)?)?;
-    }
+    put_files(rt, &mut given, words)?;
     run_case(rt, at, given, &shown(alloc, report)?, count)
 }
 
@@ -104,7 +133,7 @@ impl Page {
         }
     }
 
-    /// Runs the check that a row shows, of its code behind the script.
+    /// Runs what a row shows: a check of its code behind the script, or the script at its code as a settings file.
     fn run_row(
         &self,
         rt: &(impl Print + AllocGlobal),
@@ -115,11 +144,14 @@ impl Page {
         let Some((code, refusal)) = row(line) else {
             return Ok(());
         };
-        let mut script = String::from_str(rt.alloc(), self.script.as_str())?;
-        script.push_str(code)?;
-        let mut report = String::from_str(rt.alloc(), "refused script ")?;
+        let mut report = String::from_str(rt.alloc(), "refused ")?;
         report.push_str(refusal)?;
         report.push_str("\n")?;
+        if refusal.starts_with("settings ") {
+            return run_settings(rt, at, self.script.as_str(), code, report.as_str(), count);
+        }
+        let mut script = String::from_str(rt.alloc(), self.script.as_str())?;
+        script.push_str(code)?;
         run_check(rt, at, script.as_str(), report.as_str(), count)
     }
 
