@@ -1,0 +1,9 @@
+pub mod Digits
+pub mod FracText
+pub mod Numbered
+pub mod Pairs
+pub mod Reading
+pub mod Worth
+pub mod Runs
+pub mod Written
+pub mod Entries

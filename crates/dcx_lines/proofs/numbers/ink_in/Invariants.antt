@@ -1,0 +1,8 @@
+-- The bytes so far are of the kind.
+use Rattle.std.proofs.Common.{take}
+use Rattle.std.specs.List.{AllByRecursion}
+use Rattle.dcx_lines.specs.Reading.{IsInk}
+use Rattle.dcx_lines.proofs.numbers.ink_in.Given as goal
+
+abbrev pub invariant-loop-i : goal.invariant-loop-i
+invariant-loop-i l = AllByRecursion IsInk (take l.i l.bytes)

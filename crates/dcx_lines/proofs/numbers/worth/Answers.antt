@@ -1,0 +1,7 @@
+-- One more digit.
+use Rattle.std.proofs.Common.{arith}
+use Rattle.dcx_lines.proofs.Worth.{worth_more}
+use Rattle.dcx_lines.proofs.numbers.worth.Goals as goal
+
+pub loop-digit-preserved : goal.loop-digit-preserved
+loop-digit-preserved c = omega (arith, worth_more c.args.digits.now c.loop-digit.digit-index (omega arith))

@@ -1,0 +1,50 @@
+//! Appends lines of numbers and arrays.
+ghost use Rattle.std.specs.Prelude.{◌≡◌, ◌++◌, OnOk};
+ghost use Rattle.dcx_lines.specs.Lines.{number_line, named_line, dual_line};
+
+use crate::pieces::{put_array, put_bytes, put_frac, put_number};
+use dcx_atom::Array;
+use dcx_frac::Frac;
+use dcx_shape::Name;
+use std::alloc::AllocError;
+
+/// Appends a line of a word and a number.
+#[tactic(auto, unfolding(crate::specs::Lines::number_line))]
+pub fn put_number_line(out: &mut Vec<u8>, word: &[u8], number: Frac) -> Result<(), AllocError>
+    ensures { OnOk result (out.new.items ≡ out.old.items ++ number_line word.now number) }
+{
+    put_bytes(out, word)?;
+    put_bytes(out, b" ")?;
+    put_frac(out, &number)?;
+    put_bytes(out, b"\n")
+}
+
+/// Appends a line of an array under a word and a name.
+#[tactic(auto, unfolding(crate::specs::Lines::named_line))]
+pub fn put_named_line(
+    out: &mut Vec<u8>,
+    word: &[u8],
+    name: &Name,
+    array: &Array,
+) -> Result<(), AllocError>
+    ensures { OnOk result (out.new.items ≡ out.old.items ++ named_line word.now (name.now, array.now)) }
+{
+    put_bytes(out, word)?;
+    put_bytes(out, b" ")?;
+    put_bytes(out, name.as_slice())?;
+    put_bytes(out, b" ")?;
+    put_array(out, array)?;
+    put_bytes(out, b"\n")
+}
+
+/// Appends the line of a constraint's multipliers under its number.
+#[tactic(auto, unfolding(crate::specs::Lines::dual_line))]
+pub fn put_dual_line(out: &mut Vec<u8>, number: u64, duals: &Array) -> Result<(), AllocError>
+    ensures { OnOk result (out.new.items ≡ out.old.items ++ dual_line (number, duals.now)) }
+{
+    put_bytes(out, b"dual ")?;
+    put_number(out, number)?;
+    put_bytes(out, b" ")?;
+    put_array(out, duals)?;
+    put_bytes(out, b"\n")
+}
