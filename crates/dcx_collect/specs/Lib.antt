@@ -1,0 +1,5 @@
+-- What the contracts of this crate cite.
+pub mod Shares
+pub mod Starts
+pub mod Calls
+pub mod Pass

@@ -1,0 +1,66 @@
+//! What is collected over the nodes of a problem.
+ghost use Rattle.std.specs.Prelude.{◌≡◌};
+
+use dcx_frac::{Frac, Fracs};
+use dcx_tree::NodeId;
+use std::marker::Model;
+
+/// The coefficients that reach the entries of a variable.
+#[derive(Drop)]
+pub struct Reached {
+    /// The node of the variable.
+    pub node: NodeId,
+    /// The coefficient of each entry.
+    pub coefficients: Fracs,
+}
+
+/// Variables with what reaches them, in falling order of their nodes.
+#[derive(Drop)]
+pub struct ReachedList {
+    items: Vec<Reached>,
+}
+
+impl Model for ReachedList {
+    ghost use Rattle.std.specs.Prelude.{List};
+    ghost use Rattle.dcx_collect.specs.declared.collected.Reached.{Reached};
+
+    ghost Value = { List Reached };
+
+    ghost view = { λ x. x.items.items };
+}
+
+impl ReachedList {
+    /// The list with these items. Takes no memory.
+    pub fn from_vec(items: Vec<Reached>) -> ReachedList
+        ensures { result ≡ items.items }
+    {
+        ReachedList { items }
+    }
+
+    /// The items of the list.
+    pub fn as_slice(&self) -> &[Reached]
+        ensures { result.now ≡ self.now }
+    {
+        self.items.as_slice()
+    }
+}
+
+/// What the pass gives.
+#[derive(Drop)]
+pub struct Collected {
+    /// What reaches the variables.
+    pub reached: ReachedList,
+    /// The sum of coefficients times values of the nodes that reach no variable.
+    pub total: Frac,
+}
+
+/// What is collected so far.
+#[derive(Drop)]
+pub(crate) struct Collecting {
+    /// The coefficients of the nodes that haven't handed theirs on, node by node and entry by entry.
+    pub below: Vec<Frac>,
+    /// What reaches the variables that the pass has met.
+    pub reached: Vec<Reached>,
+    /// The sum of coefficients times values of the nodes that it has met and that reach no variable.
+    pub total: Frac,
+}
