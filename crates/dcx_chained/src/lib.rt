@@ -18,5 +18,6 @@ pub mod laws;
 mod mix;
 mod narrow;
 mod wide;
+mod words;
 
 pub use chained::Chained;

@@ -6,9 +6,9 @@ ghost use Rattle.dcx_tab.specs.Pivot.{IsFormed};
 ghost use Rattle.dcx_links.specs.Matrix.{number_at, row_of};
 ghost use Rattle.dcx_chained.specs.NewRow.{AreMixed, column_at, value_at, values};
 
-use dcx_frac::gcd;
+use crate::words::{quotient_by, shared_divisor};
 use dcx_links::{Entry, Links};
-use dcx_tab::{Factors, quotient, value_of};
+use dcx_tab::{Factors, value_of};
 
 /// Puts the entries of the one factor times row `i` less the other times row `r` into a list. Answers how many there are.
 pub(crate) fn mix(links: &Links, i: u32, r: u32, factors: Factors, to: &mut [Entry]) -> usize
@@ -40,7 +40,7 @@ fn common_divisor(entries: &[Entry], count: usize) -> u128
     let mut rest = count;
     'entries: while rest > 0 {
         rest -= 1;
-        found = gcd(entries[rest].value.unsigned_abs(), found);
+        found = shared_divisor(entries[rest].value.unsigned_abs(), found);
         if found == 1 {
             return 1;
         }
@@ -67,7 +67,7 @@ fn divided_by(value: i128, divisor: i128) -> i128
     if divisor == 1 {
         value
     } else {
-        quotient(value, divisor)
+        quotient_by(value, divisor)
     }
 }
 

@@ -19,7 +19,7 @@ returns-then-found-eq1 c =
     let f = c.entries.invariant.found ∙ ap (λ n. gcd_of (drop n (values c.args.entries.now c.args.count))) e in
     let fv : SFits w128 (value_at c.args.entries.now r) = search rules in
     let a : c.unsigned_abs.result ≡ unsigned_abs (value_at c.args.entries.now r) = simp to_z-of_z at c.unsigned_abs.ensures.value in
-    let g = c.gcd-found.ensures ∙ ap (λ n. gcd n c.entries.found) a ∙ divisor_step c.args.entries.now c.args.count r c.entries.found lt f in
+    let g = c.shared_divisor-found.ensures ∙ ap (λ n. gcd n c.entries.found) a ∙ divisor_step c.args.entries.now c.args.count r c.entries.found lt f in
     sym (one-drop r (values c.args.entries.now c.args.count) (sym g ∙ c.if-found-eq1.true))
 
 pub entries-preserved : goal.entries-preserved
@@ -32,4 +32,4 @@ entries-preserved c =
     let f = c.entries.invariant.found ∙ ap (λ n. gcd_of (drop n (values c.args.entries.now c.args.count))) e in
     let fv : SFits w128 (value_at c.args.entries.now r) = search rules in
     let a : c.unsigned_abs.result ≡ unsigned_abs (value_at c.args.entries.now r) = simp to_z-of_z at c.unsigned_abs.ensures.value in
-    record { within = omega (arith, lt); found = c.gcd-found.ensures ∙ ap (λ n. gcd n c.entries.found) a ∙ divisor_step c.args.entries.now c.args.count r c.entries.found lt f }
+    record { within = omega (arith, lt); found = c.shared_divisor-found.ensures ∙ ap (λ n. gcd n c.entries.found) a ∙ divisor_step c.args.entries.now c.args.count r c.entries.found lt f }
