@@ -18,15 +18,15 @@ use Rattle.dcx_tokens.specs.Front.{run_of, is_blank, ends_line, line_end_len}
 use Rattle.dcx_tokens.specs.Lexeme.{kind_if}
 use Rattle.dcx_tokens.specs.Laws.{brackets_behind, brackets_left}
 use Rattle.dcx_tokens.specs.Layout.{kept}
-use Rattle.dcx_tokens.specs.Position.{start_of_text, moved_over, next_at, line_behind}
+use Rattle.dcx_tokens.specs.Position.{moved_over, next_at, line_behind}
 use Rattle.dcx_tokens.specs.Reading.{Reads, ends, stops, goes_on, IsLexed, fault_of}
 use Rattle.dcx_tokens.specs.State.{State, Answer, put, moved, dedent_at, line_supplied, all_ended, finished_at, finished, start, led}
 use Rattle.dcx_tokens.proofs.Kept.{token_of}
-use Rattle.dcx_token_laws.specs.Cut.{AreBlanks, IsLineEnd, IsComment, EndsLine, HasNoLineEnd, place_behind, Spans, IsMark, AreMarks, IsLast, Cut}
+use Rattle.dcx_token_laws.specs.Cut.{AreBlanks, IsLineEnd, IsComment, EndsLine, HasNoLineEnd, place_behind, Spans, IsMark, AreMarks, Cut}
 use Rattle.dcx_token_laws.specs.Lines.{IsOfWords, depth_of, kinds, Turns, IsTogether, AreLines, ended, line}
 use Rattle.dcx_token_laws.proofs.Between.{run_is, are_blanks, is_line_end, is_comment}
 use Rattle.dcx_token_laws.proofs.Feeds.{HasNoFeed, not_end, token_feeds}
-use Rattle.dcx_token_laws.proofs.Heads.{Ends as HeadEnds, passed as end_passed, ended as end_ended, Words, ends_at, comment_at, word_at, blanks_cut}
+use Rattle.dcx_token_laws.proofs.Heads.{Ends as HeadEnds, passed as end_passed, ended as end_ended, ends_at, comment_at, word_at, blanks_cut}
 use Rattle.dcx_token_laws.proofs.Same.{head_is, tail_is, word_not_newline, mark_not_newline, word_not, same_span, same_marks, no_earlier, marks_kinds, a_line, not_newline, one_turn, AtEnd, at_end, end_lines, end_there, no_word_there, tokens_behind, token_among}
 use Rattle.dcx_token_laws.proofs.Spelled.{is_word, is_longest}
 use Rattle.dcx_token_laws.proofs.Stretches.{IsBehind, next_behind, token_spans, last_is, step_moved}

@@ -1,14 +1,11 @@
 -- Characters spell a token of one kind at most, and none where the first is a blank, # or of a line end.
-use Rattle.std.proofs.Common.{◌≡◌, ◌⊎◌, inl, inr, ℕ, suc, Bool, true, false, eqb, List, [], ◌∷◌, length, Option, Some, None, refl, sym, ap, ◌∙◌, subst, arith}
-use Rattle.std.specs.Char.{is_ascii_digit}
+use Rattle.std.proofs.Common.{◌≡◌, ℕ, true, false, List, [], ◌∷◌, length, Option, Some, refl, sym, ap, ◌∙◌, subst, arith}
 use Rattle.dcx_frac.specs.declared.fraction.Frac.{Frac}
-use Rattle.dcx_tokens.specs.declared.token.Keyword.{Keyword}
 use Rattle.dcx_tokens.specs.declared.token.Symbol.{Symbol}
 use Rattle.dcx_tokens.specs.declared.token.TokenKind.{TokenKind}
 use Rattle.dcx_tokens.specs.declared.token.TokenKind.TheVariants as kind
 use Rattle.dcx_tokens.specs.Front.{is_quote, begins_name, begins_number, long_sign, short_sign}
-use Rattle.dcx_tokens.specs.Word.{keyword_of}
-use Rattle.dcx_token_laws.specs.Words.{IsIdentifier, IsNumber, IsQuoted, IsSign, IsWord}
+use Rattle.dcx_token_laws.specs.Words.{IsSign, IsWord}
 use Rattle.dcx_token_laws.proofs.Basics.{none_is, same_some}
 use Rattle.dcx_token_laws.proofs.Firsts.{long_plain, name_ascii, name_not_plain, name_not_number, name_not_quote, number_not_plain, number_not_quote, quote_not_plain, short_not_digit, short_not_quote, short_not_name}
 

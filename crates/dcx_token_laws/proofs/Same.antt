@@ -1,8 +1,7 @@
 -- When tokens are the same: by kind and span, mark by mark, line by line.
-use Rattle.std.proofs.Common.{◌≡◌, ◌≢◌, ◌⊎◌, inl, inr, ℕ, zero, suc, ◌+◌, ◌-◌, ◌<◌, ◌≤◌, Bool, true, false, cond, eqb, List, [], ◌∷◌, ◌++◌, length, map, replicate, refl, sym, ap, ◌∙◌, subst, append_assoc, arith}
+use Rattle.std.proofs.Common.{◌≡◌, ◌⊎◌, inl, inr, ℕ, zero, suc, ◌+◌, ◌<◌, ◌≤◌, Bool, true, false, cond, eqb, List, [], ◌∷◌, ◌++◌, length, replicate, refl, sym, ap, ◌∙◌, subst, append_assoc, arith}
 use Rattle.std.specs.Char.{len_utf8}
 use Rattle.std.specs.List.{All}
-use Rattle.std.proofs.lemmas.Bool.Decides.{nat_tests}
 use Rattle.std.proofs.lemmas.List.{append-nil}
 use Rattle.std.proofs.lemmas.List.Elements.{All-nil, All-cons, All-head, All-tail, All-replicate}
 use Rattle.dcx_shape.specs.declared.place.Place.{Place}
@@ -10,7 +9,7 @@ use Rattle.dcx_tokens.specs.declared.token.Token.{Token}
 use Rattle.dcx_tokens.specs.declared.token.TokenKind.{TokenKind}
 use Rattle.dcx_tokens.specs.declared.token.TokenKind.TheVariants as kind
 use Rattle.dcx_tokens.specs.Laws.{brackets_behind, brackets_left}
-use Rattle.dcx_tokens.specs.Position.{start_of_text, moved_over, next_at, next_place, line_behind}
+use Rattle.dcx_tokens.specs.Position.{moved_over, next_at, line_behind}
 use Rattle.dcx_tokens.specs.State.{State, start}
 use Rattle.dcx_token_laws.specs.Cut as cuts
 use Rattle.dcx_token_laws.specs.Cut.{place_behind, Spans, IsMark, AreMarks, IsLast, IsLineEnd, Cut}
