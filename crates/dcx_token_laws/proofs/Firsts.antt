@@ -17,24 +17,26 @@ abbrev pub is_plain : ℕ → Bool
 is_plain c = nat_lt c 128 && (not (is_ascii_alphabetic c || eqb c 95) && (not (is_ascii_digit c) && (not (eqb c 46) && not (is_quote c))))
 
 -- ---- signs
-abbrev first_plain : List ℕ → Bool
-first_plain [] = true
-first_plain (x ∷ xs) = is_plain x
+-- a test that the first character of each spelling passes
+module _ (test : ℕ → Bool) where
+  abbrev first_passes : List ℕ → Bool
+  first_passes [] = true
+  first_passes (x ∷ xs) = test x
 
-text_plain : (c : ℕ) (cs xs : List ℕ) → first_plain xs ≡ true → pointwise nat_eq (c ∷ cs) xs ≡ true → is_plain c ≡ true
-text_plain c cs [] all e = absurd (cc)
-text_plain c cs (x ∷ xs) all e = subst (λ y. is_plain y ≡ true) (sym (is_char c x (left (nat_eq c x) (pointwise nat_eq cs xs) e))) all
+  text_passes : (c : ℕ) (cs xs : List ℕ) → first_passes xs ≡ true → pointwise nat_eq (c ∷ cs) xs ≡ true → test c ≡ true
+  text_passes c cs [] all e = absurd (cc)
+  text_passes c cs (x ∷ xs) all e = subst (λ y. test y ≡ true) (sym (is_char c x (left (nat_eq c x) (pointwise nat_eq cs xs) e))) all
 
-sign_plain : (signs : List (String × Symbol)) (c : ℕ) (cs : List ℕ) (s : Symbol) → list_all (λ (p : String × Symbol). first_plain (codes p.0)) signs ≡ true → sign_of signs (c ∷ cs) ≡ Some s → is_plain c ≡ true
-sign_plain [] c cs s all e = absurd (none_is s e)
-sign_plain (p ∷ ps) c cs s all e = by (pointwise nat_eq (c ∷ cs) (codes p.0)) refl e (sign_plain ps c cs s (right (first_plain (codes p.0)) (list_all (λ (p : String × Symbol). first_plain (codes p.0)) ps) all))
-  where
-    by : (b : Bool) → pointwise nat_eq (c ∷ cs) (codes p.0) ≡ b → cond b (Some p.1) (sign_of ps (c ∷ cs)) ≡ Some s → (sign_of ps (c ∷ cs) ≡ Some s → is_plain c ≡ true) → is_plain c ≡ true
-    by true is h more = text_plain c cs (codes p.0) (left (first_plain (codes p.0)) (list_all (λ (p : String × Symbol). first_plain (codes p.0)) ps) all) is
-    by false is h more = more h
+  sign_passes : (signs : List (String × Symbol)) (c : ℕ) (cs : List ℕ) (s : Symbol) → list_all (λ (p : String × Symbol). first_passes (codes p.0)) signs ≡ true → sign_of signs (c ∷ cs) ≡ Some s → test c ≡ true
+  sign_passes [] c cs s all e = absurd (none_is s e)
+  sign_passes (p ∷ ps) c cs s all e = by (pointwise nat_eq (c ∷ cs) (codes p.0)) refl e (sign_passes ps c cs s (right (first_passes (codes p.0)) (list_all (λ (p : String × Symbol). first_passes (codes p.0)) ps) all))
+    where
+      by : (b : Bool) → pointwise nat_eq (c ∷ cs) (codes p.0) ≡ b → cond b (Some p.1) (sign_of ps (c ∷ cs)) ≡ Some s → (sign_of ps (c ∷ cs) ≡ Some s → test c ≡ true) → test c ≡ true
+      by true is h more = text_passes c cs (codes p.0) (left (first_passes (codes p.0)) (list_all (λ (p : String × Symbol). first_passes (codes p.0)) ps) all) is
+      by false is h more = more h
 
 pub long_plain : (c d : ℕ) (s : Symbol) → long_sign c d ≡ Some s → is_plain c ≡ true
-long_plain c d s e = sign_plain long_signs c (d ∷ []) s refl e
+long_plain c d s e = sign_passes is_plain long_signs c (d ∷ []) s refl e
 
 -- how many characters the signs of a list have
 signs_len : (signs : List (String × Symbol)) (cs : List ℕ) (s : Symbol) (n : ℕ) → list_all (λ (p : String × Symbol). nat_eq (sign_len p.1) n) signs ≡ true → sign_of signs cs ≡ Some s → sign_len s ≡ n
@@ -154,3 +156,31 @@ quote_small c e = by (eqb c 39) (eqb c 34) refl refl e
 
 pub name_not_quote : (c : ℕ) → begins_name c ≡ true → is_quote c ≡ true → ⊥
 name_not_quote c n q = let small = quote_small c q in let no = sym (name_ascii c small.0 n) ∙ small.1 in cc
+
+-- ---- signs of one character
+-- a character that begins no name, is no digit and begins no text
+abbrev pub is_mark : ℕ → Bool
+is_mark c = not (is_ascii_digit c) && (not (is_quote c) && (nat_lt c 128 && not (is_ascii_alphabetic c || eqb c 95)))
+
+short_mark : (c : ℕ) (s : Symbol) → short_sign c ≡ Some s → is_mark c ≡ true
+short_mark c s e = sign_passes is_mark short_signs c [] s refl e
+
+not_true : (b : Bool) → not b ≡ true → b ≡ true → ⊥
+not_true true e f = cc
+not_true false e f = cc
+
+module _ (c : ℕ) (s : Symbol) (short : short_sign c ≡ Some s) where
+  pub short_not_digit : is_ascii_digit c ≡ true → ⊥
+  short_not_digit e = not_true (is_ascii_digit c) (left (not (is_ascii_digit c)) (not (is_quote c) && (nat_lt c 128 && not (is_ascii_alphabetic c || eqb c 95))) (short_mark c s short)) e
+
+  rest : (not (is_quote c) && (nat_lt c 128 && not (is_ascii_alphabetic c || eqb c 95))) ≡ true
+  rest = right (not (is_ascii_digit c)) (not (is_quote c) && (nat_lt c 128 && not (is_ascii_alphabetic c || eqb c 95))) (short_mark c s short)
+
+  pub short_not_quote : is_quote c ≡ true → ⊥
+  short_not_quote e = not_true (is_quote c) (left (not (is_quote c)) (nat_lt c 128 && not (is_ascii_alphabetic c || eqb c 95)) rest) e
+
+  pub short_not_name : begins_name c ≡ true → ⊥
+  short_not_name e =
+      let last = right (not (is_quote c)) (nat_lt c 128 && not (is_ascii_alphabetic c || eqb c 95)) rest in
+      let small = is_less c 128 (left (nat_lt c 128) (not (is_ascii_alphabetic c || eqb c 95)) last) in
+      not_true (is_ascii_alphabetic c || eqb c 95) (right (nat_lt c 128) (not (is_ascii_alphabetic c || eqb c 95)) last) (name_ascii c small e)

@@ -8,6 +8,9 @@ pub mod Between
 pub mod Numerals
 pub mod Quotes
 pub mod Firsts
+pub mod OneKind
+pub mod Heads
+pub mod Same
 pub mod Rising
 pub mod Depths
 pub mod Stops

@@ -3,6 +3,7 @@ use Rattle.std.proofs.Common.{◌≡◌, ◌≢◌, inl, inr, ℕ, zero, suc, �
 use Rattle.std.specs.Prelude.{Ok, Err, slice_get}
 use Rattle.std.specs.Str.{chars}
 use Rattle.std.proofs.lemmas.List.{append-nil, take-append-drop}
+use Rattle.std.proofs.lemmas.List.Elements.{All-nil, All-cons, All-replicate}
 use Rattle.dcx_shape.specs.declared.place.Place.{Place}
 use Rattle.dcx_tokens.specs.declared.fault.ReadFault.{ReadFault}
 use Rattle.dcx_tokens.specs.declared.token.Token.{Token}
@@ -15,7 +16,7 @@ use Rattle.dcx_tokens.specs.State.{State, Answer, put, moved, dedent_at, line_su
 use Rattle.dcx_tokens.proofs.Bytes.{offset_moved}
 use Rattle.dcx_tokens.proofs.Kept.{token_of, step_moves}
 use Rattle.dcx_token_laws.specs.Cut as cuts
-use Rattle.dcx_token_laws.specs.Cut.{place_behind, Spans, IsMark, IsLast, Cut}
+use Rattle.dcx_token_laws.specs.Cut.{place_behind, Spans, IsMark, AreMarks, IsLast, Cut}
 use Rattle.dcx_token_laws.specs.Words.{IsWord, IsLongest}
 use Rattle.dcx_token_laws.proofs.Between.{are_blanks, is_line_end, is_comment}
 use Rattle.dcx_token_laws.proofs.Forms.{IsFormed, Turned, deeper, back, Begins, begun, turned, begins, nests, over, inside, LineEnds, closes_it, empty, line_ends, formed_next}
@@ -34,13 +35,13 @@ moved_append : (s : State) (xs ys : List ℕ) → moved_over s.at (xs ++ ys) ≡
 moved_append s [] ys = refl
 moved_append s (x ∷ xs) ys = moved_append (record s { at = next_at s.at x }) xs ys
 
-next_behind : (s t : State) (front cs : List ℕ) → IsBehind front s → t.at ≡ moved_over s.at cs → IsBehind (front ++ cs) t
+pub next_behind : (s t : State) (front cs : List ℕ) → IsBehind front s → t.at ≡ moved_over s.at cs → IsBehind (front ++ cs) t
 next_behind s t front cs h e = e ∙ rw h (sym (moved_append start front cs))
 
 offset_behind : (s : State) (front : List ℕ) → IsBehind front s → s.at.offset ≡ bytes_of front
 offset_behind s front h = rw h (offset_moved start.at front ∙ omega arith)
 
-token_spans : (s : State) (k : TokenKind) (front cs : List ℕ) → IsBehind front s → Spans (token_of s k cs) front cs
+pub token_spans : (s : State) (k : TokenKind) (front cs : List ℕ) → IsBehind front s → Spans (token_of s k cs) front cs
 token_spans s k front cs h = record {
   place = rw h refl;
   start = offset_behind s front h;
@@ -52,10 +53,6 @@ Moves s c cs (t, Ok n) = t.at ≡ moved_over s.at (take n (c ∷ cs))
 Moves s c cs (t, Err f) = t.at ≡ s.at
 
 -- ---- marks
-abbrev pub AreMarks : List ℕ → List Token → Type 0
-AreMarks front [] = Unit {0}
-AreMarks front (m ∷ ms) = IsMark m.kind × Spans m front [] × AreMarks front ms
-
 -- the marks of a line stand in front of its first token
 pub record IsMarked (front : List ℕ) (s u : State) : Type 0 where
   pub marks : List Token
@@ -64,23 +61,18 @@ pub record IsMarked (front : List ℕ) (s u : State) : Type 0 where
   pub are : AreMarks front marks
 
 dedents : (s : State) (front : List ℕ) (n : ℕ) → IsBehind front s → AreMarks front (replicate n (dedent_at s s.at.place))
-dedents s front zero h = tt
-dedents s front (suc n) h = (tt, token_spans s kind.Dedent front [] h, dedents s front n h)
+dedents s front n h = All-replicate (λ m. IsMark m.kind × Spans m front []) n (dedent_at s s.at.place) (tt, token_spans s kind.Dedent front [] h)
 
 turned_marks : (front : List ℕ) (s u : State) (spaces : ℕ) → IsBehind front s → Turned s u spaces → IsMarked front s u
 turned_marks front s u spaces h (deeper d same) =
-    subst (IsMarked front s) (sym same) (record { marks = token_of s kind.Indent [] ∷ []; tokens = refl; at = refl; are = (tt, token_spans s kind.Indent front [] h, tt) })
+    subst (IsMarked front s) (sym same) (record { marks = token_of s kind.Indent [] ∷ []; tokens = refl; at = refl; are = All-cons (λ m. IsMark m.kind × Spans m front []) (token_of s kind.Indent []) [] (tt, token_spans s kind.Indent front [] h) (All-nil (λ m. IsMark m.kind × Spans m front [])) })
 turned_marks front s u spaces h (back st same) =
     let n = length s.indents - length (kept s.indents spaces) in
     subst (IsMarked front s) (sym same) (record { marks = replicate n (dedent_at s s.at.place); tokens = refl; at = refl; are = dedents s front n h })
 
 marked : (front : List ℕ) (s u : State) → IsBehind front s → Begins s u → IsMarked front s u
-marked front s u h (begun is same) = subst (IsMarked front s) (sym same) (record { marks = []; tokens = sym (append-nil s.tokens); at = refl; are = tt })
+marked front s u h (begun is same) = subst (IsMarked front s) (sym same) (record { marks = []; tokens = sym (append-nil s.tokens); at = refl; are = All-nil (λ m. IsMark m.kind × Spans m front []) })
 marked front s u h (turned blanks is how) = turned_marks front s u (length blanks) h how
-
-marks_cut : (front cs : List ℕ) (marks ts : List Token) (rest : List ℕ) → AreMarks front marks → Cut front cs ts rest → Cut front cs (marks ++ ts) rest
-marks_cut front cs [] ts rest are more = more
-marks_cut front cs (m ∷ ms) ts rest are more = cuts.mark are.0 are.1 (marks_cut front cs ms ts rest are.2 more)
 
 -- ---- a reading from a state on
 -- the tokens that are read from there on, and the characters that they cut
@@ -113,7 +105,7 @@ tokened s t marks token front cs n ts f same are word longest spans more = recor
   new = marks ++ token ∷ more.new;
   tokens = more.tokens ∙ ap (λ us. us ++ more.new) same ∙ append_assoc (s.tokens ++ marks) (token ∷ []) more.new ∙ append_assoc s.tokens marks (token ∷ more.new);
   rest = more.rest;
-  cut = marks_cut front cs marks (token ∷ more.new) more.rest are (joined front n cs (token ∷ more.new) more.rest (cuts.word (take n cs) word longest spans more.cut));
+  cut = joined front n cs (marks ++ token ∷ more.new) more.rest (cuts.word marks (take n cs) are word longest spans more.cut);
   whole = more.whole;
 }
 
@@ -160,7 +152,7 @@ record Ends (s w : State) (front : List ℕ) : Type 0 where
   tokens : w.tokens ≡ s.tokens ++ new
   cut : Cut front [] new []
 
-last_is : (s : State) (front : List ℕ) → IsBehind front s → IsLast (dedent_at s (line_behind s.at.place)) front
+pub last_is : (s : State) (front : List ℕ) → IsBehind front s → IsLast (dedent_at s (line_behind s.at.place)) front
 last_is s front h = record { kind = refl; place = rw h refl; start = offset_behind s front h; end = offset_behind s front h }
 
 line_supplied_cut : (s : State) (front : List ℕ) → IsBehind front s → IsFormed s → Ends s (all_ended (line_supplied s s.line)) front
@@ -204,12 +196,12 @@ stop_cut s t front c cs f h formed (stop_begun e) some =
       new = m.marks;
       tokens = m.tokens;
       rest = c ∷ cs;
-      cut = subst (λ us. Cut front (c ∷ cs) us (c ∷ cs)) (append-nil m.marks) (marks_cut front (c ∷ cs) m.marks [] (c ∷ cs) m.are cuts.ended);
+      cut = cuts.stopped c cs m.are;
       whole = λ none. absurd (some none);
     }
 
 -- ---- a whole reading
-step_moved : (s t : State) (c : ℕ) (cs : List ℕ) (n : ℕ) → step s c cs ≡ (t, Ok n) → t.at ≡ moved_over s.at (take n (c ∷ cs))
+pub step_moved : (s t : State) (c : ℕ) (cs : List ℕ) (n : ℕ) → step s c cs ≡ (t, Ok n) → t.at ≡ moved_over s.at (take n (c ∷ cs))
 step_moved s t c cs n e = subst (Moves s c cs) e (step_moves s c cs)
 
 reads_cut : {s : State} {cs : List ℕ} {ts : List Token} {f : Option ReadFault} (front : List ℕ) → IsBehind front s → IsFormed s → Reads s cs ts f → IsCut s front cs ts f

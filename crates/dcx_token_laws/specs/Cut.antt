@@ -55,6 +55,10 @@ IsMark kind.Indent = Unit {0}
 IsMark kind.Dedent = Unit {0}
 IsMark _ = ⊥
 
+-- marks of a line, in front of its first token
+abbrev pub AreMarks : List ℕ → List Token → Type 0
+AreMarks front marks = All (λ m. IsMark m.kind × Spans m front []) marks
+
 -- the end of an indentation at the end of a text: it stands on the line behind the last
 pub record IsLast (t : Token) (front : List ℕ) : Type 0 where
   pub kind : t.kind ≡ kind.Dedent
@@ -66,18 +70,17 @@ pub record IsLast (t : Token) (front : List ℕ) : Type 0 where
 -- between them, up to the characters rest
 pub data Cut : List ℕ → List ℕ → List Token → List ℕ → Type 0 where
   ended : {front rest : List ℕ} → Cut front rest [] rest
+  -- a fault stands in front, in the first token of a line perhaps, whose marks are read
+  stopped : {front : List ℕ} {marks : List Token} (c : ℕ) (rest : List ℕ) → AreMarks front marks → Cut front (c ∷ rest) marks (c ∷ rest)
   -- blanks, a comment or a line end
   between : {front behind : List ℕ} {ts : List Token} {rest : List ℕ} (cs : List ℕ) →
       IsBetween cs behind → Cut (front ++ cs) behind ts rest → Cut front (cs ++ behind) ts rest
-  -- a token that has characters of its own, as many as can be
-  word : {front behind : List ℕ} {t : Token} {ts : List Token} {rest : List ℕ} (cs : List ℕ) →
-      IsWord t.kind cs → IsLongest cs behind → Spans t front cs → Cut (front ++ cs) behind ts rest → Cut front (cs ++ behind) (t ∷ ts) rest
+  -- a token that has characters of its own, as many as can be, behind the marks of its line where it is the first
+  word : {front behind : List ℕ} {t : Token} {ts : List Token} {rest : List ℕ} (marks : List Token) (cs : List ℕ) →
+      AreMarks front marks → IsWord t.kind cs → IsLongest cs behind → Spans t front cs → Cut (front ++ cs) behind ts rest → Cut front (cs ++ behind) (marks ++ t ∷ ts) rest
   -- a line end that ends a line
   line_end : {front behind : List ℕ} {t : Token} {ts : List Token} {rest : List ℕ} (cs : List ℕ) →
       t.kind ≡ kind.Newline → IsLineEnd cs → Spans t front cs → Cut (front ++ cs) behind ts rest → Cut front (cs ++ behind) (t ∷ ts) rest
-  -- an indentation or its end, in front of the first token of a line
-  mark : {front cs : List ℕ} {t : Token} {ts : List Token} {rest : List ℕ} →
-      IsMark t.kind → Spans t front [] → Cut front cs ts rest → Cut front cs (t ∷ ts) rest
   -- a line end that is missing at the end of the text
   supplied : {front : List ℕ} {t : Token} {ts : List Token} {rest : List ℕ} →
       t.kind ≡ kind.Newline → Spans t front [] → Cut front [] ts rest → Cut front [] (t ∷ ts) rest

@@ -2,3 +2,4 @@
 pub mod Words
 pub mod Cut
 pub mod Lines
+pub mod OneList
