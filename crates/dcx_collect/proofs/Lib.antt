@@ -5,3 +5,9 @@ pub mod Arguments
 pub mod Counting
 pub mod Handing
 pub mod Passing
+pub mod Flat
+pub mod Bound
+pub mod Points
+pub mod Worth
+pub mod Bounded
+pub mod LawsHold

@@ -1,7 +1,8 @@
 -- One node of the pass: its call has its sides, its coefficients are the last, and those of the nodes before it are as many as before.
-use Rattle.std.proofs.Common.{◌≡◌, ℕ, suc, ◌+◌, ◌-◌, ◌<◌, ◌≤◌, arith, List, [], ◌∷◌, ◌++◌, map, length, take, drop, set, refl, sym, ap, ◌∙◌, subst, Option, Some, None, Result, Ok, Err, OnOk, inl, inr, ap₂, slice_get}
+use Rattle.std.proofs.Common.{◌≡◌, ℕ, suc, ◌+◌, ◌-◌, ◌<◌, ◌≤◌, arith, Bool, true, false, nat_lt, List, [], ◌∷◌, ◌++◌, map, length, take, drop, set, refl, sym, ap, ◌∙◌, subst, Option, Some, None, Result, Ok, Err, OnOk, inl, inr, ap₂, slice_get}
 use Rattle.std.specs.Prelude.{option_map, unwrap_or}
 use Rattle.std.specs.Option.{IsSomeAnd}
+use Rattle.std.proofs.lemmas.Bool.{ltb-true, ltb-false}
 use Rattle.std.proofs.lemmas.Option.{same_Some}
 use Rattle.dcx_atom.specs.Formed.{and_then}
 use Rattle.std.proofs.lemmas.List.{length-drop, length-set, nil_from_length}
@@ -157,3 +158,11 @@ all_passed nodes values weights n m table start kept reached none first count so
   where
     whole_of : (below : List Frac) (r s : List Reached) (total : Frac) → below ≡ [] → r ≡ s → ◌≡◌ {A = Kept} (record { below = below; reached = r; total = total }) (record { below = []; reached = s; total = total })
     whole_of below r s total e h = λ j. record { below = e j; reached = h j; total = total }
+
+-- what holds of the nodes passed, and of the next one, holds of one more
+pub one_more : (P : ℕ → Type 0) (n k m : ℕ) → m + k + 1 ≡ n → P m → ((i : ℕ) → n - k ≤ i → i < n → P i) → (i : ℕ) → n - (k + 1) ≤ i → i < n → P i
+one_more P n k m e own later i b c = by (nat_lt m i) refl
+  where
+    by : (t : Bool) → nat_lt m i ≡ t → P i
+    by true h = later i (omega (arith, ltb-true m i h, e)) c
+    by false h = let same : m ≡ i = omega (arith, ltb-false m i h, e, b) in subst P same own

@@ -3,3 +3,4 @@ pub mod Shares
 pub mod Starts
 pub mod Calls
 pub mod Pass
+pub mod Laws

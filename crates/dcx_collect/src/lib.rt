@@ -14,9 +14,11 @@
 //! | where the entries of each node stand | `starts_of`, `specs/Starts.antt` |
 //! | what each call hands on to which entry of which argument, and in what order; the first condition that weights break | `specs/Calls.antt` |
 //! | what the pass collects, counts and keeps, or the first stop, nodes falling | `collect`, `specs/Pass.antt` |
+//! | the total, and what reaches the variables, bound the coefficients at the start from below at every point | `laws::collected_is_a_bound`, `specs/Laws.antt` |
 #![tactic(auto)]
 
 mod collected;
+pub mod laws;
 mod linear;
 mod node;
 mod pairs;

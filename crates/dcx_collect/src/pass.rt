@@ -6,7 +6,7 @@ ghost use Rattle.dcx_arena.specs.Nodes.{AreNodes, entries_in, sides_at};
 ghost use Rattle.dcx_call.specs.Calls.{shape_of};
 ghost use Rattle.dcx_tree.specs.Values.{array_at};
 ghost use Rattle.dcx_collect.specs.Starts.{start_of, AreStarts};
-ghost use Rattle.dcx_collect.specs.Pass.{kept_of, begin, counted, or_passes, with_below, node_reached, node_shares, handed, passed, step, pass_down, IsOrMemory, HasWeights, HaveWeights, IsGiven};
+ghost use Rattle.dcx_collect.specs.Pass.{kept_of, begin, counted, or_passes, with_below, node_reached, node_shares, handed, passed, step, pass_down, IsOrMemory, HasWeights, HaveWeights, HasFractions, HaveFractions, IsGiven};
 
 use crate::collected::{Collected, Collecting, ReachedList};
 use crate::node::{NodeWeights, add_products, hand_call, keep};
@@ -46,6 +46,7 @@ fn hand_on(
     requires coefficients { length coefficients.items ≡ entries_of (sides_at given.now.tree.now node.0) }
     requires weights { HasWeights given.now.tree.now node.0 weights.now }
     ensures ok { OnOk result (with_below (kept_of state.old) (node_reached given.now.tree.now node.0 coefficients.items) (handed state.old.below.items (node_shares given.now.tree.now given.now.values.now node.0 coefficients.items weights.now)) ≡ Ok (kept_of state.new)) }
+    ensures fractions { OnOk result (HasFractions given.now.tree.now node.0 weights.now) }
     ensures stop { IfErr result (IsOrMemory (with_below (kept_of state.old) (node_reached given.now.tree.now node.0 coefficients.items) (handed state.old.below.items (node_shares given.now.tree.now given.now.values.now node.0 coefficients.items weights.now)))) }
 {
     hand_call(
@@ -77,6 +78,7 @@ fn pass_node(
     requires coefficients { length coefficients.items ≡ entries_of (sides_at given.now.tree.now node.0) }
     requires weights { array_at given.now.values.now node.0 ≡ None → HasWeights given.now.tree.now node.0 weights.now }
     ensures ok { OnOk result (passed given.now.tree.now given.now.values.now (λ i. weights.now) node.0 (array_at given.now.values.now node.0) coefficients.items (kept_of state.old) ≡ Ok (kept_of state.new)) }
+    ensures fractions { OnOk result (array_at given.now.values.now node.0 ≡ None → HasFractions given.now.tree.now node.0 weights.now) }
     ensures stop { IfErr result (IsOrMemory (passed given.now.tree.now given.now.values.now (λ i. weights.now) node.0 (array_at given.now.values.now node.0) coefficients.items (kept_of state.old))) }
 {
     match &given.values[node.0 as usize] {
@@ -100,6 +102,7 @@ fn pass_one<W: NodeWeights>(
     requires below { length state.old.below.items ≡ start_of given.now.tree.now (node.0 + 1) }
     ensures ok { OnOk result (step given.now.tree.now given.now.values.now (W.weights weights.now) node.0 (kept_of state.old) ≡ Ok (kept_of state.new)) }
     ensures below { OnOk result (length state.new.below.items ≡ start_of given.now.tree.now node.0) }
+    ensures fractions { OnOk result (array_at given.now.values.now node.0 ≡ None → HasFractions given.now.tree.now node.0 (W.weights weights.now node.0)) }
     ensures stop { IfErr result (IsOrMemory (step given.now.tree.now given.now.values.now (W.weights weights.now) node.0 (kept_of state.old))) }
 {
     let start = given.starts[node.0 as usize] as usize;
@@ -125,6 +128,7 @@ pub fn collect<W: NodeWeights>(
     requires weights { HaveWeights given.now.tree.now given.now.values.now (W.weights weights.now) }
     requires table { length table.items ≡ entries_in given.now.tree.now }
     ensures ok { IfOk result (λ k. pass_down given.now.tree.now given.now.values.now (W.weights weights.now) (length given.now.tree.now) (begin table.items) ≡ Ok (record { below = []; reached = k.reached; total = k.total })) }
+    ensures fractions { OnOk result (HaveFractions given.now.tree.now given.now.values.now (W.weights weights.now)) }
     ensures stop { IfErr result (IsOrMemory (pass_down given.now.tree.now given.now.values.now (W.weights weights.now) (length given.now.tree.now) (begin table.items))) }
 {
     let mut state = Collecting {

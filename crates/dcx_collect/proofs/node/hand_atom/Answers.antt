@@ -8,7 +8,7 @@ use Rattle.dcx_arena.specs.Nodes.{positions}
 use Rattle.dcx_call.specs.Atoms.{atom_meaning}
 use Rattle.dcx_collect.specs.Calls.{atom_shares}
 use Rattle.dcx_collect.specs.Pass.{IsOrMemory, handed}
-use Rattle.dcx_collect.proofs.Handing.{sized, atom_told, atom_stops, handed_ok, handed_stop}
+use Rattle.dcx_collect.proofs.Handing.{slopes_fit, on_ok, sized, atom_told, atom_stops, handed_ok, handed_stop}
 use Rattle.dcx_collect.proofs.node.hand_atom.Goals as goal
 
 pub returns-in-Ok-clause-ok : goal.returns-in-Ok-clause-ok
@@ -45,3 +45,11 @@ returns-in-Err-clause-stop c =
     subst (IsOrMemory (handed c.args.table.now.items shares)) (sym c.stop_of.ensures)
     (atom_stops c.args.places.now.tree.now c.args.node.0 (positions c.args.places.now.args.now) m ss cs ws c.args.table.now.items c.in-Err.stop
     (sized (m.shape ss) (length cs) (λ n. IsSlopeStop m ss n cs ws c.in-Err.stop) c.requires.shape c.in-Err.ensures.stop))
+
+pub returns-in-Ok-clause-fractions : goal.returns-in-Ok-clause-fractions
+returns-in-Ok-clause-fractions c =
+    let m = atom_meaning c.args.atom.now in
+    let ss = sides_list c.args.shapes.now in
+    let cs = c.args.coefficients.now in
+    let ws = c.args.weights.now in
+    on_ok c.or_passes.result (slopes_fit m ss (length cs) cs ws c.in-Ok.slopes (sized (m.shape ss) (length cs) (λ n. AreSlopesOf m ss n cs ws c.in-Ok.slopes) c.requires.shape c.in-Ok.ensures.ok))

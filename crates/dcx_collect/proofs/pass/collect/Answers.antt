@@ -1,9 +1,10 @@
 -- Each node more is passed.
-use Rattle.std.proofs.Common.{◌∙◌, ◌-◌, ap, arith, length, subst}
+use Rattle.std.proofs.Common.{◌≡◌, None, ◌∙◌, ◌-◌, ap, arith, length, subst}
 use Rattle.std.proofs.lemmas.Result.{err_from_is_err_and}
+use Rattle.dcx_tree.specs.Values.{array_at}
 use Rattle.dcx_collect.specs.Starts.{start_of}
-use Rattle.dcx_collect.specs.Pass.{Kept, kept_of, pass_down, IsOrMemory}
-use Rattle.dcx_collect.proofs.Passing.{pass_next, pass_stops, kept_same, all_passed}
+use Rattle.dcx_collect.specs.Pass.{HasFractions, Kept, kept_of, pass_down, IsOrMemory}
+use Rattle.dcx_collect.proofs.Passing.{pass_next, pass_stops, kept_same, all_passed, one_more}
 use Rattle.dcx_collect.proofs.pass.collect.Goals as goal
 
 pub pass_one-requires-clause-below : goal.pass_one-requires-clause-below
@@ -21,6 +22,8 @@ loop-k-preserved g c =
       c.in_ok-pass_one.ensures.below ∙ ap (start_of nodes) (omega (arith, c.nodes-count.ensures.count, c.loop-k-test.true)),
       pass_next nodes c.args.given.now.values.now (g.W.NodeWeights.weights c.args.weights.now) n k m start (kept_of c.loop-k.state) (kept_of c.pass_one.new.state)
           (omega (arith, c.nodes-count.ensures.count, c.loop-k-test.true)) c.loop-k.invariant.1 c.in_ok-pass_one.ensures.ok,
+      one_more (λ i. array_at c.args.given.now.values.now i ≡ None → HasFractions nodes i (g.W.NodeWeights.weights c.args.weights.now i)) n k m (omega (arith, c.nodes-count.ensures.count, c.loop-k-test.true))
+          c.in_ok-pass_one.ensures.fractions c.loop-k.invariant.2,
     )
 
 pub returns-in_err-pass_one-clause-stop : goal.returns-in_err-pass_one-clause-stop
@@ -46,3 +49,6 @@ returns-clause-ok g c =
     let start : Kept = record { below = c.args.table.items; reached = c.new.result.items; total = c.zero.result } in
     all_passed nodes values weights n (n - c.loop-k.k) c.args.table.items start (kept_of c.loop-k.state) c.from_vec.result (omega (arith, c.nodes-count.ensures.count, c.loop-k-test.false))
     (kept_same c.args.table.items c.new.result.items c.zero.result c.new.ensures.items c.zero.ensures) c.loop-k.invariant.0 c.loop-k.invariant.1 c.from_vec.ensures
+
+pub returns-clause-fractions : goal.returns-clause-fractions
+returns-clause-fractions g c = λ i b. c.loop-k.invariant.2 i (omega (arith, c.nodes-count.ensures.count, c.loop-k-test.false)) b

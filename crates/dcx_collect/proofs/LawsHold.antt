@@ -1,0 +1,6 @@
+-- The laws hold.
+use Rattle.dcx_collect.specs.Laws.{CollectedIsABound}
+use Rattle.dcx_collect.proofs.Bounded.{total_bounds}
+
+pub collected_is_a_bound : CollectedIsABound
+collected_is_a_bound names nodes s values weights are known fractions table count reached total e y = total_bounds names nodes are s values known y weights fractions table count reached total e
