@@ -1,5 +1,5 @@
--- Tests of characters and numbers, and constructors that differ.
-use Rattle.std.proofs.Common.{◌≡◌, ◌≢◌, ℕ, ◌<◌, Bool, true, false, eqb, ◌&&◌, Option, Some, None, refl, ◌∙◌, arith}
+-- Tests of characters and numbers, and constructors that differ or are the same.
+use Rattle.std.proofs.Common.{◌≡◌, ◌≢◌, ℕ, ◌<◌, Bool, true, false, eqb, ◌&&◌, List, [], ◌∷◌, ◌++◌, Option, Some, None, refl, sym, ◌∙◌, arith}
 use Rattle.std.specs.Prelude.{nat_lt}
 use Rattle.std.proofs.lemmas.Bool.Decides.{nat_tests}
 
@@ -37,3 +37,17 @@ some_is a o e none = let no : ◌≡◌ {A = Option _} (Some a) None = e ∙ non
 
 pub same_some : {A : Type 0} (a b : A) → ◌≡◌ {A = Option A} (Some a) (Some b) → a ≡ b
 same_some a b e = cc
+
+-- ---- lists
+pub nil_not : {A : Type 0} (x : A) (xs : List A) → ◌≡◌ {A = List A} [] (x ∷ xs) → ⊥
+nil_not x xs e = cc
+
+pub head_is : {A : Type 0} (x y : A) (xs ys : List A) → ◌≡◌ {A = List A} (x ∷ xs) (y ∷ ys) → x ≡ y
+head_is x y xs ys e = cc
+
+pub tail_is : {A : Type 0} (x y : A) (xs ys : List A) → ◌≡◌ {A = List A} (x ∷ xs) (y ∷ ys) → xs ≡ ys
+tail_is x y xs ys e = cc
+
+pub right_nil : (xs ys : List ℕ) → xs ++ ys ≡ [] → ys ≡ []
+right_nil [] ys e = e
+right_nil (x ∷ xs) ys e = absurd (nil_not x (xs ++ ys) (sym e))

@@ -27,14 +27,14 @@ use Rattle.dcx_token_laws.specs.Lines.{IsOfWords, depth_of, kinds, Turns, IsToge
 use Rattle.dcx_token_laws.proofs.Between.{run_is, are_blanks, is_line_end, is_comment}
 use Rattle.dcx_token_laws.proofs.Feeds.{HasNoFeed, not_end, token_feeds}
 use Rattle.dcx_token_laws.proofs.Heads.{Ends as HeadEnds, passed as end_passed, ended as end_ended, ends_at, comment_at, word_at, blanks_cut}
-use Rattle.dcx_token_laws.proofs.Same.{head_is, tail_is, word_not_newline, mark_not_newline, word_not, same_span, same_marks, no_earlier, marks_kinds, a_line, not_newline, one_turn, AtEnd, at_end, end_lines, end_there, no_word_there, tokens_behind, token_among}
+use Rattle.dcx_token_laws.proofs.Same.{word_not_newline, mark_not_newline, word_not, same_span, same_marks, no_earlier, marks_kinds, a_line, not_newline, one_turn, AtEnd, at_end, end_lines, end_there, no_word_there, tokens_behind, token_among}
 use Rattle.dcx_token_laws.proofs.Spelled.{is_word, is_longest}
 use Rattle.dcx_token_laws.proofs.Stretches.{IsBehind, next_behind, token_spans, last_is, step_moved}
 use Rattle.dcx_token_laws.proofs.Forms.{HasBegun, IsLed, Turned, deeper, back, turns, begun_is, IsNested, nests, Closes, over, inside, begun_closes, empty_ends}
 use Rattle.dcx_token_laws.proofs.Rising.{IsRising, deeper_turns, deeper_rising, back_turns, back_rising}
 use Rattle.dcx_token_laws.proofs.Steps as steps
 use Rattle.dcx_token_laws.proofs.Steps.{IsToken, Step, stepped}
-use Rattle.dcx_token_laws.proofs.Basics.{never_both, other_char, some_is}
+use Rattle.dcx_token_laws.proofs.Basics.{head_is, never_both, other_char, some_is, tail_is}
 
 -- ---- columns
 is_one : (c : ℕ) → is_blank c ≡ true → (c ≡ 32) ⊎ (c ≡ 9)

@@ -12,7 +12,7 @@ use Rattle.dcx_tokens.specs.Front.{is_blank, ends_line}
 use Rattle.dcx_token_laws.specs.Cut as cuts
 use Rattle.dcx_token_laws.specs.Cut.{AreBlanks, IsLineEnd, EndsLine, HasNoLineEnd, IsComment, IsBetween, Spans, AreMarks, IsLast, Cut}
 use Rattle.dcx_token_laws.specs.Words.{IsWord, IsLongest}
-use Rattle.dcx_token_laws.proofs.Basics.{is_char, never_both}
+use Rattle.dcx_token_laws.proofs.Basics.{head_is, is_char, never_both, nil_not, tail_is}
 use Rattle.dcx_token_laws.proofs.OneKind.{IsBetweenTokens, space, tab, hash, feed, return, no_token, one_kind}
 
 -- ---- the first stretch that has characters
@@ -21,15 +21,6 @@ pub data Head (front : List ℕ) (c : ℕ) (ds : List ℕ) (us : List Token) : T
   has_word : (marks : List Token) (t : Token) (ts : List Token) (ys behind : List ℕ) → us ≡ marks ++ t ∷ ts → ds ≡ ys ++ behind → AreMarks front marks →
       IsWord t.kind (c ∷ ys) → IsLongest (c ∷ ys) behind → Spans t front (c ∷ ys) → Cut (front ++ c ∷ ys) behind ts [] → Head front c ds us
   has_end : (t : Token) (ts : List Token) (ys behind : List ℕ) → us ≡ t ∷ ts → ds ≡ ys ++ behind → t.kind ≡ kind.Newline → IsLineEnd (c ∷ ys) → Spans t front (c ∷ ys) → Cut (front ++ c ∷ ys) behind ts [] → Head front c ds us
-
-nil_or : (c : ℕ) (ds : List ℕ) → ◌≡◌ {A = List ℕ} [] (c ∷ ds) → ⊥
-nil_or c ds e = cc
-
-same_head : (a b : ℕ) (us vs : List ℕ) → ◌≡◌ {A = List ℕ} (a ∷ us) (b ∷ vs) → a ≡ b
-same_head a b us vs e = cc
-
-same_tail : (a b : ℕ) (us vs : List ℕ) → ◌≡◌ {A = List ℕ} (a ∷ us) (b ∷ vs) → us ≡ vs
-same_tail a b us vs e = cc
 
 pub none_word : (k : TokenKind) → IsWord k [] → ⊥
 none_word kind.Name h = h.0
@@ -42,18 +33,18 @@ none_word kind.Indent h = h
 none_word kind.Dedent h = h
 
 pub none_end : IsLineEnd [] → ⊥
-none_end (inl e) = nil_or 10 [] e
-none_end (inr e) = nil_or 13 (10 ∷ []) e
+none_end (inl e) = nil_not 10 [] e
+none_end (inr e) = nil_not 13 (10 ∷ []) e
 
 begun_with : (front : List ℕ) (x c : ℕ) (xs ds : List ℕ) (us : List Token) → ◌≡◌ {A = List ℕ} (x ∷ xs) (c ∷ ds) → Head front x xs us → Head front c ds us
-begun_with front x c xs ds us e h = subst (λ zs. Head front c zs us) (same_tail x c xs ds e) (subst (λ z. Head front z xs us) (same_head x c xs ds e) h)
+begun_with front x c xs ds us e h = subst (λ zs. Head front c zs us) (tail_is x c xs ds e) (subst (λ z. Head front z xs us) (head_is x c xs ds e) h)
 
 whole : {front cs rest : List ℕ} {us : List Token} → rest ≡ [] → Cut front cs us rest → Cut front cs us []
 whole {front = front} {cs = cs} {us = us} f cut = subst (λ zs. Cut front cs us zs) f cut
 
 pub head : {front cs rest : List ℕ} {us : List Token} → Cut front cs us rest → (c : ℕ) (ds : List ℕ) → cs ≡ c ∷ ds → rest ≡ [] → Head front c ds us
-head cuts.ended c ds e f = absurd (nil_or c ds (sym f ∙ e))
-head (cuts.stopped d rest are) c ds e f = absurd (nil_or d rest (sym f))
+head cuts.ended c ds e f = absurd (nil_not c ds (sym f ∙ e))
+head (cuts.stopped d rest are) c ds e f = absurd (nil_not d rest (sym f))
 head {us = us} (cuts.between {front = front} {behind = behind} [] how more) c ds e f = subst (λ xs. Head xs c ds us) (append-nil front) (head more c ds e f)
 head {us = us} (cuts.between {front = front} {behind = behind} (x ∷ xs) how more) c ds e f =
     begun_with front x c (xs ++ behind) ds us e (passes xs behind refl how (whole f more))
@@ -63,8 +54,8 @@ head (cuts.word {front = front} {behind = behind} {t = t} {ts = ts} marks (x ∷
 head (cuts.line_end [] is end spans more) c ds e f = absurd (none_end end)
 head (cuts.line_end {front = front} {behind = behind} {t = t} {ts = ts} (x ∷ xs) is end spans more) c ds e f =
     begun_with front x c (xs ++ behind) ds (t ∷ ts) e (has_end t ts xs behind refl refl is end spans (whole f more))
-head (cuts.supplied is spans more) c ds e f = absurd (nil_or c ds e)
-head (cuts.last is more) c ds e f = absurd (nil_or c ds e)
+head (cuts.supplied is spans more) c ds e f = absurd (nil_not c ds e)
+head (cuts.last is more) c ds e f = absurd (nil_not c ds e)
 
 -- ---- blanks, a comment and a line end
 between_blank : (c : ℕ) → is_blank c ≡ true → IsBetweenTokens c
@@ -76,8 +67,8 @@ between_blank c e = by (eqb c 32) (eqb c 9) refl refl e
     by false false ea eb h = absurd (cc)
 
 end_first : (c : ℕ) (ys : List ℕ) → IsLineEnd (c ∷ ys) → (c ≡ 10) ⊎ (c ≡ 13)
-end_first c ys (inl e) = inl (same_head c 10 ys [] e)
-end_first c ys (inr e) = inr (same_head c 13 ys (10 ∷ []) e)
+end_first c ys (inl e) = inl (head_is c 10 ys [] e)
+end_first c ys (inr e) = inr (head_is c 13 ys (10 ∷ []) e)
 
 between_end : (c : ℕ) → (c ≡ 10) ⊎ (c ≡ 13) → IsBetweenTokens c
 between_end c (inl e) = feed e
@@ -120,19 +111,19 @@ blanks_cut front (c ∷ ds) us cut = by (is_blank c) refl (λ b. blanks_cut (fro
 -- where a comment ends is one place
 pub one_comment : (xs ys a b : List ℕ) → xs ++ a ≡ ys ++ b → HasNoLineEnd xs a → EndsLine a → HasNoLineEnd ys b → EndsLine b → (xs ≡ ys) × (a ≡ b)
 one_comment [] [] a b e n m o p = (refl, e)
-one_comment [] (y ∷ ys) [] b e n m o p = absurd (nil_or y (ys ++ b) e)
+one_comment [] (y ∷ ys) [] b e n m o p = absurd (nil_not y (ys ++ b) e)
 one_comment [] (y ∷ ys) (x ∷ a) b e n m o p =
-    let tail = same_tail x y a (ys ++ b) e in
-    let first = same_head x y a (ys ++ b) e in
+    let tail = tail_is x y a (ys ++ b) e in
+    let first = head_is x y a (ys ++ b) e in
     absurd (never_both (ends_line x a) m (ap (λ z. ends_line z a) first ∙ ap (λ zs. ends_line y zs) tail ∙ o.0))
-one_comment (x ∷ xs) [] a [] e n m o p = absurd (nil_or x (xs ++ a) (sym e))
+one_comment (x ∷ xs) [] a [] e n m o p = absurd (nil_not x (xs ++ a) (sym e))
 one_comment (x ∷ xs) [] a (y ∷ b) e n m o p =
-    let tail = same_tail x y (xs ++ a) b e in
-    let first = same_head x y (xs ++ a) b e in
+    let tail = tail_is x y (xs ++ a) b e in
+    let first = head_is x y (xs ++ a) b e in
     absurd (never_both (ends_line y b) p (ap (λ z. ends_line z b) (sym first) ∙ ap (λ zs. ends_line x zs) (sym tail) ∙ n.0))
 one_comment (x ∷ xs) (y ∷ ys) a b e n m o p =
-    let more = one_comment xs ys a b (same_tail x y (xs ++ a) (ys ++ b) e) n.1 m o.1 p in
-    (ap (λ z. z ∷ xs) (same_head x y (xs ++ a) (ys ++ b) e) ∙ ap (λ zs. y ∷ zs) more.0, more.1)
+    let more = one_comment xs ys a b (tail_is x y (xs ++ a) (ys ++ b) e) n.1 m o.1 p in
+    (ap (λ z. z ∷ xs) (head_is x y (xs ++ a) (ys ++ b) e) ∙ ap (λ zs. y ∷ zs) more.0, more.1)
 
 -- a comment
 pub comment_cut : (front : List ℕ) (c : ℕ) (xs a : List ℕ) (us : List Token) → IsComment (c ∷ xs) a → Cut front (c ∷ (xs ++ a)) us [] → Cut (front ++ c ∷ xs) a us []
@@ -159,14 +150,14 @@ comment_cut front c xs a us comment cut = by (head cut c (xs ++ a) refl refl)
 
 -- ---- a line end
 one_end : (c : ℕ) (xs ys : List ℕ) → IsLineEnd (c ∷ xs) → IsLineEnd (c ∷ ys) → xs ≡ ys
-one_end c xs ys (inl e) (inl f) = same_tail c 10 xs [] e ∙ sym (same_tail c 10 ys [] f)
-one_end c xs ys (inr e) (inr f) = same_tail c 13 xs (10 ∷ []) e ∙ sym (same_tail c 13 ys (10 ∷ []) f)
-one_end c xs ys (inl e) (inr f) = absurd (let a = same_head c 10 xs [] e in let b = same_head c 13 ys (10 ∷ []) f in omega (arith, a, b))
-one_end c xs ys (inr e) (inl f) = absurd (let a = same_head c 13 xs (10 ∷ []) e in let b = same_head c 10 ys [] f in omega (arith, a, b))
+one_end c xs ys (inl e) (inl f) = tail_is c 10 xs [] e ∙ sym (tail_is c 10 ys [] f)
+one_end c xs ys (inr e) (inr f) = tail_is c 13 xs (10 ∷ []) e ∙ sym (tail_is c 13 ys (10 ∷ []) f)
+one_end c xs ys (inl e) (inr f) = absurd (let a = head_is c 10 xs [] e in let b = head_is c 13 ys (10 ∷ []) f in omega (arith, a, b))
+one_end c xs ys (inr e) (inl f) = absurd (let a = head_is c 13 xs (10 ∷ []) e in let b = head_is c 10 ys [] f in omega (arith, a, b))
 
 same_behind : (xs a b : List ℕ) → xs ++ a ≡ xs ++ b → a ≡ b
 same_behind [] a b e = e
-same_behind (x ∷ xs) a b e = same_behind xs a b (same_tail x x (xs ++ a) (xs ++ b) e)
+same_behind (x ∷ xs) a b e = same_behind xs a b (tail_is x x (xs ++ a) (xs ++ b) e)
 
 -- it is passed, or ends a line
 pub data Ends (front xs a : List ℕ) (us : List Token) : Type 0 where
@@ -207,10 +198,10 @@ pub data Fronts (xs ys a b : List ℕ) : Type 0 where
 pub fronts : (xs ys a b : List ℕ) → xs ++ a ≡ ys ++ b → Fronts xs ys a b
 fronts [] ys a b e = first_on ys refl e
 fronts (x ∷ xs) [] a b e = second_on (x ∷ xs) refl (sym e)
-fronts (x ∷ xs) (y ∷ ys) a b e = by (fronts xs ys a b (same_tail x y (xs ++ a) (ys ++ b) e))
+fronts (x ∷ xs) (y ∷ ys) a b e = by (fronts xs ys a b (tail_is x y (xs ++ a) (ys ++ b) e))
   where
     first : x ≡ y
-    first = same_head x y (xs ++ a) (ys ++ b) e
+    first = head_is x y (xs ++ a) (ys ++ b) e
 
     by : Fronts xs ys a b → Fronts (x ∷ xs) (y ∷ ys) a b
     by (first_on more f g) = first_on more (ap (λ z. z ∷ ys) (sym first) ∙ ap (λ zs. x ∷ zs) f) g

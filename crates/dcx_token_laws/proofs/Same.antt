@@ -15,17 +15,8 @@ use Rattle.dcx_token_laws.specs.Cut as cuts
 use Rattle.dcx_token_laws.specs.Cut.{place_behind, Spans, IsMark, AreMarks, IsLast, IsLineEnd, Cut}
 use Rattle.dcx_token_laws.specs.Lines.{IsOfWords, depth_of, kinds, StandsAt, Turns, deeper, back, IsTogether, AreLines, ended, line}
 use Rattle.dcx_token_laws.specs.Words.{IsWord}
+use Rattle.dcx_token_laws.proofs.Basics.{nil_not, head_is, tail_is, right_nil}
 use Rattle.dcx_token_laws.proofs.Heads.{Fronts, first_on, second_on, fronts, none_word, none_end}
-
--- ---- lists
-nil_not : {A : Type 0} (x : A) (xs : List A) → ◌≡◌ {A = List A} [] (x ∷ xs) → ⊥
-nil_not x xs e = cc
-
-pub head_is : {A : Type 0} (x y : A) (xs ys : List A) → ◌≡◌ {A = List A} (x ∷ xs) (y ∷ ys) → x ≡ y
-head_is x y xs ys e = cc
-
-pub tail_is : {A : Type 0} (x y : A) (xs ys : List A) → ◌≡◌ {A = List A} (x ∷ xs) (y ∷ ys) → xs ≡ ys
-tail_is x y xs ys e = cc
 
 -- ---- kinds
 pub word_not_newline : (k : TokenKind) → IsOfWords k → k ≡ kind.Newline → ⊥
@@ -226,10 +217,6 @@ all_left P (x ∷ xs) ys h = All-cons P x xs (All-head P x (xs ++ ys) h) (all_le
 
 not_less : (d : ℕ) → d < d → ⊥
 not_less d h = absurd (omega (arith, h))
-
-right_nil : (xs ys : List ℕ) → xs ++ ys ≡ [] → ys ≡ []
-right_nil [] ys e = e
-right_nil (x ∷ xs) ys e = absurd (nil_not x (xs ++ ys) (sym e))
 
 -- what a turn is, told of all its parts
 data Turn (blocks : List ℕ) (depth : ℕ) (ks : List TokenKind) (after : List ℕ) : Type 0 where

@@ -25,7 +25,7 @@ use Rattle.dcx_tokens.proofs.Lengths.{number_some}
 use Rattle.dcx_token_laws.proofs.Numerals.{number_front, number_within, point_long}
 use Rattle.dcx_token_laws.proofs.Quotes.{quote_front, quote_some}
 use Rattle.dcx_token_laws.proofs.Steps.{IsToken, name, number, text, sign}
-use Rattle.dcx_token_laws.proofs.Basics.{never_both}
+use Rattle.dcx_token_laws.proofs.Basics.{head_is, never_both, right_nil}
 
 -- ---- where a run ends
 run_stops : (p : ℕ → Bool) (cs more rest : List ℕ) → drop (prefix_len p cs) cs ≡ more ++ rest → All (λ d. IsTrue (p d)) more → more ≡ []
@@ -33,12 +33,9 @@ run_stops p cs [] rest e h = refl
 run_stops p [] (x ∷ xs) rest e h = absurd (let no : ◌≡◌ {A = List ℕ} [] (x ∷ (xs ++ rest)) = e in cc)
 run_stops p (c ∷ cs) (x ∷ xs) rest e h = by (p c) refl e (λ f. run_stops p cs (x ∷ xs) rest f h)
   where
-    same_head : (a b : ℕ) (us vs : List ℕ) → ◌≡◌ {A = List ℕ} (a ∷ us) (b ∷ vs) → a ≡ b
-    same_head a b us vs e = cc
-
     by : (b : Bool) → p c ≡ b → drop (cond b (1 + prefix_len p cs) 0) (c ∷ cs) ≡ x ∷ (xs ++ rest) → (drop (prefix_len p cs) cs ≡ x ∷ (xs ++ rest) → x ∷ xs ≡ []) → x ∷ xs ≡ []
     by true is f more = more (sym (ap (λ n. drop n (c ∷ cs)) (one-add (prefix_len p cs))) ∙ f)
-    by false is f more = absurd (never_both (p c) (subst (λ d. p d ≡ true) (sym (same_head c x cs (xs ++ rest) f)) (All-head (λ d. IsTrue (p d)) x xs h)) is)
+    by false is f more = absurd (never_both (p c) (subst (λ d. p d ≡ true) (sym (head_is c x cs (xs ++ rest) f)) (All-head (λ d. IsTrue (p d)) x xs h)) is)
 
 all_right : (P : ℕ → Type 0) (xs ys : List ℕ) → All P (xs ++ ys) → All P ys
 all_right P [] ys h = h
@@ -127,10 +124,6 @@ is_word c cs k n (sign s b d q e count same) =
 sign_some : (s : Symbol) → 0 < sign_len s
 sign_some symbol.StarStar = omega arith
 sign_some _ = omega arith
-
-right_nil : (xs ys : List ℕ) → xs ++ ys ≡ [] → ys ≡ []
-right_nil [] ys e = e
-right_nil (x ∷ xs) ys e = absurd (let no : ◌≡◌ {A = List ℕ} (x ∷ (xs ++ ys)) [] = e in cc)
 
 none_left : (xs ys : List ℕ) (m : ℕ) → length xs ≡ m → length (xs ++ ys) ≡ m → ys ≡ []
 none_left xs [] m a b = refl
