@@ -1,0 +1,4 @@
+pub mod Filled
+pub mod Items
+pub mod Slots
+pub mod Steps
