@@ -1,3 +1,4 @@
+pub mod Chain
 pub mod Filled
 pub mod Items
 pub mod Slots
