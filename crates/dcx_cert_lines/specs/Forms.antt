@@ -1,7 +1,9 @@
 -- Which certificates there are for a problem, and up to which line bytes are the text of one.
-use Rattle.std.specs.Prelude.{◌≡◌, ℕ, ◌+◌, ◌≤◌, List, ◌++◌, length, take}
+use Rattle.std.specs.Prelude.{◌≡◌, ⊤, ℕ, ◌+◌, ◌≤◌, List, ◌++◌, length, take}
 use Rattle.std.specs.List.{concat}
 use Rattle.dcx_sections.specs.declared.section.Sections.{Sections}
+use Rattle.dcx_sections.specs.declared.fault.CertFault.{CertFault}
+use Rattle.dcx_sections.specs.declared.fault.CertFault.TheVariants.{Form, Memory}
 use Rattle.dcx_sections.specs.Formats.{AreOfFormat}
 use Rattle.dcx_sections.specs.Shown.{Outline, AreSectionsOf}
 use Rattle.dcx_cert_lines.specs.CertText.{all_lines, cert_text}
@@ -33,3 +35,9 @@ pub record IsMisfit (outline : Outline) (count : ℕ) (bytes : List ℕ) (line :
   pub before : Agrees outline count bytes done
   pub here : Agrees outline count bytes line → ⊥
   pub no_text : (s : Sections) → IsTextOf outline count bytes s → ⊥
+
+-- why bytes aren't read: the line, or want of memory
+abbrev pub IsReadFault : Outline → ℕ → List ℕ → CertFault → Type 0
+IsReadFault outline count bytes (Form line) = IsMisfit outline count bytes line
+IsReadFault outline count bytes Memory = ⊤
+IsReadFault outline count bytes _ = ⊥

@@ -1,6 +1,6 @@
 -- Where reading stops: what may stand on each line of a certificate, but for its numbers, and what the inner functions say
 -- of the lines that they read.
-use Rattle.std.specs.Prelude.{◌≡◌, ℕ, zero, suc, ◌+◌, ◌-◌, ◌^◌, ⊤, List, [], ◌∷◌, ◌++◌, length, map, min, ◌⊎◌, codes, decimal}
+use Rattle.std.specs.Prelude.{◌≡◌, ◌≢◌, ◌<◌, ℕ, zero, suc, ◌+◌, ◌-◌, ◌^◌, ⊤, List, [], ◌∷◌, ◌++◌, length, map, min, ◌⊎◌, codes, decimal}
 use Rattle.std.specs.List.{AllZip, IsDistinct, concat, flat_map, enumerate_from}
 use Rattle.dcx_shape.specs.declared.shape.Shape.{Shape}
 use Rattle.dcx_shape.specs.Shape.{sides_of}
@@ -10,7 +10,8 @@ use Rattle.dcx_atom.specs.declared.array.Array.{Array}
 use Rattle.dcx_point.specs.Pairs.{Pairs, same_name}
 use Rattle.dcx_lines.specs.Lines.{named_line}
 use Rattle.dcx_lines.specs.Pieces.{shape_text, entry_text}
-use Rattle.dcx_sections.specs.Shown.{Outline}
+use Rattle.dcx_sections.specs.Shown.{Outline, AreSectionsOf}
+use Rattle.dcx_sections.specs.Formats.{AreOfFormat}
 use Rattle.dcx_sections.specs.declared.cert.Cert.TheVariants as certs
 use Rattle.dcx_sections.specs.declared.section.Section.{Section}
 use Rattle.dcx_sections.specs.declared.section.Section.TheVariants as sections
@@ -20,7 +21,7 @@ use Rattle.dcx_cert_lines.specs.declared.kind.Kind.{Kind}
 use Rattle.dcx_cert_lines.specs.declared.kind.Kind.TheVariants.{Optimal, Infeasible, Unbounded, Empty}
 use Rattle.dcx_cert_lines.specs.declared.cursor.ReadStop.{ReadStop}
 use Rattle.dcx_cert_lines.specs.declared.cursor.ReadStop.TheVariants.{Misfit, Memory}
-use Rattle.dcx_cert_lines.specs.CertText.{Line, head_line}
+use Rattle.dcx_cert_lines.specs.CertText.{Line, first_line, head_line, section_lines}
 
 -- a line: how it begins, and how many numbers stand behind that
 pub record Template : Type 0 where
@@ -199,3 +200,33 @@ kind_of (sections.Cert (certs.Optimal value point duals weights params)) = Optim
 kind_of (sections.Cert (certs.Infeasible duals gap weights params)) = Infeasible
 kind_of (sections.Cert (certs.Unbounded point ray bound slope params)) = Unbounded
 kind_of sections.None = Empty
+
+-- the lines of sections that are numbered from n
+abbrev pub lines_from : ℕ → List Section → List Line
+lines_from n list = flat_map section_lines (enumerate_from n list)
+
+-- sections for the problem, in the format, that are read one after another
+pub record AreRead (format : Format) (outline : Outline) (done : List Section) (before : List ℕ) (line : ℕ) (after : List ℕ) (next : ℕ) : Type 0 where
+  pub shown : AreSectionsOf outline done
+  pub of_format : AreOfFormat format done
+  pub read : IsRead (lines_from 1 done) before line after next
+
+-- reading stops behind some sections: in the next one, or at what stands behind the last
+pub record IsListStop (format : Format) (outline : Outline) (count : ℕ) (before : List ℕ) (line stop : ℕ) : Type 0 where
+  pub done : List Section
+  pub rest : List ℕ
+  pub next : ℕ
+  pub read : AreRead format outline done before line rest next
+  pub stops : ((length done < count) × IsSectionStop format outline (length done + 1) rest next stop) ⊎ ((length done ≡ count) × (rest ≢ []) × (stop ≡ next))
+
+-- reading stops behind the first line
+pub record IsInnerStop (outline : Outline) (count : ℕ) (before : List ℕ) (line stop : ℕ) : Type 0 where
+  pub format : Format
+  pub rest : List ℕ
+  pub next : ℕ
+  pub first : IsRead (first_line format ∷ []) before line rest next
+  pub stops : IsListStop format outline count rest next stop
+
+-- reading stops in a certificate
+abbrev pub IsFileStop : Outline → ℕ → List ℕ → ℕ → ℕ → Type 0
+IsFileStop outline count before line stop = (HasNoFormat before × (stop ≡ line)) ⊎ IsInnerStop outline count before line stop

@@ -43,6 +43,7 @@ impl<T: Drop> From<AllocFailed<T>> for ReadStop {
 }
 
 /// What is left of the bytes, and the number of the line that stands first in it.
+#[derive(Drop)]
 pub(crate) struct Cursor<'a> {
     pub(crate) rest: &'a [u8],
     pub(crate) line: u32,
