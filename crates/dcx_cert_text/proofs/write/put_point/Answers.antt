@@ -1,0 +1,11 @@
+-- Each pair appends its line.
+use Rattle.std.proofs.Common.{arith}
+use Rattle.std.specs.Prelude.{codes}
+use Rattle.dcx_lines.specs.Lines.{named_line}
+use Rattle.dcx_lines.proofs.Pairs.{lines_more}
+use Rattle.dcx_cert_text.proofs.write.put_point.Goals as goal
+
+pub pairs-preserved : goal.pairs-preserved
+pairs-preserved c =
+    lines_more (named_line c.args.word.now) c.args.point.now c.pairs.i c.args.out.now.items c.pairs.out.items c.put_pair.new.out.items
+    (omega (arith, c.pairs-test.true, c.len-i-end.ensures.count)) c.pairs.invariant (c.in_ok-put_pair.ensures {u = tt})
