@@ -49,7 +49,7 @@ use Rattle.dcx_collect.specs.Pass.{Kept, begin, or_passes, handed, with_below, w
 use Rattle.dcx_collect.specs.Laws.{table_times, reached_times, HasKnownSide, MayHandOn, AreKnown}
 use Rattle.dcx_collect.proofs.Starting.{start_next, start_within, start_all}
 use Rattle.dcx_collect.proofs.Passing.{same_Ok, own_count, start_inside, passed_count}
-use Rattle.dcx_collect.proofs.Flat.{frac_value, dot, dot-nil, dot-append, dot-sum, flat, flat-place, by_nodes}
+use Rattle.dcx_collect.proofs.Flat.{frac_value, dot, dot-nil, dot-append, dot-sum, dot-table, flat, flat-place}
 use Rattle.dcx_collect.proofs.Bound.{number_of, IsBefore}
 use Rattle.dcx_collect.proofs.Points.{first_in, at_point, node_value, place_number, place_before, some_item}
 use Rattle.dcx_collect.proofs.Worth.{linear_worth, products_worth_right, products_worth_left, quotients_worth, slopes_worth}
@@ -362,9 +362,7 @@ module _ (names : Names) (nodes : List Node) (are : AreNodes shape_of nodes) (s 
   begin_worth : (table : List Frac) → length table ≡ entries_in nodes → worth (begin table) ≡ table_times nodes table f
   begin_worth table count =
       alone (value (begin table).total) (dot table F) value-zero_frac
-      ∙ dot-sum table F ∙ ap (λ k. rat_sum_below k (λ p. number_at table p *ℚ F p)) (count ∙ sym (start_all nodes))
-      ∙ by_nodes nodes (λ p. number_at table p *ℚ F p) (length nodes) (omega arith)
-      ∙ rat_sum_below-same (length nodes) _ _ (λ i b. rat_sum_below-same (entries_of (sides_of_node nodes i)) _ _ (λ e c. ap (λ z. number_at table (start_of nodes i + e) *ℚ z) (flat-place nodes f i e b c)))
+      ∙ dot-table nodes f table count
 
   pub total_bounds : (weights : ℕ → List Frac) → HasOwnFractions weights → (table : List Frac) → length table ≡ entries_in nodes → (reached : List Reached) (total : Frac) →
       pass_down nodes values weights (length nodes) (begin table) ≡ Ok (record { below = []; reached = reached; total = total }) → value total +ℚ reached_times reached f ≤ℚ table_times nodes table f

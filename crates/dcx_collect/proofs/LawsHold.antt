@@ -1,6 +1,10 @@
 -- The laws hold.
-use Rattle.dcx_collect.specs.Laws.{CollectedIsABound}
+use Rattle.dcx_collect.specs.Laws.{CollectedIsABound, StartsAreLagrangians}
 use Rattle.dcx_collect.proofs.Bounded.{total_bounds}
+use Rattle.dcx_collect.proofs.Multiplied.{starts_are_lagrangians}
 
 pub collected_is_a_bound : CollectedIsABound
 collected_is_a_bound names nodes s values weights are known fractions table count reached total e y = total_bounds names nodes are s values known y weights fractions table count reached total e
+
+pub starts_hold : StartsAreLagrangians
+starts_hold p duals are = starts_are_lagrangians p duals are

@@ -1,12 +1,12 @@
 -- What the pass shows: the total, and what reaches the variables, bound the coefficients at the start from below, at every point.
-use Rattle.std.specs.Prelude.{◌≡◌, ◌⊎◌, ℕ, ◌+◌, List, [], length, Option, Some, None, IsSome, Ok, slice_index}
+use Rattle.std.specs.Prelude.{◌≡◌, ◌⊎◌, ℕ, ◌+◌, List, [], length, Option, Some, None, IsSome, Ok, slice_index, true, false}
 use Rattle.dcx_math.specs.Rational.{ℚ, ◌+ℚ◌, ◌≤ℚ◌}
 use Rattle.dcx_math.specs.Sums.{rat_sum_below, rat_sum_by}
 use Rattle.dcx_frac.specs.declared.fraction.Frac.{Frac}
 use Rattle.dcx_frac.specs.Frac.{value}
 use Rattle.dcx_shape.specs.Sides.{entries_of}
 use Rattle.dcx_atom.specs.declared.array.Array.{Array}
-use Rattle.dcx_atom.specs.Arrays.{number_at}
+use Rattle.dcx_atom.specs.Arrays.{number_at, numbers_of}
 use Rattle.dcx_affine.specs.declared.pairing.Pairing.{Pairing}
 use Rattle.dcx_affine.specs.declared.pairing.Pairing.TheVariants.{Times, MatTimes, Over}
 use Rattle.dcx_arena.specs.Nodes.{AreNodes, IsNode, sides_at, entries_in}
@@ -16,7 +16,11 @@ use Rattle.dcx_call.specs.declared.call.Call.{Call}
 use Rattle.dcx_call.specs.declared.call.Call.TheVariants as calls
 use Rattle.dcx_call.specs.Calls.{shape_of}
 use Rattle.dcx_tree.specs.Nodes.{Names, Node, convex_nodes}
+use Rattle.dcx_convex.specs.Answers.{lagrangian_of, penalty_of}
+use Rattle.dcx_tree.specs.declared.problem.Problem.{Problem}
+use Rattle.dcx_tree.specs.Meaning.{convex_problem}
 use Rattle.dcx_tree.specs.Values.{array_at}
+use Rattle.dcx_collect.specs.Multipliers.{start_table, AreDuals}
 use Rattle.dcx_collect.specs.declared.collected.Reached.{Reached}
 use Rattle.dcx_collect.specs.Starts.{start_of}
 use Rattle.dcx_collect.specs.Pass.{begin, pass_down, HaveFractions}
@@ -60,3 +64,11 @@ CollectedIsABound = (names : Names) (nodes : List Node) (s : Setting) (values : 
     (table : List Frac) → length table ≡ entries_in nodes → (reached : List Reached) (total : Frac) →
     pass_down nodes values weights (length nodes) (begin table) ≡ Ok (record { below = []; reached = reached; total = total }) →
     (y : Point) → value total +ℚ reached_times reached (value_at (convex_nodes names nodes) s y) ≤ℚ table_times nodes table (value_at (convex_nodes names nodes) s y)
+
+-- the coefficients at the start times the numbers of the nodes are the Lagrangian, or without the objective the penalty
+pub record StartIsLagrangian (p : Problem) (duals : List Array) : Type 0 where
+  pub lagrangian : (table : List Frac) → start_table true p duals ≡ Ok table → (f : ℕ → Numbers) → table_times p.tree table f ≡ lagrangian_of (convex_problem p) (numbers_of duals) f
+  pub penalty : (table : List Frac) → start_table false p duals ≡ Ok table → (f : ℕ → Numbers) → table_times p.tree table f ≡ penalty_of (convex_problem p) (numbers_of duals) f
+
+abbrev pub StartsAreLagrangians : Type 0
+StartsAreLagrangians = (p : Problem) (duals : List Array) → AreDuals p duals → StartIsLagrangian p duals

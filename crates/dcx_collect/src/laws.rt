@@ -1,8 +1,13 @@
-//! The law above the definitions of `specs/`. There is no code: the clause is a statement about all nodes.
-ghost use Rattle.dcx_collect.specs.Laws.{CollectedIsABound};
+//! The laws above the definitions of `specs/`. There is no code: each clause is a statement about all nodes.
+ghost use Rattle.dcx_collect.specs.Laws.{CollectedIsABound, StartsAreLagrangians};
 
 /// The total and what reaches the variables, times their values, are at most the coefficients at the start times the values of
 /// their nodes, at every point.
 pub fn collected_is_a_bound()
     ensures { CollectedIsABound }
+{}
+
+/// The coefficients at the start times the numbers of the nodes are the Lagrangian, or without the objective the penalty.
+pub fn starts_are_lagrangians()
+    ensures { StartsAreLagrangians }
 {}
