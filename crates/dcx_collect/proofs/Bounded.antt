@@ -323,7 +323,7 @@ module _ (names : Names) (nodes : List Node) (are : AreNodes shape_of nodes) (s 
       handed_bound i b n at none cs (weights i) kept after (size ∙ ap entries_of (own_sides i n at)) start (own_fractions weights fractions i b none n at) e
 
   -- the coefficients of the nodes before node i, and those of its own
-  parts : (i : ℕ) → i < length nodes → (below : List Frac) → length below ≡ start_of nodes (i + 1) →
+  pub parts : (i : ℕ) → i < length nodes → (below : List Frac) → length below ≡ start_of nodes (i + 1) →
       (length (take (start_of nodes i) below) ≡ start_of nodes i) × (length (drop (start_of nodes i) below) ≡ entries_of (sides_of_node nodes i))
   parts i b below count = (length-take-le (start_of nodes i) below (start_inside nodes below i (start_of nodes i) b refl count), own_count nodes below (drop (start_of nodes i) below) i (start_of nodes i) b refl count refl)
 
@@ -337,7 +337,7 @@ module _ (names : Names) (nodes : List Node) (are : AreNodes shape_of nodes) (s 
       (≤ℚ-from_≡ (ap (λ z. value kept.total +ℚ reached_times kept.reached f +ℚ z)
       (ap (λ z. dot t F +ℚ z) (sym (own_dot i b t cs both.0 both.1)) ∙ sym (dot-append t cs F) ∙ ap (λ xs. dot xs F) (take-append-drop (start_of nodes i) kept.below))))
 
-  step_count : (weights : ℕ → List Frac) (i : ℕ) → i < length nodes → (kept after : Kept) → length kept.below ≡ start_of nodes (i + 1) → step nodes values weights i kept ≡ Ok after → length after.below ≡ start_of nodes i
+  pub step_count : (weights : ℕ → List Frac) (i : ℕ) → i < length nodes → (kept after : Kept) → length kept.below ≡ start_of nodes (i + 1) → step nodes values weights i kept ≡ Ok after → length after.below ≡ start_of nodes i
   step_count weights i b kept after count e =
       passed_count nodes values weights i (array_at values i) (drop (start_of nodes i) kept.below) (record { below = take (start_of nodes i) kept.below; reached = kept.reached; total = kept.total }) after e
       ∙ (parts i b kept.below count).0

@@ -1,6 +1,7 @@
 -- The laws hold.
-use Rattle.dcx_collect.specs.Laws.{CollectedIsABound, StartsAreLagrangians}
+use Rattle.dcx_collect.specs.Laws.{CollectedIsABound, StartsAreLagrangians, TotalsAreBounds, TotalsShowAnswers}
 use Rattle.dcx_collect.proofs.Bounded.{total_bounds}
+use Rattle.dcx_collect.proofs.Final.{totals_are_bounds, totals_show_answers}
 use Rattle.dcx_collect.proofs.Multiplied.{starts_are_lagrangians}
 
 pub collected_is_a_bound : CollectedIsABound
@@ -8,3 +9,9 @@ collected_is_a_bound names nodes s values weights are known fractions table coun
 
 pub starts_hold : StartsAreLagrangians
 starts_hold p duals are = starts_are_lagrangians p duals are
+
+pub totals_hold : TotalsAreBounds
+totals_hold p s values weights duals known fractions squares are = totals_are_bounds p s values weights duals known fractions squares are
+
+pub answers_hold : TotalsShowAnswers
+answers_hold p s values weights duals known fractions squares are = totals_show_answers p s values weights duals known fractions squares are

@@ -11,4 +11,5 @@ pub mod Points
 pub mod Worth
 pub mod Bounded
 pub mod Multiplied
+pub mod Final
 pub mod LawsHold

@@ -196,5 +196,9 @@ module _ (p : Problem) (duals : List Array) (are : AreDuals p duals) (f : ℕ �
       sym (dot-table p.tree f table all) ∙ penalty_dot zeros table zeros_count e
       ∙ ap (λ z. z +ℚ penalty_of (convex_problem p) (numbers_of duals) f) (dot-zeros (entries_in p.tree) G) ∙ +ℚ_idl _
 
+-- there is a coefficient for each entry
+pub start_count : (p : Problem) (duals : List Array) (b : Bool) (table : List Frac) → start_table b p duals ≡ Ok table → length table ≡ entries_in p.tree
+start_count p duals b table e = shares_count (replicate (entries_in p.tree) zero_frac) table (all_shares b p duals) e ∙ length-replicate (entries_in p.tree) zero_frac
+
 pub starts_are_lagrangians : (p : Problem) (duals : List Array) → AreDuals p duals → StartIsLagrangian p duals
 starts_are_lagrangians p duals are = record { lagrangian = λ table e f. start_lagrangian p duals are f table e; penalty = λ table e f. start_penalty p duals are f table e }

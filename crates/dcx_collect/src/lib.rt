@@ -17,6 +17,8 @@
 //! | the coefficients that multipliers give at the start, or the first addition that passes | `start_table`, `specs/Multipliers.antt` |
 //! | these coefficients times the numbers of the nodes are the Lagrangian, or without the objective the penalty | `laws::starts_are_lagrangians` |
 //! | what the pass collects, counts and keeps, or the first stop, nodes falling | `collect`, `specs/Pass.antt` |
+//! | where all that reaches the variables may, by the test for their attributes, the total bounds the Lagrangian from below on the domain | `laws::totals_are_bounds` |
+//! | so a feasible point of at most that value is optimal, and where the total without the objective is above 0 no point is feasible | `laws::totals_show_answers` |
 //! | the total, and what reaches the variables, bound the coefficients at the start from below at every point | `laws::collected_is_a_bound`, `specs/Laws.antt` |
 #![tactic(auto)]
 
