@@ -133,3 +133,10 @@ argument_shares nodes args ss xs rest own k size is left first count =
     ap (λ m. list_below m (λ e. share_to nodes args k e (Ok (frac_in own e)))) count
     ∙ list_below-same size _ (λ e. share_to nodes args k e (Ok (frac_in xs (entries_before ss k + e)))) (λ e b. ap (λ x. share_to nodes args k e (Ok x)) (slopes_of_own xs rest own (entries_before ss k) size e left first b))
     ∙ ap (λ m. list_below m (λ e. share_to nodes args k e (Ok (frac_in xs (entries_before ss k + e))))) is
+
+-- the numbers of a node's entries up to the next one
+pub number_next : (nodes : List Node) (i : ℕ) (number : ℕ → Frac) (t u : List Frac) (e : ℕ) (place : Option ℕ) (x : Frac) → place ≡ place_of nodes (Some i) e → x ≡ number e →
+    with_shares t (list_below e (λ j. share_of (place_of nodes (Some i) j) (Ok (number j)))) ≡ Ok u →
+    with_shares t (list_below (e + 1) (λ j. share_of (place_of nodes (Some i) j) (Ok (number j)))) ≡ with_share u (share_of place (Ok x))
+number_next nodes i number t u e place x at is so_far =
+    below-next t u (λ j. share_of (place_of nodes (Some i) j) (Ok (number j))) e so_far ∙ ap (with_share u) (sym (same_share place _ (Ok x) _ at (ap Ok is)))

@@ -69,7 +69,7 @@ one_then t u s ss e = by (with_share t s) refl e
     by (Ok v) is h = (v, is, h)
     by (Err q) is h = cc
 
-first_then : (t u : List Frac) (ss rs : List Share) → with_shares t (ss ++ rs) ≡ Ok u → (v : List Frac) × (with_shares t ss ≡ Ok v) × (with_shares v rs ≡ Ok u)
+pub first_then : (t u : List Frac) (ss rs : List Share) → with_shares t (ss ++ rs) ≡ Ok u → (v : List Frac) × (with_shares t ss ≡ Ok v) × (with_shares v rs ≡ Ok u)
 first_then t u ss rs e = by (with_shares t ss) refl (sym (shares-append t ss rs) ∙ e)
   where
     by : (r : Result (List Frac) Passes) → with_shares t ss ≡ r → and_then r (λ v. with_shares v rs) ≡ Ok u → (v : List Frac) × (with_shares t ss ≡ Ok v) × (with_shares v rs ≡ Ok u)
@@ -79,7 +79,7 @@ first_then t u ss rs e = by (with_shares t ss) refl (sym (shares-append t ss rs)
 more : (u v t a b : ℚ) → u ≡ v +ℚ b → v ≡ t +ℚ a → u ≡ t +ℚ (a +ℚ b)
 more u v t a b e h = e ∙ ap (λ r. r +ℚ b) h ∙ +ℚ_assoc t a b
 
-single : (t u : List Frac) (s : Share) → with_shares t (s ∷ []) ≡ Ok u → with_share t s ≡ Ok u
+pub single : (t u : List Frac) (s : Share) → with_shares t (s ∷ []) ≡ Ok u → with_share t s ≡ Ok u
 single t u s e = by (with_share t s) e
   where
     by : (r : Result (List Frac) Passes) → and_then r (λ v. Ok v) ≡ Ok u → r ≡ Ok u

@@ -49,7 +49,7 @@ use Rattle.dcx_collect.specs.Pass.{Kept, begin, or_passes, handed, with_below, w
 use Rattle.dcx_collect.specs.Laws.{table_times, reached_times, HasKnownSide, MayHandOn, AreKnown}
 use Rattle.dcx_collect.proofs.Starting.{start_next, start_within, start_all}
 use Rattle.dcx_collect.proofs.Passing.{same_Ok, own_count, start_inside, passed_count}
-use Rattle.dcx_collect.proofs.Flat.{frac_value, dot, dot-nil, dot-append, dot-sum, flat, flat-place, by_nodes}
+use Rattle.dcx_collect.proofs.Flat.{frac_value, dot, dot-nil, dot-append, dot-sum, dot-table, flat, flat-place}
 use Rattle.dcx_collect.proofs.Bound.{number_of, IsBefore}
 use Rattle.dcx_collect.proofs.Points.{first_in, at_point, node_value, place_number, place_before, some_item}
 use Rattle.dcx_collect.proofs.Worth.{linear_worth, products_worth_right, products_worth_left, quotients_worth, slopes_worth}
@@ -323,7 +323,7 @@ module _ (names : Names) (nodes : List Node) (are : AreNodes shape_of nodes) (s 
       handed_bound i b n at none cs (weights i) kept after (size ∙ ap entries_of (own_sides i n at)) start (own_fractions weights fractions i b none n at) e
 
   -- the coefficients of the nodes before node i, and those of its own
-  parts : (i : ℕ) → i < length nodes → (below : List Frac) → length below ≡ start_of nodes (i + 1) →
+  pub parts : (i : ℕ) → i < length nodes → (below : List Frac) → length below ≡ start_of nodes (i + 1) →
       (length (take (start_of nodes i) below) ≡ start_of nodes i) × (length (drop (start_of nodes i) below) ≡ entries_of (sides_of_node nodes i))
   parts i b below count = (length-take-le (start_of nodes i) below (start_inside nodes below i (start_of nodes i) b refl count), own_count nodes below (drop (start_of nodes i) below) i (start_of nodes i) b refl count refl)
 
@@ -337,7 +337,7 @@ module _ (names : Names) (nodes : List Node) (are : AreNodes shape_of nodes) (s 
       (≤ℚ-from_≡ (ap (λ z. value kept.total +ℚ reached_times kept.reached f +ℚ z)
       (ap (λ z. dot t F +ℚ z) (sym (own_dot i b t cs both.0 both.1)) ∙ sym (dot-append t cs F) ∙ ap (λ xs. dot xs F) (take-append-drop (start_of nodes i) kept.below))))
 
-  step_count : (weights : ℕ → List Frac) (i : ℕ) → i < length nodes → (kept after : Kept) → length kept.below ≡ start_of nodes (i + 1) → step nodes values weights i kept ≡ Ok after → length after.below ≡ start_of nodes i
+  pub step_count : (weights : ℕ → List Frac) (i : ℕ) → i < length nodes → (kept after : Kept) → length kept.below ≡ start_of nodes (i + 1) → step nodes values weights i kept ≡ Ok after → length after.below ≡ start_of nodes i
   step_count weights i b kept after count e =
       passed_count nodes values weights i (array_at values i) (drop (start_of nodes i) kept.below) (record { below = take (start_of nodes i) kept.below; reached = kept.reached; total = kept.total }) after e
       ∙ (parts i b kept.below count).0
@@ -362,9 +362,7 @@ module _ (names : Names) (nodes : List Node) (are : AreNodes shape_of nodes) (s 
   begin_worth : (table : List Frac) → length table ≡ entries_in nodes → worth (begin table) ≡ table_times nodes table f
   begin_worth table count =
       alone (value (begin table).total) (dot table F) value-zero_frac
-      ∙ dot-sum table F ∙ ap (λ k. rat_sum_below k (λ p. number_at table p *ℚ F p)) (count ∙ sym (start_all nodes))
-      ∙ by_nodes nodes (λ p. number_at table p *ℚ F p) (length nodes) (omega arith)
-      ∙ rat_sum_below-same (length nodes) _ _ (λ i b. rat_sum_below-same (entries_of (sides_of_node nodes i)) _ _ (λ e c. ap (λ z. number_at table (start_of nodes i + e) *ℚ z) (flat-place nodes f i e b c)))
+      ∙ dot-table nodes f table count
 
   pub total_bounds : (weights : ℕ → List Frac) → HasOwnFractions weights → (table : List Frac) → length table ≡ entries_in nodes → (reached : List Reached) (total : Frac) →
       pass_down nodes values weights (length nodes) (begin table) ≡ Ok (record { below = []; reached = reached; total = total }) → value total +ℚ reached_times reached f ≤ℚ table_times nodes table f

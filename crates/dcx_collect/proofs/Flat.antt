@@ -1,23 +1,25 @@
 -- All entries of all nodes in one list: a list of coefficients times the numbers of the entries.
-use Rattle.std.proofs.Common.{◌≡◌, ℕ, zero, suc, ◌+◌, ◌-◌, ◌<◌, ◌≤◌, arith, Bool, true, false, nat_lt, if◌then◌else◌, List, [], ◌∷◌, ◌++◌, length, take, set, refl, sym, ap, ◌∙◌, pos}
+use Rattle.std.proofs.Common.{◌≡◌, ℕ, zero, suc, ◌+◌, ◌-◌, ◌<◌, ◌≤◌, arith, Bool, true, false, nat_lt, if◌then◌else◌, List, [], ◌∷◌, ◌++◌, length, take, set, refl, sym, ap, ◌∙◌, pos, replicate}
 use Rattle.std.proofs.lemmas.Bool.{false≢true, lt-ltb, le-ltb}
 use Rattle.std.proofs.lemmas.List.Sums.{sum_by-cons}
 use Rattle.dcx_math.specs.Rational.{ℚ, whole, ◌+ℚ◌, ◌*ℚ◌}
 use Rattle.dcx_math.specs.Sums.{rat_sum_below}
 use Rattle.dcx_math.proofs.Ring.{ring, reads}
 use Rattle.dcx_math.proofs.Orders.{+ℚ_idl, +ℚ_idr, +ℚ_assoc}
-use Rattle.dcx_math.proofs.Sums.{rat_sum_below-first}
+use Rattle.dcx_math.proofs.Sums.{rat_sum_below-first, rat_sum_below-same}
 use Rattle.dcx_frac.specs.declared.fraction.Frac.{Frac}
 use Rattle.dcx_frac.specs.Frac.{value}
 use Rattle.dcx_shape.specs.Sides.{entries_of}
 use Rattle.dcx_atom.specs.Arrays.{number_at}
 use Rattle.dcx_atom.proofs.FormedSums.{value-zero_frac}
-use Rattle.dcx_arena.specs.Nodes.{sides_at}
+use Rattle.dcx_arena.specs.Nodes.{sides_at, entries_in}
 use Rattle.dcx_convex.specs.Nodes.{Numbers}
 use Rattle.dcx_tree.specs.Nodes.{Node}
 use Rattle.dcx_collect.specs.Shares.{frac_in}
 use Rattle.dcx_collect.specs.Starts.{start_of}
-use Rattle.dcx_collect.proofs.Starting.{start_next}
+use Rattle.dcx_collect.specs.Laws.{table_times}
+use Rattle.dcx_collect.proofs.Starting.{start_next, start_all}
+use Rattle.dcx_atom.specs.Formed.{zero_frac}
 
 -- ---- numbers of a list
 pub frac_value : (xs : List Frac) (p : ℕ) → value (frac_in xs p) ≡ number_at xs p
@@ -119,3 +121,18 @@ by_nodes nodes g (suc n) b =
     let next : suc n ≡ n + 1 = omega arith in
     ap (λ k. rat_sum_below k g) (ap (start_of nodes) next ∙ start_next nodes n h) ∙ split (start_of nodes n) (entries_of (sides_at nodes n)) g
     ∙ ap (λ r. r +ℚ rat_sum_below (entries_of (sides_at nodes n)) (λ e. g (start_of nodes n + e))) (by_nodes nodes g n (omega (arith, b)))
+
+-- ---- a list of all coefficients times the numbers of all nodes
+zero_front : (x d : ℚ) → d ≡ whole (pos 0) → whole (pos 0) *ℚ x +ℚ d ≡ whole (pos 0)
+zero_front x d e = ap (λ r. whole (pos 0) *ℚ x +ℚ r) e ∙ ring (x ∷ []) (search reads depth 30) tt
+
+pub dot-zeros : (n : ℕ) (F : Numbers) → dot (replicate n zero_frac) F ≡ whole (pos 0)
+unfolding dot
+dot-zeros zero F = refl
+dot-zeros (suc n) F = ap (λ v. v *ℚ F 0 +ℚ dot (replicate n zero_frac) (λ p. F (suc p))) value-zero_frac ∙ zero_front (F 0) _ (dot-zeros n (λ p. F (suc p)))
+
+pub dot-table : (nodes : List Node) (f : ℕ → Numbers) (table : List Frac) → length table ≡ entries_in nodes → dot table (flat nodes f) ≡ table_times nodes table f
+dot-table nodes f table count =
+    dot-sum table (flat nodes f) ∙ ap (λ k. rat_sum_below k (λ p. number_at table p *ℚ flat nodes f p)) (count ∙ sym (start_all nodes))
+    ∙ by_nodes nodes (λ p. number_at table p *ℚ flat nodes f p) (length nodes) (omega arith)
+    ∙ rat_sum_below-same (length nodes) _ _ (λ i b. rat_sum_below-same (entries_of (sides_at nodes i)) _ _ (λ e c. ap (λ z. number_at table (start_of nodes i + e) *ℚ z) (flat-place nodes f i e b c)))

@@ -10,4 +10,6 @@ pub mod Bound
 pub mod Points
 pub mod Worth
 pub mod Bounded
+pub mod Multiplied
+pub mod Final
 pub mod LawsHold

@@ -49,7 +49,7 @@ number_past [] j b = refl
 number_past (x ∷ xs) zero b = absurd (omega arith)
 number_past (x ∷ xs) (suc j) b = number_past xs j (omega arith)
 
-own_is : (own : Sides) (args : List Sides) (sides : Sides) → own_sides own args ≡ Some sides → own ≡ sides
+pub own_is : (own : Sides) (args : List Sides) (sides : Sides) → own_sides own args ≡ Some sides → own ≡ sides
 own_is own [] sides e = same_Some own sides e
 own_is own (a ∷ rest) sides e = cc
 

@@ -3,4 +3,5 @@ pub mod Shares
 pub mod Starts
 pub mod Calls
 pub mod Pass
+pub mod Multipliers
 pub mod Laws

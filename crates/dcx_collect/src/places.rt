@@ -43,7 +43,7 @@ pub fn starts_of(alloc: Global, tree: &Tree) -> Result<Vec<u32>, AllocError>
 }
 
 /// Where an entry of a node stands; `None` where the node has no such entry.
-fn place_of(tree: &Tree, starts: &[u32], node: NodeId, entry: u32) -> Option<usize>
+pub(crate) fn place_of(tree: &Tree, starts: &[u32], node: NodeId, entry: u32) -> Option<usize>
     requires there { node.0 < length tree.now }
     requires starts { AreStarts tree.now starts.now }
     ensures { result ≡ place_of tree.now (Some node.0) entry }
