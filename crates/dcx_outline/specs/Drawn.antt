@@ -1,5 +1,5 @@
 -- The outline of a problem: what its certificates show of it.
-use Rattle.std.specs.Prelude.{ℕ, if◌then◌else◌, List, [], ◌∷◌, length, map, Option, Some, None, slice_get}
+use Rattle.std.specs.Prelude.{◌≡◌, ◌<◌, ℕ, Bool, true, false, slice_index_or, if◌then◌else◌, List, [], ◌∷◌, length, map, Option, Some, None, slice_get}
 use Rattle.std.specs.List.{flat_map, range_with_len}
 use Rattle.dcx_shape.specs.Sides.{entries_of}
 use Rattle.dcx_atom.specs.Steps.{rows_before}
@@ -37,3 +37,17 @@ problem_outline p = record {
   constraints = map (λ c. c.shape) p.constraints;
   atoms = flat_map (atoms_at p) (range_with_len 0 (length p.tree));
 }
+
+-- whether a call has no variable below it, where it is told whether its arguments all have none
+abbrev pub fixed_call : Call → Bool → Bool
+fixed_call (calls.Variable v) args = false
+fixed_call (calls.Parameter q) args = true
+fixed_call (calls.Constant x) args = true
+fixed_call (calls.Atom m) args = args
+fixed_call (calls.Linear l) args = args
+fixed_call (calls.Pairing q) args = args
+
+-- the marks are those of the first nodes that have no variable below them
+pub record AreFixed (p : Problem) (marks : List Bool) (count : ℕ) : Type 0 where
+  pub counted : length marks ≡ count
+  pub each : (i : ℕ) → i < count → slice_index_or marks i false ≡ is_fixed (convex_problem p).nodes i

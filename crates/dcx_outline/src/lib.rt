@@ -1,13 +1,12 @@
-// A library with one function.
+//! The outline of a problem: what its certificates show of it.
+//!
+//! | what must hold | where |
+//! |---|---|
+//! | the outline has the names and the shapes of parameters, variables and constraints, and the atoms that have a variable below them with the number of their rows | `outline_of_problem`, `problem_outline` of `specs/Drawn.antt` |
 #![tactic(auto)]
 
-ghost use Rattle.std.specs.Prelude.{◌≡◌};
-ghost use Rattle.dcx_outline.specs.Echo.{echo_of};
+mod atoms;
+mod drawing;
+mod fixed;
 
-// The `ensures` clause is the contract: what `echo` returns is `echo_of` of its argument, a definition
-// in `specs/Echo.antt`, which a caller's clause can cite too.
-pub fn echo(x: usize) -> usize
-    ensures { result ≡ echo_of x }
-{
-    x
-}
+pub use drawing::outline_of_problem;
