@@ -1,10 +1,10 @@
 -- A node has no variable below it where its call is no variable and its arguments have none.
-use Rattle.std.proofs.Common.{◌≡◌, ℕ, ◌+◌, ◌<◌, ◌≤◌, Bool, true, false, List, [], ◌∷◌, ◌++◌, map, length, get_or, Option, Some, None, option_map, refl, sym, ap, ap₂, ◌∙◌, subst, arith, length-append}
+use Rattle.std.proofs.Common.{◌≡◌, ℕ, ◌+◌, ◌<◌, ◌≤◌, Bool, true, false, List, [], ◌∷◌, ◌++◌, map, length, take, get_or, Option, Some, None, option_map, refl, sym, ap, ap₂, ◌∙◌, subst, arith, length-append}
 use Rattle.std.specs.Prelude.{slice_get, ◌&&◌, nat_lt}
 use Rattle.std.specs.Option.{unwrap_or}
 use Rattle.std.proofs.Math.Seq.{get_or-append_seam}
 use Rattle.std.proofs.lemmas.Bool.Decides.{nat_tests}
-use Rattle.std.proofs.lemmas.List.{get_or_append_left}
+use Rattle.std.proofs.lemmas.List.{get_or_append_left, take_more, map-append}
 use Rattle.std.specs.List.{All, AllByRecursion, list_all}
 use Rattle.std.proofs.lemmas.List.Elements.{recursion_from_All}
 use Rattle.std.proofs.lemmas.Option.{slice_get-map}
@@ -71,3 +71,13 @@ more_fixed p marks new i mark h e put = subst (λ l. AreFixed p l (i + 1)) (sym 
         let above : i ≤ k = grind (arith, nat_tests) in
         let last : k ≡ length marks = omega (arith, below, h.counted, above) in
         ap (λ n. get_or (marks ++ mark ∷ []) n false) last ∙ get_or-append_seam marks mark [] false ∙ e ∙ ap (λ n. is_fixed (convex_problem p).nodes n) (let same : i ≡ k = omega (arith, last, h.counted) in same)
+
+-- nothing is marked at first
+pub none_fixed : (p : Problem) (marks : List Bool) → marks ≡ [] → AreFixed p marks 0
+none_fixed p marks e = record { counted = ap length e; each = λ i l. absurd (omega (arith, l)) }
+
+-- one more item, in the words of another list
+pub mapped_more : {A B C : Type 0} (f : A → C) (g : B → C) (old new : List A) (a : A) (xs : List B) (i : ℕ) (x : B) → i < length xs → x ≡ get_or xs i x → map f old ≡ map g (take i xs) → f a ≡ g x → new ≡ old ++ a ∷ [] → map f new ≡ map g (take (i + 1) xs)
+mapped_more f g old new a xs i x l at e same put =
+    ap (map f) put ∙ map-append f old (a ∷ []) ∙ ap₂ (λ t y. t ++ y ∷ []) e (same ∙ ap g at)
+    ∙ sym (ap (map g) (take_more xs i x l) ∙ map-append g (take i xs) (get_or xs i x ∷ []))

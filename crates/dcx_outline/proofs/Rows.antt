@@ -1,6 +1,6 @@
 -- The rows of an atom's graph, and the atoms of the nodes so far.
 use Rattle.std.proofs.Common.{◌≡◌, ℕ, zero, suc, ◌+◌, ◌<◌, Bool, true, false, cond, List, [], ◌∷◌, ◌++◌, map, length, Option, Some, None, refl, sym, ap, ◌∙◌, subst, arith, length-append, zero-add}
-use Rattle.std.specs.Prelude.{MatchOption, slice_get}
+use Rattle.std.specs.Prelude.{slice_get, if◌then◌else◌}
 use Rattle.std.specs.List.{flat_map, range_with_len}
 use Rattle.std.proofs.lemmas.List.{length-map, map-append, map-id, append-nil}
 use Rattle.std.proofs.lemmas.List.FromFn.{map-range_with_len_more}
@@ -15,6 +15,9 @@ use Rattle.dcx_atom.specs.Steps.{rows_before}
 use Rattle.dcx_call.specs.declared.call.Call.{Call}
 use Rattle.dcx_call.specs.declared.call.Call.TheVariants as calls
 use Rattle.dcx_convex.specs.Certificates.{is_fixed}
+use Rattle.dcx_arena.specs.declared.node.NodeId.{NodeId}
+use Rattle.dcx_sections.specs.declared.outline.AtomRows.{AtomRows}
+use Rattle.dcx_sections.specs.Outlines.{rows_shown}
 use Rattle.dcx_tree.specs.declared.problem.Problem.{Problem}
 use Rattle.dcx_tree.specs.Nodes.{Node}
 use Rattle.dcx_tree.specs.Meaning.{convex_problem}
@@ -77,3 +80,24 @@ pub atoms_more : (p : Problem) (i : ℕ) (old new : List (ℕ × ℕ)) → old �
 atoms_more p i old new e put =
     put ∙ ap (λ t. t ++ atoms_at p i) e
     ∙ sym (ap (flat_map (atoms_at p)) (range_more i) ∙ flat_map-append (atoms_at p) (range_with_len 0 i) (i ∷ []) ∙ ap (λ t. flat_map (atoms_at p) (range_with_len 0 i) ++ t) (append-nil (atoms_at p i)))
+
+-- ---- one node
+none_of : (b : Bool) (xs : List (ℕ × ℕ)) → b ≡ true → (if b then [] else xs) ≡ []
+none_of b xs e = ap (λ t. if t then [] else xs) e
+
+all_of : (b : Bool) (xs : List (ℕ × ℕ)) → b ≡ false → (if b then [] else xs) ≡ xs
+all_of b xs e = ap (λ t. if t then [] else xs) e
+
+-- a node that has no variable below it adds nothing
+pub none_at : (p : Problem) (i : ℕ) (fixed : Bool) (old : List (ℕ × ℕ)) → fixed ≡ is_fixed (convex_problem p).nodes i → fixed ≡ true → old ≡ old ++ atoms_at p i
+none_at p i fixed old told e = sym (ap (λ t. old ++ t) (none_of (is_fixed (convex_problem p).nodes i) (atoms_if p.tree i (slice_get p.tree i)) (sym told ∙ e)) ∙ append-nil old)
+
+-- nor does one that is no atom
+pub nothing_at : (p : Problem) (i : ℕ) (fixed : Bool) (old : List (ℕ × ℕ)) → fixed ≡ is_fixed (convex_problem p).nodes i → fixed ≡ false → atoms_if p.tree i (slice_get p.tree i) ≡ [] → old ≡ old ++ atoms_at p i
+nothing_at p i fixed old told e none = sym (ap (λ t. old ++ t) (all_of (is_fixed (convex_problem p).nodes i) (atoms_if p.tree i (slice_get p.tree i)) (sym told ∙ e) ∙ none) ∙ append-nil old)
+
+pub one_at : (p : Problem) (node : NodeId) (fixed : Bool) (old new : List AtomRows) (rows : ℕ) → fixed ≡ is_fixed (convex_problem p).nodes node.0 → fixed ≡ false → atoms_if p.tree node.0 (slice_get p.tree node.0) ≡ (node.0, rows) ∷ []
+    → new ≡ old ++ record { node = node; rows = rows } ∷ [] → map rows_shown new ≡ map rows_shown old ++ atoms_at p node.0
+one_at p node fixed old new rows told e one put =
+    ap (map rows_shown) put ∙ map-append rows_shown old (record { node = node; rows = rows } ∷ [])
+    ∙ ap (λ t. map rows_shown old ++ t) (sym (all_of (is_fixed (convex_problem p).nodes node.0) (atoms_if p.tree node.0 (slice_get p.tree node.0)) (sym told ∙ e) ∙ one))
