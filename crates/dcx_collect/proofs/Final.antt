@@ -1,40 +1,37 @@
 -- Where all that reaches the variables may, the total bounds the Lagrangian.
-use Rattle.std.proofs.Common.{◌≡◌, ◌⊎◌, ℕ, zero, suc, ◌+◌, ◌<◌, ◌≤◌, arith, true, false, List, [], ◌∷◌, ◌++◌, map, length, take, drop, All, refl, sym, ap, ◌∙◌, subst, inl, inr, ⊎_elim, Option, Some, None, Result, Ok, Err, slice_get, pos}
+use Rattle.std.proofs.Common.{◌≡◌, ℕ, zero, suc, ◌+◌, ◌≤◌, arith, true, false, List, [], ◌∷◌, ◌++◌, map, length, take, drop, All, refl, sym, ap, ◌∙◌, subst, Option, Some, None, Result, Ok, Err, slice_get, pos}
 use Rattle.std.specs.Prelude.{option_map}
 use Rattle.std.proofs.lemmas.List.Elements.{All-head, All-tail, All-cons, All-nil, All-append}
 use Rattle.std.proofs.lemmas.Option.{same_Some, slice_get-map}
 use Rattle.dcx_math.specs.Rational.{ℚ, whole, ◌+ℚ◌, ◌*ℚ◌, ◌≤ℚ◌}
-use Rattle.dcx_math.specs.Sums.{rat_sum_by}
 use Rattle.dcx_math.proofs.Ring.{reads}
 use Rattle.dcx_math.proofs.Orders.{≤ℚ_refl, ≤ℚ_trans, ≤ℚ-from_≡, linear, +ℚ-≤ℚ}
 use Rattle.dcx_math.proofs.Sums.{rat_sum_below-same}
 use Rattle.dcx_frac.specs.declared.fraction.Frac.{Frac}
 use Rattle.dcx_frac.specs.Frac.{value}
-use Rattle.dcx_shape.specs.declared.shape.Sides.{Sides}
 use Rattle.dcx_shape.specs.Shape.{sides_of}
 use Rattle.dcx_shape.specs.Sides.{entries_of}
 use Rattle.dcx_atom.specs.declared.array.Array.{Array}
-use Rattle.dcx_atom.specs.Arrays.{number_at, numbers_of}
+use Rattle.dcx_atom.specs.Arrays.{number_at}
 use Rattle.dcx_atom.specs.Entrywise.{products_from}
 use Rattle.dcx_arena.specs.Nodes.{AreNodes, IsNode, call_at, args_at, sides_at, entries_in}
 use Rattle.dcx_convex.specs.Nodes.{Numbers, Setting, Point}
 use Rattle.dcx_convex.specs.Nodes as convex
-use Rattle.dcx_convex.specs.Certificates.{times, MayReach, HasSides}
-use Rattle.dcx_convex.specs.Answers as meant
+use Rattle.dcx_convex.specs.Certificates.{times}
 use Rattle.dcx_convex.proofs.DualCones.{dual}
 use Rattle.dcx_call.specs.declared.attribute.Variable.{Variable}
 use Rattle.dcx_call.specs.declared.call.Call.{Call}
 use Rattle.dcx_call.specs.declared.call.Call.TheVariants as calls
-use Rattle.dcx_call.specs.Calls.{own_sides, shape_of}
+use Rattle.dcx_call.specs.Calls.{shape_of}
 use Rattle.dcx_tree.specs.declared.problem.Problem.{Problem}
 use Rattle.dcx_tree.specs.Nodes.{Names, Node, number_in, variable_attribute, head_of, arg_sides, convex_node, convex_nodes}
-use Rattle.dcx_tree.specs.Meaning.{names_in, convex_problem, IsInDomain}
+use Rattle.dcx_tree.specs.Meaning.{names_in}
 use Rattle.dcx_tree.specs.Values.{array_at}
 use Rattle.dcx_collect.specs.declared.collected.Reached.{Reached}
 use Rattle.dcx_collect.specs.declared.stop.CollectStop.{CollectStop}
 use Rattle.dcx_collect.specs.Starts.{start_of}
-use Rattle.dcx_collect.specs.Multipliers.{start_table, all_shares, AreDuals}
-use Rattle.dcx_collect.specs.Pass.{Kept, begin, or_passes, handed, with_below, with_total, counted, reached_by, reached_if, node_reached, node_shares, HaveFractions, passed, step, then_on, pass_down}
+use Rattle.dcx_collect.specs.Multipliers.{AreDuals}
+use Rattle.dcx_collect.specs.Pass.{Kept, begin, or_passes, handed, with_below, with_total, counted, reached_if, node_reached, node_shares, HaveFractions, passed, step, then_on, pass_down}
 use Rattle.dcx_collect.specs.Laws.{table_times, reached_times, AreKnown, MayReachIn, AreSquareIn, TotalIsABound, TotalShowsAnswers}
 use Rattle.dcx_collect.proofs.Starting.{start_all}
 use Rattle.dcx_collect.proofs.Passing.{same_Ok, node_shape}
