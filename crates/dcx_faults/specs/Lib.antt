@@ -1,0 +1,3 @@
+-- What the contracts of the checks of a certificate cite.
+pub mod Checks
+pub mod Laws
