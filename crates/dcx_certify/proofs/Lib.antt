@@ -1,0 +1,3 @@
+-- The lemmas.
+pub mod Settled
+pub mod Shows
