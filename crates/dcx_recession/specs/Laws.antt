@@ -1,5 +1,5 @@
 -- The main statements, as the clauses of the laws say them.
-use Rattle.std.specs.Prelude.{◌≡◌, ℕ, ◌<◌, IsTrue, List, Some, length, pos}
+use Rattle.std.specs.Prelude.{◌≡◌, ℕ, ◌<◌, IsTrue, List, Some, length}
 use Rattle.dcx_math.specs.Rational.{ℚ, ◌+ℚ◌, ◌*ℚ◌}
 use Rattle.dcx_math.specs.Sums.{IsNonnegative}
 use Rattle.dcx_shape.specs.declared.shape.Sides.{Sides}
@@ -40,7 +40,7 @@ pub record CallsRecede : Type 0 where
 -- convex, and at least where it is concave
 abbrev pub NodesRecede : Type 0
 NodesRecede = (nodes : List Node) → IsOrdered nodes → AreLawful nodes → AreReceding nodes → (s : Setting) → convex.Fits nodes s → (x d : Point) → IsInDomain nodes x → IsInDomain nodes d →
-    (k : ℚ) → IsNonnegative k → (i : ℕ) → i < length nodes → (bend : Bend) → IsTrue (is_bent bend (judgement_at Plain nodes i)) →
+    (k : ℚ) → IsNonnegative k → (i : ℕ) (bend : Bend) → IsTrue (is_bent bend (judgement_at Plain nodes i)) →
     (j : ℕ) → IsBeyond bend (value_at nodes s (shifted x k d) i j) (value_at nodes s x i j +ℚ k *ℚ steep_at nodes s d i j)
 
 -- an accepted problem is unbounded along a ray

@@ -1,5 +1,5 @@
 -- Steepness: how fast the nodes go along a ray far out.
-use Rattle.std.specs.Prelude.{◌≡◌, ℕ, zero, suc, Bool, if◌then◌else◌, nat_eq, List, length, map, Option, Some, None, slice_get}
+use Rattle.std.specs.Prelude.{◌≡◌, ℕ, zero, suc, Bool, if◌then◌else◌, nat_eq, List, map, Option, Some, None, slice_get}
 use Rattle.dcx_shape.specs.Sides.{entries_of}
 use Rattle.dcx_atom.specs.Arrays.{Entries}
 use Rattle.dcx_convex.specs.Calls.{Kind, Nonlinear, Linear, Product, Quotient}
