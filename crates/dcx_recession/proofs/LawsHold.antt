@@ -1,11 +1,13 @@
 -- The main statements hold.
 use Rattle.dcx_tree.specs.Meaning.{names_in, convex_problem}
 use Rattle.dcx_tree.proofs.Lawful.{tree_lawful}
-use Rattle.dcx_recession.specs.Laws.{SteepnessIsTold, CallsRecede, NodesRecede, RaysAreUnbounded, RaysShow}
+use Rattle.dcx_recession.specs.Laws.{SteepnessIsTold, CallsRecede, NodesRecede, ValuesAreFixed, TreeValuesAreFixed, RaysAreUnbounded, RaysShow}
 use Rattle.dcx_recession.proofs.Calls.{atom_recedes, linear_recedes, product_recedes, quotient_recedes}
 use Rattle.dcx_recession.proofs.Told.{steep_tells, only}
 use Rattle.dcx_recession.proofs.Along.{nodes_along}
 use Rattle.dcx_recession.proofs.Rays.{unbounded}
+use Rattle.dcx_recession.proofs.Values.{side_fixed}
+use Rattle.dcx_recession.proofs.Reached.{tree_side_fixed}
 use Rattle.dcx_recession.proofs.Trees.{tree_recedes}
 
 pub steepness_is_told : SteepnessIsTold
@@ -16,6 +18,12 @@ calls_recede = record { atoms = atom_recedes; linear_calls = linear_recedes; pro
 
 pub nodes_recede : NodesRecede
 nodes_recede nodes ordered law recede s fit x d dx dd k low i bend t j = nodes_along nodes ordered law recede s fit.parameters x d dx dd k low i j bend t
+
+pub values_are_fixed : ValuesAreFixed
+values_are_fixed = side_fixed
+
+pub tree_values_are_fixed : TreeValuesAreFixed
+tree_values_are_fixed = tree_side_fixed
 
 pub rays_are_unbounded : RaysAreUnbounded
 rays_are_unbounded p ordered law recede ok s fit x d b e ray = unbounded p ordered law recede ok s fit x d b e ray
