@@ -7,7 +7,8 @@ from . import calls, shapes
 from .numbers import is_fraction, number
 
 KINDS = {"1": ("optimal", "infeasible", "none"), "2": ("optimal", "infeasible", "unbounded", "none")}
-NUMBER = re.compile(rb"0|(-?[1-9][0-9]*)(?:/([1-9][0-9]*))?")
+# No number has more than 39 digits.
+NUMBER = re.compile(rb"0|(-?[1-9][0-9]{0,38})(?:/([1-9][0-9]{0,38}))?")
 
 
 class Section:
