@@ -1,0 +1,1 @@
+-- The lemmas by which the functions and the laws of this crate are proved.
