@@ -14,14 +14,14 @@ use Rattle.dcx_graph.specs.Program.{Program}
 use Rattle.dcx_graph.specs.Fixing.{FixGives}
 use Rattle.dcx_graph.specs.Answers.{IsRead}
 use Rattle.dcx_graph.specs.Correct.{ReducesNumbers, ReducesAffine}
-use Rattle.dcx_build.specs.Origins.{AreLaidOut}
+use Rattle.dcx_build.specs.Origins.{IsLaidOut}
 use Rattle.dcx_build.specs.Built.{IsBuilt, PassesAt}
 
 -- the rows of the program that reducing a problem gives are laid out as the problem has it, also where it is put at a setting
 pub record ProgramsAreLaidOut : Type 0 where
-  pub numbers : (p : Problem) (setting : Pairs) (q : Program Frac) → ReducesNumbers p setting (Ok q) → AreLaidOut p q.origins
-  pub affine : (p : Problem) (setting : Pairs) (q : Program ParamForm) → ReducesAffine p setting (Ok q) → AreLaidOut p q.origins
-  pub fixed : (p : Problem) (setting : Pairs) (q : Program ParamForm) (r : Program Frac) → AreLaidOut p q.origins → FixGives setting q (Ok r) → AreLaidOut p r.origins
+  pub numbers : (p : Problem) (setting : Pairs) (q : Program Frac) → ReducesNumbers p setting (Ok q) → IsLaidOut p q
+  pub affine : (p : Problem) (setting : Pairs) (q : Program ParamForm) → ReducesAffine p setting (Ok q) → IsLaidOut p q
+  pub fixed : (p : Problem) (setting : Pairs) (q : Program ParamForm) (r : Program Frac) → IsLaidOut p q → FixGives setting q (Ok r) → IsLaidOut p r
 
 -- what is told of the certificate of an answer
 pub record IsOneCert (p : Problem) (setting : Pairs) (from : List Origin) (a : LpAnswer) (x : Answer) : Type 0 where

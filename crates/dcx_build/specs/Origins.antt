@@ -12,7 +12,7 @@ use Rattle.dcx_tree.specs.Nodes.{Node, arg_sides}
 use Rattle.dcx_unknowns.specs.Layout.{is_reduced}
 use Rattle.dcx_graph.specs.declared.origin.Origin.{Origin}
 use Rattle.dcx_graph.specs.declared.origin.Origin.TheVariants as origins
-use Rattle.dcx_graph.specs.Program.{constraint_entries, entry_origin}
+use Rattle.dcx_graph.specs.Program.{Program, constraint_entries, entry_origin}
 
 -- how many rows entry j of a node with this call has
 abbrev pub entry_count : List Node → Node → Call → ℕ → ℕ
@@ -35,7 +35,9 @@ node_rows nodes i reduced (Some n) = if reduced then joined_below (entries_of n.
 abbrev pub graph_origins : Rules → Problem → List Origin
 graph_origins rules p = joined_below (length p.tree) (λ i. node_rows p.tree i (is_reduced rules p i) (slice_get p.tree i))
 
--- the rows of the constraints, and then those of the graphs of the nodes that are reduced, by the rules where parameters are numbers or
--- by those where they are affine
-abbrev pub AreLaidOut : Problem → List Origin → Type 0
-AreLaidOut p from = (rules : Rules) × (from ≡ map entry_origin (constraint_entries p) ++ graph_origins rules p)
+-- the program has the rows of the constraints, and then those of the graphs of the nodes that are reduced, by the rules where parameters
+-- are numbers or by those where they are affine
+pub record IsLaidOut {C : Type 0} (p : Problem) (q : Program C) : Type 0 where
+  pub rules : Rules
+  pub origins_are : q.origins ≡ map entry_origin (constraint_entries p) ++ graph_origins rules p
+  pub one_each : length q.origins ≡ length q.rows

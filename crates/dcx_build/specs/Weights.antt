@@ -10,6 +10,7 @@ use Rattle.dcx_lp_answer.specs.declared.answer.LpStatus.{LpStatus}
 use Rattle.dcx_lp_answer.specs.declared.answer.RowNote.{RowNote}
 use Rattle.dcx_lp_answer.specs.Multipliers.{multiplier_of}
 use Rattle.dcx_sections.specs.declared.weights.NodeWeights.{NodeWeights}
+use Rattle.dcx_sections.specs.declared.outline.AtomRows.{AtomRows}
 use Rattle.dcx_graph.specs.declared.origin.Origin.{Origin}
 use Rattle.dcx_graph.specs.declared.origin.Origin.TheVariants as origins
 use Rattle.dcx_build.specs.declared.forming.RowWeight.{RowWeight}
@@ -39,6 +40,17 @@ abbrev pub number_for : ℕ → Option RowWeight → Option Frac
 number_for i None = None
 number_for i (Some w) = if nat_eq w.node.0 i then Some w.number else None
 
+-- those of some rows
+abbrev pub numbers_for : List (Option RowWeight) → ℕ → List Frac
+numbers_for rows i = filter_map (number_for i) rows
+
+-- the numbers of a node, told and among those of some rows
+abbrev pub node_numbers : NodeWeights → ℕ × List Frac
+node_numbers w = (w.node.0, w.numbers)
+
+abbrev pub atom_numbers : List (Option RowWeight) → AtomRows → ℕ × List Frac
+atom_numbers rows a = (a.node.0, numbers_for rows a.node.0)
+
 -- what is kept of a row, where the row is one of the graph of node i
 abbrev pub note_of : ℕ → Origin × RowNote → Option RowNote
 note_of i (origins.Constraint k e, note) = None
@@ -48,6 +60,13 @@ note_of i (origins.Graph node e k, note) = if nat_eq node.0 i then Some note els
 abbrev pub node_multipliers : LpStatus → List Origin → List RowNote → ℕ → List (Result Frac Passes)
 node_multipliers status from notes i = map (graph_multiplier status) (filter_map (note_of i) (zip from notes))
 
+-- the weights of a node, and the multipliers that they have to be
+abbrev pub formed_weights : NodeWeights → ℕ × List (Result Frac Passes)
+formed_weights w = (w.node.0, map Ok w.numbers)
+
+abbrev pub atom_multipliers : LpStatus → List Origin → List RowNote → ℕ × ℕ → ℕ × List (Result Frac Passes)
+atom_multipliers status from notes a = (a.0, node_multipliers status from notes a.0)
+
 -- the weights are those of these atoms, in order: the numbers of each are the multipliers of the rows of its graph, in order
 abbrev pub AreWeights : List (ℕ × ℕ) → LpStatus → List Origin → List RowNote → List NodeWeights → Type 0
-AreWeights atoms status from notes weights = map (λ w. (w.node.0, map Ok w.numbers)) weights ≡ map (λ a. (a.0, node_multipliers status from notes a.0)) atoms
+AreWeights atoms status from notes weights = map formed_weights weights ≡ map (atom_multipliers status from notes) atoms

@@ -10,7 +10,7 @@ ghost use Rattle.dcx_sections.specs.Shown.{IsCertOf};
 ghost use Rattle.dcx_outline.specs.Drawn.{problem_outline};
 ghost use Rattle.dcx_graph.specs.Fixed.{HaveArrays};
 ghost use Rattle.dcx_graph.specs.Answers.{IsAnswered, IsRead};
-ghost use Rattle.dcx_build.specs.Origins.{AreLaidOut};
+ghost use Rattle.dcx_build.specs.Origins.{IsLaidOut};
 ghost use Rattle.dcx_build.specs.Built.{values_in, IsBuilt, StopsBuilding};
 
 use crate::copies::{copy_duals, copy_point, values_of};
@@ -134,7 +134,7 @@ pub fn build(
     lp: &LpAnswer,
 ) -> Result<Cert, AnswerStop>
     requires given { HaveArrays problem.now setting.now }
-    requires laid_out { AreLaidOut problem.now reduced.now.program.origins }
+    requires laid_out { IsLaidOut problem.now reduced.now.program }
     requires answered { IsAnswered problem.now (setting_of problem.now setting.now) reduced.now.program lp.now }
     requires read { IsRead problem.now reduced.now.program.kinds lp.now answer.now }
     ensures built { IfOk result (IsBuilt problem.now setting.now reduced.now.program.origins lp.now answer.now) }

@@ -1,10 +1,9 @@
 //! The weights of the atoms of a problem.
 ghost use Rattle.std.specs.Prelude.{◌≡◌, ◌<◌, ◌^◌, length, map, IfOk, IfErr};
-ghost use Rattle.std.specs.List.{filter_map};
 ghost use Rattle.dcx_lp_answer.specs.declared.answer.LpStatus.TheVariants as status;
 ghost use Rattle.dcx_sections.specs.Outlines.{rows_shown};
 ghost use Rattle.dcx_graph.specs.Answers.{answer_stop};
-ghost use Rattle.dcx_build.specs.Weights.{number_for};
+ghost use Rattle.dcx_build.specs.Weights.{numbers_for, node_numbers, atom_numbers};
 ghost use Rattle.dcx_build.specs.Built.{AreWeightsIn, StopsBuilding};
 
 use crate::forming::{RowWeight, row_weights};
@@ -30,7 +29,7 @@ fn answer_stop(stop: MultiplierStop) -> AnswerStop
 
 /// The numbers of the rows of the graph of a node, in order.
 fn numbers_of(alloc: Global, rows: &[Option<RowWeight>], node: NodeId) -> Result<Fracs, AllocError>
-    ensures { IfOk result (λ xs. xs ≡ filter_map (number_for node.0) rows.now) }
+    ensures { IfOk result (λ xs. xs ≡ numbers_for rows.now node.0) }
 {
     let mut numbers = Vec::new(alloc);
     'rows: for row in rows {
@@ -49,7 +48,7 @@ fn atom_weights(
     atoms: &[AtomRows],
     rows: &[Option<RowWeight>],
 ) -> Result<Weights, AllocError>
-    ensures { IfOk result (λ ws. map (λ w. (w.node.0, w.numbers)) ws ≡ map (λ a. (a.node.0, filter_map (number_for a.node.0) rows.now)) atoms.now) }
+    ensures { IfOk result (λ ws. map node_numbers ws ≡ map (atom_numbers rows.now) atoms.now) }
 {
     let mut weights = Vec::with_capacity(alloc, atoms.len())?;
     'atoms: for atom in atoms {
