@@ -1,5 +1,5 @@
 -- How many rows of a program come from the graph of a node.
-use Rattle.std.proofs.Common.{◌≡◌, ◌≢◌, ℕ, zero, suc, ◌+◌, ◌<◌, Bool, true, false, List, [], ◌∷◌, ◌++◌, length, map, Option, Some, None, refl, sym, ap, ap₂, ◌∙◌, subst, true≢false, eq-eqb, ne_eqb, eqb-true, inl, inr, ◌⊎◌, arith, length-append}
+use Rattle.std.proofs.Common.{◌≡◌, ◌≢◌, ℕ, zero, suc, ◌+◌, ◌<◌, ◌≤◌, Bool, true, false, List, [], ◌∷◌, ◌++◌, length, map, Option, Some, None, refl, sym, ap, ap₂, ◌∙◌, subst, true≢false, eq-eqb, ne_eqb, eqb-true, inl, inr, ◌⊎◌, arith, length-append}
 use Rattle.std.specs.Prelude.{nat_eq, if◌then◌else◌, slice_get, not, ◌&&◌}
 use Rattle.std.specs.List.{filter_map, cons_option, zip, flat_map, range_with_len}
 use Rattle.std.proofs.lemmas.List.{length-map}
@@ -48,13 +48,13 @@ module _ (i : ℕ) where
       note_is o note (filter_map (note_of i) (zip from notes)) (rows_in i from) (notes_counted from notes same)
 
   -- ---- rows one after the other
-  joined : (xs ys : List Origin) → rows_in i (xs ++ ys) ≡ rows_in i xs + rows_in i ys
+  pub joined : (xs ys : List Origin) → rows_in i (xs ++ ys) ≡ rows_in i xs + rows_in i ys
   joined [] ys = omega arith
-  joined (o ∷ xs) ys = by (comes_from i o)
+  joined (o ∷ xs) ys = by (joined xs ys) (comes_from i o)
     where
-      by : (b : Bool) → (if b then suc (rows_in i (xs ++ ys)) else rows_in i (xs ++ ys)) ≡ (if b then suc (rows_in i xs) else rows_in i xs) + rows_in i ys
-      by true = let h = joined xs ys in omega (arith, h)
-      by false = joined xs ys
+      by : rows_in i (xs ++ ys) ≡ rows_in i xs + rows_in i ys → (b : Bool) → (if b then suc (rows_in i (xs ++ ys)) else rows_in i (xs ++ ys)) ≡ (if b then suc (rows_in i xs) else rows_in i xs) + rows_in i ys
+      by h true = omega (arith, h)
+      by h false = h
 
   pub none_of : {A : Type 0} (f : A → Origin) → ((x : A) → comes_from i (f x) ≡ false) → (xs : List A) → rows_in i (map f xs) ≡ 0
   none_of f h [] = refl
@@ -83,13 +83,13 @@ module _ (i : ℕ) where
   none_joined (suc n) f h = let a = none_joined n f h in let b = h n in let both = joined (joined_below n f) (f n) in omega (arith, a, b, both)
 
   -- the rows of another node
-  others_in : (nodes : List Node) (j : ℕ) → nat_eq j i ≡ false → (reduced : Bool) (o : Option Node) → rows_in i (node_rows nodes j reduced o) ≡ 0
+  pub others_in : (nodes : List Node) (j : ℕ) → nat_eq j i ≡ false → (reduced : Bool) (o : Option Node) → rows_in i (node_rows nodes j reduced o) ≡ 0
   others_in nodes j t reduced None = refl
   others_in nodes j t true (Some n) = none_joined (entries_of n.sides) (entry_rows nodes j n) (λ e. others j e t (entry_count nodes n n.call e))
   others_in nodes j t false (Some n) = refl
 
   -- the rows of an atom that is reduced
-  atom_rows : (nodes : List Node) (n : Node) (m : Meaning) (count : ℕ → ℕ) → ((e : ℕ) → count e ≡ length (m.rows (arg_sides nodes n) e)) → (size : ℕ) →
+  pub atom_rows : (nodes : List Node) (n : Node) (m : Meaning) (count : ℕ → ℕ) → ((e : ℕ) → count e ≡ length (m.rows (arg_sides nodes n) e)) → (size : ℕ) →
       rows_in i (joined_below size (λ e. list_below (count e) (λ k. origins.Graph (record { 0 = i }) e k))) ≡ rows_before m (arg_sides nodes n) size
   atom_rows nodes n m count h zero = refl
   atom_rows nodes n m count h (suc size) =
@@ -110,19 +110,19 @@ module _ (i : ℕ) where
 
     pub one_of_all : (k : ℕ) → i < k → rows_in i (joined_below k f) ≡ rows_in i (f i)
     one_of_all zero lt = absurd (omega (arith, lt))
-    one_of_all (suc k) lt = by (nat_eq k i) refl
+    one_of_all (suc k) lt = by (λ below. one_of_all k below) (nat_eq k i) refl
       where
         both : rows_in i (joined_below (suc k) f) ≡ rows_in i (joined_below k f) + rows_in i (f k)
         both = joined (joined_below k f) (f k)
 
-        by : (b : Bool) → nat_eq k i ≡ b → rows_in i (joined_below (suc k) f) ≡ rows_in i (f i)
-        by true t =
+        by : (i < k → rows_in i (joined_below k f) ≡ rows_in i (f i)) → (b : Bool) → nat_eq k i ≡ b → rows_in i (joined_below (suc k) f) ≡ rows_in i (f i)
+        by ih true t =
             let same = eqb-true k i t in
             let front = before k (omega (arith, same)) in
             let last = ap (λ j. rows_in i (f j)) same in
             both ∙ omega (arith, front, last)
-        by false t =
+        by ih false t =
             let ne : k ≢ i = λ e. true≢false (sym (eq-eqb k i e) ∙ t) in
-            let front = one_of_all k (omega (arith, ne, lt)) in
+            let front = ih (omega (arith, ne, lt)) in
             let last = apart k t in
             both ∙ omega (arith, front, last)

@@ -15,7 +15,10 @@ use Rattle.dcx_lp_answer.specs.Multipliers.{passing_from}
 use Rattle.dcx_graph.specs.declared.origin.Origin.{Origin}
 use Rattle.dcx_graph.specs.declared.origin.Origin.TheVariants as origins
 use Rattle.dcx_build.specs.declared.forming.RowWeight.{RowWeight}
-use Rattle.dcx_build.specs.Weights.{graph_multiplier, is_listed, row_weight, note_of, number_for}
+use Rattle.dcx_sections.specs.declared.weights.NodeWeights.{NodeWeights}
+use Rattle.dcx_sections.specs.declared.outline.AtomRows.{AtomRows}
+use Rattle.dcx_sections.specs.Outlines.{rows_shown}
+use Rattle.dcx_build.specs.Weights.{graph_multiplier, is_listed, row_weight, row_weights, note_of, node_multipliers, number_for, numbers_for, node_numbers, atom_numbers, formed_weights, atom_multipliers, AreWeights}
 
 -- a row, where it comes from and what is kept of it
 abbrev pub RowOf : Type 0
@@ -57,7 +60,7 @@ pub weights_all : {A B C : Type 0} (f : A × B → Result C Passes) (xs : List A
 weights_all f xs ys items zs i same past made =
     let count = ap length same in
     let short = no_longer xs ys in
-    made ∙ ap (map f) (take_all (zip xs ys) i (omega (arith, count, short, past)))
+    made ∙ ap (map f) (take_all i (zip xs ys) (omega (arith, count, short, past)))
 
 -- ---- atoms
 same_node : (i : ℕ) → nat_eq i i ≡ true
@@ -194,3 +197,24 @@ module _ {A B : Type 0} (h : A → Option B) (xs : List A) (i : ℕ) (x : A) (lt
 
   pub no_number : h x ≡ None → after ≡ before → after ≡ filter_map h (take (i + 1) xs)
   no_number e same = same ∙ was ∙ sym (next_is ∙ ap (λ o. filter_map h (take i xs) ++ cons_option o []) e ∙ append-nil (filter_map h (take i xs)))
+
+-- ---- the weights of atoms
+with_formed : ℕ × List Frac → ℕ × List (Result Frac Passes)
+with_formed x = (x.0, map Ok x.1)
+
+formed_are : (ws : List NodeWeights) → map formed_weights ws ≡ map with_formed (map node_numbers ws)
+unfolding with_formed
+formed_are [] = refl
+formed_are (w ∷ ws) = ap (λ ys. formed_weights w ∷ ys) (formed_are ws)
+
+numbers_shown : (rows : List (Option RowWeight)) (atoms : List AtomRows) → map with_formed (map (atom_numbers rows) atoms) ≡ map (beside (λ i. map Ok (numbers_for rows i))) (map rows_shown atoms)
+unfolding with_formed
+numbers_shown rows [] = refl
+numbers_shown rows (a ∷ atoms) = ap (λ ys. (a.node.0, map Ok (numbers_for rows a.node.0)) ∷ ys) (numbers_shown rows atoms)
+
+pub weights_are : (status : LpStatus) (from : List Origin) (notes : List RowNote) (atoms : List AtomRows) (all : List (ℕ × ℕ)) (rows : List (Option RowWeight)) (ws : List NodeWeights) → map rows_shown atoms ≡ all →
+    map Ok rows ≡ row_weights (map rows_shown atoms) status from notes → map node_numbers ws ≡ map (atom_numbers rows) atoms → AreWeights all status from notes ws
+weights_are status from notes atoms all rows ws same formed numbered =
+    formed_are ws ∙ ap (map with_formed) numbered ∙ numbers_shown rows atoms
+    ∙ same_listed (map rows_shown atoms) (λ i. map Ok (numbers_for rows i)) (node_multipliers status from notes) (λ i t. numbers_are (map rows_shown atoms) status i t (zip from notes) rows formed)
+    ∙ ap (map (atom_multipliers status from notes)) same

@@ -24,7 +24,7 @@ use Rattle.dcx_lp_answer.specs.Multipliers.{passing_from}
 use Rattle.dcx_graph.specs.declared.origin.Origin.{Origin}
 use Rattle.dcx_graph.specs.Answers.{IsRead}
 use Rattle.dcx_build.specs.Weights.{is_listed, row_weights, node_multipliers, formed_weights, atom_multipliers, AreWeights}
-use Rattle.dcx_build.specs.Built.{AreWeightsIn, IsBuilt, PassesAt}
+use Rattle.dcx_build.specs.Built.{values_in, AreWeightsIn, IsBuilt, PassesAt}
 use Rattle.dcx_build.specs.Laws.{IsOneCert}
 use Rattle.dcx_build.proofs.Formed.{all_formed, none_passes}
 
@@ -50,17 +50,14 @@ module _ (status : LpStatus) (from : List Origin) (notes : List RowNote) where
   has_numbers : (atoms : List (ℕ × ℕ)) (ws : List NodeWeights) → AreWeights atoms status from notes ws → (i : ℕ) → is_listed atoms i ≡ true → (xs : List Frac) × (map Ok xs ≡ node_multipliers status from notes i)
   has_numbers [] ws h i t = absurd (true≢false (sym t))
   has_numbers (a ∷ atoms) [] h i t = absurd cc
-  has_numbers (a ∷ atoms) (w ∷ ws) h i t = by (nat_eq a.0 i) refl t
+  has_numbers (a ∷ atoms) (w ∷ ws) h i t = by (λ l. has_numbers atoms ws cc i l) (nat_eq a.0 i) refl t
     where
       first : formed_weights w ≡ atom_multipliers status from notes a
       first = cc
 
-      rest : AreWeights atoms status from notes ws
-      rest = cc
-
-      by : (b : Bool) → nat_eq a.0 i ≡ b → (b || is_listed atoms i) ≡ true → (xs : List Frac) × (map Ok xs ≡ node_multipliers status from notes i)
-      by true e l = (w.numbers, ap (λ x. x.1) first ∙ ap (node_multipliers status from notes) (eqb-true a.0 i e))
-      by false e l = has_numbers atoms ws rest i l
+      by : (is_listed atoms i ≡ true → (xs : List Frac) × (map Ok xs ≡ node_multipliers status from notes i)) → (b : Bool) → nat_eq a.0 i ≡ b → (b || is_listed atoms i) ≡ true → (xs : List Frac) × (map Ok xs ≡ node_multipliers status from notes i)
+      by ih true e l = (w.numbers, ap (λ x. x.1) first ∙ ap (node_multipliers status from notes) (eqb-true a.0 i e))
+      by ih false e l = ih l
 
   pub none_stops : (atoms : List (ℕ × ℕ)) (ws : List NodeWeights) → AreWeights atoms status from notes ws → passing_from 0 (row_weights atoms status from notes) ≡ None
   none_stops atoms ws h =
@@ -69,8 +66,8 @@ module _ (status : LpStatus) (from : List Origin) (notes : List RowNote) where
 
 module _ (p : Problem) (setting : Pairs) (from : List Origin) (a : LpAnswer) where
   same : (x : Answer) (c d : Cert) → IsBuilt p setting from a x c → IsBuilt p setting from a x d → c ≡ d
-  same (answers.Optimal number point duals) c d (ws, h, e) (vs, k, f) = e ∙ ap (λ w. Optimal number point duals w _) (one_list ws vs (h ∙ sym k)) ∙ sym f
-  same (answers.Infeasible duals gap) c d (ws, h, e) (vs, k, f) = e ∙ ap (λ w. Infeasible duals gap w _) (one_list ws vs (h ∙ sym k)) ∙ sym f
+  same (answers.Optimal number point duals) c d (ws, h, e) (vs, k, f) = e ∙ ap (λ w. Optimal number point duals w (Some (values_in p setting))) (one_list ws vs (h ∙ sym k)) ∙ sym f
+  same (answers.Infeasible duals gap) c d (ws, h, e) (vs, k, f) = e ∙ ap (λ w. Infeasible duals gap w (Some (values_in p setting))) (one_list ws vs (h ∙ sym k)) ∙ sym f
   same (answers.Unbounded point ray bound slope) c d h k = h ∙ sym k
 
   stopped : (ws : List NodeWeights) → AreWeightsIn p from a ws → (site : Site) → PassesAt p from a site → ⊥

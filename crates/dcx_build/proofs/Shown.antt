@@ -73,10 +73,10 @@ shapes_are (p ∷ ps) (e ∷ es) d n h =
     let here : p.1 ≡ a = same_Some p.1 a (ap (λ b. cond b (Some p.1) (array_of ps e.0)) (sym s) ∙ at) in
     ap₂ ◌∷◌ (ap₂ (λ x y. (x, y)) same (ap (λ (x : Array). x.shape) here ∙ shape))
     (shapes_are ps es d.1 rest (λ i x stands.
-        let (b, there, shaped) = h (suc i) x stands in
-        let named : slice_get (names_of ps) i ≡ Some x.0 = ap (λ l. slice_get l i) rest ∙ slice_get-map (λ (x : List ℕ × Shape). x.0) es i ∙ ap (option_map (λ (x : List ℕ × Shape). x.0)) stands in
-        let t = apart p.0 x.0 (name_at (λ y. same_name p.0 y ≡ false) (names_of ps) i x.0 d.0 named) in
-        (b, ap (λ b. cond b (Some p.1) (array_of ps x.0)) (sym t) ∙ there, shaped)))
+    let (b, there, shaped) = h (suc i) x stands in
+    let named : slice_get (names_of ps) i ≡ Some x.0 = ap (λ l. slice_get l i) rest ∙ slice_get-map (λ (x : List ℕ × Shape). x.0) es i ∙ ap (option_map (λ (x : List ℕ × Shape). x.0)) stands in
+    let t = apart p.0 x.0 (name_at (λ y. same_name p.0 y ≡ false) (names_of ps) i x.0 d.0 named) in
+    (b, ap (λ b. cond b (Some p.1) (array_of ps x.0)) (sym t) ∙ there, shaped)))
 
 map_map : {A B C : Type 0} (g : B → C) (f : A → B) (xs : List A) → map g (map f xs) ≡ map (λ x. g (f x)) xs
 map_map g f [] = refl

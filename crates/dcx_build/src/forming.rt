@@ -1,8 +1,9 @@
 //! The weights of the rows of a program.
-ghost use Rattle.std.specs.Prelude.{◌≡◌, ◌<◌, ◌^◌, length, map, Ok, IfOk, IfErr};
+ghost use Rattle.std.specs.Prelude.{◌≡◌, nat_eq, ◌<◌, ◌^◌, length, map, Ok, IfOk, IfErr};
+ghost use Rattle.std.specs.List.{list_any};
 ghost use Rattle.dcx_lp_answer.specs.Multipliers.{passing_from, StopsAt};
 ghost use Rattle.dcx_sections.specs.Outlines.{rows_shown};
-ghost use Rattle.dcx_build.specs.Weights.{is_listed, row_weight, row_weights};
+ghost use Rattle.dcx_build.specs.Weights.{row_weight, row_weights};
 
 use dcx_arena::NodeId;
 use dcx_frac::{Frac, Passes};
@@ -23,7 +24,7 @@ pub(crate) struct RowWeight {
 
 /// Whether a node is that of one of these atoms.
 fn is_listed(atoms: &[AtomRows], node: NodeId) -> bool
-    ensures { result ≡ is_listed (map rows_shown atoms.now) node.0 }
+    ensures { result ≡ list_any (λ a. nat_eq a.node.0 node.0) atoms.now }
 {
     atoms.iter().any(|atom| atom.node.0 == node.0)
 }

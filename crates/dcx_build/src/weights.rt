@@ -78,9 +78,10 @@ pub(crate) fn weights_of(
     ensures stops { IfErr result (StopsBuilding problem.now reduced.now.program.origins answer.now) }
 {
     let outline = outline_of_problem(alloc, problem)?;
-    let rows = match row_weights(alloc, outline.atoms(), reduced, answer) {
+    let atoms = outline.atoms();
+    let rows = match row_weights(alloc, atoms, reduced, answer) {
         Ok(rows) => rows,
         Err(stop) => return Err(answer_stop(stop)),
     };
-    Ok(atom_weights(alloc, outline.atoms(), &rows)?)
+    Ok(atom_weights(alloc, atoms, &rows)?)
 }

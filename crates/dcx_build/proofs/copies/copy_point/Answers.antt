@@ -21,4 +21,4 @@ loop-i-preserved c = elim c.match-name_at.branch [
 ]
 
 pub returns : goal.returns
-returns c = c.loop-i.invariant ∙ take_all c.args.point.now c.loop-i.i (omega (arith, c.loop-i-test.false, c.len-i-end.ensures.count))
+returns c = c.loop-i.invariant ∙ take_all c.loop-i.i c.args.point.now (omega (arith, c.loop-i-test.false, c.len-i-end.ensures.count))
