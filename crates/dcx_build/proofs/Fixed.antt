@@ -1,9 +1,9 @@
 -- A node that has a variable below it is reduced, whether parameters are numbers or affine.
-use Rattle.std.proofs.Common.{◌≡◌, ℕ, zero, suc, Bool, true, false, List, [], ◌∷◌, map, Option, Some, None, slice_get, refl, sym, ap, ap₂, ◌∙◌}
+use Rattle.std.proofs.Common.{◌≡◌, ℕ, zero, suc, true, false, List, [], ◌∷◌, map, Option, Some, None, slice_get, refl, ap, ap₂, ◌∙◌}
 use Rattle.std.specs.Prelude.{not, ◌&&◌}
 use Rattle.std.specs.List.{list_all}
 use Rattle.dcx_convex.specs.Nodes.{Head, Variable, Parameter, Constant, Apply, Node, told, told_within}
-use Rattle.dcx_convex.specs.Rules.{Rules, Plain, Parametrized, Judgement, no_argument, is_constant, judgement_by, judgement_at}
+use Rattle.dcx_convex.specs.Rules.{Rules, Plain, Parametrized, Judgement, no_argument, judgement_by, judgement_at}
 use Rattle.dcx_convex.specs.Certificates.{is_fixed}
 use Rattle.dcx_tree.specs.declared.problem.Problem.{Problem}
 use Rattle.dcx_tree.specs.Meaning.{convex_problem}

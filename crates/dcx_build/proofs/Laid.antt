@@ -1,5 +1,5 @@
 -- The rows of a program that reducing gives come from the constraints and then from the graphs, by node, result entry and row.
-use Rattle.std.proofs.Common.{◌≡◌, ℕ, zero, suc, ◌+◌, ◌<◌, ◌≤◌, Bool, true, false, List, [], ◌++◌, length, map, Option, Some, Result, Ok, Err, slice_get, slice_index_or, refl, sym, ap, ap₂, ◌∙◌, arith, length-append}
+use Rattle.std.proofs.Common.{◌≡◌, ℕ, zero, suc, ◌+◌, ◌<◌, Bool, true, false, List, [], ◌++◌, length, map, Option, Some, Result, Ok, Err, slice_get, slice_index_or, refl, sym, ap, ap₂, ◌∙◌, arith, length-append}
 use Rattle.std.proofs.lemmas.List.{length-map, map-append}
 use Rattle.std.proofs.lemmas.Option.{slice_get-get_or}
 use Rattle.dcx_frac.specs.declared.fraction.Frac.{Frac}
@@ -22,7 +22,6 @@ use Rattle.dcx_linear.specs.declared.change.Change.{Change}
 use Rattle.dcx_linear.specs.declared.form.Form.{Form}
 use Rattle.dcx_unknowns.specs.Layout.{is_reduced, unknown_kinds}
 use Rattle.dcx_entries.specs.declared.entries.EntryForms.{EntryForms}
-use Rattle.dcx_entries.specs.declared.formed.FormedRow.{FormedRow}
 use Rattle.dcx_entries.specs.declared.scaling.Scaling.{Scaling}
 use Rattle.dcx_entries.specs.Parts.{Arguments, zero_form}
 use Rattle.dcx_entries.specs.Entries.{alone, PairEntryBy}

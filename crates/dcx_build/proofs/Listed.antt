@@ -10,7 +10,6 @@ use Rattle.dcx_frac.specs.declared.fraction.Frac.{Frac}
 use Rattle.dcx_frac.specs.declared.fraction.Passes.{Passes}
 use Rattle.dcx_shape.specs.Sides.{entries_of}
 use Rattle.dcx_atom.specs.Steps.{rows_before}
-use Rattle.dcx_atom.specs.Arrays.{joined_below}
 use Rattle.dcx_call.specs.declared.call.Call.{Call}
 use Rattle.dcx_call.specs.declared.call.Call.TheVariants as calls
 use Rattle.dcx_call.specs.Atoms.{atom_meaning}
@@ -28,7 +27,7 @@ use Rattle.dcx_outline.specs.Drawn.{call_atoms, atoms_if, atoms_at, problem_outl
 use Rattle.dcx_graph.specs.declared.origin.Origin.{Origin}
 use Rattle.dcx_graph.specs.Program.{constraint_entries, entry_origin}
 use Rattle.dcx_build.specs.Origins.{entry_count, node_rows, graph_origins}
-use Rattle.dcx_build.specs.Weights.{graph_multiplier, node_multipliers, note_of, formed_weights, atom_multipliers, AreWeights}
+use Rattle.dcx_build.specs.Weights.{graph_multiplier, note_of, formed_weights, atom_multipliers, AreWeights}
 use Rattle.dcx_build.proofs.Counts.{rows_in, notes_counted, joined, none_of, atom_rows, others_in, one_of_all}
 use Rattle.dcx_build.proofs.Fixed.{unfixed_is_reduced}
 

@@ -1,5 +1,5 @@
 -- The certificate of an answer has the names, the shapes, the counts and the order of the problem, and the setting's values.
-use Rattle.std.proofs.Common.{◌≡◌, ℕ, ◌<◌, ◌≤◌, ◌^◌, List, length, map, Some, refl, sym, ap, ◌∙◌, subst, arith}
+use Rattle.std.proofs.Common.{◌≡◌, ◌<◌, ◌^◌, List, length, sym, ◌∙◌, subst, arith}
 use Rattle.dcx_frac.specs.declared.fraction.Frac.{Frac}
 use Rattle.dcx_point.specs.Pairs.{Pairs}
 use Rattle.dcx_convex.specs.Nodes.{Setting}
@@ -10,7 +10,6 @@ use Rattle.dcx_std.proofs.ScaledProgram.{scaled_program}
 use Rattle.dcx_answer.specs.declared.answer.Answer.{Answer}
 use Rattle.dcx_answer.specs.declared.answer.Answer.TheVariants as answers
 use Rattle.dcx_sections.specs.declared.cert.Cert.{Cert}
-use Rattle.dcx_sections.specs.declared.cert.Cert.TheVariants.{Optimal, Infeasible, Unbounded}
 use Rattle.dcx_sections.specs.declared.section.Format.TheVariants.{Two}
 use Rattle.dcx_sections.specs.Formats.{IsOfFormat}
 use Rattle.dcx_sections.specs.Shown.{IsCertOf}
@@ -20,7 +19,7 @@ use Rattle.dcx_graph.specs.Program.{Program}
 use Rattle.dcx_graph.specs.Fixed.{HaveArrays}
 use Rattle.dcx_graph.specs.Answers.{rows_of, IsAnswered, IsRead}
 use Rattle.dcx_build.specs.Origins.{IsLaidOut}
-use Rattle.dcx_build.specs.Built.{values_in, IsBuilt}
+use Rattle.dcx_build.specs.Built.{IsBuilt}
 use Rattle.dcx_build.proofs.Listed.{weights_counted}
 use Rattle.dcx_build.proofs.Shown.{variables_distinct, point_shown, duals_shown, values_shown}
 

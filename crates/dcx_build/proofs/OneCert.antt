@@ -1,7 +1,7 @@
 -- An answer has one certificate, or one weight that passes first.
-use Rattle.std.proofs.Common.{◌≡◌, ℕ, true, List, [], ◌∷◌, map, Some, None, Ok, refl, sym, ap, ap₂, ◌∙◌, subst, true≢false, eqb-true}
-use Rattle.std.specs.Prelude.{Result, nat_eq, ◌||◌, Bool, false}
-use Rattle.std.specs.List.{zip, filter_map}
+use Rattle.std.proofs.Common.{◌≡◌, ℕ, true, List, [], ◌∷◌, map, Some, None, Ok, refl, sym, ap, ap₂, ◌∙◌, true≢false, eqb-true}
+use Rattle.std.specs.Prelude.{nat_eq, ◌||◌, Bool, false}
+use Rattle.std.specs.List.{zip}
 use Rattle.std.proofs.lemmas.Option.{none-some, same_Some}
 use Rattle.dcx_frac.specs.declared.fraction.Frac.{Frac}
 use Rattle.dcx_frac.specs.declared.fraction.Passes.{Passes}
@@ -16,7 +16,7 @@ use Rattle.dcx_answer.specs.declared.answer.Answer.TheVariants as answers
 use Rattle.dcx_answer.specs.declared.site.Site.{Site}
 use Rattle.dcx_answer.specs.declared.site.Site.TheVariants as sites
 use Rattle.dcx_sections.specs.declared.cert.Cert.{Cert}
-use Rattle.dcx_sections.specs.declared.cert.Cert.TheVariants.{Optimal, Infeasible, Unbounded}
+use Rattle.dcx_sections.specs.declared.cert.Cert.TheVariants.{Optimal, Infeasible}
 use Rattle.dcx_sections.specs.declared.weights.NodeWeights.{NodeWeights}
 use Rattle.dcx_outline.specs.Drawn.{problem_outline}
 use Rattle.dcx_postsolve.proofs.Lists.{same_formed}
@@ -50,7 +50,9 @@ module _ (status : LpStatus) (from : List Origin) (notes : List RowNote) where
   has_numbers : (atoms : List (ℕ × ℕ)) (ws : List NodeWeights) → AreWeights atoms status from notes ws → (i : ℕ) → is_listed atoms i ≡ true → (xs : List Frac) × (map Ok xs ≡ node_multipliers status from notes i)
   has_numbers [] ws h i t = absurd (true≢false (sym t))
   has_numbers (a ∷ atoms) [] h i t = absurd cc
-  has_numbers (a ∷ atoms) (w ∷ ws) h i t = by (λ l. has_numbers atoms ws cc i l) (nat_eq a.0 i) refl t
+  has_numbers (a ∷ atoms) (w ∷ ws) h i t =
+      let rest : AreWeights atoms status from notes ws = cc in
+      by (λ l. has_numbers atoms ws rest i l) (nat_eq a.0 i) refl t
     where
       first : formed_weights w ≡ atom_multipliers status from notes a
       first = cc

@@ -1,5 +1,5 @@
 -- The parts of a certificate have the names and the shapes of the problem.
-use Rattle.std.proofs.Common.{◌≡◌, ℕ, zero, suc, ◌<◌, Bool, true, false, cond, List, [], ◌∷◌, ◌++◌, length, map, get_or, Option, Some, None, option_map, refl, sym, ap, ap₂, ◌∙◌, subst, arith}
+use Rattle.std.proofs.Common.{◌≡◌, ℕ, zero, suc, true, false, cond, List, [], ◌∷◌, ◌++◌, map, Option, Some, None, option_map, refl, sym, ap, ap₂, ◌∙◌, subst}
 use Rattle.std.specs.Prelude.{slice_get}
 use Rattle.std.specs.List.{All, AllByRecursion, IsDistinct, flat_map}
 use Rattle.std.proofs.Props.{props}
@@ -13,7 +13,7 @@ use Rattle.dcx_shape.specs.declared.shape.Shape.{Shape}
 use Rattle.dcx_shape.specs.Shape.{sides_of}
 use Rattle.dcx_shape.specs.Sides.{HasFewEntries}
 use Rattle.dcx_atom.specs.declared.array.Array.{Array}
-use Rattle.dcx_point.specs.Pairs.{Pairs, same_name, names_of, array_of, AreDistinct}
+use Rattle.dcx_point.specs.Pairs.{Pairs, same_name, names_of, array_of}
 use Rattle.dcx_point.proofs.Puts.{same_name-refl, same_name-false}
 use Rattle.dcx_call.specs.declared.attribute.Variable.{Variable}
 use Rattle.dcx_call.specs.declared.attribute.Parameter.{Parameter}
@@ -21,10 +21,8 @@ use Rattle.dcx_call.specs.Values.{HasArray}
 use Rattle.dcx_tree.specs.declared.problem.Problem.{Problem}
 use Rattle.dcx_tree.specs.declared.constraint.Constraint.{Constraint}
 use Rattle.dcx_tree.proofs.Sublists.{distinct_front, distinct_back}
-use Rattle.dcx_linear.specs.declared.row.UnknownKind.{UnknownKind}
 use Rattle.dcx_lp_answer.specs.declared.answer.LpStatus.{LpStatus}
 use Rattle.dcx_lp_answer.specs.declared.answer.RowNote.{RowNote}
-use Rattle.dcx_unknowns.specs.Layout.{constraint_rows}
 use Rattle.dcx_lines.specs.Shown.{variables_of, constraints_of}
 use Rattle.dcx_postsolve.specs.Points.{IsPointOf}
 use Rattle.dcx_postsolve.specs.Duals.{AreDuals}

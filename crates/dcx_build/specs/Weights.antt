@@ -1,10 +1,11 @@
 -- The weights of atoms: the multipliers of the rows of their graphs, formed in the order of the rows, up to the first that passes
 -- 128 bits.
-use Rattle.std.specs.Prelude.{◌≡◌, ℕ, Bool, nat_eq, if◌then◌else◌, List, [], ◌∷◌, map, Option, Some, None, Result, Ok}
+use Rattle.std.specs.Prelude.{◌≡◌, ℕ, Bool, nat_eq, if◌then◌else◌, List, map, Option, Some, None, Result, Ok}
 use Rattle.std.specs.List.{list_any, filter_map, zip}
 use Rattle.dcx_frac.specs.declared.fraction.Frac.{Frac}
 use Rattle.dcx_frac.specs.declared.fraction.Passes.{Passes}
 use Rattle.dcx_atom.specs.Formed.{and_then}
+use Rattle.dcx_arena.specs.declared.node.NodeId.{NodeId}
 use Rattle.dcx_linear.specs.declared.row.RowKind.TheVariants.{AtMost}
 use Rattle.dcx_lp_answer.specs.declared.answer.LpStatus.{LpStatus}
 use Rattle.dcx_lp_answer.specs.declared.answer.RowNote.{RowNote}
@@ -24,11 +25,15 @@ graph_multiplier status note = multiplier_of status AtMost note
 abbrev pub is_listed : List (ℕ × ℕ) → ℕ → Bool
 is_listed atoms i = list_any (λ a. nat_eq a.0 i) atoms
 
+-- the weight of a row of node i, whose multiplier is formed
+abbrev pub weight_of : NodeId → Result Frac Passes → Result (Option RowWeight) Passes
+weight_of node multiplier = and_then multiplier (λ x. Ok (Some (record { node = node; number = x })))
+
 -- what forming the weight of a row answers: a row of the graph of one of these atoms has its multiplier, and no other row has any
 abbrev pub row_weight : List (ℕ × ℕ) → LpStatus → Origin → RowNote → Result (Option RowWeight) Passes
 row_weight atoms status (origins.Constraint k e) note = Ok None
 row_weight atoms status (origins.Graph node e k) note =
-    if is_listed atoms node.0 then and_then (graph_multiplier status note) (λ x. Ok (Some (record { node = node; number = x }))) else Ok None
+    if is_listed atoms node.0 then weight_of node (graph_multiplier status note) else Ok None
 
 -- the same of rows that come from here, of which this is kept, in order
 abbrev pub row_weights : List (ℕ × ℕ) → LpStatus → List Origin → List RowNote → List (Result (Option RowWeight) Passes)

@@ -1,7 +1,6 @@
 //! Copies of points and multipliers, and of a setting in the order in which its parameters are declared.
 ghost use Rattle.std.specs.Prelude.{◌≡◌, IfOk};
 ghost use Rattle.dcx_build.specs.Built.{values_in};
-ghost use Rattle.dcx_tree.specs.Problems.{AreDeclared};
 
 use dcx_answer::Duals;
 use dcx_call::{copy_array, copy_name};

@@ -3,7 +3,7 @@ ghost use Rattle.std.specs.Prelude.{◌≡◌, nat_eq, ◌<◌, ◌^◌, length,
 ghost use Rattle.std.specs.List.{list_any};
 ghost use Rattle.dcx_lp_answer.specs.Multipliers.{passing_from, StopsAt};
 ghost use Rattle.dcx_sections.specs.Outlines.{rows_shown};
-ghost use Rattle.dcx_build.specs.Weights.{row_weight, row_weights};
+ghost use Rattle.dcx_build.specs.Weights.{weight_of, row_weight, row_weights};
 
 use dcx_arena::NodeId;
 use dcx_frac::{Frac, Passes};
@@ -29,6 +29,16 @@ fn is_listed(atoms: &[AtomRows], node: NodeId) -> bool
     atoms.iter().any(|atom| atom.node.0 == node.0)
 }
 
+/// The weight of a row of the graph of a node, whose multiplier is formed.
+fn weight_of(node: NodeId, multiplier: Result<Frac, Passes>) -> Result<Option<RowWeight>, Passes>
+    ensures { result ≡ weight_of node multiplier }
+{
+    match multiplier {
+        Ok(number) => Ok(Some(RowWeight { node, number })),
+        Err(passes) => Err(passes),
+    }
+}
+
 /// The weight of a row that comes from here, of which this is kept, where the row is one of the graph of one of these atoms.
 fn row_weight(
     atoms: &[AtomRows],
@@ -42,8 +52,7 @@ fn row_weight(
         Origin::Constraint { .. } => Ok(None),
         Origin::Graph { node, .. } => {
             if is_listed(atoms, node) {
-                let number = multiplier(status, RowKind::AtMost, note)?;
-                Ok(Some(RowWeight { node, number }))
+                weight_of(node, multiplier(status, RowKind::AtMost, note))
             } else {
                 Ok(None)
             }

@@ -1,7 +1,6 @@
 -- The certificate is of the problem.
-use Rattle.std.proofs.Common.{◌≡◌, sym, subst}
+use Rattle.std.proofs.Common.{subst}
 use Rattle.dcx_tree.specs.Meaning.{setting_of}
-use Rattle.dcx_answer.specs.declared.answer.Answer.{Answer}
 use Rattle.dcx_answer.specs.declared.answer.Answer.TheVariants as answers
 use Rattle.dcx_sections.specs.Shown.{IsCertOf}
 use Rattle.dcx_outline.specs.Drawn.{problem_outline}

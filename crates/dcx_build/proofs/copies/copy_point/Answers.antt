@@ -1,5 +1,5 @@
 -- Each pair is copied.
-use Rattle.std.proofs.Common.{◌≡◌, Bor, List, ℕ, ◌∙◌, arith}
+use Rattle.std.proofs.Common.{Bor, List, ℕ, ◌∙◌, arith}
 use Rattle.std.proofs.lemmas.List.{take_all}
 use Rattle.dcx_atom.specs.declared.array.Array.{Array}
 use Rattle.dcx_build.proofs.Copied.{pair_more, no_array, no_name}

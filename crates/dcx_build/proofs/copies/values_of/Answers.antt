@@ -1,5 +1,5 @@
 -- One more value, where the setting has one.
-use Rattle.std.proofs.Common.{◌≡◌, Bor, List, length, map, refl, sym, subst, ◌∙◌}
+use Rattle.std.proofs.Common.{Bor, List, length, map, refl, sym, subst, ◌∙◌}
 use Rattle.std.specs.List.{IsDistinct}
 use Rattle.std.proofs.lemmas.Option.{slice_get_read}
 use Rattle.dcx_atom.specs.declared.array.Array.{Array}

@@ -1,5 +1,5 @@
 -- One more row has its weight, or the first one passes.
-use Rattle.std.proofs.Common.{◌≡◌, ◌∙◌, sym, ap, refl, map, arith}
+use Rattle.std.proofs.Common.{◌∙◌, sym, map, arith}
 use Rattle.std.specs.List.{zip}
 use Rattle.dcx_sections.specs.Outlines.{rows_shown}
 use Rattle.dcx_lp_answer.proofs.Passing.{passes_next}

@@ -1,7 +1,6 @@
 -- One more row is of the node, or not.
-use Rattle.std.proofs.Common.{◌≡◌, ℕ, Option, Some, None, true, false, nat_eq, sym, ap, ◌∙◌, eq-eqb, ne_eqb}
+use Rattle.std.proofs.Common.{◌≡◌, ℕ, Option, Some, None, ap, ◌∙◌, eq-eqb, ne_eqb}
 use Rattle.std.specs.Prelude.{if◌then◌else◌}
-use Rattle.dcx_frac.specs.declared.fraction.Frac.{Frac}
 use Rattle.dcx_build.specs.declared.forming.RowWeight.{RowWeight}
 use Rattle.dcx_build.specs.Weights.{number_for}
 use Rattle.dcx_build.proofs.Formed.{number_more, no_number}
