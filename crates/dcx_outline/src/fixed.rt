@@ -31,8 +31,8 @@ fn is_fixed(call: &Call, args: bool) -> bool
     }
 }
 
-/// Which nodes of a problem have no variable below them.
-pub(crate) fn fixed_nodes(alloc: Global, problem: &Problem) -> Result<Vec<bool>, AllocError>
+/// Which nodes of a problem have no variable below them. Fails only for want of memory.
+pub fn fixed_nodes(alloc: Global, problem: &Problem) -> Result<Vec<bool>, AllocError>
     ensures { IfOk result (λ v. AreFixed problem.now v.items (length problem.now.tree)) }
 {
     let mut marks = Vec::new(alloc);
