@@ -34,8 +34,8 @@ pub(crate) fn copy_duals(alloc: Global, duals: &Duals) -> Result<Duals, AllocErr
     Ok(Duals::from_vec(copies))
 }
 
-/// The arrays that a setting gives the parameters of a problem, in order of declaration.
-pub(crate) fn values_of(
+/// The arrays that a setting gives the parameters of a problem, in order of declaration. Fails only for want of memory.
+pub fn values_of(
     alloc: Global,
     problem: &Problem,
     setting: &Setting,

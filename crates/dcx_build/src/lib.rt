@@ -22,3 +22,4 @@ pub mod laws;
 mod weights;
 
 pub use building::build;
+pub use copies::values_of;
