@@ -35,11 +35,7 @@ pub(crate) fn copy_duals(alloc: Global, duals: &Duals) -> Result<Duals, AllocErr
 }
 
 /// The arrays that a setting gives the parameters of a problem, in order of declaration. Fails only for want of memory.
-pub fn values_of(
-    alloc: Global,
-    problem: &Problem,
-    setting: &Setting,
-) -> Result<Setting, AllocError>
+pub fn values_of(alloc: Global, problem: &Problem, setting: &Setting) -> Result<Setting, AllocError>
     ensures { IfOk result (λ s. s ≡ values_in problem.now setting.now) }
 {
     let mut values = Setting::empty(alloc);
