@@ -1,0 +1,5 @@
+-- What the contracts on kept values cite.
+pub mod Forming
+pub mod Tables
+pub mod Broken
+pub mod Laws
