@@ -1,5 +1,5 @@
 -- Forming values of nodes in 128 bits: which node stops first, and the checks that form values.
-use Rattle.std.specs.Prelude.{◌≡◌, ◌≢◌, ℕ, ◌<◌, true, List, [], ◌∷◌, length, map, Option, Some, None, slice_get, pos}
+use Rattle.std.specs.Prelude.{◌≡◌, ◌≢◌, ℕ, ◌<◌, true, List, [], ◌∷◌, length, Option, Some, None, slice_get, pos}
 use Rattle.std.specs.List.{All}
 use Rattle.dcx_math.specs.Rational.{ℚ, whole}
 use Rattle.dcx_shape.specs.Shape.{sides_of}
@@ -11,7 +11,6 @@ use Rattle.dcx_affine.specs.declared.pairing.Pairing.TheVariants.{Times, MatTime
 use Rattle.dcx_point.specs.Pairs.{Pairs}
 use Rattle.dcx_arena.specs.Nodes.{IsNode, call_at, args_at, sides_at}
 use Rattle.dcx_arena.specs.Unfold.{IsReached}
-use Rattle.dcx_convex.specs.Nodes.{arguments}
 use Rattle.dcx_convex.specs.Certificates.{is_fixed}
 use Rattle.dcx_call.specs.declared.call.Call.{Call}
 use Rattle.dcx_call.specs.declared.call.Call.TheVariants as calls
@@ -24,7 +23,7 @@ use Rattle.dcx_tree.specs.Values.{node_formed, IsFormed}
 use Rattle.dcx_answer.specs.declared.stop.Stop.TheVariants as stops
 use Rattle.dcx_sections.specs.declared.fault.CertFault.{CertFault}
 use Rattle.dcx_sections.specs.declared.fault.CertFault.TheVariants.{Fit, Wide, Memory}
-use Rattle.dcx_faults.specs.Checks.{Check, in_turn, each_below}
+use Rattle.dcx_faults.specs.Checks.{Check, nothing, in_turn, each_below}
 
 -- ---- what setting and point give
 -- the setting gives each parameter an array of its shape
@@ -87,45 +86,48 @@ abbrev pub forming_fixed : Problem → Pairs → Check
 forming_fixed p setting = forming_where p setting [] (IsFixedNode p)
 
 -- ---- divisors
--- node i is a quotient
-abbrev pub IsQuotient : Problem → ℕ → Type 0
-IsQuotient p i = call_at p.tree i ≡ Some (calls.Pairing Over)
+-- the second argument of a quotient
+abbrev pub divisor_if : Option Call → Option ℕ → Option ℕ
+divisor_if None o = None
+divisor_if (Some (calls.Variable v)) o = None
+divisor_if (Some (calls.Parameter q)) o = None
+divisor_if (Some (calls.Constant x)) o = None
+divisor_if (Some (calls.Atom m)) o = None
+divisor_if (Some (calls.Linear l)) o = None
+divisor_if (Some (calls.Pairing Times)) o = None
+divisor_if (Some (calls.Pairing MatTimes)) o = None
+divisor_if (Some (calls.Pairing Over)) o = o
+
+-- the divisor of node i, where node i is a quotient
+abbrev pub divisor_in : List Node → ℕ → Option ℕ
+divisor_in nodes i = divisor_if (call_at nodes i) (slice_get (args_at nodes i) 1)
 
 -- the divisor of some quotient reaches node i
 pub record IsBelowDivisor (p : Problem) (i : ℕ) : Type 0 where
   pub quotient : ℕ
   pub divisor : ℕ
-  pub is_quotient : IsQuotient p quotient
-  pub is_divisor : slice_get (args_at p.tree quotient) 1 ≡ Some divisor
+  pub is_divisor : divisor_in p.tree quotient ≡ Some divisor
   pub reached : IsReached p.tree (divisor ∷ []) i
 
--- entry j of the divisor of quotient i, where it reaches no variable
-abbrev pub divisor_at : Problem → Pairs → ℕ → ℕ → ℚ
-divisor_at p setting i j = arguments (map (source_value p.tree (names_in p) setting []) (args_at p.tree i)) 1 j
-
--- entry j of the divisor of quotient i isn't 0
-abbrev pub dividing_by : Problem → Pairs → ℕ → ℕ → Check
-dividing_by p setting i j = record {
-  passes = divisor_at p setting i j ≢ whole (pos 0);
-  fails = λ f. (divisor_at p setting i j ≡ whole (pos 0)) × (f ≡ Fit (stops.ZeroDivisor (record { 0 = i }) j));
+-- number j of a divisor isn't 0; the fault tells the node i of the quotient
+abbrev pub nonzero : ℕ → (ℕ → ℚ) → ℕ → Check
+nonzero i numbers j = record {
+  passes = numbers j ≢ whole (pos 0);
+  fails = λ f. (numbers j ≡ whole (pos 0)) × (f ≡ Fit (stops.ZeroDivisor (record { 0 = i }) j));
 }
 
--- how many entries are divided at a node with this call and so many entries
-abbrev pub divided_count : Option Call → ℕ → ℕ
-divided_count None size = 0
-divided_count (Some (calls.Variable v)) size = 0
-divided_count (Some (calls.Parameter q)) size = 0
-divided_count (Some (calls.Constant x)) size = 0
-divided_count (Some (calls.Atom m)) size = 0
-divided_count (Some (calls.Linear l)) size = 0
-divided_count (Some (calls.Pairing Times)) size = 0
-divided_count (Some (calls.Pairing MatTimes)) size = 0
-divided_count (Some (calls.Pairing Over)) size = size
+-- no entry of the divisor of node i is 0. A divisor reaches no variable, so that its value needs no point
+abbrev pub dividing_if : Problem → Pairs → ℕ → Option ℕ → Check
+dividing_if p setting i None = nothing
+dividing_if p setting i (Some d) = each_below (entries_of (sides_at p.tree i)) (nonzero i (source_value p.tree (names_in p) setting [] d))
 
--- if node i is a quotient, each entry of its divisor isn't 0
 abbrev pub dividing_at : Problem → Pairs → ℕ → Check
-dividing_at p setting i = each_below (divided_count (call_at p.tree i) (entries_of (sides_at p.tree i))) (dividing_by p setting i)
+dividing_at p setting i = dividing_if p setting i (divisor_in p.tree i)
 
--- node by node: a node that a divisor reaches is formed, and a quotient's divisor has no entry 0
+-- node i is formed, if a divisor reaches it, and if it is a quotient its divisor has no entry 0
+abbrev pub divisor_step : Problem → Pairs → ℕ → Check
+divisor_step p setting i = in_turn (forming_at p setting [] (IsBelowDivisor p) i) (dividing_at p setting i)
+
+-- node by node, in rising order
 abbrev pub divisors : Problem → Pairs → Check
-divisors p setting = each_below (length p.tree) (λ i. in_turn (forming_at p setting [] (IsBelowDivisor p) i) (dividing_at p setting i))
+divisors p setting = each_below (length p.tree) (divisor_step p setting)

@@ -1,5 +1,5 @@
 -- Values of nodes that are kept in a table with a place for each node.
-use Rattle.std.specs.Prelude.{◌≡◌, ℕ, ◌<◌, Bool, true, List, length, Option, Some, None, IsSome}
+use Rattle.std.specs.Prelude.{◌≡◌, ℕ, ◌<◌, true, Bool, List, length, Option, Some, IsSome}
 use Rattle.dcx_atom.specs.declared.array.Array.{Array}
 use Rattle.dcx_point.specs.Pairs.{Pairs}
 use Rattle.dcx_arena.specs.Nodes.{args_at}
@@ -7,6 +7,7 @@ use Rattle.dcx_arena.specs.Gather.{has}
 use Rattle.dcx_arena.specs.Unfold.{IsReached}
 use Rattle.dcx_tree.specs.declared.problem.Problem.{Problem}
 use Rattle.dcx_tree.specs.Values.{array_at, AreValues, IsMarked}
+use Rattle.dcx_values.specs.Forming.{IsFixedNode}
 
 -- each array that is kept is the value of its node at this setting and point, and those of its arguments are kept
 pub record AreKeptValues (p : Problem) (setting point : Pairs) (arrays : List (Option Array)) : Type 0 where
@@ -22,10 +23,10 @@ StaysKept before after = (i : ℕ) (v : Array) → array_at before i ≡ Some v 
 abbrev pub AreKeptBelow : Problem → List ℕ → List (Option Array) → Type 0
 AreKeptBelow p roots arrays = (i : ℕ) → IsReached p.tree roots i → IsSome (array_at arrays i)
 
--- with a marked node its arguments are marked
-abbrev pub AreMarkedBelow : Problem → List Bool → Type 0
-AreMarkedBelow p marks = (i a : ℕ) → IsMarked marks i → has (args_at p.tree i) a ≡ true → IsMarked marks a
-
 -- the value of each marked node is kept
 abbrev pub AreKeptWhere : List Bool → List (Option Array) → Type 0
 AreKeptWhere marks arrays = (i : ℕ) → IsMarked marks i → IsSome (array_at arrays i)
+
+-- the value of each node that reaches no variable is kept
+abbrev pub AreKeptFixed : Problem → List (Option Array) → Type 0
+AreKeptFixed p arrays = (i : ℕ) → i < length p.tree → IsFixedNode p i → IsSome (array_at arrays i)
