@@ -1,5 +1,5 @@
 -- Two numbers stand to each other as asked where their difference is at most 0, or is 0.
-use Rattle.std.proofs.Common.{◌≡◌, ℕ, ◌<◌, Bool, true, false, List, [], ◌∷◌, IsTrue, MatchBool, Option, Some, length, get_or, slice_get, sym, ap, ap₂, subst, ◌∙◌, pos, arith}
+use Rattle.std.proofs.Common.{◌≡◌, ℕ, ◌<◌, Bool, true, false, List, [], ◌∷◌, MatchBool, Some, length, get_or, slice_get, sym, ap, subst, ◌∙◌, pos}
 use Rattle.std.proofs.lemmas.Bool.{false≢true}
 use Rattle.dcx_math.specs.Rational.{ℚ, whole, rat_le, rat_eq, ◌-ℚ◌, ◌≤ℚ◌}
 use Rattle.dcx_math.proofs.Orders.{linear, -ℚ_self, ≡-from_difference}

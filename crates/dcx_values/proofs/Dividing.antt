@@ -1,5 +1,5 @@
 -- Divisors that are marked, tested and formed below.
-use Rattle.std.proofs.Common.{◌≡◌, ◌↔◌, ◌⊎◌, inl, inr, ℕ, ◌+◌, ◌<◌, ◌≤◌, zero, suc, Bool, true, false, List, [], ◌∷◌, length, All, Option, Some, None, IsSome, OnOk, IfErr, Result, Ok, Err, slice_get, refl, sym, ap, subst, ◌∙◌, arith, replicate}
+use Rattle.std.proofs.Common.{◌≡◌, ◌↔◌, ◌⊎◌, inl, inr, ℕ, ◌+◌, ◌<◌, ◌≤◌, Bool, true, false, List, [], ◌∷◌, length, All, Option, Some, None, IsSome, OnOk, IfErr, Result, Ok, Err, sym, ap, subst, ◌∙◌, arith, replicate}
 use Rattle.std.proofs.Math.Path.{fun_ext}
 use Rattle.std.proofs.Math.ListN.{set}
 use Rattle.std.proofs.lemmas.Bool.{cases_eq}
@@ -10,9 +10,7 @@ use Rattle.dcx_atom.specs.declared.array.Array.{Array}
 use Rattle.dcx_atom.specs.Arrays.{number_at}
 use Rattle.dcx_point.specs.Pairs.{Pairs}
 use Rattle.dcx_arena.specs.Nodes.{sides_at, args_at}
-use Rattle.dcx_arena.specs.Gather.{has}
-use Rattle.dcx_arena.specs.Unfold.{IsReached}
-use Rattle.dcx_arena.proofs.Orders.{arg_below, has_one, one_is}
+use Rattle.dcx_arena.proofs.Orders.{arg_below, one_is}
 use Rattle.dcx_call.specs.Calls.{shape_of}
 use Rattle.dcx_tree.specs.declared.problem.Problem.{Problem}
 use Rattle.dcx_tree.specs.Nodes.{Node, source_value}
@@ -25,7 +23,7 @@ use Rattle.dcx_sections.specs.declared.fault.CertFault.TheVariants.{Memory}
 use Rattle.dcx_faults.specs.Checks.{Checked, each_below}
 use Rattle.dcx_values.specs.Forming.{IsUnformedAt, forming_at, divisor_in, IsBelowDivisor, nonzero, dividing_if, dividing_at, divisor_step, divisors}
 use Rattle.dcx_values.specs.Tables.{AreKeptValues, StaysKept}
-use Rattle.dcx_values.specs.Marks.{AreClosed, AreWanted, IsDivisor}
+use Rattle.dcx_values.specs.Marks.{AreClosed, IsDivisor}
 use Rattle.dcx_values.proofs.Known.{all_named}
 use Rattle.dcx_values.proofs.Marking.{all_known}
 use Rattle.dcx_values.proofs.Fixed.{divisor_found, divisor_is_argument}

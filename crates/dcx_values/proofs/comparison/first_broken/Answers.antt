@@ -1,5 +1,5 @@
 -- The entries before are as asked, and this one isn't, or is.
-use Rattle.std.proofs.Common.{◌≡◌, ℕ, ◌<◌, length, ap, ap₂, ◌∙◌, subst, arith, below_more}
+use Rattle.std.proofs.Common.{◌≡◌, ◌<◌, length, ap, ap₂, subst, arith, below_more}
 use Rattle.dcx_math.specs.Rational.{ℚ, ◌-ℚ◌}
 use Rattle.dcx_frac.specs.Frac.{value}
 use Rattle.dcx_shape.specs.Sides.{entries_of}

@@ -1,7 +1,6 @@
 -- The end stands above one more.
-use Rattle.std.proofs.Common.{◌≡◌, ◌⊎◌, inl, inr, ℕ, ◌+◌, ◌<◌, ◌≤◌, true, false, None, IsSome, take, All, get_or, length, refl, sym, ap, subst, ◌∙◌, arith}
+use Rattle.std.proofs.Common.{◌<◌, IsSome, get_or, length, sym, subst, arith}
 use Rattle.dcx_arena.specs.Nodes.{positions}
-use Rattle.dcx_arena.specs.Gather.{has}
 use Rattle.dcx_arena.proofs.Positions.{length-positions, position_at}
 use Rattle.dcx_tree.specs.Values.{array_at}
 use Rattle.dcx_tree.proofs.Forming.{each_id}

@@ -1,7 +1,6 @@
 -- The arguments of one more node are marked.
-use Rattle.std.proofs.Common.{◌≡◌, ℕ, ◌+◌, ◌-◌, ◌<◌, ◌≤◌, Bool, List, true, false, All, length, get_or, refl, sym, ap, subst, ◌∙◌, arith}
-use Rattle.dcx_arena.specs.Nodes.{AreNodes, positions, args_at}
-use Rattle.dcx_call.specs.Calls.{shape_of}
+use Rattle.std.proofs.Common.{◌≡◌, ℕ, ◌-◌, ◌<◌, Bool, List, true, false, All, length, get_or, sym, ap, subst, ◌∙◌, arith}
+use Rattle.dcx_arena.specs.Nodes.{positions}
 use Rattle.dcx_tree.proofs.Forming.{args_below}
 use Rattle.dcx_values.proofs.Marking.{AreMarkedOf, down_none, down_over, down_more, down_all}
 use Rattle.dcx_values.proofs.marks.mark_reached.Goals as goal

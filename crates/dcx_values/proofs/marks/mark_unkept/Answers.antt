@@ -1,5 +1,5 @@
 -- One more is marked, or is kept.
-use Rattle.std.proofs.Common.{ℕ, ◌+◌, ◌<◌, get_or, refl, Bool, List, true, All, length, sym, ap, subst, ◌∙◌, arith, Vec, Global}
+use Rattle.std.proofs.Common.{ℕ, ◌+◌, ◌<◌, get_or, refl, Bool, List, length, sym, ap, subst, arith, Vec, Global}
 use Rattle.std.proofs.lemmas.List.{take_all}
 use Rattle.dcx_arena.specs.Nodes.{positions}
 use Rattle.dcx_arena.proofs.Positions.{length-positions}

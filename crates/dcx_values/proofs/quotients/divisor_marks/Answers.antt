@@ -1,5 +1,5 @@
 -- One more quotient's divisor is marked.
-use Rattle.std.proofs.Common.{◌≡◌, ◌+◌, ◌<◌, Bool, List, true, false, length, set, sym, ap, subst, ◌∙◌, arith, replicate, rules, Vec, Global}
+use Rattle.std.proofs.Common.{◌≡◌, ◌+◌, ◌<◌, Bool, List, true, false, length, sym, ap, subst, ◌∙◌, arith, replicate, rules, Vec, Global}
 use Rattle.std.proofs.lemmas.List.{length-set, length-replicate}
 use Rattle.dcx_arena.proofs.Orders.{arg_below}
 use Rattle.dcx_call.specs.Calls.{shape_of}

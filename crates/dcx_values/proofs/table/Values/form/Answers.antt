@@ -1,5 +1,5 @@
 -- What the roots reach is marked or kept.
-use Rattle.std.proofs.Common.{◌≡◌, ◌⊎◌, inl, inr, ℕ, ◌<◌, true, Bool, List, Option, None, IsSome, sym, subst, ◌∙◌, arith}
+use Rattle.std.proofs.Common.{◌≡◌, ◌⊎◌, inl, inr, ℕ, true, List, Option, None, IsSome, sym, subst, ◌∙◌, arith}
 use Rattle.dcx_atom.specs.declared.array.Array.{Array}
 use Rattle.dcx_arena.specs.Nodes.{positions}
 use Rattle.dcx_arena.specs.Gather.{has}

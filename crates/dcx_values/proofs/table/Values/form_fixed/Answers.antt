@@ -1,5 +1,5 @@
 -- The marks are those of the nodes that reach no variable.
-use Rattle.std.proofs.Common.{◌≡◌, ◌⊎◌, inl, inr, ℕ, ◌<◌, [], length, sym, subst, ◌∙◌, arith}
+use Rattle.std.proofs.Common.{inl, ℕ, ◌<◌, [], length, sym, subst, ◌∙◌, arith}
 use Rattle.dcx_point.specs.Pairs.{Pairs}
 use Rattle.dcx_arena.proofs.Orders.{arg_below}
 use Rattle.dcx_call.specs.Calls.{shape_of}

@@ -1,5 +1,5 @@
 -- One more node is formed, or it is the first that isn't.
-use Rattle.std.proofs.Common.{◌≡◌, ◌<◌, sym, subst, ◌∙◌, arith}
+use Rattle.std.proofs.Common.{sym, ◌∙◌, arith}
 use Rattle.std.proofs.lemmas.Result.{err_from_is_err_and}
 use Rattle.dcx_values.proofs.Keeping.{args_kept, first_unformed, all_formed}
 use Rattle.dcx_values.proofs.table.Values.form_marked.Goals as goal

@@ -1,5 +1,5 @@
 -- One more value is kept, or the node isn't formed.
-use Rattle.std.proofs.Common.{◌≡◌, ◌⊎◌, All, List, Option, None, IsSome, sym, ap, subst, ◌∙◌}
+use Rattle.std.proofs.Common.{◌≡◌, ◌⊎◌, All, List, Option, None, IsSome, sym, subst}
 use Rattle.dcx_atom.specs.declared.array.Array.{Array}
 use Rattle.dcx_arena.specs.Nodes.{args_at}
 use Rattle.dcx_tree.specs.Values.{array_at}

@@ -1,5 +1,5 @@
 -- Nothing is kept.
-use Rattle.std.proofs.Common.{◌≡◌, ℕ, ◌+◌, ◌<◌, true, false, get_or, sym, subst, ◌∙◌, arith, IsSome}
+use Rattle.std.proofs.Common.{arith}
 use Rattle.dcx_values.proofs.Keeping.{values_none}
 use Rattle.dcx_values.proofs.table.Values.new.Goals as goal
 
