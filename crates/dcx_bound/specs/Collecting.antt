@@ -1,5 +1,5 @@
 -- The coefficients that multipliers give at the start, handed on over all nodes by the weights.
-use Rattle.std.specs.Prelude.{ℕ, Bool, List, length, Option, Result, Ok, Err}
+use Rattle.std.specs.Prelude.{◌≡◌, ◌⊎◌, ℕ, Bool, List, length, Option, Result, Ok, Err}
 use Rattle.dcx_frac.specs.declared.fraction.Frac.{Frac}
 use Rattle.dcx_frac.specs.declared.fraction.Passes.{Passes}
 use Rattle.dcx_atom.specs.declared.array.Array.{Array}
@@ -26,3 +26,7 @@ abbrev pub fault_of : CollectStop → CertFault
 fault_of (stops.Slope node entry stated found) = faults.Slope node entry stated found
 fault_of (stops.Passes passes) = faults.Wide passes
 fault_of stops.Memory = faults.Memory
+
+-- the fault tells what stops it, or memory ran out
+abbrev pub IsFaultOrMemory : Result Kept CollectStop → CertFault → Type 0
+IsFaultOrMemory told f = (f ≡ faults.Memory) ⊎ ((stop : CollectStop) × (told ≡ Err stop) × (f ≡ fault_of stop))

@@ -10,15 +10,14 @@ use Rattle.dcx_frac.specs.Frac.{value}
 use Rattle.dcx_frac.specs.Results.{sum_of}
 use Rattle.dcx_shape.specs.declared.shape.Sides.{Sides}
 use Rattle.dcx_shape.specs.Sides.{entries_of}
-use Rattle.dcx_point.specs.Pairs.{same_name}
 use Rattle.dcx_arena.specs.Nodes.{call_at}
 use Rattle.dcx_call.specs.declared.attribute.Attribute.{Attribute}
 use Rattle.dcx_call.specs.declared.attribute.Attribute.TheVariants.{Free, Nonneg, Nonpos, Symmetric, Diag}
 use Rattle.dcx_call.specs.declared.attribute.Variable.{Variable}
 use Rattle.dcx_call.specs.declared.call.Call.{Call}
-use Rattle.dcx_call.specs.declared.call.Call.TheVariants as calls
 use Rattle.dcx_tree.specs.declared.problem.Problem.{Problem}
 use Rattle.dcx_tree.specs.Nodes.{Node}
+use Rattle.dcx_tree.specs.Gather.{is_variable}
 use Rattle.dcx_unknowns.specs.Own.{row_in, column_in, is_own, mirror_of}
 use Rattle.dcx_unknowns.specs.Unknowns.{demanded, sides_in}
 use Rattle.dcx_collect.specs.declared.collected.Reached.{Reached}
@@ -28,20 +27,24 @@ use Rattle.dcx_faults.specs.Checks.{Check, nothing, each_below}
 use Rattle.dcx_bound.specs.Refusal.{refused}
 
 -- ---- what reaches a variable
--- the call is the variable of this name
-abbrev pub is_variable : List ℕ → Option Call → Bool
-is_variable name None = false
-is_variable name (Some (calls.Variable v)) = same_name v.name name
-is_variable name (Some (calls.Parameter q)) = false
-is_variable name (Some (calls.Constant x)) = false
-is_variable name (Some (calls.Atom m)) = false
-is_variable name (Some (calls.Linear l)) = false
-is_variable name (Some (calls.Pairing q)) = false
+-- the node's call is the variable of this name
+abbrev pub is_named : List ℕ → Option Call → Bool
+is_named name None = false
+is_named name (Some call) = is_variable name call
 
 -- the coefficients that reach the entries of the variable of this name, and none where none are told
 abbrev pub reaching : List Node → List Reached → List ℕ → List Frac
 reaching nodes [] name = []
-reaching nodes (r ∷ reached) name = if is_variable name (call_at nodes r.node.0) then r.coefficients else reaching nodes reached name
+reaching nodes (r ∷ reached) name = if is_named name (call_at nodes r.node.0) then r.coefficients else reaching nodes reached name
+
+-- the coefficients that stand at a place of the list, if any do
+abbrev pub coefficients_if : Option Reached → List Frac
+coefficients_if None = []
+coefficients_if (Some r) = r.coefficients
+
+abbrev pub coefficients_in : List Reached → Option ℕ → List Frac
+coefficients_in reached None = []
+coefficients_in reached (Some place) = coefficients_if (slice_get reached place)
 
 -- ---- one entry
 -- a coefficient and that of the mirror, where the entry has one
