@@ -36,11 +36,11 @@ fn places_of(
 }
 
 /// The coefficients of the variable of this name, and none where none are told.
-fn coefficients_of(
+fn coefficients_of<'a>(
     places: &HashMap<Name, usize>,
-    reached: &[Reached],
+    reached: &'a [Reached],
     name: &Name,
-) -> &[Frac]
+) -> &'a [Frac]
     ensures { result.now ≡ coefficients_in reached.now (get same_name places.now name.now) }
 {
     match places.get(name) {

@@ -9,6 +9,7 @@ use dcx_tree::NodeId;
 use std::alloc::{AllocError, Global};
 
 /// Weights, and for each node where its own stand among them.
+#[derive(Clone, Copy)]
 pub(crate) struct Indexed<'a> {
     /// The weights.
     pub weights: &'a [NodeWeights],

@@ -1,0 +1,8 @@
+-- The lemmas.
+pub mod OneTable
+pub mod Settled
+pub mod Falling
+pub mod EachEntry
+pub mod Reaching
+pub mod Sides
+pub mod Shown
