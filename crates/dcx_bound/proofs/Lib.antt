@@ -6,3 +6,7 @@ pub mod EachEntry
 pub mod Reaching
 pub mod Sides
 pub mod Shown
+pub mod Indexing
+pub mod ByName
+pub mod OtherWeights
+pub mod ByNode

@@ -19,7 +19,12 @@ use dcx_tree::{Attribute, Variable};
 fn frac_in(numbers: &[Frac], entry: u32) -> Frac
     ensures { result ≡ frac_in numbers.now entry }
 {
-    numbers.get(entry as usize).copied().unwrap_or(Frac::zero())
+    let place = entry as usize;
+    if place < numbers.len() {
+        numbers[place]
+    } else {
+        Frac::zero()
+    }
 }
 
 /// Whether an entry is asked: it has an unknown of its own.
