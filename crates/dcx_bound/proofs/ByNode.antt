@@ -2,11 +2,13 @@
 -- its own.
 use Rattle.std.proofs.Common.{◌≡◌, ◌≢◌, ◌⊎◌, inl, inr, IsSome, ℕ, zero, suc, ◌+◌, ◌<◌, arith, Bool, true, false, nat_eq, eq-eqb, List, [], ◌∷◌, ◌++◌, length, map, Option, Some, None, option_map, refl, sym, ap, ◌∙◌, subst}
 use Rattle.std.specs.Prelude.{if◌then◌else◌}
+use Rattle.std.specs.Option.{unwrap_or}
 use Rattle.std.specs.List.{slice_get, All, flat_map, range_with_len}
 use Rattle.std.proofs.lemmas.Bool.{cases_eq, ne_eqb, true≢false}
 use Rattle.std.proofs.lemmas.List.Elements.{All-nil, All-cons, All-head, All-tail, All-append, All-weaker}
-use Rattle.std.proofs.lemmas.Option.{none-some}
+use Rattle.std.proofs.lemmas.Option.{none-some, same_Some}
 use Rattle.dcx_frac.specs.declared.fraction.Frac.{Frac}
+use Rattle.dcx_shape.specs.declared.shape.Sides.TheVariants.{Scalar}
 use Rattle.dcx_shape.specs.Sides.{entries_of}
 use Rattle.dcx_atom.specs.declared.array.Array.{Array}
 use Rattle.dcx_atom.specs.Steps.{rows_before}
@@ -113,7 +115,10 @@ module _ (p : Problem) where
     where
       by : (o : Option Node) → slice_get p.tree i ≡ o → option_map (λ (n : Node). n.call) o ≡ Some (calls.Atom m) → count_at (atoms_if p.tree i o) i ≡ rows_before (atom_meaning m) (map (sides_at p.tree) (args_at p.tree i)) (entries_of (sides_at p.tree i))
       by None at e = absurd (none-some (calls.Atom m) e)
-      by (Some n) at e = ?
+      by (Some n) at e =
+          let rows = rows_before (atom_meaning m) (arg_sides p.tree n) (entries_of n.sides) in
+          ap (λ c. count_at (call_atoms p.tree i n c) i) (same_Some n.call (calls.Atom m) e) ∙ ap (λ b. if b then rows else 0) (eq-eqb i i refl)
+          ∙ ap (λ (o : Option Node). rows_before (atom_meaning m) (map (sides_at p.tree) (unwrap_or (option_map (λ (x : Node). x.args) o) [])) (entries_of (unwrap_or (option_map (λ (x : Node). x.sides) o) Scalar))) (sym at)
 
   -- so where the weights have the nodes and the counts of the outline, they stand at nodes
   pub weights_there : (weights : List NodeWeights) → atoms_of weights ≡ (problem_outline p).atoms → All (λ w. w.node.0 < length p.tree) weights

@@ -10,3 +10,5 @@ pub mod Indexing
 pub mod ByName
 pub mod OtherWeights
 pub mod ByNode
+pub mod Stepping
+pub mod Making

@@ -14,11 +14,12 @@
 //! That no step takes quadratic time is by design and in no contract.
 #![tactic(auto)]
 
-// mod checking;
+mod bound;
+mod checking;
 mod collecting;
 mod entries;
 pub mod laws;
 mod variables;
 mod weights;
 
-// pub use checking::check_bound;
+pub use bound::check_bound;
