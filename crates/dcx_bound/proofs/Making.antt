@@ -1,10 +1,6 @@
 -- The bound checks, while they are made.
 use Rattle.std.proofs.Common.{◌≡◌, ◌⊎◌, inl, inr, Bool, true, false, ℕ, ◌+◌, ◌<◌, ◌≤◌, arith, get_or, List, [], ◌∷◌, ◌++◌, length-append, Option, Some, None, IsSome, length, Result, Ok, Err, refl, sym, ap, ◌∙◌, subst}
-use Rattle.std.specs.Prelude.{nat_lt}
-use Rattle.std.proofs.Math.Seq.{get_or-append_seam}
 use Rattle.std.proofs.lemmas.Bool.{true≢false}
-use Rattle.std.proofs.lemmas.Bool.Decides.{nat_tests}
-use Rattle.std.proofs.lemmas.List.{get_or_append_left}
 use Rattle.dcx_frac.specs.declared.fraction.Frac.{Frac}
 use Rattle.dcx_atom.specs.declared.array.Array.{Array}
 use Rattle.dcx_point.specs.Pairs.{Pairs}
@@ -69,25 +65,6 @@ fixed_are p setting marks values known f are kept m = record {
       there = m.each i lt ∙ ap (λ b. kept_if b (array_at values i)) (f.each i lt ∙ e) ∙ at;
       is_value = are i x at;
     }
-
--- one more
-pub marked_more : (marks : List Bool) (values known more : List (Option Array)) (i : ℕ) (o : Option Array) → AreMarkedOf marks values known i → more ≡ known ++ o ∷ [] → o ≡ kept_if (get_or marks i false) (array_at values i) →
-    AreMarkedOf marks values more (i + 1)
-marked_more marks values known more i o m put is = subst (λ l. AreMarkedOf marks values l (i + 1)) (sym put) (record {
-  counted = omega (arith, length-append known (o ∷ []), m.counted);
-  each = λ k below. at k below (nat_lt k i) refl;
-})
-  where
-    at : (k : ℕ) → k < i + 1 → (b : Bool) → nat_lt k i ≡ b → get_or (known ++ o ∷ []) k None ≡ kept_if (get_or marks k false) (array_at values k)
-    at k below true t = let inside : k < i = grind (arith, nat_tests) in get_or_append_left known (o ∷ []) None k (omega (arith, inside, m.counted)) ∙ m.each k inside
-    at k below false t =
-        let above : i ≤ k = grind (arith, nat_tests) in
-        let last : k ≡ length known = omega (arith, below, m.counted, above) in
-        let same : i ≡ k = omega (arith, last, m.counted) in
-        ap (λ n. get_or (known ++ o ∷ []) n None) last ∙ get_or-append_seam known o [] None ∙ is ∙ ap (λ n. kept_if (get_or marks n false) (array_at values n)) same
-
-pub none_marked : (marks : List Bool) (values known : List (Option Array)) → known ≡ [] → AreMarkedOf marks values known 0
-none_marked marks values known e = record { counted = ap length e; each = λ i l. absurd (omega (arith, l)) }
 
 -- the same multipliers and weights
 pub shown_same : (p : Problem) (duals others : List Array) (weights more : List NodeWeights) (with_objective : Bool) (stated : Frac) (values : List (Option Array)) (r : Result (Unit {0}) CertFault) → duals ≡ others → weights ≡ more →

@@ -82,7 +82,15 @@ pub(crate) fn collect_all(
         weights,
         index: &index,
     };
-    match collect_at(alloc, problem, &starts, values, duals, &indexed, with_objective) {
+    match collect_at(
+        alloc,
+        problem,
+        &starts,
+        values,
+        duals,
+        &indexed,
+        with_objective,
+    ) {
         Ok(collected) => Ok(collected),
         Err(stop) => Err(fault_of(stop)),
     }
