@@ -11,7 +11,11 @@
 //! | an accepted problem is unbounded along a ray that passes, from each feasible point | `laws::passed_is_unbounded` |
 #![tactic(auto)]
 
+mod along;
 mod checks;
 pub mod laws;
+mod node;
+mod reached;
+mod table;
 
 pub use checks::check_ray;
