@@ -1,10 +1,10 @@
 -- Steepness: how fast the nodes go along a ray far out.
-use Rattle.std.specs.Prelude.{◌≡◌, ℕ, zero, suc, Bool, if◌then◌else◌, nat_eq, List, length, map, Option, Some, None, slice_get}
+use Rattle.std.specs.Prelude.{◌≡◌, ℕ, zero, suc, Bool, if◌then◌else◌, IsTrue, nat_eq, List, map, Option, Some, None, slice_get}
 use Rattle.dcx_shape.specs.Sides.{entries_of}
 use Rattle.dcx_atom.specs.Arrays.{Entries}
 use Rattle.dcx_convex.specs.Calls.{Kind, Nonlinear, Linear, Product, Quotient}
 use Rattle.dcx_convex.specs.Nodes.{Head, Variable, Parameter, Constant, Apply, Node, IsNode, Numbers, Point, Setting, zeros, first_of, arguments}
-use Rattle.dcx_convex.specs.Rules.{Plain, argument, judgement_at}
+use Rattle.dcx_convex.specs.Rules.{Plain, Judgement, argument, judgement_at}
 use Rattle.dcx_convex.specs.Certificates.{is_fixed, given_at}
 
 -- the steepness of the arguments, with the value of one side
@@ -18,6 +18,13 @@ taken_at (Nonlinear bend) first_fixed values steepness = steepness
 taken_at Linear first_fixed values steepness = steepness
 taken_at Product first_fixed values steepness = with_value (if first_fixed then 0 else 1) values steepness
 taken_at Quotient first_fixed values steepness = with_value 1 values steepness
+
+-- the side whose value counts reaches no variable, where the arguments are judged so
+abbrev pub IsValueFixed : Kind → List Judgement → Type 0
+IsValueFixed (Nonlinear bend) args = Unit {0}
+IsValueFixed Linear args = Unit {0}
+IsValueFixed Product args = IsTrue (argument args (if (argument args 0).fixed then 0 else 1)).fixed
+IsValueFixed Quotient args = IsTrue (argument args 1).fixed
 
 -- the steepness along the ray d of a node that reaches a variable, where the nodes have the steepness f: that of a variable is
 -- the ray's array, and that of a call its value at the steepness of its arguments

@@ -1,5 +1,5 @@
 //! The laws above the definitions of `specs/`. There is no code: each clause is a statement about all problems.
-ghost use Rattle.dcx_recession.specs.Laws.{SteepnessIsTold, CallsRecede, NodesRecede, RaysAreUnbounded, RaysShow};
+ghost use Rattle.dcx_recession.specs.Laws.{SteepnessIsTold, CallsRecede, NodesRecede, ValuesAreFixed, TreeValuesAreFixed, RaysAreUnbounded, RaysShow};
 
 /// Where arguments stand before their nodes, the steepness of each node is what its rule tells from that of its arguments, and nothing
 /// else is.
@@ -16,6 +16,17 @@ pub fn calls_recede()
 /// concave node at least.
 pub fn nodes_recede()
     ensures { NodesRecede }
+{}
+
+/// In an accepted problem, of each product and quotient that is reached and reaches a variable, the side whose value counts reaches none:
+/// its value is one at all points.
+pub fn values_are_fixed()
+    ensures { ValuesAreFixed }
+{}
+
+/// The same of a problem over a tree, each of whose nodes is reached.
+pub fn tree_values_are_fixed()
+    ensures { TreeValuesAreFixed }
 {}
 
 /// An accepted problem over lawful nodes is unbounded along each ray.

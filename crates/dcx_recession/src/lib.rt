@@ -10,6 +10,7 @@
 //! | steepness is the only function that meets each node's equation | `laws::steepness_is_told` |
 //! | atoms, linear calls, products and quotients keep the recession law of calls | `laws::calls_recede` |
 //! | along a ray no convex node rises faster than its steepness, and no concave one slower | `laws::nodes_recede` |
+//! | in an accepted problem the side of a product or a quotient whose value counts has one value at all points | `laws::values_are_fixed`, `laws::tree_values_are_fixed` |
 //! | from a feasible point, along a ray whose steepness keeps the constraints and lowers the objective, a problem is unbounded | `laws::rays_are_unbounded`, `laws::rays_show` |
 #![tactic(auto)]
 
