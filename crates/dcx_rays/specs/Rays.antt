@@ -20,13 +20,17 @@ use Rattle.dcx_rays.specs.Steepness.{steepness_at, forming}
 abbrev pub HoldsAt : Problem → (setting ray : Pairs) → Constraint → ℕ → Type 0
 HoldsAt p setting ray c j = Holds (relation_of c.kind) (gap_of (steepness_at p setting ray) (convex_constraint c) j)
 
+-- the fault that tells the steepness of both sides at an entry
+abbrev pub broken_fault : Problem → (setting ray : Pairs) → ℕ → Constraint → ℕ → CertFault
+broken_fault p setting ray k c j = RayConstraint k j (frac_at (steepness_at p setting ray c.left.0 j)) (frac_at (steepness_at p setting ray c.right.0 j))
+
 -- the first entry at which it isn't so
 pub record IsFirstBroken (p : Problem) (setting ray : Pairs) (k : ℕ) (c : Constraint) (fault : CertFault) : Type 0 where
   pub entry : ℕ
   pub within : entry < entries_of (sides_of c.shape)
   pub before : (j : ℕ) → j < entry → HoldsAt p setting ray c j
   pub here : ¬ HoldsAt p setting ray c entry
-  pub told : fault ≡ RayConstraint k entry (frac_at (steepness_at p setting ray c.left.0 entry)) (frac_at (steepness_at p setting ray c.right.0 entry))
+  pub told : fault ≡ broken_fault p setting ray k c entry
 
 abbrev pub sides_hold : Problem → (setting ray : Pairs) → ℕ → Constraint → Check
 sides_hold p setting ray k c = record {

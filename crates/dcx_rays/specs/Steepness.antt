@@ -111,12 +111,12 @@ pub record AreFixedValues (p : Problem) (setting : Pairs) (arrays : List (Option
   pub kept : (i : ℕ) → i < length p.tree → IsTrue (is_fixed p i) → IsSome (array_at arrays i)
 
 -- what a ray is checked with: the marks and the values of the nodes that have no variable below them
-pub record IsGiven (p : Problem) (setting : Pairs) (fixed : List Bool) (values : List (Option Array)) (ray : Pairs) : Type 0 where
+pub record IsGiven (p : Problem) (setting : Pairs) (marks : List Bool) (arrays : List (Option Array)) (ray : Pairs) : Type 0 where
   pub accepted : IsAccepted p
   pub fitting : IsFitting p setting
   pub shaped : All (λ v. HasArray ray v.name (sides_of v.shape)) p.variables
-  pub fixed : AreFixed p fixed (length p.tree)
-  pub values : AreFixedValues p setting values
+  pub fixed : AreFixed p marks (length p.tree)
+  pub values : AreFixedValues p setting arrays
 
 -- the array is the steepness of node i, which is formed
 pub record IsSteepness (p : Problem) (setting ray : Pairs) (i : ℕ) (v : Array) : Type 0 where
