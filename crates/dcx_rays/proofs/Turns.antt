@@ -1,5 +1,5 @@
 -- Checks in turn, and what their faults tell.
-use Rattle.std.proofs.Common.{◌≡◌, ◌⊎◌, ◌↔◌, inl, inr, ℕ, ◌<◌, Bool, true, false, IsTrue, List, Option, Some, Result, Ok, Err, slice_get, length, refl, sym, ap, ap₂, ◌∙◌, subst, true≢false}
+use Rattle.std.proofs.Common.{◌≡◌, ◌⊎◌, ◌↔◌, inl, inr, ℕ, ◌<◌, zero, suc, Bool, true, false, IsTrue, List, [], ◌∷◌, All, Option, Some, Result, Ok, Err, slice_get, length, refl, sym, ap, ap₂, ◌∙◌, subst, arith, true≢false}
 use Rattle.dcx_math.specs.Rational.{ℚ, ◌-ℚ◌, ◌≤ℚ◌, neg_ℚ, rat_le}
 use Rattle.dcx_math.proofs.Ratios.{IsTrue-rat_le}
 use Rattle.dcx_frac.specs.declared.fraction.Frac.{Frac}
@@ -15,9 +15,9 @@ use Rattle.dcx_tree.specs.declared.problem.Problem.{Problem}
 use Rattle.dcx_tree.specs.Meaning.{relation_of}
 use Rattle.dcx_sections.specs.declared.fault.CertFault.{CertFault}
 use Rattle.dcx_sections.specs.declared.fault.CertFault.TheVariants.{Memory, RayConstraint, RayValue}
-use Rattle.dcx_faults.specs.Checks.{Check, in_turn, Checked}
-use Rattle.dcx_rays.specs.Steepness.{steepness_at}
-use Rattle.dcx_rays.specs.Rays.{HoldsAt, IsFirstBroken, objective_steepness, falls}
+use Rattle.dcx_faults.specs.Checks.{Check, in_turn, each_below, Checked}
+use Rattle.dcx_rays.specs.Steepness.{steepness_at, forming}
+use Rattle.dcx_rays.specs.Rays.{HoldsAt, IsFirstBroken, sides_hold, constraint_check, objective_steepness, falls}
 
 -- the first of two fails
 pub first_fails : (a b : Check) (f : CertFault) → (f ≡ Memory) ⊎ a.fails f → (f ≡ Memory) ⊎ (in_turn a b).fails f
@@ -30,7 +30,31 @@ then_checked a b (Ok x) p h = (p, h)
 then_checked a b (Err f) p (inl e) = inl e
 then_checked a b (Err f) p (inr h) = inr (inr (p, h))
 
+-- the first of many that fails
+pub each_fails : (count : ℕ) (check : ℕ → Check) (k : ℕ) (f : CertFault) → k < count → ((i : ℕ) → i < k → (check i).passes) → (f ≡ Memory) ⊎ (check k).fails f → (f ≡ Memory) ⊎ (each_below count check).fails f
+each_fails count check k f lt before (inl e) = inl e
+each_fails count check k f lt before (inr h) = inr (record { position = k; there = lt; before = before; here = h })
+
+-- what holds of two numbers holds of both in a list
+pub two_below : (n a b : ℕ) → a < n → b < n → All (λ r. r < n) (a ∷ b ∷ [])
+two_below n a b la lb zero d lt = la
+two_below n a b la lb (suc zero) d lt = lb
+two_below n a b la lb (suc (suc k)) d lt = absurd (omega arith)
+
 module _ (p : Problem) (setting ray : Pairs) where
+  -- a constraint that is there
+  module _ (k : ℕ) (c : Constraint) (there : slice_get p.constraints k ≡ Some c) where
+    pub constraint_fails : (f : CertFault) → (f ≡ Memory) ⊎ (forming p setting ray (c.left.0 ∷ c.right.0 ∷ [])).fails f → (f ≡ Memory) ⊎ (constraint_check p setting ray k (slice_get p.constraints k)).fails f
+    constraint_fails f h =
+        subst (λ (o : Option Constraint). (f ≡ Memory) ⊎ (constraint_check p setting ray k o).fails f) (sym there)
+        (first_fails (forming p setting ray (c.left.0 ∷ c.right.0 ∷ [])) (sides_hold p setting ray k c) f h)
+
+    pub constraint_then : {T : Type 0} (r : Result T CertFault) → (forming p setting ray (c.left.0 ∷ c.right.0 ∷ [])).passes → Checked (sides_hold p setting ray k c) r →
+        Checked (constraint_check p setting ray k (slice_get p.constraints k)) r
+    constraint_then r pass h =
+        subst (λ (o : Option Constraint). Checked (constraint_check p setting ray k o) r) (sym there)
+        (then_checked (forming p setting ray (c.left.0 ∷ c.right.0 ∷ [])) (sides_hold p setting ray k c) r pass h)
+
   module _ (k : ℕ) (c : Constraint) (j : ℕ) (left right : Frac) (left_is : value left ≡ steepness_at p setting ray c.left.0 j) (right_is : value right ≡ steepness_at p setting ray c.right.0 j)
       (b : Bool) (test : IsTrue b ↔ Holds (relation_of c.kind) (value left -ℚ value right)) where
     gap_is : value left -ℚ value right ≡ steepness_at p setting ray c.left.0 j -ℚ steepness_at p setting ray c.right.0 j

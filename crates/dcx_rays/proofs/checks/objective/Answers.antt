@@ -8,9 +8,6 @@ use Rattle.dcx_tree.specs.Meaning.{sense_of}
 use Rattle.dcx_rays.specs.Steepness.{steepness_at}
 use Rattle.dcx_rays.proofs.checks.objective.Goals as goal
 
-pub steepness-requires-clause-there : goal.steepness-requires-clause-there
-steepness-requires-clause-there c = c.args.along.now.problem.now.objective_kept.there
-
 pub returns-in-Minimize : goal.returns-in-Minimize
 returns-in-Minimize c =
     let a = c.args.along.now in
