@@ -1,6 +1,6 @@
 -- The call of a node as it is read, at the arrays at which it is taken.
-use Rattle.std.proofs.Common.{◌≡◌, inl, inr, ℕ, ◌<◌, List, map, All, Option, Some, IsSome, slice_get, refl, sym, ap, ◌∙◌, subst}
-use Rattle.std.specs.Prelude.{IsTrue, IsFalse, IfSome, Bool}
+use Rattle.std.proofs.Common.{◌≡◌, ℕ, List, map, All, Option, Some, slice_get, sym, ap, ◌∙◌, subst}
+use Rattle.std.specs.Prelude.{IsFalse, IfSome, Bool}
 use Rattle.std.proofs.lemmas.Option.{same_Some}
 use Rattle.dcx_frac.specs.declared.fraction.Passes.{Passes}
 use Rattle.dcx_shape.specs.declared.shape.Sides.{Sides}

@@ -1,9 +1,10 @@
 -- Numbers that stand as a constraint asks, and tests of them.
-use Rattle.std.proofs.Common.{◌≡◌, ◌↔◌, Bool, true, false, List, [], ◌∷◌, IsTrue, refl, sym, ap, ◌∙◌, subst, pos}
+use Rattle.std.proofs.Common.{◌≡◌, ◌↔◌, Bool, [], ◌∷◌, IsTrue, sym, ap, ◌∙◌, pos}
 use Rattle.dcx_math.specs.Rational.{ℚ, whole, ◌-ℚ◌, ◌≤ℚ◌, rat_le, rat_eq}
 use Rattle.dcx_math.proofs.Orders.{linear, -ℚ_self, ≡-from_difference}
 use Rattle.dcx_math.proofs.Ratios.{IsTrue-rat_le, IsTrue-rat_eq}
 use Rattle.dcx_math.proofs.Ring.{reads}
+
 -- left minus right is at most 0 exactly where left is at most right
 to_gap : (x y : ℚ) → x ≤ℚ y → x -ℚ y ≤ℚ whole (pos 0)
 to_gap x y h = linear (x ∷ y ∷ []) h (search reads depth 30) tt

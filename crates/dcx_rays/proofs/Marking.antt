@@ -1,10 +1,9 @@
 -- Marks of the nodes that roots reach.
-use Rattle.std.proofs.Common.{◌≡◌, ℕ, zero, suc, ◌+◌, ◌<◌, ◌≤◌, ◌⊎◌, inl, inr, Bool, true, false, List, [], ◌∷◌, ◌++◌, length, get_or, Option, Some, None, option_map, slice_get, refl, sym, subst, ap, ◌∙◌, ◌↔◌, arith, replicate}
+use Rattle.std.proofs.Common.{◌≡◌, ℕ, ◌+◌, ◌≤◌, ◌⊎◌, inl, inr, Bool, true, false, List, [], ◌∷◌, ◌++◌, length, Option, Some, None, option_map, slice_get, refl, sym, subst, ◌↔◌, arith, replicate}
 use Rattle.std.specs.Option.{unwrap_or}
 use Rattle.std.proofs.lemmas.Bool.{cases_eq}
-use Rattle.std.proofs.lemmas.List.{length-replicate}
 use Rattle.std.proofs.lemmas.Option.{slice_get_within}
-use Rattle.dcx_arena.specs.Nodes.{Node, AreNodes, args_at}
+use Rattle.dcx_arena.specs.Nodes.{AreNodes, args_at}
 use Rattle.dcx_arena.specs.Gather.{has}
 use Rattle.dcx_arena.specs.Unfold.{Leads, IsReached}
 use Rattle.dcx_arena.proofs.Orders.{has_one, arg_below}

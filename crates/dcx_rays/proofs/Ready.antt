@@ -1,8 +1,8 @@
 -- What a node that has a variable below it needs to be formed: arguments that are known, a side whose value counts that has no
 -- variable below it, and divisors that aren't 0.
-use Rattle.std.proofs.Common.{◌≡◌, ℕ, zero, suc, ◌<◌, ◌≢◌, Bool, true, false, if◌then◌else◌, nat_eq, List, [], ◌∷◌, map, All, get_or, Option, Some, option_map, slice_get, length, Result, Ok, Err, refl, sym, ap, ◌∙◌, subst, arith, pos, eqb-true}
+use Rattle.std.proofs.Common.{◌≡◌, ℕ, ◌<◌, ◌≢◌, Bool, true, false, if◌then◌else◌, nat_eq, List, map, All, Option, Some, option_map, slice_get, Result, Ok, Err, refl, sym, ap, ◌∙◌, arith, pos, eqb-true}
 use Rattle.std.specs.Prelude.{IsTrue, IsFalse}
-use Rattle.std.proofs.lemmas.Option.{same_Some, slice_get-map, slice_get_within, get_or_from_slice_get}
+use Rattle.std.proofs.lemmas.Option.{slice_get-map, slice_get_within, get_or_from_slice_get}
 use Rattle.dcx_math.specs.Rational.{ℚ, whole, rat_eq}
 use Rattle.dcx_math.proofs.Ratios.{IsTrue-rat_eq}
 use Rattle.dcx_frac.specs.declared.fraction.Frac.{Frac}
@@ -11,22 +11,20 @@ use Rattle.dcx_frac.specs.Results.{quotient_of}
 use Rattle.dcx_shape.specs.declared.shape.Sides.{Sides}
 use Rattle.dcx_shape.specs.Sides.{entries_of}
 use Rattle.dcx_atom.specs.declared.array.Array.{Array}
-use Rattle.dcx_atom.specs.declared.stops.ValueStop.{ValueStop}
 use Rattle.dcx_atom.specs.declared.stops.ValueStop.TheVariants as stops
 use Rattle.dcx_atom.specs.Arrays.{Entries}
 use Rattle.dcx_atom.specs.Formed.{frac_at}
-use Rattle.dcx_affine.specs.declared.pairing.Pairing.{Pairing}
 use Rattle.dcx_affine.specs.declared.pairing.Pairing.TheVariants.{Times, MatTimes, Over}
 use Rattle.dcx_point.specs.Pairs.{Pairs}
 use Rattle.dcx_arena.specs.Nodes.{IsNode}
-use Rattle.dcx_convex.specs.Nodes.{Numbers, zeros, arguments, HasNoZeroDivisor}
+use Rattle.dcx_convex.specs.Nodes.{zeros, arguments, HasNoZeroDivisor}
 use Rattle.dcx_convex.specs.Rules.{Plain, Judgement, no_argument, argument, judgement_at}
 use Rattle.dcx_call.specs.declared.call.Call.{Call}
 use Rattle.dcx_call.specs.declared.call.Call.TheVariants as calls
 use Rattle.dcx_call.specs.Forming.{or_passes, divided, IsFirst}
-use Rattle.dcx_call.specs.Values.{Given, given_by, entry_formed}
+use Rattle.dcx_call.specs.Values.{given_by, entry_formed}
 use Rattle.dcx_tree.specs.declared.problem.Problem.{Problem}
-use Rattle.dcx_tree.specs.Nodes.{Node, head_of, arg_sides, pairing_call, convex_node}
+use Rattle.dcx_tree.specs.Nodes.{Node, head_of, arg_sides, convex_node}
 use Rattle.dcx_tree.specs.Meaning.{names_in, convex_problem, IsAccepted, IsFitting}
 use Rattle.dcx_recession.proofs.Reached.{tree_side_fixed}
 use Rattle.dcx_rays.specs.Steepness.{is_fixed, fixed_value, steepness_at, value_side, is_side, taken_numbers, is_first_fixed, node_numbers, IsKnown, AreReady}

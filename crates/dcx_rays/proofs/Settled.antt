@@ -1,26 +1,22 @@
 -- The checks of a ray tell one thing each.
-use Rattle.std.proofs.Common.{◌≡◌, inl, inr, ℕ, ◌<◌, List, [], ◌∷◌, Option, Some, None, Result, Ok, Err, IsOk, slice_get, refl, sym, ap, subst, ◌∙◌, arith}
+use Rattle.std.proofs.Common.{◌≡◌, ℕ, ◌<◌, List, [], ◌∷◌, Option, Some, None, Result, Ok, Err, IsOk, slice_get, sym, ap, subst, ◌∙◌, arith}
 use native.Mathlib.Decide.{dec_lt}
 use Rattle.std.proofs.lemmas.Option.{same_Some}
 use Rattle.dcx_frac.specs.declared.fraction.Frac.{Frac}
-use Rattle.dcx_frac.specs.declared.fraction.Passes.{Passes}
-use Rattle.dcx_shape.specs.Shape.{sides_of}
 use Rattle.dcx_shape.specs.Sides.{entries_of}
 use Rattle.dcx_atom.specs.declared.stops.ValueStop.{ValueStop}
 use Rattle.dcx_atom.specs.declared.stops.ValueStop.TheVariants as stops
 use Rattle.dcx_point.specs.Pairs.{Pairs}
-use Rattle.dcx_arena.specs.Nodes.{IsNode}
 use Rattle.dcx_call.specs.Forming.{IsFirst}
 use Rattle.dcx_tree.specs.declared.constraint.Constraint.{Constraint}
 use Rattle.dcx_tree.specs.declared.problem.Problem.{Problem}
 use Rattle.dcx_tree.specs.Nodes.{Node}
 use Rattle.dcx_sections.specs.declared.fault.CertFault.{CertFault}
 use Rattle.dcx_sections.specs.declared.fault.CertFault.TheVariants.{Wide}
-use Rattle.dcx_faults.specs.Checks.{Check}
 use Rattle.dcx_faults.specs.Laws.{IsSettled}
 use Rattle.dcx_faults.proofs.Settled.{settled_together}
 use Rattle.dcx_rays.specs.Steepness.{steepness_formed, IsFormed, IsUnformed, forming_at, forming}
-use Rattle.dcx_rays.specs.Rays.{broken_fault, IsFirstBroken, sides_hold, constraint_check, falls, value_check, constraints_check, ray_checks}
+use Rattle.dcx_rays.specs.Rays.{broken_fault, IsFirstBroken, sides_hold, constraint_check, falls, value_check, constraints_check}
 use Rattle.dcx_rays.specs.Laws.{RayChecksAreSettled}
 
 -- ---- the first entry that stops

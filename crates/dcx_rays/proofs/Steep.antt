@@ -1,9 +1,9 @@
 -- What is formed of a node at the arrays of its arguments is its steepness.
-use Rattle.std.proofs.Common.{◌≡◌, ℕ, zero, suc, ◌<◌, ◌≤◌, inl, inr, Bool, true, false, if◌then◌else◌, List, [], ◌∷◌, length, map, get_or, Option, Some, None, option_map, slice_get, Result, Ok, Err, IsOk, IfOk, refl, sym, ap, ap₂, ◌∙◌, subst, arith, pos, true≢false}
-use Rattle.std.specs.Prelude.{nat_lt, nat_eq, IsTrue, IsFalse}
+use Rattle.std.proofs.Common.{◌≡◌, ℕ, zero, suc, ◌<◌, ◌≤◌, Bool, true, false, if◌then◌else◌, List, [], ◌∷◌, length, map, get_or, Some, slice_get, Result, Ok, Err, IsOk, IfOk, refl, sym, ap, ap₂, ◌∙◌, subst, arith, pos}
+use Rattle.std.specs.Prelude.{nat_lt, IsTrue, IsFalse}
 use Rattle.std.proofs.Math.Path.{fun_ext}
 use Rattle.std.proofs.lemmas.Bool.{ltb-true, ltb-false}
-use Rattle.std.proofs.lemmas.Option.{same_Some, none-some}
+use Rattle.std.proofs.lemmas.Option.{same_Some}
 use Rattle.dcx_math.specs.Rational.{ℚ, whole, ◌+ℚ◌, ◌*ℚ◌, ◌/ℚ◌}
 use Rattle.dcx_math.specs.Sums.{rat_sum_by}
 use Rattle.dcx_frac.specs.declared.fraction.Frac.{Frac}
@@ -13,7 +13,6 @@ use Rattle.dcx_shape.specs.declared.shape.Shape.{Shape}
 use Rattle.dcx_shape.specs.Shape.{sides_of}
 use Rattle.dcx_shape.specs.Sides.{entries_of}
 use Rattle.dcx_atom.specs.declared.array.Array.{Array}
-use Rattle.dcx_atom.specs.declared.stops.ValueStop.{ValueStop}
 use Rattle.dcx_atom.specs.declared.stops.ValueStop.TheVariants as stops
 use Rattle.dcx_atom.specs.Arrays as atom_arrays
 use Rattle.dcx_atom.specs.Arrays.{Entries, number_at, numbers_of, array_sides}
@@ -24,7 +23,6 @@ use Rattle.dcx_affine.specs.Pairing.{pairs_at}
 use Rattle.dcx_point.specs.Pairs.{Pairs}
 use Rattle.dcx_arena.specs.Nodes.{IsNode, sides_at}
 use Rattle.dcx_convex.specs.Pairs as convex_pairs
-use Rattle.dcx_convex.specs.Nodes as convex
 use Rattle.dcx_convex.specs.Nodes.{Numbers, zeros, first_of, arguments}
 use Rattle.dcx_convex.specs.Rules.{Plain, argument, judgement_at}
 use Rattle.dcx_call.specs.declared.call.Call.{Call}
@@ -32,7 +30,7 @@ use Rattle.dcx_call.specs.declared.call.Call.TheVariants as calls
 use Rattle.dcx_call.specs.Calls.{own_sides, shape_of}
 use Rattle.dcx_call.specs.Values as call_values
 use Rattle.dcx_call.specs.Values.{given_by, call_value, entry_formed, formed_at, IsValue}
-use Rattle.dcx_call.specs.Forming.{IsFirst, IsStop}
+use Rattle.dcx_call.specs.Forming.{IsFirst}
 use Rattle.dcx_call.proofs.Entries.{stop_alike}
 use Rattle.dcx_tree.specs.declared.problem.Problem.{Problem}
 use Rattle.dcx_tree.specs.Nodes.{Node, number_in, head_of, arg_sides, convex_node}
@@ -42,7 +40,7 @@ use Rattle.dcx_recession.specs.Steepness.{steep_by}
 use Rattle.dcx_recession.proofs.Told.{level as steep_level}
 use Rattle.dcx_recession.proofs.LawsHold.{steepness_is_told}
 use Rattle.dcx_sections.specs.declared.fault.CertFault.TheVariants.{Wide}
-use Rattle.dcx_rays.specs.Steepness.{is_fixed, fixed_value, steepness_at, value_side, is_side, taken_numbers, is_first_fixed, node_numbers, steepness_formed, IsFormed, IsUnformed, IsSteepness, IsArgument, AreArguments}
+use Rattle.dcx_rays.specs.Steepness.{is_fixed, fixed_value, steepness_at, value_side, is_side, taken_numbers, is_first_fixed, node_numbers, steepness_formed, IsUnformed, IsSteepness, IsArgument, AreArguments}
 use Rattle.dcx_rays.proofs.Known.{MayMove, IsTaken, ordered, convex_at, may_move, node_taken}
 
 -- ---- numbers

@@ -1,25 +1,24 @@
 -- Tables of steepness: what is read of them, and one more array.
-use Rattle.std.proofs.Common.{◌≡◌, inl, inr, ℕ, zero, suc, ◌+◌, ◌<◌, ◌≤◌, Bool, true, false, List, [], ◌∷◌, ◌++◌, length, map, get_or, set, replicate, All, Option, Some, None, IsSome, slice_get, Result, Ok, Err, IsOk, refl, sym, ap, ◌∙◌, subst, arith, length-append, true≢false}
-use Rattle.std.specs.Prelude.{IsTrue, IsFalse, if◌then◌else◌}
+use Rattle.std.proofs.Common.{◌≡◌, inl, inr, ℕ, zero, suc, ◌+◌, ◌<◌, ◌≤◌, Bool, false, List, [], ◌∷◌, ◌++◌, length, map, get_or, set, replicate, All, Option, Some, None, IsSome, slice_get, Ok, IsOk, refl, sym, ap, ◌∙◌, subst, arith}
+use Rattle.std.specs.Prelude.{IsTrue, if◌then◌else◌}
 use Rattle.std.proofs.lemmas.Bool.{cases_eq}
 use Rattle.std.proofs.lemmas.List.{length-set, length-replicate, get_or-set_same, get_or-set_other, get_or_default}
 use Rattle.std.proofs.lemmas.Option.{none-some, same_Some}
-use Rattle.dcx_shape.specs.Sides.{entries_of}
 use Rattle.dcx_atom.specs.declared.array.Array.{Array}
 use Rattle.dcx_atom.specs.Formed.{zero_frac}
 use Rattle.dcx_point.specs.Pairs.{Pairs}
 use Rattle.dcx_arena.specs.declared.node.NodeId.{NodeId}
-use Rattle.dcx_arena.specs.Nodes.{IsNode, positions}
+use Rattle.dcx_arena.specs.Nodes.{positions}
 use Rattle.dcx_arena.proofs.Nodes.{push_each}
 use Rattle.dcx_convex.specs.Rules.{Plain, argument, judgement_at}
 use Rattle.dcx_tree.specs.declared.problem.Problem.{Problem}
 use Rattle.dcx_call.specs.Values.{given_by, entry_formed}
-use Rattle.dcx_tree.specs.Nodes.{Node, arg_sides}
+use Rattle.dcx_tree.specs.Nodes.{arg_sides}
 use Rattle.dcx_tree.specs.Values.{array_at}
 use Rattle.dcx_tree.specs.Meaning.{convex_problem}
-use Rattle.dcx_tree.proofs.Forming.{some_of, some_within}
+use Rattle.dcx_tree.proofs.Forming.{some_of}
 use Rattle.dcx_outline.specs.Drawn.{AreFixed}
-use Rattle.dcx_rays.specs.Steepness.{is_fixed, is_side, node_numbers, IsFormed, IsSteepness, AreKept, IsKnown, StaysKnown, IsArgument, AreArguments}
+use Rattle.dcx_rays.specs.Steepness.{is_fixed, is_side, node_numbers, IsFormed, IsSteepness, AreKept, IsKnown, StaysKnown, IsArgument}
 
 -- what stands at a place of a list
 pub read_at : (arrays : List (Option Array)) (i : ℕ) (o : Option Array) → i < length arrays → o ≡ get_or arrays i o → array_at arrays i ≡ o

@@ -1,6 +1,6 @@
 -- Checks in turn, and what their faults tell.
-use Rattle.std.proofs.Common.{◌≡◌, ◌⊎◌, ◌↔◌, inl, inr, ℕ, ◌<◌, zero, suc, Bool, true, false, IsTrue, List, [], ◌∷◌, All, Option, Some, Result, Ok, Err, slice_get, length, refl, sym, ap, ap₂, ◌∙◌, subst, arith, true≢false}
-use Rattle.dcx_math.specs.Rational.{ℚ, ◌-ℚ◌, ◌≤ℚ◌, neg_ℚ, rat_le}
+use Rattle.std.proofs.Common.{◌≡◌, ◌⊎◌, ◌↔◌, inl, inr, ℕ, ◌<◌, zero, suc, Bool, true, false, IsTrue, [], ◌∷◌, All, Option, Some, Result, Ok, Err, slice_get, sym, ap, ap₂, ◌∙◌, subst, arith, true≢false}
+use Rattle.dcx_math.specs.Rational.{◌-ℚ◌, ◌≤ℚ◌, neg_ℚ, rat_le}
 use Rattle.dcx_math.proofs.Ratios.{IsTrue-rat_le}
 use Rattle.dcx_frac.specs.declared.fraction.Frac.{Frac}
 use Rattle.dcx_frac.specs.Frac.{value}

@@ -1,5 +1,5 @@
 -- The steepness of the nodes of a problem along a ray of arrays, and the first operation at which forming it stops.
-use Rattle.std.specs.Prelude.{◌≡◌, ℕ, ◌<◌, ◌⊎◌, nat_eq, Bool, true, false, if◌then◌else◌, IsTrue, IsFalse, List, length, map, All, Option, Some, None, IsSome, slice_get, Result, Ok, IsOk}
+use Rattle.std.specs.Prelude.{◌≡◌, ℕ, ◌<◌, ◌⊎◌, nat_eq, Bool, false, if◌then◌else◌, IsTrue, List, length, map, All, Option, Some, None, IsSome, slice_get, Result, Ok, IsOk}
 use Rattle.dcx_frac.specs.declared.fraction.Frac.{Frac}
 use Rattle.dcx_frac.specs.declared.fraction.Passes.{Passes}
 use Rattle.dcx_shape.specs.Shape.{sides_of}

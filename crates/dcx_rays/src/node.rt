@@ -125,12 +125,7 @@ fn is_first_fixed(along: &Along, ids: &[NodeId]) -> bool
 }
 
 /// The value of a node's call at these arrays of its arguments.
-fn apply(
-    alloc: Global,
-    along: &Along,
-    node: NodeId,
-    args: &[Array],
-) -> Result<Array, CertFault>
+fn apply(alloc: Global, along: &Along, node: NodeId, args: &[Array]) -> Result<Array, CertFault>
     requires given { IsGiven along.now.problem.now along.now.setting.now along.now.fixed.now along.now.values.now along.now.ray.now }
     requires there { node.0 < length along.now.problem.now.tree }
     requires moves { IsFalse (is_fixed along.now.problem.now node.0) }

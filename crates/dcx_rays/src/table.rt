@@ -87,12 +87,7 @@ fn number_at(numbers: &[Frac], j: u32) -> Frac
 }
 
 /// An entry of the steepness of a node, which is known.
-pub(crate) fn steepness(
-    along: &Along,
-    arrays: &[Option<Array>],
-    node: NodeId,
-    entry: u32,
-) -> Frac
+pub(crate) fn steepness(along: &Along, arrays: &[Option<Array>], node: NodeId, entry: u32) -> Frac
     requires kept { AreKept along.now.problem.now along.now.setting.now along.now.ray.now arrays.now }
     requires there { node.0 < length along.now.problem.now.tree }
     requires known { IsKnown along.now.problem.now arrays.now node.0 }

@@ -1,5 +1,5 @@
 -- One more entry holds, or is the first that doesn't.
-use Rattle.std.proofs.Common.{◌≡◌, ◌<◌, ◌∙◌, ℕ, inr, refl, sym, ap, subst, arith, below_more}
+use Rattle.std.proofs.Common.{inr, arith, below_more}
 use Rattle.dcx_rays.specs.Rays.{HoldsAt}
 use Rattle.dcx_rays.proofs.Turns.{holding, broken}
 use Rattle.dcx_rays.proofs.checks.compare.Goals as goal

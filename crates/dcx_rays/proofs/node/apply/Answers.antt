@@ -1,5 +1,5 @@
 -- The value of the call at its arguments is the node's steepness.
-use Rattle.std.proofs.Common.{◌≡◌, inr, IsSome, refl, sym, subst}
+use Rattle.std.proofs.Common.{inr, IsSome, refl, sym, subst}
 use Rattle.dcx_rays.proofs.Applied.{applied_given, applied_shape, applied_value, applied_passes, applied_divides}
 use Rattle.dcx_rays.proofs.node.apply.Goals as goal
 

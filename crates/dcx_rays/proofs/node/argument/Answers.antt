@@ -1,5 +1,5 @@
 -- A value, zeros, or a kept array.
-use Rattle.std.proofs.Common.{◌≡◌, ◌∙◌, Bool, true, false, sym, ap, subst, refl}
+use Rattle.std.proofs.Common.{◌∙◌, Bool, sym, subst}
 use Rattle.std.specs.Prelude.{IsTrue}
 use Rattle.dcx_atom.specs.declared.array.Array.{Array}
 use Rattle.dcx_call.proofs.Entries.{ok_weaker}

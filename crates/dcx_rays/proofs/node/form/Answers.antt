@@ -1,9 +1,9 @@
 -- The arguments are those at which the call is taken.
-use Rattle.std.proofs.Common.{◌≡◌, ◌∙◌, ◌<◌, ℕ, Bool, List, length, map, All, sym, ap, subst}
+use Rattle.std.proofs.Common.{◌∙◌, ◌<◌, ℕ, Bool, List, length, map, All, sym, ap, subst}
 use Rattle.dcx_convex.specs.Rules.{Plain, argument, judgement_at}
 use Rattle.dcx_tree.specs.declared.problem.Problem.{Problem}
 use Rattle.dcx_tree.specs.Meaning.{convex_problem}
-use Rattle.dcx_arena.specs.Nodes.{positions, args_at}
+use Rattle.dcx_arena.specs.Nodes.{positions}
 use Rattle.dcx_tree.proofs.Forming.{args_below}
 use Rattle.dcx_rays.specs.Steepness.{AreArguments}
 use Rattle.dcx_rays.proofs.Applied.{applied_ready, applied_takes}

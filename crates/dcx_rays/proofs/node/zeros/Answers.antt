@@ -1,5 +1,5 @@
 -- Each number is 0.
-use Rattle.std.proofs.Common.{◌≡◌, ℕ, zero, suc, List, [], ◌∷◌, replicate, refl, sym, ap, ◌∙◌, pos}
+use Rattle.std.proofs.Common.{◌≡◌, ℕ, zero, suc, List, replicate, refl, ap, ◌∙◌, pos}
 use Rattle.dcx_math.specs.Rational.{whole}
 use Rattle.dcx_frac.specs.declared.fraction.Frac.{Frac}
 use Rattle.dcx_frac.specs.Frac.{value}

@@ -1,5 +1,5 @@
 -- One more node is marked.
-use Rattle.std.proofs.Common.{◌≡◌, ℕ, ◌<◌, inl, inr, true, length, get_or, refl, subst, ◌∙◌, arith}
+use Rattle.std.proofs.Common.{◌<◌, inl, inr, true, length, get_or, refl, ◌∙◌, arith}
 use Rattle.std.proofs.lemmas.List.{length-set, take_all}
 use Rattle.dcx_arena.specs.Nodes.{positions}
 use Rattle.dcx_arena.proofs.Positions.{length-positions, position_at}

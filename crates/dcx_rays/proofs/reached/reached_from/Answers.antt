@@ -1,5 +1,5 @@
 -- The marks are those of the nodes that are reached.
-use Rattle.std.proofs.Common.{◌≡◌, ℕ, ◌+◌, ◌-◌, ◌<◌, ◌⊎◌, ◌↔◌, true, false, Bool, List, All, length, replicate, sym, subst, ap, ◌∙◌, arith, rules}
+use Rattle.std.proofs.Common.{◌≡◌, ℕ, ◌+◌, ◌-◌, ◌<◌, ◌⊎◌, ◌↔◌, true, false, Bool, List, All, length, replicate, subst, ap, ◌∙◌, arith, rules}
 use Rattle.std.proofs.lemmas.List.{length-replicate}
 use Rattle.dcx_arena.specs.Nodes.{positions}
 use Rattle.dcx_arena.specs.Gather.{has}

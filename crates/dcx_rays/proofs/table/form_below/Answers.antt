@@ -1,10 +1,9 @@
 -- A reached node is formed from what is known of its arguments, and the first that isn't formed stops.
-use Rattle.std.proofs.Common.{◌≡◌, ◌+◌, ◌<◌, ◌∙◌, true, false, length, List, Option, get_or, refl, sym, ap, subst, arith, true≢false}
+use Rattle.std.proofs.Common.{◌+◌, ◌<◌, ◌∙◌, length, List, Option, sym, ap, subst, arith, true≢false}
 use Rattle.std.proofs.lemmas.Result.{err_from_is_err_and}
 use Rattle.dcx_atom.specs.declared.array.Array.{Array}
 use Rattle.dcx_arena.specs.Nodes.{positions}
 use Rattle.dcx_tree.proofs.Marks.{mark_at}
-use Rattle.dcx_rays.specs.Steepness.{IsKnown}
 use Rattle.dcx_rays.proofs.Below.{IsBelow, below_none, below_args, below_more, below_stop, below_all, below_roots}
 use Rattle.dcx_rays.proofs.table.form_below.Goals as goal
 use Rattle.dcx_rays.proofs.table.form_below.Goals.{then-index+in_ok-form_one, else-index}

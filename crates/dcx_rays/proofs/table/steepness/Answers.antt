@@ -1,11 +1,8 @@
 -- A number of the array that is kept, or 0.
-use Rattle.std.proofs.Common.{◌≡◌, ◌<◌, inl, inr, List, length, Option, Some, None, IsSome, sym, ap, subst, ◌∙◌, arith}
+use Rattle.std.proofs.Common.{◌≡◌, ◌<◌, inl, inr, List, length, Option, Some, None, IsSome, sym, ap, ◌∙◌, arith}
 use Rattle.dcx_frac.specs.declared.fraction.Frac.{Frac}
-use Rattle.dcx_frac.specs.Frac.{value}
-use Rattle.dcx_math.specs.Rational.{whole}
 use Rattle.dcx_atom.specs.Arrays.{number_at}
 use Rattle.dcx_tree.specs.Values.{array_at}
-use Rattle.dcx_rays.specs.Steepness.{steepness_at}
 use Rattle.dcx_rays.proofs.Steep.{level}
 use Rattle.dcx_rays.proofs.Tables.{read_at}
 use Rattle.dcx_rays.proofs.table.steepness.Goals as goal
