@@ -1,20 +1,27 @@
 -- What is known of a problem's nodes: their calls as the rules read them, and what a ray gives their variables.
-use Rattle.std.proofs.Common.{◌≡◌, ℕ, true, false, List, map, All, Option, Some, None, option_map, slice_get, refl, sym, ap, subst, ◌∙◌, true≢false}
+use Rattle.std.proofs.Common.{◌≡◌, ℕ, true, false, List, map, All, Option, Some, None, option_map, slice_get, refl, sym, ap, subst, ◌∙◌, true≢false, [], ◌∷◌, inl, inr}
 use Rattle.std.specs.Prelude.{IsTrue, IsFalse}
 use Rattle.std.proofs.Props.{props}
 use Rattle.std.proofs.Math.Logic.{∥∥₁_elim}
-use mathlib.Core.Logic.{∥∥₁_map}
 use Rattle.std.proofs.lemmas.Option.{none-some, same_Some, slice_get-map, slice_get_within, get_or_from_slice_get}
+use Rattle.std.specs.Option.{unwrap_or}
+use Rattle.std.specs.List.{list_all}
+use Rattle.std.proofs.lemmas.Bool.{and_parts}
+use mathlib.Core.Logic.{∥∥₁_map}
 use Rattle.dcx_math.proofs.Orders.{≡ℚ_prop}
 use Rattle.dcx_shape.specs.declared.shape.Sides.{Sides}
 use Rattle.dcx_shape.specs.Shape.{sides_of}
 use Rattle.dcx_atom.specs.declared.array.Array.{Array}
 use Rattle.dcx_point.specs.Pairs.{Pairs, array_of}
-use Rattle.dcx_arena.specs.Nodes.{IsNode}
+use Rattle.dcx_arena.specs.Nodes.{IsNode, args_at}
+use Rattle.dcx_arena.specs.Gather.{has}
+use Rattle.dcx_arena.proofs.Orders.{head_or}
 use Rattle.dcx_convex.specs.Nodes as convex
 use Rattle.dcx_convex.specs.Nodes.{zeros}
 use Rattle.dcx_convex.specs.Rules.{Plain, Judgement, judgement_at, fixed_by}
 use Rattle.dcx_convex.proofs.Told.{judgement_tells}
+use Rattle.dcx_convex.proofs.LawsHold.{constants_are_fixed}
+use Rattle.dcx_call.specs.Calls.{own_sides, shape_of}
 use Rattle.dcx_call.specs.declared.attribute.Variable.{Variable}
 use Rattle.dcx_call.specs.declared.attribute.Parameter.{Parameter}
 use Rattle.dcx_call.specs.declared.call.Call.{Call}
@@ -28,12 +35,25 @@ use Rattle.dcx_tree.specs.Meaning.{names_in, convex_problem, setting_of, point_o
 use Rattle.dcx_tree.proofs.Lawful.{tree_lawful}
 use Rattle.dcx_tree.proofs.Sublists.{contains_at}
 use Rattle.dcx_tree.proofs.Values.{taken}
-use Rattle.dcx_convex.proofs.LawsHold.{constants_are_fixed}
 use Rattle.dcx_rays.specs.Steepness.{is_fixed, AreFixedValues, IsArgument}
 
 -- what holds of each holds of the one at a place
 pub holds_at : {X : Type 0} (P : X → Type 0) (xs : List X) (k : ℕ) (x : X) → All P xs → slice_get xs k ≡ Some x → P x
 holds_at P xs k x all at = subst P (get_or_from_slice_get xs k x x at) (all k x (slice_get_within xs k x at))
+
+-- what has its own sides has no arguments
+no_args : (own sides : Sides) (f : ℕ → Sides) (ids : List ℕ) (a : ℕ) → own_sides own (map f ids) ≡ Some sides → has ids a ≡ true → ⊥
+no_args own sides f [] a e h = cc
+no_args own sides f (i ∷ ids) a e h = cc
+
+all_fixed : (judged : ℕ → Judgement) (ids : List ℕ) (a : ℕ) → list_all (λ g. g.fixed) (map judged ids) ≡ true → has ids a ≡ true → (judged a).fixed ≡ true
+all_fixed judged [] a t h = absurd (cc)
+all_fixed judged (b ∷ ids) a t h =
+    let q = and_parts (judged b).fixed (list_all (λ g. g.fixed) (map judged ids)) t in
+    elim (head_or b a ids h) [
+      | inl e ↦ subst (λ z. (judged z).fixed ≡ true) e q.0
+      | inr r ↦ all_fixed judged ids a q.1 r
+    ]
 
 -- a call that has a variable below it, as far as it tells by itself
 abbrev pub MayMove : Call → Type 0
@@ -82,6 +102,23 @@ module _ (p : Problem) where
 
   pub may_move : (i : ℕ) (n : Node) → IsNode p.tree i n → IsFalse (is_fixed p i) → MayMove n.call
   may_move i n at moves = moves_by n.call (arg_sides p.tree n) n.sides (map (judgement_at Plain (convex_problem p).nodes) n.args) (sym (fixed_call i n at) ∙ moves)
+
+  -- ---- arguments of nodes that have no variable below them
+  call_fixed : (n : Node) (call : Call) → shape_of call (arg_sides p.tree n) ≡ Some n.sides → fixed_by (head_of (names_in p) call (arg_sides p.tree n) n.sides) (map (judgement_at Plain (convex_problem p).nodes) n.args) ≡ true →
+      (a : ℕ) → has n.args a ≡ true → IsTrue (is_fixed p a)
+  call_fixed n (calls.Variable v) shape t a h = absurd (no_args _ n.sides _ n.args a shape h)
+  call_fixed n (calls.Parameter q) shape t a h = absurd (no_args _ n.sides _ n.args a shape h)
+  call_fixed n (calls.Constant x) shape t a h = absurd (no_args _ n.sides _ n.args a shape h)
+  call_fixed n (calls.Atom m) shape t a h = all_fixed (judgement_at Plain (convex_problem p).nodes) n.args a t h
+  call_fixed n (calls.Linear m) shape t a h = all_fixed (judgement_at Plain (convex_problem p).nodes) n.args a t h
+  call_fixed n (calls.Pairing m) shape t a h = all_fixed (judgement_at Plain (convex_problem p).nodes) n.args a t h
+
+  pub argument_fixed : (i a : ℕ) → IsTrue (is_fixed p i) → has (args_at p.tree i) a ≡ true → IsTrue (is_fixed p a)
+  argument_fixed i a t h = by (slice_get p.tree i) refl h
+    where
+      by : (o : Option Node) → slice_get p.tree i ≡ o → has (unwrap_or (option_map (λ n. n.args) o) []) a ≡ true → IsTrue (is_fixed p a)
+      by None e g = absurd (cc)
+      by (Some n) e g = call_fixed n n.call (p.nodes.shaped i n e) (sym (fixed_call i n e) ∙ t) a g
 
   -- ---- what a ray gives
   module _ (setting ray : Pairs) (shaped : All (λ (v : Variable). HasArray ray v.name (sides_of v.shape)) p.variables) where

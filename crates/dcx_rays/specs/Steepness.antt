@@ -1,5 +1,5 @@
 -- The steepness of the nodes of a problem along a ray of arrays, and the first operation at which forming it stops.
-use Rattle.std.specs.Prelude.{◌≡◌, ℕ, ◌<◌, ◌⊎◌, nat_eq, Bool, false, if◌then◌else◌, IsTrue, List, length, map, All, Option, Some, None, IsSome, slice_get, Result, Ok, IsOk}
+use Rattle.std.specs.Prelude.{◌≡◌, ℕ, ◌<◌, ◌⊎◌, nat_eq, Bool, false, if◌then◌else◌, IsTrue, List, length, map, All, Option, Some, None, IsSome, slice_get, Result, Ok, IsOk, true}
 use Rattle.dcx_frac.specs.declared.fraction.Frac.{Frac}
 use Rattle.dcx_frac.specs.declared.fraction.Passes.{Passes}
 use Rattle.dcx_shape.specs.Shape.{sides_of}
@@ -11,7 +11,8 @@ use Rattle.dcx_atom.specs.Arrays.{Entries, number_at}
 use Rattle.dcx_atom.specs.Formed.{zero_frac}
 use Rattle.dcx_affine.specs.declared.pairing.Pairing.TheVariants.{Times, MatTimes, Over}
 use Rattle.dcx_point.specs.Pairs.{Pairs}
-use Rattle.dcx_arena.specs.Nodes.{IsNode, sides_at}
+use Rattle.dcx_arena.specs.Nodes.{IsNode, args_at, sides_at}
+use Rattle.dcx_arena.specs.Gather.{has}
 use Rattle.dcx_arena.specs.Unfold.{IsReached}
 use Rattle.dcx_convex.specs.Nodes.{Numbers, arguments}
 use Rattle.dcx_convex.specs.Rules.{Plain, argument, judgement_at}
@@ -124,14 +125,15 @@ pub record IsSteepness (p : Problem) (setting ray : Pairs) (i : ℕ) (v : Array)
   pub numbers : (j : ℕ) → number_at v.entries j ≡ steepness_at p setting ray i j
   pub formed : IsFormed p setting ray i
 
--- there is a place for each node, and each array that is kept is the steepness of its node
-pub record AreKept (p : Problem) (setting ray : Pairs) (arrays : List (Option Array)) : Type 0 where
-  pub sized : length arrays ≡ length p.tree
-  pub steep : (i : ℕ) (v : Array) → array_at arrays i ≡ Some v → IsSteepness p setting ray i v
-
 -- the steepness of node i is known: it has no variable below it, or its array is kept
 abbrev pub IsKnown : Problem → List (Option Array) → ℕ → Type 0
 IsKnown p arrays i = IsTrue (is_fixed p i) ⊎ IsSome (array_at arrays i)
+
+-- there is a place for each node, each array that is kept is the steepness of its node, and that of its arguments is known
+pub record AreKept (p : Problem) (setting ray : Pairs) (arrays : List (Option Array)) : Type 0 where
+  pub sized : length arrays ≡ length p.tree
+  pub steep : (i : ℕ) (v : Array) → array_at arrays i ≡ Some v → IsSteepness p setting ray i v
+  pub closed : (i a : ℕ) → IsSome (array_at arrays i) → has (args_at p.tree i) a ≡ true → IsKnown p arrays a
 
 -- what is known before is known after
 abbrev pub StaysKnown : Problem → (before after : List (Option Array)) → Type 0

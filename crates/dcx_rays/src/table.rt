@@ -1,5 +1,5 @@
 //! A table with a place for the steepness of each node.
-ghost use Rattle.std.specs.Prelude.{◌≡◌, ◌⊎◌, ◌<◌, ℕ, length, All, OnOk, IfOk, IfErr, IsSome, None, replicate};
+ghost use Rattle.std.specs.Prelude.{◌≡◌, ◌⊎◌, ◌<◌, ℕ, length, All, OnOk, IfOk, IfErr, IsSome, IsTrue, None, replicate};
 ghost use Rattle.dcx_frac.specs.Frac.{value};
 ghost use Rattle.dcx_atom.specs.Arrays.{number_at};
 ghost use Rattle.dcx_arena.specs.Nodes.{positions, args_at};
@@ -51,6 +51,31 @@ fn form_one(
     Ok(())
 }
 
+/// Whether the steepness of a node is known.
+fn is_known(along: &Along, arrays: &[Option<Array>], node: NodeId) -> bool
+    requires given { IsGiven along.now.problem.now along.now.setting.now along.now.fixed.now along.now.values.now along.now.ray.now }
+    requires kept { AreKept along.now.problem.now along.now.setting.now along.now.ray.now arrays.now }
+    requires there { node.0 < length along.now.problem.now.tree }
+    ensures { IsTrue result → IsKnown along.now.problem.now arrays.now node.0 }
+{
+    along.fixed[node.0 as usize] || arrays[node.0 as usize].is_some()
+}
+
+/// Whether the steepness of all these nodes is known.
+fn are_known(along: &Along, arrays: &[Option<Array>], nodes: &[NodeId]) -> bool
+    requires given { IsGiven along.now.problem.now along.now.setting.now along.now.fixed.now along.now.values.now along.now.ray.now }
+    requires kept { AreKept along.now.problem.now along.now.setting.now along.now.ray.now arrays.now }
+    requires there { All (λ r. r < length along.now.problem.now.tree) (positions nodes.now) }
+    ensures { IsTrue result → All (IsKnown along.now.problem.now arrays.now) (positions nodes.now) }
+{
+    for node in nodes {
+        if !is_known(along, arrays, *node) {
+            return false;
+        }
+    }
+    true
+}
+
 /// Forms the steepness of the nodes that the roots reach, in rising order, where it isn't known.
 pub(crate) fn form_below(
     alloc: Global,
@@ -65,6 +90,9 @@ pub(crate) fn form_below(
     ensures known { OnOk result (All (IsKnown along.now.problem.now arrays.new.items) (positions roots.now)) }
     ensures checked { Checked (forming along.now.problem.now along.now.setting.now along.now.ray.now (positions roots.now)) result }
 {
+    if are_known(along, arrays, roots) {
+        return Ok(());
+    }
     let reached = reached_from(alloc, &along.problem.tree, roots)?;
     for i in 0..along.problem.tree.nodes() {
         if reached[i as usize] {

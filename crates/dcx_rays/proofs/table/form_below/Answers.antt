@@ -1,12 +1,20 @@
 -- A reached node is formed from what is known of its arguments, and the first that isn't formed stops.
-use Rattle.std.proofs.Common.{◌+◌, ◌<◌, ◌∙◌, length, List, Option, sym, ap, subst, arith, true≢false}
+use Rattle.std.proofs.Common.{◌+◌, ◌<◌, ◌∙◌, length, List, All, Option, sym, ap, subst, arith, true≢false}
 use Rattle.std.proofs.lemmas.Result.{err_from_is_err_and}
 use Rattle.dcx_atom.specs.declared.array.Array.{Array}
 use Rattle.dcx_arena.specs.Nodes.{positions}
 use Rattle.dcx_tree.proofs.Marks.{mark_at}
+use Rattle.dcx_rays.specs.Steepness.{IsKnown}
+use Rattle.dcx_rays.proofs.Tables.{known_below}
 use Rattle.dcx_rays.proofs.Below.{IsBelow, below_none, below_args, below_more, below_stop, below_all, below_roots}
 use Rattle.dcx_rays.proofs.table.form_below.Goals as goal
 use Rattle.dcx_rays.proofs.table.form_below.Goals.{then-index+in_ok-form_one, else-index}
+
+pub returns-then-are_known-clause-checked : goal.returns-then-are_known-clause-checked
+returns-then-are_known-clause-checked c =
+    let a = c.args.along.now in
+    known_below a.problem.now a.setting.now a.ray.now c.args.arrays.now.items c.requires.kept (positions c.args.roots.now)
+    (subst (λ (xs : List (Option Array)). All (IsKnown a.problem.now xs) (positions c.args.roots.now)) c.deref.ensures.value (c.are_known.ensures c.if-are_known.true))
 
 pub loop-i-init : goal.loop-i-init
 loop-i-init c =
