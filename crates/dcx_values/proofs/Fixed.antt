@@ -1,30 +1,26 @@
 -- Nodes that reach no variable, and that a divisor of an accepted problem is one of them.
-use Rattle.std.proofs.Common.{◌≡◌, inl, inr, ℕ, Bool, true, false, IsTrue, List, [], ◌∷◌, map, Option, Some, None, option_map, slice_get, refl, sym, ap, ◌∙◌, subst}
+use Rattle.std.proofs.Common.{◌≡◌, inl, inr, ℕ, Bool, true, false, List, [], ◌∷◌, map, Option, Some, None, option_map, slice_get, refl, sym, ap, ◌∙◌, subst}
 use Rattle.std.specs.Option.{unwrap_or}
 use Rattle.std.specs.List.{list_all}
 use Rattle.std.proofs.lemmas.Bool.{and_parts, false≢true}
-use Rattle.std.proofs.lemmas.Option.{none-some, slice_get-map, slice_get_within, get_or_from_slice_get}
+use Rattle.std.proofs.lemmas.Option.{none-some, slice_get-map, get_or_from_slice_get}
 use Rattle.dcx_shape.specs.declared.shape.Sides.{Sides}
-use Rattle.dcx_atom.specs.declared.flags.Bend.{Bend}
-use Rattle.dcx_atom.specs.declared.flags.Bend.TheVariants.{Convex, Concave}
 use Rattle.dcx_affine.specs.declared.pairing.Pairing.TheVariants.{Times, MatTimes, Over}
 use Rattle.dcx_arena.specs.Nodes.{IsNode, args_at}
 use Rattle.dcx_arena.specs.Gather.{has}
 use Rattle.dcx_arena.specs.Unfold.{IsReached, Leads}
 use Rattle.dcx_arena.proofs.Orders.{has_from, head_or, one_is}
-use Rattle.dcx_convex.specs.Calls as convex_calls
-use Rattle.dcx_convex.specs.Rules.{Plain, Judgement, no_argument, argument, is_constant, is_bent_call, fixed_by, judgement_by, judgement_at}
+use Rattle.dcx_convex.specs.Rules.{Plain, Judgement, no_argument, argument, fixed_by, judgement_by, judgement_at}
 use Rattle.dcx_convex.proofs.Told.{judgement_tells}
 use Rattle.dcx_call.specs.declared.attribute.Variable.{Variable}
 use Rattle.dcx_call.specs.declared.call.Call.{Call}
 use Rattle.dcx_call.specs.declared.call.Call.TheVariants as calls
 use Rattle.dcx_call.specs.Calls.{own_sides, shape_of}
 use Rattle.dcx_tree.specs.declared.problem.Problem.{Problem}
-use Rattle.dcx_tree.specs.Nodes.{Node, head_of, arg_sides, pairing_call, convex_node}
-use Rattle.dcx_tree.specs.Meaning.{names_in, IsAccepted}
-use Rattle.dcx_reduced.proofs.NodeForms.{nodes_of, nodes_ordered, convex_at}
-use Rattle.dcx_formed.proofs.Reached.{node_bent}
-use Rattle.dcx_formed.proofs.Steady.{bent_parts}
+use Rattle.dcx_tree.specs.Nodes.{Node, head_of, arg_sides, convex_node}
+use Rattle.dcx_tree.specs.Meaning.{names_in, convex_problem, IsAccepted}
+use Rattle.dcx_tree.proofs.Lawful.{tree_lawful}
+use Rattle.dcx_recession.proofs.Reached.{tree_side_fixed}
 use Rattle.dcx_values.specs.Forming.{IsFixedNode, divisor_if, divisor_in, IsBelowDivisor}
 
 -- what has its own sides has no arguments
@@ -73,10 +69,12 @@ divisor_is_argument nodes i d h =
 
 module _ (p : Problem) where
   abbrev judged : ℕ → Judgement
-  judged i = judgement_at Plain (nodes_of p) i
+  judged i = judgement_at Plain (convex_problem p).nodes i
 
   judgement : (i : ℕ) (n : Node) → IsNode p.tree i n → judged i ≡ judgement_by Plain (head_of (names_in p) n.call (arg_sides p.tree n) n.sides) (map judged n.args)
-  judgement i n at = judgement_tells Plain (nodes_of p) (nodes_ordered p) i (convex_node (names_in p) p.tree n) (convex_at p i n at)
+  judgement i n at =
+      let node = convex_node (names_in p) p.tree in
+      judgement_tells Plain (convex_problem p).nodes (tree_lawful (names_in p) p.tree p.nodes).ordered i (node n) (slice_get-map node p.tree i ∙ ap (option_map node) at)
 
   -- ---- fixed nodes
   call_fixed : (n : Node) (call : Call) → shape_of call (arg_sides p.tree n) ≡ Some n.sides → fixed_by (head_of (names_in p) call (arg_sides p.tree n) n.sides) (map judged n.args) ≡ true →
@@ -114,26 +112,18 @@ module _ (p : Problem) where
 
   -- ---- divisors
   module _ (ok : IsAccepted p) (i d : ℕ) (n : Node) (at : IsNode p.tree i n) (is : n.call ≡ calls.Pairing Over) (second : slice_get n.args 1 ≡ Some d) where
-    abbrev quotient : convex_calls.Call
-    quotient = pairing_call Over (arg_sides p.tree n) n.sides
-
-    told : judged i ≡ judgement_by Plain (head_of (names_in p) (calls.Pairing Over) (arg_sides p.tree n) n.sides) (map judged n.args)
-    told = judgement i n at ∙ ap (λ (c : Call). judgement_by Plain (head_of (names_in p) c (arg_sides p.tree n) n.sides) (map judged n.args)) is
-
     second_is : argument (map judged n.args) 1 ≡ judged d
     second_is = get_or_from_slice_get (map judged n.args) 1 (judged d) no_argument (slice_get-map judged n.args 1 ∙ ap (option_map judged) second)
 
-    by_bend : (bend : Bend) → IsTrue (is_bent_call Plain quotient bend (map judged n.args)) → (b : Bool) → list_all (is_constant Plain) (map judged n.args) ≡ b → (judged d).fixed ≡ true
-    by_bend bend t true all = all_fixed judged n.args d all (has_from n.args 1 d second)
-    by_bend bend t false some =
-        let q = bent_parts Plain quotient bend (map judged n.args) t (λ all. false≢true (sym some ∙ all)) in
-        subst (λ (g : Judgement). g.fixed ≡ true) second_is q.0
+    is_argument : has (args_at p.tree i) d ≡ true
+    is_argument = has_from (args_at p.tree i) 1 d (ap (λ (o : Option Node). slice_get (unwrap_or (option_map (λ m. m.args) o) []) 1) at ∙ second)
+
+    by_quotient : (b : Bool) → (judged i).fixed ≡ b → (judged d).fixed ≡ true
+    by_quotient true fixed = argument_fixed i d fixed is_argument
+    by_quotient false loose = subst (λ (g : Judgement). g.fixed ≡ true) second_is (tree_side_fixed p ok i n Over at is loose)
 
     divisor_fixed_at : (judged d).fixed ≡ true
-    divisor_fixed_at = elim (node_bent p Plain ok i (slice_get_within p.tree i n at)) [
-      | inl convex ↦ by_bend Convex (subst (λ (g : Judgement). IsTrue g.convex) told convex) (list_all (is_constant Plain) (map judged n.args)) refl
-      | inr concave ↦ by_bend Concave (subst (λ (g : Judgement). IsTrue g.concave) told concave) (list_all (is_constant Plain) (map judged n.args)) refl
-    ]
+    divisor_fixed_at = by_quotient (judged i).fixed refl
 
   -- a divisor of an accepted problem is fixed
   pub divisor_fixed : IsAccepted p → (i d : ℕ) → divisor_in p.tree i ≡ Some d → IsFixedNode p d
