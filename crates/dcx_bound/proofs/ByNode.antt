@@ -7,7 +7,6 @@ use Rattle.std.specs.List.{slice_get, All, flat_map, range_with_len}
 use Rattle.std.proofs.lemmas.Bool.{cases_eq, ne_eqb, true≢false}
 use Rattle.std.proofs.lemmas.List.Elements.{All-nil, All-cons, All-head, All-tail, All-append, All-weaker}
 use Rattle.std.proofs.lemmas.Option.{none-some, same_Some}
-use Rattle.dcx_frac.specs.declared.fraction.Frac.{Frac}
 use Rattle.dcx_shape.specs.declared.shape.Sides.TheVariants.{Scalar}
 use Rattle.dcx_shape.specs.Sides.{entries_of}
 use Rattle.dcx_atom.specs.declared.array.Array.{Array}
@@ -22,10 +21,9 @@ use Rattle.dcx_tree.specs.declared.problem.Problem.{Problem}
 use Rattle.dcx_tree.specs.Nodes.{Node, arg_sides}
 use Rattle.dcx_tree.specs.Meaning.{convex_problem}
 use Rattle.dcx_tree.specs.Values.{array_at}
-use Rattle.dcx_tree.proofs.Names.{found_in}
 use Rattle.dcx_outline.specs.Drawn.{call_atoms, atoms_if, atoms_at, problem_outline}
 use Rattle.dcx_outline.proofs.Rows.{atoms_more}
-use Rattle.dcx_collect.specs.Pass.{HasWeights, HaveWeights}
+use Rattle.dcx_collect.specs.Pass.{HaveWeights}
 use Rattle.dcx_sections.specs.declared.weights.NodeWeights.{NodeWeights}
 use Rattle.dcx_sections.specs.Shown.{atoms_of}
 use Rattle.dcx_bound.specs.Weights.{weights_at}

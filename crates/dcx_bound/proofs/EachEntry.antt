@@ -1,5 +1,5 @@
 -- Where each entry of a variable that is asked may be reached, the coefficients may reach the variable.
-use Rattle.std.proofs.Common.{◌≡◌, ◌≢◌, ◌⊎◌, inl, inr, ℕ, ◌+◌, ◌*◌, ◌<◌, ◌≤◌, arith, Bool, true, false, nat_eq, eq-eqb, List, Result, Ok, Err, refl, sym, ap, ap₂, ◌∙◌, subst, pos, true≢false}
+use Rattle.std.proofs.Common.{◌≡◌, ◌≢◌, ◌⊎◌, inl, inr, ℕ, ◌<◌, ◌≤◌, arith, Bool, true, false, nat_eq, eq-eqb, List, Result, Ok, Err, refl, sym, ap, ap₂, ◌∙◌, subst, pos, true≢false}
 use Rattle.std.specs.Prelude.{nat_le, IfOk, if◌then◌else◌}
 use Rattle.std.proofs.lemmas.Bool.{le-leb, ne_eqb, cases_order}
 use Rattle.dcx_math.specs.Rational.{ℚ, whole, ◌+ℚ◌, ◌≤ℚ◌}
@@ -24,7 +24,7 @@ use Rattle.dcx_unknowns.proofs.Sources.{row_is, column_is, turned}
 use Rattle.dcx_collect.specs.Shares.{frac_in}
 use Rattle.dcx_collect.proofs.Flat.{frac_value}
 use Rattle.dcx_faults.specs.Checks.{Check}
-use Rattle.dcx_bound.specs.Variables.{mirrored, reaching_entry, MayReachEntry, number_check, asked, entry_check}
+use Rattle.dcx_bound.specs.Variables.{mirrored, reaching_entry, number_check, asked, entry_check}
 
 -- what is asked of entries, of one kind of variable
 abbrev pub AllPass : Attribute → Sides → List Frac → ℕ → Type 0

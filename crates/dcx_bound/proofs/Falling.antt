@@ -15,7 +15,6 @@ use Rattle.dcx_tree.specs.Nodes.{Node}
 use Rattle.dcx_tree.specs.Values.{array_at}
 use Rattle.dcx_collect.specs.declared.collected.Reached.{Reached}
 use Rattle.dcx_collect.specs.declared.stop.CollectStop.{CollectStop}
-use Rattle.dcx_collect.specs.declared.stop.CollectStop.TheVariants as stops
 use Rattle.dcx_collect.specs.Starts.{start_of}
 use Rattle.dcx_collect.specs.Multipliers.{start_table}
 use Rattle.dcx_collect.specs.Pass.{Kept, begin, or_passes, handed, with_below, with_total, counted, reached_if, node_reached, node_shares, passed, step, then_on, pass_down}

@@ -1,12 +1,10 @@
 -- A problem has one list of the values of the nodes without a variable below them.
 use Rattle.std.proofs.Common.{◌≡◌, ℕ, zero, suc, ◌<◌, arith, Bool, true, false, List, [], ◌∷◌, length, get_or, Option, Some, None, option_map, refl, sym, ap, ap₂, ◌∙◌, subst}
-use Rattle.std.specs.List.{slice_get}
 use Rattle.std.proofs.Math.Logic.{∥∥₁_elim}
 use Rattle.std.proofs.lemmas.Option.{none-some, same_Some, slice_get-map}
 use Rattle.dcx_math.proofs.Orders.{≡ℚ_prop}
 use Rattle.dcx_frac.specs.declared.fraction.Frac.{Frac}
 use Rattle.dcx_frac.proofs.Parts.{value_injective}
-use Rattle.dcx_shape.specs.Shape.{sides_of}
 use Rattle.dcx_shape.specs.Sides.{entries_of}
 use Rattle.dcx_atom.specs.declared.array.Array.{Array}
 use Rattle.dcx_atom.specs.Arrays.{number_at}
@@ -22,7 +20,7 @@ use Rattle.dcx_tree.specs.Problems.{IsListed, AreDeclared}
 use Rattle.dcx_tree.specs.Meaning.{names_in, convex_problem, value_at, setting_of, point_of}
 use Rattle.dcx_tree.specs.Values.{IsNamed, AreNamed, IsValueOf, array_at}
 use Rattle.dcx_tree.proofs.Sublists.{contains_at}
-use Rattle.dcx_bound.specs.Fixed.{HasValue, AreFixedValues}
+use Rattle.dcx_bound.specs.Fixed.{AreFixedValues}
 
 -- ---- a value's numbers are those of its node
 call_named : (p : Problem) (call : Call) → IsListed p.variables p.parameters call → IsNamed (names_in p) call

@@ -20,19 +20,17 @@ use Rattle.dcx_unknowns.specs.Unknowns.{demanded, sides_in}
 use Rattle.dcx_collect.specs.declared.collected.Reached.{Reached}
 use Rattle.dcx_collect.specs.declared.stop.CollectStop.{CollectStop}
 use Rattle.dcx_collect.specs.Pass.{Kept}
-use Rattle.dcx_sections.specs.declared.weights.NodeWeights.{NodeWeights}
 use Rattle.dcx_sections.specs.declared.fault.CertFault.{CertFault}
 use Rattle.dcx_sections.specs.declared.fault.CertFault.TheVariants as faults
-use Rattle.dcx_faults.specs.Checks.{Check, nothing}
+use Rattle.dcx_faults.specs.Checks.{Check}
 use Rattle.dcx_faults.specs.Laws.{IsSettled}
 use Rattle.dcx_faults.proofs.Settled.{settled_together, two, many}
 use Rattle.dcx_values.specs.Forming.{forming_fixed}
 use Rattle.dcx_bound.specs.Refusal.{refused}
-use Rattle.dcx_bound.specs.Fixed.{AreFixedValues}
 use Rattle.dcx_bound.specs.Weights.{weights_at}
 use Rattle.dcx_bound.specs.Collecting.{collected, fault_of}
-use Rattle.dcx_bound.specs.Variables.{reaching, reaching_entry, MayReachEntry, MayNotReachEntry, number_check, asked, entry_check, variable_check, variables_check}
-use Rattle.dcx_bound.specs.Checks.{total_check, slopes_check, shown_by, shown_with, with_fixed, bound_checks}
+use Rattle.dcx_bound.specs.Variables.{reaching, reaching_entry, MayReachEntry, MayNotReachEntry, number_check, asked, entry_check, variable_check}
+use Rattle.dcx_bound.specs.Checks.{total_check, slopes_check, shown_by, shown_with, with_fixed}
 use Rattle.dcx_bound.specs.Laws.{BoundsAreSettled}
 use Rattle.dcx_bound.proofs.OneTable.{one_table}
 

@@ -1,7 +1,7 @@
 -- In an accepted problem a call with a variable below it may hand its coefficients on: of a product and a quotient one side is known.
 use Rattle.std.proofs.Common.{◌≡◌, ◌⊎◌, inl, inr, IsSome, ℕ, ◌<◌, arith, Bool, true, false, IsTrue, List, [], ◌∷◌, length, map, get_or, Option, Some, None, option_map, refl, sym, ap, ◌∙◌, subst}
 use Rattle.std.specs.Prelude.{◌&&◌, ◌||◌, slice_index}
-use Rattle.std.specs.List.{slice_get, list_all}
+use Rattle.std.specs.List.{list_all}
 use Rattle.std.proofs.lemmas.Bool.{false≢true, and_parts, or_cases}
 use Rattle.std.proofs.lemmas.List.{length-map}
 use Rattle.std.proofs.lemmas.Option.{none-some, slice_get-map, slice_get_within}
@@ -26,7 +26,7 @@ use Rattle.dcx_call.specs.declared.call.Call.{Call}
 use Rattle.dcx_call.specs.declared.call.Call.TheVariants as calls
 use Rattle.dcx_call.specs.Calls.{shape_of, sides_of_two}
 use Rattle.dcx_tree.specs.declared.problem.Problem.{Problem}
-use Rattle.dcx_tree.specs.Nodes.{Names, Node, arg_sides, head_of, convex_node, pairing_call}
+use Rattle.dcx_tree.specs.Nodes.{Node, arg_sides, head_of, convex_node, pairing_call}
 use Rattle.dcx_tree.specs.Meaning.{names_in, convex_problem, setting_of, point_of, IsAccepted}
 use Rattle.dcx_tree.specs.Values.{array_at}
 use Rattle.dcx_tree.proofs.Lawful.{tree_lawful}

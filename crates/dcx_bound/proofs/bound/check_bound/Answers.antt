@@ -1,5 +1,5 @@
 -- The checks in order.
-use Rattle.std.proofs.Common.{List, Option, Result, Err, sym, subst}
+use Rattle.std.proofs.Common.{List, Option, sym, subst}
 use Rattle.std.proofs.lemmas.Result.{err_from_is_err_and}
 use Rattle.dcx_atom.specs.declared.array.Array.{Array}
 use Rattle.dcx_bound.specs.Fixed.{AreFixedValues}

@@ -1,5 +1,5 @@
 -- The index tells the weights of each node.
-use Rattle.std.proofs.Common.{◌≡◌, ℕ, ◌<◌, length, sym, ap, ◌∙◌, subst}
+use Rattle.std.proofs.Common.{◌<◌, sym, ap, ◌∙◌, subst}
 use Rattle.dcx_bound.specs.Weights.{indexed_at, weights_at}
 use Rattle.dcx_bound.proofs.OtherWeights.{collected_same, fault_told}
 use Rattle.dcx_bound.proofs.collecting.collect_all.Goals as goal

@@ -1,5 +1,5 @@
 -- At first no weights are indexed; the place of the next ones is put at their node.
-use Rattle.std.proofs.Common.{◌≡◌, ◌-◌, ◌<◌, arith, length, drop, get_or, replicate, sym, ap, ◌∙◌, subst}
+use Rattle.std.proofs.Common.{◌≡◌, ◌-◌, ◌<◌, length, drop, get_or, replicate, sym, ap, ◌∙◌, subst}
 use Rattle.std.proofs.lemmas.List.{length-replicate, length-set}
 use Rattle.std.proofs.lemmas.Option.{slice_get-get_or}
 use Rattle.dcx_bound.specs.Weights.{weights_at}
