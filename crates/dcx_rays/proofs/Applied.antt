@@ -1,7 +1,7 @@
 -- The call of a node as it is read, at the arrays at which it is taken.
-use Rattle.std.proofs.Common.{◌≡◌, ℕ, List, map, All, Option, Some, slice_get, sym, ap, ◌∙◌, subst}
+use Rattle.std.proofs.Common.{◌≡◌, ℕ, List, map, All, Option, Some, slice_get, sym, ap, ◌∙◌, subst, zero, suc, [], ◌∷◌, false, if◌then◌else◌, length, get_or, arith, inl, inr, ◌<◌, Bool, IsSome, refl}
 use Rattle.std.specs.Prelude.{IsFalse, IfSome, Bool}
-use Rattle.std.proofs.lemmas.Option.{same_Some}
+use Rattle.std.proofs.lemmas.Option.{same_Some, none-some}
 use Rattle.dcx_frac.specs.declared.fraction.Passes.{Passes}
 use Rattle.dcx_shape.specs.declared.shape.Sides.{Sides}
 use Rattle.dcx_shape.specs.Shape.{sides_of}
@@ -15,6 +15,7 @@ use Rattle.dcx_arena.specs.Nodes.{IsNode, call_at, args_at, sides_at}
 use Rattle.dcx_convex.specs.Rules.{Plain, argument, judgement_at}
 use Rattle.dcx_call.specs.declared.attribute.Variable.{Variable}
 use Rattle.dcx_call.specs.declared.call.Call.{Call}
+use Rattle.dcx_call.specs.declared.call.Call.TheVariants as calls
 use Rattle.dcx_call.specs.Calls.{shape_of}
 use Rattle.dcx_call.specs.Values as call_values
 use Rattle.dcx_call.specs.Values.{HasArray, IsGiven, IsValue}
@@ -25,10 +26,54 @@ use Rattle.dcx_tree.specs.Meaning.{convex_problem, IsAccepted, IsFitting}
 use Rattle.dcx_tree.proofs.Names.{found_in}
 use Rattle.dcx_tree.proofs.NodeValues.{args_are, sides_are}
 use Rattle.dcx_sections.specs.declared.fault.CertFault.TheVariants.{Wide}
-use Rattle.dcx_rays.specs.Steepness.{is_fixed, value_side, is_first_fixed, IsSteepness, IsUnformed, IsKnown, AreReady, AreArguments, TakesArguments}
-use Rattle.dcx_rays.proofs.Known.{node_given}
+use Rattle.dcx_rays.specs.Steepness.{is_fixed, value_side, is_first_fixed, IsSteepness, IsUnformed, IsKnown, AreReady, AreArguments, TakesArguments, is_side, fixed_value, steepness_at, IsArgument}
+use Rattle.dcx_rays.proofs.Known.{node_given, only_moves}
 use Rattle.dcx_rays.proofs.Steep.{shape_is, steepness_is, passes_is, divides_first}
+use Rattle.dcx_arena.proofs.Unfolds.{node_there}
+use Rattle.dcx_tree.specs.Values.{array_at}
 use Rattle.dcx_rays.proofs.Ready.{never_divides, ready}
+
+-- ---- an only argument
+one_of : (xs : List ℕ) → length xs ≡ 1 → xs ≡ get_or xs 0 0 ∷ []
+one_of [] e = absurd (omega (arith, e))
+one_of (x ∷ []) e = refl
+one_of (x ∷ y ∷ xs) e = absurd (omega (arith, e))
+
+-- no product or quotient has it
+no_side : (call : Call) (s sides : Sides) (first : Bool) → shape_of call (s ∷ []) ≡ Some sides → is_side (value_side call first) 0 ≡ false
+no_side (calls.Variable v) s sides first e = refl
+no_side (calls.Parameter q) s sides first e = refl
+no_side (calls.Constant x) s sides first e = refl
+no_side (calls.Atom m) s sides first e = refl
+no_side (calls.Linear l) s sides first e = refl
+no_side (calls.Pairing q) s sides first e = absurd (none-some sides e)
+
+module _ (p : Problem) (setting ray : Pairs) where
+  only_argument : (side : Option ℕ) (a : ℕ) (v : Array) → is_side side 0 ≡ false → IsSteepness p setting ray a v → AreArguments p setting ray side (a ∷ []) (v ∷ [])
+  only_argument side a v none is = record { count = refl; each = by }
+    where
+      own : IsArgument p setting ray (is_side side 0) a v
+      own = record { shape = is.shape; numbers = λ j. is.numbers j ∙ ap (λ (b : Bool). (if b then fixed_value p setting a else steepness_at p setting ray a) j) (sym none) }
+
+      by : (k b : ℕ) (w : Array) → slice_get (a ∷ []) k ≡ Some b → slice_get (v ∷ []) k ≡ Some w → IsArgument p setting ray (is_side side k) b w
+      by zero b w e f = subst (λ z. IsArgument p setting ray (is_side side 0) z w) (same_Some a b e) (subst (IsArgument p setting ray (is_side side 0) a) (same_Some v w f) own)
+      by (suc k) b w e f = absurd (none-some b e)
+
+  -- a node is taken at the steepness of its only argument
+  pub only_takes : (i : ℕ) (ids : List ℕ) (v : Array) → ids ≡ args_at p.tree i → length ids ≡ 1 → IsSteepness p setting ray (get_or ids 0 0) v → TakesArguments p setting ray i (v ∷ [])
+  only_takes i ids v its one is m there =
+      let own : m.args ≡ get_or ids 0 0 ∷ [] = sym (its ∙ args_are p.tree i m there) ∙ one_of ids one in
+      let none = no_side m.call (sides_at p.tree (get_or ids 0 0)) m.sides (is_first_fixed p m) (subst (λ xs. shape_of m.call (map (sides_at p.tree) xs) ≡ Some m.sides) own (p.nodes.shaped i m there)) in
+      subst (λ xs. AreArguments p setting ray (value_side m.call (is_first_fixed p m)) xs (v ∷ [])) (sym own) (only_argument (value_side m.call (is_first_fixed p m)) (get_or ids 0 0) v none is)
+
+  -- and it has a variable below it, as the node has
+  pub only_kept : (i : ℕ) → i < length p.tree → IsFalse (is_fixed p i) → (arrays : List (Option Array)) (ids : List ℕ) → ids ≡ args_at p.tree i → length ids ≡ 1 → All (IsKnown p arrays) ids →
+      IsSome (array_at arrays (get_or ids 0 0))
+  only_kept i below moves arrays ids its one known = by (known 0 0 (omega (arith, one)))
+    where
+      by : IsKnown p arrays (get_or ids 0 0) → IsSome (array_at arrays (get_or ids 0 0))
+      by (inl t) = let (n, at) = node_there p.tree i below in absurd (only_moves p i n at moves (get_or ids 0 0) (sym (its ∙ args_are p.tree i n at) ∙ one_of ids one) t)
+      by (inr some) = some
 
 module _ (p : Problem) (setting ray : Pairs) (i : ℕ) (call : Call) (read : call_at p.tree i ≡ Some call) (moves : IsFalse (is_fixed p i)) where
   pub applied_given : All (λ (v : Variable). HasArray ray v.name (sides_of v.shape)) p.variables → IsGiven call setting ray

@@ -1,6 +1,6 @@
 -- What is known of a problem's nodes: their calls as the rules read them, and what a ray gives their variables.
-use Rattle.std.proofs.Common.{◌≡◌, ℕ, true, false, List, map, All, Option, Some, None, option_map, slice_get, refl, sym, ap, subst, ◌∙◌, true≢false, [], ◌∷◌, inl, inr}
-use Rattle.std.specs.Prelude.{IsTrue, IsFalse}
+use Rattle.std.proofs.Common.{◌≡◌, ℕ, true, false, List, map, All, Option, Some, None, option_map, slice_get, refl, sym, ap, subst, ◌∙◌, true≢false, [], ◌∷◌, inl, inr, length, arith}
+use Rattle.std.specs.Prelude.{IsTrue, IsFalse, ◌&&◌}
 use Rattle.std.proofs.Props.{props}
 use Rattle.std.proofs.Math.Logic.{∥∥₁_elim}
 use Rattle.std.proofs.lemmas.Option.{none-some, same_Some, slice_get-map, slice_get_within, get_or_from_slice_get}
@@ -13,7 +13,7 @@ use Rattle.dcx_shape.specs.declared.shape.Sides.{Sides}
 use Rattle.dcx_shape.specs.Shape.{sides_of}
 use Rattle.dcx_atom.specs.declared.array.Array.{Array}
 use Rattle.dcx_point.specs.Pairs.{Pairs, array_of}
-use Rattle.dcx_arena.specs.Nodes.{IsNode, args_at}
+use Rattle.dcx_arena.specs.Nodes.{IsNode, args_at, sides_at}
 use Rattle.dcx_arena.specs.Gather.{has}
 use Rattle.dcx_arena.proofs.Orders.{head_or}
 use Rattle.dcx_convex.specs.Nodes as convex
@@ -119,6 +119,23 @@ module _ (p : Problem) where
       by : (o : Option Node) → slice_get p.tree i ≡ o → has (unwrap_or (option_map (λ n. n.args) o) []) a ≡ true → IsTrue (is_fixed p a)
       by None e g = absurd (cc)
       by (Some n) e g = call_fixed n n.call (p.nodes.shaped i n e) (sym (fixed_call i n e) ∙ t) a g
+
+  -- an only argument that has no variable below it
+  call_only : (call : Call) (args : List Sides) (sides : Sides) (g : Judgement) → MayMove call → shape_of call args ≡ Some sides → length args ≡ 1 → g.fixed ≡ true → fixed_by (head_of (names_in p) call args sides) (g ∷ []) ≡ true
+  call_only (calls.Variable v) [] sides g may shape one t = absurd (omega (arith, one))
+  call_only (calls.Variable v) (s ∷ args) sides g may shape one t = absurd (none-some sides shape)
+  call_only (calls.Parameter q) args sides g may shape one t = absurd may
+  call_only (calls.Constant x) args sides g may shape one t = absurd may
+  call_only (calls.Atom m) args sides g may shape one t = ap (λ b. b && true) t
+  call_only (calls.Linear m) args sides g may shape one t = ap (λ b. b && true) t
+  call_only (calls.Pairing m) args sides g may shape one t = ap (λ b. b && true) t
+
+  pub only_moves : (i : ℕ) (n : Node) → IsNode p.tree i n → IsFalse (is_fixed p i) → (a : ℕ) → n.args ≡ a ∷ [] → IsTrue (is_fixed p a) → ⊥
+  only_moves i n at moves a own t =
+      let count : length (arg_sides p.tree n) ≡ 1 = ap (λ xs. length (map (sides_at p.tree) xs)) own in
+      let fixed = call_only n.call (arg_sides p.tree n) n.sides (judgement_at Plain (convex_problem p).nodes a) (may_move i n at moves) (p.nodes.shaped i n at) count t in
+      let told = fixed_call i n at ∙ ap (λ xs. fixed_by (head_of (names_in p) n.call (arg_sides p.tree n) n.sides) (map (judgement_at Plain (convex_problem p).nodes) xs)) own ∙ fixed in
+      true≢false (sym told ∙ moves)
 
   -- ---- what a ray gives
   module _ (setting ray : Pairs) (shaped : All (λ (v : Variable). HasArray ray v.name (sides_of v.shape)) p.variables) where

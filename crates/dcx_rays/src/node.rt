@@ -18,6 +18,7 @@ use dcx_sections::CertFault;
 use dcx_shape::Shape;
 use dcx_tree::NodeId;
 use std::alloc::{AllocError, Global};
+use std::slice;
 
 /// Zeros in this shape.
 fn zeros(alloc: Global, shape: Shape) -> Result<Array, AllocError>
@@ -142,7 +143,8 @@ fn apply(alloc: Global, along: &Along, node: NodeId, args: &[Array]) -> Result<A
     }
 }
 
-/// The steepness of a node that has a variable below it, from what is known of its arguments.
+/// The steepness of a node that has a variable below it, from what is known of its arguments. An only argument is read in its
+/// place. Several are copied, which takes no more steps than their call, which reads them all.
 pub(crate) fn form(
     alloc: Global,
     along: &Along,
@@ -161,6 +163,10 @@ pub(crate) fn form(
         Ok(ids) => ids,
         Err(_) => return Err(CertFault::Memory),
     };
+    if ids.len() == 1 {
+        let only = slice::from_ref(kept(arrays, ids[0]));
+        return apply(alloc, along, node, only);
+    }
     let side = value_side(along.problem.tree.call(node), is_first_fixed(along, &ids));
     match arguments(alloc, along, arrays, side, &ids) {
         Ok(args) => apply(alloc, along, node, &args),
