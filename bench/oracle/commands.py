@@ -2,6 +2,7 @@
 import re
 
 from . import report
+from .certifying import CertRefused, certificate, certify, migrate
 from .elaborate import elaborate
 from .faults import Refused, Stopped
 from .grammar import parse
@@ -12,7 +13,8 @@ from .tokens import text_of, tokens_of
 from .values import Array
 
 MOST_PIVOTS = 200_000
-OPERANDS = {"check": 1, "solve": 1, "resolve": 2, "trial": 1}
+OPERANDS = {"check": 1, "solve": 1, "resolve": 2, "certificate": 2, "certify": 3, "trial": 1, "migrate": 3}
+WITHOUT_LIMIT = ("check", "certify", "migrate")
 
 
 class Usage(Exception):
@@ -37,7 +39,7 @@ def plain_form(words):
     rest = iter(words[1:])
     for word in rest:
         is_option = word == "--max-pivots" or word.startswith("--max-pivots=")
-        if is_option and command != "check":
+        if is_option and command not in WITHOUT_LIMIT:
             if limit is not None:
                 raise Usage
             limit = pivots(word.partition("=")[2] if "=" in word else next(rest, ""))
@@ -111,9 +113,24 @@ def run_command(command, operands, limit, fetch):
     if command == "solve":
         ends = ends_of(accepted, accepted.events, limit)
         return status_of(ends), report.solved(accepted.problem, "solve", ends)
-    lines = settings_of(fetch(operands[1]))
-    ends = ends_of(accepted, [laid_over(accepted.last, line) for line in lines], limit)
-    return status_of(ends), report.solved(accepted.problem, "setting", ends)
+    settings = [laid_over(accepted.last, line) for line in settings_of(fetch(operands[1]))]
+    if command == "resolve":
+        ends = ends_of(accepted, settings, limit)
+        return status_of(ends), report.solved(accepted.problem, "setting", ends)
+    if command == "certificate":
+        return certificate(accepted, settings, limit)
+    return with_certificate({"certify": certify, "migrate": migrate}[command], accepted.problem, settings, fetch(operands[2]))
+
+
+class CertificateRefused(Refused):
+    pass
+
+
+def with_certificate(act, problem, settings, data):
+    try:
+        return act(problem, settings, data)
+    except Refused as refused:
+        raise CertificateRefused(refused.kind, refused.place, refused.carried) from None
 
 
 class SettingsRefused(Refused):
@@ -146,5 +163,9 @@ def run(words, fetch):
         return 3, "fault read\n"
     except SettingsRefused as refused:
         return 1, refused.text("settings")
+    except CertificateRefused as refused:
+        return 1, refused.text("certificate")
+    except CertRefused as refused:
+        return 7, refused.text()
     except Refused as refused:
         return 1, refused.text("script")

@@ -5,7 +5,7 @@ from .numbers import number
 
 USAGE = (
     "usage: dcx check SCRIPT | solve SCRIPT | resolve SCRIPT SETTINGS | certificate SCRIPT SETTINGS | certify SCRIPT SETTINGS CERT | "
-    "trial N\n"
+    "trial N | migrate SCRIPT SETTINGS CERT\n"
 )
 SIGNS = {(True, True): "zero", (True, False): "nonneg", (False, True): "nonpos", (False, False): "unknown"}
 

@@ -1,0 +1,14 @@
+-- The lemmas.
+pub mod OneTable
+pub mod Settled
+pub mod Falling
+pub mod EachEntry
+pub mod Reaching
+pub mod Sides
+pub mod Shown
+pub mod Indexing
+pub mod ByName
+pub mod OtherWeights
+pub mod ByNode
+pub mod Stepping
+pub mod Making

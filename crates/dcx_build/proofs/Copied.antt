@@ -1,0 +1,124 @@
+-- Pairs of a name and an array that are put one after the other.
+use Rattle.std.proofs.Common.{◌≡◌, ℕ, zero, suc, ◌+◌, ◌<◌, true, false, List, [], ◌∷◌, ◌++◌, length, map, take, Option, Some, None, option_map, refl, sym, ap, ap₂, ◌∙◌, subst, true≢false, arith}
+use Rattle.std.specs.Prelude.{slice_get}
+use Rattle.std.specs.List.{AllByRecursion, IsDistinct, flat_map}
+use Rattle.std.proofs.lemmas.List.{take_more, append-nil}
+use Rattle.std.proofs.lemmas.Grind.{flat_map-append}
+use Rattle.std.proofs.lemmas.Option.{none-some, same_Some, slice_get_within, get_or_from_slice_get}
+use Rattle.dcx_atom.specs.declared.array.Array.{Array}
+use Rattle.dcx_point.specs.Pairs.{Pairs, same_name, names_of, array_of, with_array, AreDistinct}
+use Rattle.dcx_point.proofs.Puts.{same_name-refl, same_name-false, absent}
+use Rattle.dcx_call.specs.declared.attribute.Parameter.{Parameter}
+use Rattle.dcx_build.specs.Built.{value_if}
+
+-- ---- the pairs of a point
+-- the pair that has a name
+pair_at : (ps : Pairs) (i : ℕ) (name : List ℕ) → slice_get (names_of ps) i ≡ Some name → (a : Array) × (slice_get ps i ≡ Some (name, a))
+pair_at [] i name e = absurd (none-some name e)
+pair_at (p ∷ ps) zero name e = (p.1, ap (λ n. Some (n, p.1)) (same_Some p.0 name e))
+pair_at (p ∷ ps) (suc i) name e = pair_at ps i name e
+
+name_there : (ps : Pairs) (i : ℕ) → i < length ps → ¬ (slice_get (names_of ps) i ≡ None)
+name_there [] i lt e = omega arith
+name_there (p ∷ ps) zero lt e = cc
+name_there (p ∷ ps) (suc i) lt e = name_there ps i (omega arith) e
+
+all_at : (P : List ℕ → Type 0) (ps : Pairs) (i : ℕ) (x : List ℕ × Array) → AllByRecursion P (names_of ps) → slice_get ps i ≡ Some x → P x.0
+all_at P [] i x all e = absurd (none-some x e)
+all_at P (p ∷ ps) zero x all e = subst (λ (z : List ℕ × Array). P z.0) (same_Some p x e) all.0
+all_at P (p ∷ ps) (suc i) x all e = all_at P ps i x all.1 e
+
+unlike : (a b : List ℕ) → same_name a b ≡ false → same_name b a ≡ false
+unlike a b e = same_name-false b a (λ f. true≢false (sym (same_name-refl a) ∙ ap (same_name a) (sym f) ∙ e))
+
+-- its array is that of its name
+array_at : (ps : Pairs) (i : ℕ) (x : List ℕ × Array) → AreDistinct ps → slice_get ps i ≡ Some x → array_of ps x.0 ≡ Some x.1
+unfolding IsDistinct
+array_at [] i x d e = absurd (none-some x e)
+array_at (p ∷ ps) zero x d e =
+    let s : same_name x.0 p.0 ≡ true = ap (λ (z : List ℕ × Array). same_name x.0 z.0) (same_Some p x e) ∙ same_name-refl x.0 in
+    rw s (ap (λ (z : List ℕ × Array). Some z.1) (same_Some p x e))
+array_at (p ∷ ps) (suc i) x d e = let s = unlike p.0 x.0 (all_at (λ n. same_name p.0 n ≡ false) ps i x d.0 e) in rw s (array_at ps i x d.1 e)
+
+-- the pairs before it have no array of its name
+none_before : (ps : Pairs) (i : ℕ) (x : List ℕ × Array) → AreDistinct ps → slice_get ps i ≡ Some x → array_of (take i ps) x.0 ≡ None
+unfolding IsDistinct
+none_before [] i x d e = absurd (none-some x e)
+none_before (p ∷ ps) zero x d e = refl
+none_before (p ∷ ps) (suc i) x d e = let s = unlike p.0 x.0 (all_at (λ n. same_name p.0 n ≡ false) ps i x d.0 e) in rw s (none_before ps i x d.1 e)
+
+-- so it is put behind them
+put_behind : (ps : Pairs) (i : ℕ) (x : List ℕ × Array) → AreDistinct ps → slice_get ps i ≡ Some x → with_array (take i ps) x.0 x.1 ≡ take (i + 1) ps
+put_behind ps i x d e =
+    absent (take i ps) x.0 x.1 (none_before ps i x d e)
+    ∙ ap (λ y. take i ps ++ y ∷ []) (sym (get_or_from_slice_get ps i x x e)) ∙ sym (take_more ps i x (slice_get_within ps i x e))
+
+-- what is not there
+not_some : {X Y : Type 0} (f : X → Y) (o : Option X) → ((x : X) → o ≡ Some x → ⊥) → option_map f o ≡ None
+not_some f None h = refl
+not_some f (Some x) h = absurd (h x refl)
+
+module _ (ps before after : Pairs) (i : ℕ) (distinct : AreDistinct ps) (was : before ≡ take i ps) where
+  -- one more pair
+  pub pair_more : (name key : List ℕ) (a b : Array) → Some name ≡ slice_get (names_of ps) i → Some a ≡ array_of ps name → key ≡ name → b ≡ a → after ≡ with_array before key b → after ≡ take (i + 1) ps
+  pair_more name key a b named valued k e puts =
+      let (x, at) = pair_at ps i name (sym named) in
+      let same : a ≡ x = same_Some a x (valued ∙ array_at ps i (name, x) distinct at) in
+      puts ∙ ap₂ (with_array before) k (e ∙ same) ∙ ap (λ z. with_array z name x) was ∙ put_behind ps i (name, x) distinct at
+
+  -- each name that is there has its array
+  pub no_array : {X : Type 0} (f : X → Array) (o : Option X) (name : List ℕ) → Some name ≡ slice_get (names_of ps) i → option_map f o ≡ array_of ps name → ((x : X) → o ≡ Some x → ⊥) → after ≡ take (i + 1) ps
+  no_array f o name named valued none =
+      let (x, at) = pair_at ps i name (sym named) in
+      absurd (none-some x (sym (not_some f o none) ∙ valued ∙ array_at ps i (name, x) distinct at))
+
+  -- and each place has its name
+  pub no_name : {X : Type 0} (f : X → List ℕ) (o : Option X) → i < length ps → option_map f o ≡ slice_get (names_of ps) i → ((x : X) → o ≡ Some x → ⊥) → after ≡ take (i + 1) ps
+  no_name f o lt named none = absurd (name_there ps i lt (sym named ∙ not_some f o none))
+
+-- ---- the values of parameters
+-- the array of a parameter, and those of parameters in order
+abbrev pub value_of : Pairs → Parameter → Pairs
+value_of setting q = value_if q.name (array_of setting q.name)
+
+module _ (setting : Pairs) where
+  -- names apart have no array
+  apart : (name : List ℕ) (q : Parameter) (rest : Pairs) → same_name name q.name ≡ false → array_of rest name ≡ None → array_of (value_of setting q ++ rest) name ≡ None
+  apart name q rest s none = by (array_of setting q.name)
+    where
+      by : (o : Option Array) → array_of (value_if q.name o ++ rest) name ≡ None
+      by None = none
+      by (Some x) = rw s none
+
+  name_apart : (qs : List Parameter) (i : ℕ) (q : Parameter) (P : List ℕ → Type 0) → AllByRecursion P (map (λ x. x.name) qs) → slice_get qs i ≡ Some q → P q.name
+  name_apart [] i q P all e = absurd (none-some q e)
+  name_apart (p ∷ qs) zero q P all e = subst (λ (z : Parameter). P z.name) (same_Some p q e) all.0
+  name_apart (p ∷ qs) (suc i) q P all e = name_apart qs i q P all.1 e
+
+  -- the values of the parameters before one have none of its name
+  unvalued : (qs : List Parameter) (i : ℕ) (q : Parameter) → IsDistinct same_name (map (λ x. x.name) qs) → slice_get qs i ≡ Some q → array_of (flat_map (value_of setting) (take i qs)) q.name ≡ None
+  unfolding IsDistinct
+  unvalued [] i q d e = absurd (none-some q e)
+  unvalued (p ∷ qs) zero q d e = refl
+  unvalued (p ∷ qs) (suc i) q d e =
+      apart q.name p (flat_map (value_of setting) (take i qs)) (unlike p.name q.name (name_apart qs i q (λ n. same_name p.name n ≡ false) d.0 e)) (unvalued qs i q d.1 e)
+
+  module _ (qs : List Parameter) (i : ℕ) (q : Parameter) (distinct : IsDistinct same_name (map (λ x. x.name) qs)) (at : slice_get qs i ≡ Some q) (before after : Pairs) (was : before ≡ flat_map (value_of setting) (take i qs)) where
+    next_is : flat_map (value_of setting) (take (i + 1) qs) ≡ flat_map (value_of setting) (take i qs) ++ value_of setting q
+    next_is =
+        ap (flat_map (value_of setting)) (take_more qs i q (slice_get_within qs i q at) ∙ ap (λ y. take i qs ++ y ∷ []) (get_or_from_slice_get qs i q q at))
+        ∙ flat_map-append (value_of setting) (take i qs) (q ∷ [])
+        ∙ ap (λ y. flat_map (value_of setting) (take i qs) ++ y) (append-nil (value_of setting q))
+
+    -- one more value
+    pub value_more : (key : List ℕ) (a b : Array) → Some a ≡ array_of setting q.name → key ≡ q.name → b ≡ a → after ≡ with_array before key b → after ≡ flat_map (value_of setting) (take (i + 1) qs)
+    value_more key a b valued k e puts =
+        puts ∙ ap₂ (with_array before) k e ∙ ap (λ z. with_array z q.name a) was
+        ∙ absent (flat_map (value_of setting) (take i qs)) q.name a (unvalued qs i q distinct at)
+        ∙ ap (λ o. flat_map (value_of setting) (take i qs) ++ value_if q.name o) valued ∙ sym next_is
+
+    -- or none
+    pub value_none : {X : Type 0} (f : X → Array) (o : Option X) → option_map f o ≡ array_of setting q.name → ((x : X) → o ≡ Some x → ⊥) → after ≡ before → after ≡ flat_map (value_of setting) (take (i + 1) qs)
+    value_none f o valued none same =
+        same ∙ was ∙ sym (append-nil (flat_map (value_of setting) (take i qs)))
+        ∙ ap (λ t. flat_map (value_of setting) (take i qs) ++ value_if q.name t) (sym (not_some f o none) ∙ valued) ∙ sym next_is

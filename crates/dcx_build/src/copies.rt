@@ -1,0 +1,51 @@
+//! Copies of points and multipliers, and of a setting in the order in which its parameters are declared.
+ghost use Rattle.std.specs.Prelude.{◌≡◌, IfOk};
+ghost use Rattle.dcx_build.specs.Built.{values_in};
+
+use dcx_answer::Duals;
+use dcx_call::{copy_array, copy_name};
+use dcx_point::{Point, Setting};
+use dcx_tree::Problem;
+use std::alloc::{AllocError, Global};
+
+/// The same point again.
+pub(crate) fn copy_point(alloc: Global, point: &Point) -> Result<Point, AllocError>
+    ensures { IfOk result (λ x. x ≡ point.now) }
+{
+    let mut copy = Point::empty(alloc);
+    for i in 0..point.len() {
+        if let Some(name) = point.name_at(i) {
+            if let Some(array) = point.get(name) {
+                copy.put(copy_name(alloc, name)?, copy_array(alloc, array)?)?;
+            }
+        }
+    }
+    Ok(copy)
+}
+
+/// The same multipliers again.
+pub(crate) fn copy_duals(alloc: Global, duals: &Duals) -> Result<Duals, AllocError>
+    ensures { IfOk result (λ d. d ≡ duals.now) }
+{
+    let mut copies = Vec::new(alloc);
+    'arrays: for array in duals.as_slice() {
+        copies.push(copy_array(alloc, array)?)?;
+    }
+    Ok(Duals::from_vec(copies))
+}
+
+/// The arrays that a setting gives the parameters of a problem, in order of declaration. Fails only for want of memory.
+pub fn values_of(alloc: Global, problem: &Problem, setting: &Setting) -> Result<Setting, AllocError>
+    ensures { IfOk result (λ s. s ≡ values_in problem.now setting.now) }
+{
+    let mut values = Setting::empty(alloc);
+    'parameters: for parameter in problem.parameters.as_slice() {
+        if let Some(array) = setting.get(&parameter.name) {
+            values.put(
+                copy_name(alloc, &parameter.name)?,
+                copy_array(alloc, array)?,
+            )?;
+        }
+    }
+    Ok(values)
+}

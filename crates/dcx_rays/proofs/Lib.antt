@@ -1,0 +1,12 @@
+-- The lemmas.
+pub mod Settled
+pub mod Shown
+pub mod Known
+pub mod Steep
+pub mod Ready
+pub mod Marking
+pub mod Comparing
+pub mod Tables
+pub mod Applied
+pub mod Below
+pub mod Turns

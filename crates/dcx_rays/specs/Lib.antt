@@ -1,0 +1,4 @@
+-- What the contracts of this crate cite.
+pub mod Steepness
+pub mod Rays
+pub mod Laws

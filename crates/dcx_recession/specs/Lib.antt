@@ -1,0 +1,4 @@
+-- What the laws of this crate cite.
+pub mod Steepness
+pub mod Rays
+pub mod Laws

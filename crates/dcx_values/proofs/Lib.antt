@@ -1,0 +1,10 @@
+-- The lemmas.
+pub mod Known
+pub mod Settling
+pub mod Keeping
+pub mod Marking
+pub mod Fixed
+pub mod Nonzero
+pub mod Comparing
+pub mod Weaker
+pub mod Dividing
