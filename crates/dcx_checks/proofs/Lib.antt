@@ -1,0 +1,8 @@
+-- The lemmas.
+pub mod Stub
+pub mod Steps
+pub mod Demands
+pub mod Settled
+pub mod Sound
+pub mod Given
+pub mod Values
