@@ -5,4 +5,4 @@ pub mod Demands
 pub mod Settled
 pub mod Sound
 pub mod Given
-pub mod Values
+pub mod Sides

@@ -1,6 +1,7 @@
 -- Each check tells one thing.
 use Rattle.std.proofs.Common.{◌≡◌, ℕ, List, Option, Some, None, sym, ap, ◌∙◌}
-use Rattle.dcx_math.specs.Rational.{ℚ}
+use Rattle.dcx_math.specs.Rational.{ℚ, ◌≤ℚ◌}
+use Rattle.dcx_frac.specs.Frac.{value}
 use Rattle.dcx_frac.specs.declared.fraction.Frac.{Frac}
 use Rattle.dcx_shape.specs.declared.shape.Shape.{Shape}
 use Rattle.dcx_shape.specs.Shape.{sides_of}
@@ -13,7 +14,7 @@ use Rattle.dcx_tree.specs.declared.constraint.Constraint.{Constraint}
 use Rattle.dcx_tree.specs.declared.problem.Problem.{Problem}
 use Rattle.dcx_fit.proofs.First.{stops_hold}
 use Rattle.dcx_sections.specs.declared.fault.CertFault.{CertFault}
-use Rattle.dcx_sections.specs.declared.fault.CertFault.TheVariants.{Fit}
+use Rattle.dcx_sections.specs.declared.fault.CertFault.TheVariants as faults
 use Rattle.dcx_faults.specs.Checks.{Check, each_below}
 use Rattle.dcx_faults.specs.Laws.{IsSettled}
 use Rattle.dcx_faults.proofs.Settled.{settled_together}
@@ -30,7 +31,7 @@ demands_settled n met fault = settled_together.many n (λ j. demand (met j) (fau
 fit_settled : (p : Problem) (setting : Pairs) → IsSettled (checks.parameters_fit p setting)
 fit_settled p setting = record {
   apart = λ f fits e. stops_hold.unfit p.parameters setting e.stop e.first fits;
-  one = λ f g e h. e.told ∙ ap (λ stop. Fit stop) (stops_hold.one p.parameters setting e.stop h.stop e.first h.first e.is_stop h.is_stop) ∙ sym h.told;
+  one = λ f g e h. e.told ∙ ap (λ stop. faults.Fit stop) (stops_hold.one p.parameters setting e.stop h.stop e.first h.first e.is_stop h.is_stop) ∙ sym h.told;
 }
 
 setting_settled : (p : Problem) (told : Option Pairs) (setting : Pairs) → IsSettled (checks.setting_is p told setting)
@@ -50,11 +51,11 @@ pub checks_settled : AreSettled
 checks_settled = record {
   setting_fits = λ p setting. settled_together.two _ _ (fit_settled p setting) (settled_here.divisors p setting);
   setting_is = setting_settled;
-  point_inside = λ p point. in_settled p.variables _ (variables_settled _ point);
-  ray_inside = λ p ray. in_settled p.variables _ (variables_settled _ ray);
+  point_inside = λ p point. in_settled p.variables (checks.variable_inside (λ k j x. faults.Domain k j x) point) (variables_settled (λ k j x. faults.Domain k j x) point);
+  ray_inside = λ p ray. in_settled p.variables (checks.variable_inside (λ k j x. faults.RayDomain k j x) ray) (variables_settled (λ k j x. faults.RayDomain k j x) ray);
   constraints_hold = λ p setting point. in_settled p.constraints (checks.constraint_holds p setting point) (constraint_settled p setting point);
-  value_is = λ p setting point stated. objective_settled p setting point _ _;
-  start_bounded = λ p setting point bound. objective_settled p setting point _ _;
+  value_is = λ p setting point stated. objective_settled p setting point (λ found. found ≡ value stated) (λ found. faults.Value stated found);
+  start_bounded = λ p setting point bound. objective_settled p setting point (λ found. found ≤ℚ value bound) (λ found. faults.Bound bound found);
   duals_signed = λ p duals. in_settled p.constraints (checks.multipliers_signed duals) (λ k c. demands_settled (entries_of (sides_of c.shape)) _ _);
   gap_positive = λ gap. demand_settled _ _;
   slope_positive = λ slope. demand_settled _ _;

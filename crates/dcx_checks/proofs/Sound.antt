@@ -86,7 +86,7 @@ checks_sound = record {
   point = point_passes;
   ray = ray_passes;
   feasible = feasible;
-  value = λ p setting point stated h. h.1;
+  objective = λ p setting point stated h. h.1;
   start = λ p setting point bound h. h.1;
   multipliers = signs_pass;
 }

@@ -3,7 +3,7 @@
 -- Parameters, variables and constraints go by position, in order, and entries in row-major order, all counted from 0. Numbers
 -- that aren't given count as 0.
 use Rattle.std.specs.Prelude.{◌≡◌, ◌≢◌, ℕ, List, [], ◌∷◌, Option, Some, None, pos}
-use Rattle.dcx_math.specs.Rational.{ℚ, whole, ◌≤ℚ◌, ◌<ℚ◌}
+use Rattle.dcx_math.specs.Rational.{ℚ, whole, ◌-ℚ◌, ◌≤ℚ◌, ◌<ℚ◌}
 use Rattle.dcx_frac.specs.declared.fraction.Frac.{Frac}
 use Rattle.dcx_frac.specs.Frac.{value}
 use Rattle.dcx_shape.specs.declared.shape.Shape.{Shape}
@@ -13,7 +13,7 @@ use Rattle.dcx_atom.specs.declared.array.Array.{Array}
 use Rattle.dcx_atom.specs.Arrays.{numbers_of}
 use Rattle.dcx_atom.specs.Formed.{frac_at}
 use Rattle.dcx_point.specs.Pairs.{Pairs}
-use Rattle.dcx_convex.specs.Problems.{Holds, gap_at}
+use Rattle.dcx_convex.specs.Problems.{Holds}
 use Rattle.dcx_convex.specs.Answers.{MayMultiply}
 use Rattle.dcx_call.specs.declared.attribute.Variable.{Variable}
 use Rattle.dcx_call.specs.declared.attribute.Parameter.{Parameter}
@@ -21,7 +21,7 @@ use Rattle.dcx_call.specs.Values.{given_by}
 use Rattle.dcx_tree.specs.declared.constraint.Kind.{Kind}
 use Rattle.dcx_tree.specs.declared.constraint.Constraint.{Constraint}
 use Rattle.dcx_tree.specs.declared.problem.Problem.{Problem}
-use Rattle.dcx_tree.specs.Meaning.{relation_of, convex_constraint, convex_problem, value_at, objective_at, setting_of, point_of}
+use Rattle.dcx_tree.specs.Meaning.{relation_of, value_at, objective_at, setting_of, point_of}
 use Rattle.dcx_domain.specs.Entries.{KeepsDomainAt}
 use Rattle.dcx_answer.specs.declared.stop.Stop.{Stop}
 use Rattle.dcx_answer.specs.declared.stop.Stop.TheVariants as stops
@@ -81,14 +81,17 @@ abbrev pub ray_inside : Problem → Pairs → Check
 ray_inside p ray = each_in p.variables (variable_inside (λ k j x. faults.RayDomain k j x) ray)
 
 -- ---- the constraints hold, and the objective is as stated
--- constraint k holds at each entry
+-- so many numbers on the left and on the right stand to each other as constraint k asks, entry by entry
+abbrev pub numbers_hold : Kind → (size : ℕ) → (left right : ℕ → ℚ) → ℕ → Check
+numbers_hold kind size left right k = each_below size (λ j.
+    demand (Holds (relation_of kind) (left j -ℚ right j)) (faults.Constraint k j (frac_at (left j)) (frac_at (right j))))
+
+-- the values of both sides of constraint k do
 abbrev pub entries_hold : Problem → (setting point : Pairs) → ℕ → Constraint → Check
 entries_hold p setting point k c =
     let s = setting_of p setting in
     let x = point_of p point in
-    each_below (entries_of (sides_of c.shape)) (λ j.
-    demand (Holds (relation_of c.kind) (gap_at (convex_problem p) s x (convex_constraint c) j))
-    (faults.Constraint k j (frac_at (value_at p s x c.left.0 j)) (frac_at (value_at p s x c.right.0 j))))
+    numbers_hold c.kind (entries_of (sides_of c.shape)) (value_at p s x c.left.0) (value_at p s x c.right.0) k
 
 -- so it does, once both sides are formed
 abbrev pub constraint_holds : Problem → (setting point : Pairs) → ℕ → Constraint → Check

@@ -39,7 +39,7 @@ pub record AreSound : Type 0 where
   pub point : (p : Problem) (point : Pairs) → (point_inside p point).passes ↔ IsInDomain p (point_of p point)
   pub ray : (p : Problem) (ray : Pairs) → (ray_inside p ray).passes ↔ IsInDomain p (point_of p ray)
   pub feasible : (p : Problem) (setting point : Pairs) → (point_inside p point).passes → (constraints_hold p setting point).passes → IsFeasible p (setting_of p setting) (point_of p point)
-  pub value : (p : Problem) (setting point : Pairs) (stated : Frac) → (value_is p setting point stated).passes → objective_at p (setting_of p setting) (point_of p point) ≡ value stated
+  pub objective : (p : Problem) (setting point : Pairs) (stated : Frac) → (value_is p setting point stated).passes → objective_at p (setting_of p setting) (point_of p point) ≡ value stated
   pub start : (p : Problem) (setting point : Pairs) (bound : Frac) → (start_bounded p setting point bound).passes → objective_at p (setting_of p setting) (point_of p point) ≤ℚ value bound
   pub multipliers : (p : Problem) (duals : List Array) → (duals_signed p duals).passes ↔ AreMultipliers (convex_problem p) (numbers_of duals)
 

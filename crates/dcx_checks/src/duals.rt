@@ -1,5 +1,5 @@
 //! Whether the multipliers of inequalities are at least 0.
-ghost use Rattle.std.specs.Prelude.{◌<◌, ◌^◌, length};
+ghost use Rattle.std.specs.Prelude.{◌≡◌, ◌<◌, ◌^◌, length, slice_get};
 ghost use Rattle.std.specs.Option.{option_copied};
 ghost use Rattle.dcx_frac.specs.Frac.{value};
 ghost use Rattle.dcx_faults.specs.Checks.{Checked};
@@ -28,9 +28,19 @@ fn check_each(constraints: &[Constraint], duals: &[Array]) -> Result<(), CertFau
     ensures { Checked (each_in constraints.now (multipliers_signed duals.now)) result }
 {
     'constraints: for k in 0..constraints.len() {
-        check_multipliers(&constraints[k], k as u32, duals.get(k))?;
+        check_multipliers(&constraints[k], k as u32, array_at(duals, k))?;
     }
     Ok(())
+}
+
+/// Array `k` of a list, where it has so many.
+fn array_at(arrays: &[Array], k: usize) -> Option<&Array>
+    ensures { option_copied result ≡ slice_get arrays.now k }
+{
+    if k < arrays.len() {
+        return Some(&arrays[k]);
+    }
+    None
 }
 
 /// Whether the multipliers of a constraint have their signs.
@@ -39,7 +49,7 @@ fn check_multipliers(
     number: u32,
     multipliers: Option<&Array>,
 ) -> Result<(), CertFault>
-    ensures { Checked (entries_signed number constraint.now (number_if (option_copied multipliers))) result }
+    ensures { Checked (entries_signed number constraint.now (number_if (option_copied multipliers.entry))) result }
 {
     'entries: for entry in 0..constraint.shape.size() {
         check_multiplier(constraint.kind, number, entry, number_in(multipliers, entry))?;

@@ -15,14 +15,22 @@
 //! | the code answers what its check comes to, or that memory ran out | `check_fit`, `check_params`, `check_domain`, `check_ray_domain`, `check_constraints`, `check_value`, `check_start_bound`, `check_dual_signs`, `check_gap`, `check_descent` |
 #![tactic(auto)]
 
+mod constraints;
 mod domain;
 mod duals;
+mod fit;
+mod kept;
 pub mod laws;
 mod numbers;
+mod objective;
 mod parameters;
 mod signs;
+mod values;
 
+pub use constraints::check_constraints;
 pub use domain::{check_domain, check_ray_domain};
 pub use duals::check_dual_signs;
+pub use fit::check_fit;
+pub use objective::{check_start_bound, check_value};
 pub use parameters::check_params;
 pub use signs::{check_descent, check_gap};

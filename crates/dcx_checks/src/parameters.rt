@@ -69,7 +69,7 @@ fn check_entries(
     told: Option<&Array>,
     setting: Option<&Array>,
 ) -> Result<(), CertFault>
-    ensures { Checked (entries_are number shape (number_if (option_copied told)) (number_if (option_copied setting))) result }
+    ensures { Checked (entries_are number shape (number_if (option_copied told.entry)) (number_if (option_copied setting.entry))) result }
 {
     'entries: for entry in 0..shape.size() {
         check_entry(number, entry, number_in(told, entry), number_in(setting, entry))?;
