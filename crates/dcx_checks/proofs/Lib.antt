@@ -1,5 +1,4 @@
 -- The lemmas.
-pub mod Stub
 pub mod Steps
 pub mod Demands
 pub mod Settled

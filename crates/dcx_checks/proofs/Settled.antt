@@ -18,7 +18,7 @@ use Rattle.dcx_sections.specs.declared.fault.CertFault.TheVariants as faults
 use Rattle.dcx_faults.specs.Checks.{Check, each_below}
 use Rattle.dcx_faults.specs.Laws.{IsSettled}
 use Rattle.dcx_faults.proofs.Settled.{settled_together}
-use Rattle.dcx_checks.proofs.Stub.{settled_here}
+use Rattle.dcx_values.proofs.Settling.{settled_here}
 use Rattle.dcx_checks.specs.Demands.{demand}
 use Rattle.dcx_checks.specs.Checks as checks
 use Rattle.dcx_checks.specs.Laws.{AreSettled}

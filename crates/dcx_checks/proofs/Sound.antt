@@ -20,7 +20,7 @@ use Rattle.dcx_domain.specs.Points.{IsInside}
 use Rattle.dcx_domain.proofs.Entries.{entries_hold}
 use Rattle.dcx_domain.proofs.Points.{points_hold}
 use Rattle.dcx_fit.proofs.Misfits.{holds_at}
-use Rattle.dcx_checks.proofs.Stub.{divisors_not_zero}
+use Rattle.dcx_values.proofs.Nonzero.{divisors_hold}
 use Rattle.dcx_checks.specs.Checks as checks
 use Rattle.dcx_checks.specs.Laws.{AreSound}
 use Rattle.dcx_checks.proofs.Steps.{passed_at, passed_each}
@@ -43,15 +43,17 @@ told_alike p told setting = (
 -- ---- points
 point_passes : (p : Problem) (point : Pairs) → (checks.point_inside p point).passes ↔ IsInDomain p (point_of p point)
 point_passes p point =
-    let law = points_hold p point in
-    ((λ h. law.1 (all_of (λ v. IsInside v point) p.variables (λ k v at. (entries_hold.each v (given_by point v.name)).1 (passed_at p.variables _ h k v at)))),
-    (λ d. passed_each p.variables _ (λ k v at. (entries_hold.each v (given_by point v.name)).0 (holds_at (λ v. IsInside v point) p.variables k v (law.0 d) at))))
+    let law = points_hold p point in (
+      (λ h. law.1 (all_of (λ v. IsInside v point) p.variables (λ k v at. (entries_hold.each v (given_by point v.name)).1 (passed_at p.variables _ h k v at)))),
+      (λ d. passed_each p.variables _ (λ k v at. (entries_hold.each v (given_by point v.name)).0 (holds_at (λ v. IsInside v point) p.variables k v (law.0 d) at))),
+    )
 
 ray_passes : (p : Problem) (ray : Pairs) → (checks.ray_inside p ray).passes ↔ IsInDomain p (point_of p ray)
 ray_passes p ray =
-    let law = points_hold p ray in
-    ((λ h. law.1 (all_of (λ v. IsInside v ray) p.variables (λ k v at. (entries_hold.each v (given_by ray v.name)).1 (passed_at p.variables _ h k v at)))),
-    (λ d. passed_each p.variables _ (λ k v at. (entries_hold.each v (given_by ray v.name)).0 (holds_at (λ v. IsInside v ray) p.variables k v (law.0 d) at))))
+    let law = points_hold p ray in (
+      (λ h. law.1 (all_of (λ v. IsInside v ray) p.variables (λ k v at. (entries_hold.each v (given_by ray v.name)).1 (passed_at p.variables _ h k v at)))),
+      (λ d. passed_each p.variables _ (λ k v at. (entries_hold.each v (given_by ray v.name)).0 (holds_at (λ v. IsInside v ray) p.variables k v (law.0 d) at))),
+    )
 
 -- ---- constraints
 -- what holds of each entry of each constraint, and of each row of the problem
@@ -69,7 +71,7 @@ feasible : (p : Problem) (setting point : Pairs) → (checks.point_inside p poin
 feasible p setting point inside hold = record {
   domain = (point_passes p point).0 inside;
   holds = rows_from p (λ k c j. Holds c.relation (gap_at (convex_problem p) (setting_of p setting) (point_of p point) c j))
-    (λ k c at j lt. (passed_at p.constraints (checks.constraint_holds p setting point) hold k c at).1 j lt);
+      (λ k c at j lt. (passed_at p.constraints (checks.constraint_holds p setting point) hold k c at).1 j lt);
 }
 
 signs_pass : (p : Problem) (duals : List Array) → (checks.duals_signed p duals).passes ↔ AreMultipliers (convex_problem p) (numbers_of duals)
@@ -81,7 +83,7 @@ signs_pass p duals = (
 pub checks_sound : AreSound
 unfolding Told
 checks_sound = record {
-  fitting = λ p setting accepted h. divisors_not_zero.fitting p setting accepted h.0 h.1;
+  fitting = λ p setting accepted h. divisors_hold.fitting p setting accepted h.0 h.1;
   told = told_alike;
   point = point_passes;
   ray = ray_passes;

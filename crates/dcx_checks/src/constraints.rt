@@ -12,7 +12,7 @@ use dcx_atom::Array;
 use dcx_point::{Point, Setting};
 use dcx_sections::CertFault;
 use dcx_tree::{Constraint, Kind, Problem};
-use crate::values::{Values, first_broken};
+use dcx_values::{Values, first_broken};
 use std::alloc::Global;
 
 /// Whether each constraint holds at a point. The values of one constraint after the other are formed and compared:
@@ -32,7 +32,15 @@ pub fn check_constraints(
 {
     let constraints = problem.constraints.as_slice();
     'constraints: for k in 0..constraints.len() {
-        check_constraint(alloc, problem, &constraints[k], k as u32, point, setting, values)?;
+        check_constraint(
+            alloc,
+            problem,
+            &constraints[k],
+            k as u32,
+            point,
+            setting,
+            values,
+        )?;
     }
     Ok(())
 }

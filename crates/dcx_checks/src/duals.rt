@@ -52,7 +52,12 @@ fn check_multipliers(
     ensures { Checked (entries_signed number constraint.now (number_if (option_copied multipliers.entry))) result }
 {
     'entries: for entry in 0..constraint.shape.size() {
-        check_multiplier(constraint.kind, number, entry, number_in(multipliers, entry))?;
+        check_multiplier(
+            constraint.kind,
+            number,
+            entry,
+            number_in(multipliers, entry),
+        )?;
     }
     Ok(())
 }

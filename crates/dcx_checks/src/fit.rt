@@ -13,7 +13,7 @@ use dcx_fit::fit;
 use dcx_point::Setting;
 use dcx_sections::CertFault;
 use dcx_tree::Problem;
-use crate::values::{Values, divisors};
+use dcx_values::{Values, divisors};
 use std::alloc::Global;
 
 /// Whether the setting fits the problem: `Fit` tells the first name that is no parameter's, else the first parameter that isn't

@@ -4,7 +4,7 @@ ghost use Rattle.dcx_tree.specs.Values.{array_at};
 
 use dcx_atom::Array;
 use dcx_tree::NodeId;
-use crate::values::Values;
+use dcx_values::Values;
 
 /// The array that is kept for a node.
 pub(crate) fn kept(values: &Values, node: NodeId) -> &Array

@@ -25,7 +25,6 @@ mod numbers;
 mod objective;
 mod parameters;
 mod signs;
-mod values;
 
 pub use constraints::check_constraints;
 pub use domain::{check_domain, check_ray_domain};

@@ -16,7 +16,7 @@ use dcx_frac::Frac;
 use dcx_point::{Point, Setting};
 use dcx_sections::CertFault;
 use dcx_tree::{Problem, Sense};
-use crate::values::Values;
+use dcx_values::Values;
 use std::alloc::Global;
 
 /// Whether the minimized objective at a point is the stated value. `Value` tells both where it isn't.

@@ -31,11 +31,7 @@ pub fn check_params(
 }
 
 /// Whether the values that are told of some parameters are those of the setting.
-fn check_told(
-    parameters: &[Parameter],
-    told: &Setting,
-    setting: &Setting,
-) -> Result<(), CertFault>
+fn check_told(parameters: &[Parameter], told: &Setting, setting: &Setting) -> Result<(), CertFault>
     requires { length parameters.now < 2 ^ 32 }
     ensures { Checked (each_in parameters.now (parameter_is told.now setting.now)) result }
 {
@@ -72,7 +68,12 @@ fn check_entries(
     ensures { Checked (entries_are number shape (number_if (option_copied told.entry)) (number_if (option_copied setting.entry))) result }
 {
     'entries: for entry in 0..shape.size() {
-        check_entry(number, entry, number_in(told, entry), number_in(setting, entry))?;
+        check_entry(
+            number,
+            entry,
+            number_in(told, entry),
+            number_in(setting, entry),
+        )?;
     }
     Ok(())
 }
