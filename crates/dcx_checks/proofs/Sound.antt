@@ -3,6 +3,7 @@ use Rattle.std.proofs.Common.{◌≡◌, ◌↔◌, ℕ, ◌<◌, List, get_or, 
 use Rattle.std.specs.List.{slice_get, All}
 use Rattle.std.specs.Prelude.{option_map}
 use Rattle.std.proofs.lemmas.Option.{slice_get-get_or, slice_get-map}
+use Rattle.dcx_frac.specs.declared.fraction.Frac.{Frac}
 use Rattle.dcx_shape.specs.Shape.{sides_of}
 use Rattle.dcx_shape.specs.Sides.{entries_of}
 use Rattle.dcx_atom.specs.declared.array.Array.{Array}
@@ -20,7 +21,10 @@ use Rattle.dcx_domain.specs.Points.{IsInside}
 use Rattle.dcx_domain.proofs.Entries.{entries_hold}
 use Rattle.dcx_domain.proofs.Points.{points_hold}
 use Rattle.dcx_fit.proofs.Misfits.{holds_at}
+use Rattle.dcx_sections.specs.declared.fault.CertFault.{CertFault}
+use Rattle.dcx_sections.specs.declared.fault.CertFault.TheVariants as faults
 use Rattle.dcx_values.proofs.Nonzero.{divisors_hold}
+use Rattle.dcx_checks.specs.Demands.{each_in}
 use Rattle.dcx_checks.specs.Checks as checks
 use Rattle.dcx_checks.specs.Laws.{AreSound}
 use Rattle.dcx_checks.proofs.Steps.{passed_at, passed_each}
@@ -41,19 +45,18 @@ told_alike p told setting = (
 )
 
 -- ---- points
-point_passes : (p : Problem) (point : Pairs) → (checks.point_inside p point).passes ↔ IsInDomain p (point_of p point)
-point_passes p point =
-    let law = points_hold p point in (
-      (λ h. law.1 (all_of (λ v. IsInside v point) p.variables (λ k v at. (entries_hold.each v (given_by point v.name)).1 (passed_at p.variables _ h k v at)))),
-      (λ d. passed_each p.variables _ (λ k v at. (entries_hold.each v (given_by point v.name)).0 (holds_at (λ v. IsInside v point) p.variables k v (law.0 d) at))),
+given_passes : (p : Problem) (fault : ℕ → ℕ → Frac → CertFault) (given : Pairs) → (each_in p.variables (checks.variable_inside fault given)).passes ↔ IsInDomain p (point_of p given)
+given_passes p fault given =
+    let law = points_hold p given in (
+      (λ h. law.1 (all_of (λ v. IsInside v given) p.variables (λ k v at. (entries_hold.each v (given_by given v.name)).1 (passed_at p.variables (checks.variable_inside fault given) h k v at)))),
+      (λ d. passed_each p.variables (checks.variable_inside fault given) (λ k v at. (entries_hold.each v (given_by given v.name)).0 (holds_at (λ v. IsInside v given) p.variables k v (law.0 d) at))),
     )
 
+point_passes : (p : Problem) (point : Pairs) → (checks.point_inside p point).passes ↔ IsInDomain p (point_of p point)
+point_passes p point = given_passes p (λ k j x. faults.Domain k j x) point
+
 ray_passes : (p : Problem) (ray : Pairs) → (checks.ray_inside p ray).passes ↔ IsInDomain p (point_of p ray)
-ray_passes p ray =
-    let law = points_hold p ray in (
-      (λ h. law.1 (all_of (λ v. IsInside v ray) p.variables (λ k v at. (entries_hold.each v (given_by ray v.name)).1 (passed_at p.variables _ h k v at)))),
-      (λ d. passed_each p.variables _ (λ k v at. (entries_hold.each v (given_by ray v.name)).0 (holds_at (λ v. IsInside v ray) p.variables k v (law.0 d) at))),
-    )
+ray_passes p ray = given_passes p (λ k j x. faults.RayDomain k j x) ray
 
 -- ---- constraints
 -- what holds of each entry of each constraint, and of each row of the problem
@@ -86,6 +89,7 @@ checks_sound = record {
   fitting = λ p setting accepted h. divisors_hold.fitting p setting accepted h.0 h.1;
   told = told_alike;
   point = point_passes;
+  domain_point = λ p point given h. record { shaped = given; domain = (point_passes p point).0 h };
   ray = ray_passes;
   feasible = feasible;
   objective = λ p setting point stated h. h.1;

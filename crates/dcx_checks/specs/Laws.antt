@@ -12,7 +12,7 @@ use Rattle.dcx_point.specs.Pairs.{Pairs}
 use Rattle.dcx_convex.specs.Answers.{AreMultipliers}
 use Rattle.dcx_call.specs.Values.{given_by}
 use Rattle.dcx_tree.specs.declared.problem.Problem.{Problem}
-use Rattle.dcx_tree.specs.Meaning.{IsAccepted, IsFitting, IsFeasible, IsInDomain, objective_at, convex_problem, setting_of, point_of}
+use Rattle.dcx_tree.specs.Meaning.{IsAccepted, IsFitting, IsFeasible, IsInDomain, IsDomainPoint, objective_at, convex_problem, setting_of, point_of}
 use Rattle.dcx_fit.specs.Fit.{FitsParameters}
 use Rattle.dcx_lines.specs.Shown.{variables_of}
 use Rattle.dcx_faults.specs.Laws.{IsSettled}
@@ -37,6 +37,7 @@ pub record AreSound : Type 0 where
   pub fitting : (p : Problem) (setting : Pairs) → IsAccepted p → (setting_fits p setting).passes → IsFitting p setting
   pub told : (p : Problem) (told setting : Pairs) → (setting_is p (Some told) setting).passes ↔ All (λ q. (j : ℕ) → j < entries_of (sides_of q.shape) → given_by told q.name j ≡ given_by setting q.name j) p.parameters
   pub point : (p : Problem) (point : Pairs) → (point_inside p point).passes ↔ IsInDomain p (point_of p point)
+  pub domain_point : (p : Problem) (point : Pairs) → GivesVariables p point → (point_inside p point).passes → IsDomainPoint p point
   pub ray : (p : Problem) (ray : Pairs) → (ray_inside p ray).passes ↔ IsInDomain p (point_of p ray)
   pub feasible : (p : Problem) (setting point : Pairs) → (point_inside p point).passes → (constraints_hold p setting point).passes → IsFeasible p (setting_of p setting) (point_of p point)
   pub objective : (p : Problem) (setting point : Pairs) (stated : Frac) → (value_is p setting point stated).passes → objective_at p (setting_of p setting) (point_of p point) ≡ value stated
