@@ -1,20 +1,19 @@
 -- Nodes that reach no variable, and that a divisor of an accepted problem is one of them.
-use Rattle.std.proofs.Common.{◌≡◌, ◌⊎◌, inl, inr, ℕ, ◌<◌, Bool, true, false, IsTrue, List, [], ◌∷◌, length, map, Option, Some, None, option_map, slice_get, refl, sym, ap, ◌∙◌, subst, true≢false}
+use Rattle.std.proofs.Common.{◌≡◌, inl, inr, ℕ, Bool, true, false, IsTrue, List, [], ◌∷◌, map, Option, Some, None, option_map, slice_get, refl, sym, ap, ◌∙◌, subst}
 use Rattle.std.specs.Option.{unwrap_or}
 use Rattle.std.specs.List.{list_all}
 use Rattle.std.proofs.lemmas.Bool.{and_parts, false≢true}
-use Rattle.std.proofs.lemmas.Option.{none-some, same_Some, slice_get-map, slice_get_within, get_or_from_slice_get}
+use Rattle.std.proofs.lemmas.Option.{none-some, slice_get-map, slice_get_within, get_or_from_slice_get}
 use Rattle.dcx_shape.specs.declared.shape.Sides.{Sides}
 use Rattle.dcx_atom.specs.declared.flags.Bend.{Bend}
 use Rattle.dcx_atom.specs.declared.flags.Bend.TheVariants.{Convex, Concave}
 use Rattle.dcx_affine.specs.declared.pairing.Pairing.TheVariants.{Times, MatTimes, Over}
-use Rattle.dcx_arena.specs.Nodes as arena
 use Rattle.dcx_arena.specs.Nodes.{IsNode, args_at}
 use Rattle.dcx_arena.specs.Gather.{has}
 use Rattle.dcx_arena.specs.Unfold.{IsReached, Leads}
 use Rattle.dcx_arena.proofs.Orders.{has_from, head_or, one_is}
 use Rattle.dcx_convex.specs.Calls as convex_calls
-use Rattle.dcx_convex.specs.Rules.{Plain, Judgement, no_argument, argument, is_constant, bends, is_bent_call, fixed_by, judgement_by, judgement_at}
+use Rattle.dcx_convex.specs.Rules.{Plain, Judgement, no_argument, argument, is_constant, is_bent_call, fixed_by, judgement_by, judgement_at}
 use Rattle.dcx_convex.proofs.Told.{judgement_tells}
 use Rattle.dcx_call.specs.declared.attribute.Variable.{Variable}
 use Rattle.dcx_call.specs.declared.call.Call.{Call}

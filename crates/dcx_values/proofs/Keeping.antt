@@ -1,37 +1,30 @@
 -- Values that are kept one by one, and the first node that isn't formed.
-use Rattle.std.proofs.Common.{◌≡◌, ◌⊎◌, inl, inr, ℕ, ◌+◌, ◌<◌, ◌≤◌, Bool, true, List, [], ◌∷◌, length, map, All, Option, Some, None, IsSome, slice_get, refl, sym, ap, subst, ◌∙◌, arith, pos}
-use Rattle.std.proofs.Math.Path.{fun_ext}
+use Rattle.std.proofs.Common.{◌≡◌, ◌⊎◌, inl, inr, ℕ, ◌+◌, ◌<◌, Bool, true, List, length, All, Option, Some, None, IsSome, refl, sym, subst, ◌∙◌, arith}
 use Rattle.std.proofs.Math.ListN.{set}
 use Rattle.std.proofs.lemmas.Bool.{cases_eq}
 use Rattle.std.proofs.lemmas.List.{length-set, get_or-set_same, get_or-set_other}
-use Rattle.std.proofs.lemmas.Option.{none-some, same_Some, slice_get_within}
-use Rattle.dcx_math.specs.Rational.{ℚ}
+use Rattle.std.proofs.lemmas.Option.{none-some, same_Some}
 use Rattle.dcx_atom.specs.declared.array.Array.{Array}
 use Rattle.dcx_atom.specs.declared.stops.ValueStop.{ValueStop}
 use Rattle.dcx_atom.specs.declared.stops.ValueStop.TheVariants as stops
-use Rattle.dcx_atom.specs.Arrays.{number_at}
 use Rattle.dcx_point.specs.Pairs.{Pairs}
-use Rattle.dcx_arena.specs.Nodes.{IsNode, args_at}
+use Rattle.dcx_arena.specs.Nodes.{args_at}
 use Rattle.dcx_arena.specs.Gather.{has}
-use Rattle.dcx_arena.specs.Unfold.{IsReached}
-use Rattle.dcx_arena.proofs.Orders.{arg_below, all_has, has_one, one_is}
+use Rattle.dcx_arena.proofs.Orders.{arg_below, all_has}
 use Rattle.dcx_arena.proofs.Unfolds.{node_there}
 use Rattle.dcx_call.specs.Calls.{shape_of}
 use Rattle.dcx_tree.specs.declared.problem.Problem.{Problem}
-use Rattle.dcx_tree.specs.Nodes.{Node, source_value}
-use Rattle.dcx_tree.specs.Meaning.{names_in, IsAccepted}
+use Rattle.dcx_tree.specs.Meaning.{names_in}
 use Rattle.dcx_tree.specs.Values.{IsValueOf, IsNodeStop, IsMarked, array_at}
-use Rattle.dcx_tree.proofs.Forming.{some_of, some_within, All-from_has}
+use Rattle.dcx_tree.proofs.Forming.{some_of, All-from_has}
 use Rattle.dcx_tree.proofs.Marks.{reached_self}
 use Rattle.dcx_sections.specs.declared.fault.CertFault.{CertFault}
 use Rattle.dcx_sections.specs.declared.fault.CertFault.TheVariants.{Memory}
-use Rattle.dcx_faults.specs.Checks.{Check, IsFirstOf, each_below}
-use Rattle.dcx_values.specs.Forming.{IsFormedAt, fault_of, IsUnformedAt, forming_at, forming_where, divisor_in, IsBelowDivisor, nonzero, dividing_if, dividing_at, divisor_step}
+use Rattle.dcx_values.specs.Forming.{IsFormedAt, fault_of, IsUnformedAt, forming_at, forming_where}
 use Rattle.dcx_values.specs.Tables.{AreKeptValues, StaysKept}
-use Rattle.dcx_values.specs.Marks.{AreClosed, AreWithin, IsDivisor}
+use Rattle.dcx_values.specs.Marks.{AreClosed, AreWithin}
 use Rattle.dcx_values.proofs.Known.{all_named}
-use Rattle.dcx_values.proofs.Marking.{not_both, all_known}
-use Rattle.dcx_values.proofs.Fixed.{divisor_is_argument}
+use Rattle.dcx_values.proofs.Marking.{not_both}
 
 pub some_from : (o : Option Array) (v : Array) → o ≡ Some v → IsSome o
 some_from o v e = subst IsSome (sym e) refl

@@ -1,5 +1,5 @@
 -- Each variable and parameter of a problem is among its names, and has an array where setting and point give one.
-use Rattle.std.proofs.Common.{◌≡◌, ℕ, ◌<◌, ◌⊎◌, inl, inr, Bool, true, List, map, Option, Some, None, option_map, slice_get, refl, sym, ap, ◌∙◌, subst}
+use Rattle.std.proofs.Common.{◌≡◌, ℕ, true, List, Option, Some, None, option_map, slice_get, refl, sym, ap, ◌∙◌, subst}
 use Rattle.std.proofs.Props.{props}
 use Rattle.std.specs.List.{All, list_any}
 use mathlib.Core.Logic.{∥∥₁_map, ∥∥₁_elim}

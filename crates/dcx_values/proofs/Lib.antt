@@ -5,3 +5,6 @@ pub mod Keeping
 pub mod Marking
 pub mod Fixed
 pub mod Nonzero
+pub mod Comparing
+pub mod Weaker
+pub mod Dividing

@@ -1,16 +1,19 @@
 -- Marks for the nodes whose values are to be formed, and that nothing which is reached is left out.
-use Rattle.std.proofs.Common.{◌≡◌, ◌↔◌, ◌⊎◌, inl, inr, ℕ, zero, suc, ◌+◌, ◌<◌, ◌≤◌, Bool, true, false, List, [], ◌∷◌, ◌++◌, length, get_or, take, Option, Some, None, IsSome, refl, sym, subst, ◌∙◌, arith, replicate}
+use Rattle.std.proofs.Common.{◌≡◌, ◌↔◌, ◌⊎◌, inl, inr, ℕ, zero, suc, ◌+◌, ◌<◌, ◌≤◌, Bool, true, false, List, [], ◌∷◌, ◌++◌, length, get_or, take, All, Option, Some, None, IsSome, refl, sym, subst, ◌∙◌, arith, replicate}
 use Rattle.std.proofs.Math.ListN.{set}
 use Rattle.std.proofs.lemmas.Bool.{cases_eq}
-use Rattle.std.proofs.lemmas.List.{take_more}
+use Rattle.std.proofs.lemmas.List.{take_more, length-set}
 use Rattle.dcx_atom.specs.declared.array.Array.{Array}
-use Rattle.dcx_arena.specs.Nodes.{AreNodes, args_at}
+use Rattle.dcx_arena.specs.declared.node.NodeId.{NodeId}
+use Rattle.dcx_arena.specs.Nodes.{AreNodes, args_at, positions}
+use Rattle.dcx_arena.proofs.Positions.{length-positions, position_at}
 use Rattle.dcx_arena.specs.Gather.{has}
 use Rattle.dcx_arena.specs.Unfold.{IsReached, Leads}
 use Rattle.dcx_arena.proofs.Orders.{has_one, one_is, has_left, has_right, has_split, arg_below, not_true}
 use Rattle.dcx_call.specs.Calls.{shape_of}
 use Rattle.dcx_tree.specs.Nodes.{Node}
 use Rattle.dcx_tree.specs.Values.{IsMarked, array_at}
+use Rattle.dcx_tree.proofs.Forming.{each_id}
 use Rattle.dcx_tree.proofs.Marks.{mark_one, reached_arg, reached_through, unmarked}
 use Rattle.dcx_values.specs.Marks.{AreWithin, AreClosed, LiesBelow, AreWanted, AreMarkedFrom}
 
@@ -133,10 +136,13 @@ module _ (nodes : List Node) (are : AreNodes shape_of nodes) (arrays : List (Opt
       ]
       | inr t ↦ let less = arg_below shape_of nodes are n i t.0 in absurd (omega (arith, less, le))
     ];
-    within = λ j k. (lowest j k, elim ((more j).0 k) [
-      | inl was ↦ (d.within j was).1
-      | inr t ↦ let less = arg_below shape_of nodes are n j t.0 in omega (arith, less, e, most)
-    ]);
+    within = λ j k. (
+      lowest j k,
+      elim ((more j).0 k) [
+        | inl was ↦ (d.within j was).1
+        | inr t ↦ let less = arg_below shape_of nodes are n j t.0 in omega (arith, less, e, most)
+      ],
+    );
   }
 
   pub down_all : (at low : ℕ) (now : List Bool) → at ≤ low → IsMarkedDown nodes arrays old end at now low → AreWanted nodes arrays old now
@@ -181,3 +187,49 @@ module _ (nodes : List Node) (arrays : List (Option Array)) (roots : List ℕ) (
         ];
     closed = w.closed;
   }
+
+-- ---- the end above what isn't kept
+pub above_more : (arrays : List (Option Array)) (ids : List ℕ) (k : ℕ) → k < length ids → (end next : ℕ) → ((j : ℕ) → has (take k ids) j ≡ true → array_at arrays j ≡ None → j < end) → end ≤ next →
+    (array_at arrays (get_or ids k 0) ≡ None → get_or ids k 0 < next) → (j : ℕ) → has (take (k + 1) ids) j ≡ true → array_at arrays j ≡ None → j < next
+above_more arrays ids k lt end next so_far le here j h free =
+    elim (has_split (take k ids) (get_or ids k 0 ∷ []) j (subst (λ xs. has xs j ≡ true) (take_more ids k 0 lt) h)) [
+      | inl p ↦ let b = so_far j p free in omega (arith, b, le)
+      | inr q ↦ let e = one_is (get_or ids k 0) j q in subst (λ z. z < next) e (here (subst (λ z. array_at arrays z ≡ None) (sym e) free))
+    ]
+
+-- ---- ids one after the other
+-- of the first ids, those that aren't kept are marked
+pub record IsMarkedSoFar (arrays : List (Option Array)) (ids : List NodeId) (old : List Bool) (k : ℕ) (now : List Bool) (low : ℕ) : Type 0 where
+  pub count : length now ≡ length old
+  pub marked : AreMarkedOf arrays (take k (positions ids)) old now
+  pub lowest : (j : ℕ) → IsMarked now j → low ≤ j
+
+module _ (arrays : List (Option Array)) (ids : List NodeId) (old now : List Bool) (k : ℕ) (low : ℕ) (lt : k < length ids) (room : All (λ a. a < length old) (positions ids)) (h : IsMarkedSoFar arrays ids old k now low) where
+  abbrev node : ℕ
+  node = (get_or ids k (record { 0 = 0 })).0
+
+  there : k < length (positions ids)
+  there = let n = length-positions ids in omega (arith, n, lt)
+
+  in_room : node < length now
+  in_room = let b = each_id (λ a. a < length old) ids k room lt in let c = h.count in omega (arith, b, c)
+
+  pub unkept_step : array_at arrays node ≡ None → (next : ℕ) → next ≤ low → next ≤ node → IsMarkedSoFar arrays ids old (k + 1) (set now node true) next
+  unkept_step free next b c = record {
+    count = length-set now node true ∙ h.count;
+    marked = subst (λ a. AreMarkedOf arrays (take (k + 1) (positions ids)) old (set now a true)) (position_at ids k)
+        (unkept_more arrays (positions ids) old now k there h.marked (subst (λ a. a < length now) (sym (position_at ids k)) in_room) (subst (λ a. array_at arrays a ≡ None) (sym (position_at ids k)) free));
+    lowest = lowest_more now node low next in_room h.lowest b c;
+  }
+
+  pub kept_step : IsSome (array_at arrays node) → IsMarkedSoFar arrays ids old (k + 1) now low
+  kept_step s = record {
+    count = h.count;
+    marked = kept_more arrays (positions ids) old now k there h.marked (subst (λ a. IsSome (array_at arrays a)) (sym (position_at ids k)) s);
+    lowest = h.lowest;
+  }
+
+pub marked_within : (marks : List Bool) (i : ℕ) → IsMarked marks i → i < length marks
+marked_within [] i m = absurd (cc)
+marked_within (b ∷ marks) zero m = omega arith
+marked_within (b ∷ marks) (suc i) m = let l = marked_within marks i m in omega (arith, l)

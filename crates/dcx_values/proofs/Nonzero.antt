@@ -1,7 +1,7 @@
 -- Where the divisors of an accepted problem pass their check, nothing is divided by 0.
-use Rattle.std.proofs.Common.{◌≡◌, ◌≢◌, ℕ, ◌<◌, List, [], ◌∷◌, length, map, Option, Some, option_map, slice_get, refl, sym, ap, ◌∙◌, subst, pos}
+use Rattle.std.proofs.Common.{◌≡◌, ◌≢◌, ℕ, ◌<◌, List, [], ◌∷◌, map, Option, Some, option_map, slice_get, refl, sym, ap, ◌∙◌, subst, pos}
 use Rattle.std.proofs.lemmas.Option.{slice_get-map, slice_get_within, get_or_from_slice_get}
-use Rattle.dcx_math.specs.Rational.{ℚ, whole}
+use Rattle.dcx_math.specs.Rational.{whole}
 use Rattle.dcx_shape.specs.declared.shape.Sides.{Sides}
 use Rattle.dcx_shape.specs.Sides.{entries_of}
 use Rattle.dcx_affine.specs.declared.pairing.Pairing.TheVariants.{Times, MatTimes, Over}
@@ -22,7 +22,7 @@ use Rattle.dcx_tree.proofs.Lawful.{mapped}
 use Rattle.dcx_tree.proofs.NodeValues.{sides_are}
 use Rattle.dcx_fit.specs.Laws.{DividesByNoZero}
 use Rattle.dcx_fit.proofs.Fitting.{fitting_holds}
-use Rattle.dcx_values.specs.Forming.{divisor_in, dividing_if, divisors}
+use Rattle.dcx_values.specs.Forming.{dividing_if, divisors}
 use Rattle.dcx_values.specs.Laws.{DivisorsAreNotZero}
 use Rattle.dcx_values.proofs.Fixed.{found_divisor, divisor_fixed}
 

@@ -1,5 +1,5 @@
 -- Each check of forming tells one thing.
-use Rattle.std.proofs.Common.{◌≡◌, inl, inr, ℕ, ◌<◌, List, [], Option, Some, None, Result, Ok, Err, IsOk, refl, sym, ap, ◌∙◌, subst, arith, pos}
+use Rattle.std.proofs.Common.{◌≡◌, ℕ, ◌<◌, [], Option, Some, None, Result, Ok, Err, IsOk, sym, ap, ◌∙◌, subst, arith}
 use native.Mathlib.Decide.{dec_lt}
 use Rattle.std.proofs.lemmas.Option.{same_Some}
 use Rattle.dcx_math.specs.Rational.{ℚ}
@@ -7,7 +7,7 @@ use Rattle.dcx_frac.specs.declared.fraction.Frac.{Frac}
 use Rattle.dcx_shape.specs.Sides.{entries_of}
 use Rattle.dcx_atom.specs.declared.stops.ValueStop.{ValueStop}
 use Rattle.dcx_point.specs.Pairs.{Pairs}
-use Rattle.dcx_arena.specs.Nodes.{IsNode, sides_at}
+use Rattle.dcx_arena.specs.Nodes.{sides_at}
 use Rattle.dcx_arena.specs.Unfold.{IsReached}
 use Rattle.dcx_call.specs.Forming.{IsFirst}
 use Rattle.dcx_tree.specs.declared.problem.Problem.{Problem}
@@ -15,16 +15,15 @@ use Rattle.dcx_tree.specs.Nodes.{Node, source_value}
 use Rattle.dcx_tree.specs.Meaning.{names_in}
 use Rattle.dcx_tree.specs.Values.{node_formed}
 use Rattle.dcx_sections.specs.declared.fault.CertFault.{CertFault}
-use Rattle.dcx_faults.specs.Checks.{Check}
 use Rattle.dcx_faults.specs.Laws.{IsSettled}
-use Rattle.dcx_faults.proofs.Settled.{none, two, many}
-use Rattle.dcx_values.specs.Forming.{fault_of, IsUnformedAt, forming_at, forming_where, IsFixedNode, divisor_in, IsBelowDivisor, nonzero, dividing_if, dividing_at, divisor_step, forming, forming_fixed, divisors}
+use Rattle.dcx_faults.proofs.Settled.{settled_together, two, many}
+use Rattle.dcx_values.specs.Forming.{fault_of, IsUnformedAt, forming_at, forming_where, IsFixedNode, divisor_in, IsBelowDivisor, nonzero, dividing_if, dividing_at, divisor_step}
 use Rattle.dcx_values.specs.Laws.{AreSettledHere}
 
 -- ---- the first entry that isn't formed
 ok_not_err : (r : Result Frac ValueStop) (e : ValueStop) → IsOk r → r ≡ Err e → ⊥
 ok_not_err (Ok x) e h f = cc
-ok_not_err (Err d) e h f = absurd h
+ok_not_err (Err d) e h f = cc
 
 same_error : (d e : ValueStop) (r : Result Frac ValueStop) → r ≡ Err d → r ≡ Err e → d ≡ e
 same_error d e r h k = cc
@@ -62,7 +61,7 @@ nonzero_settled : (i : ℕ) (numbers : ℕ → ℚ) (j : ℕ) → IsSettled (non
 nonzero_settled i numbers j = record { apart = λ f h u. h u.0; one = λ f g u v. u.1 ∙ sym v.1 }
 
 dividing_settled : (p : Problem) (setting : Pairs) (i : ℕ) (o : Option ℕ) → IsSettled (dividing_if p setting i o)
-dividing_settled p setting i None = none
+dividing_settled p setting i None = settled_together.none
 dividing_settled p setting i (Some d) = many (entries_of (sides_at p.tree i)) (nonzero i (source_value p.tree (names_in p) setting [] d)) (nonzero_settled i (source_value p.tree (names_in p) setting [] d))
 
 step_settled : (p : Problem) (setting : Pairs) (i : ℕ) → IsSettled (divisor_step p setting i)

@@ -2,7 +2,6 @@
 use Rattle.std.specs.Prelude.{◌≡◌, ℕ, ◌<◌, List, length, Some, slice_get}
 use Rattle.dcx_math.specs.Rational.{◌-ℚ◌}
 use Rattle.dcx_frac.specs.declared.fraction.Frac.{Frac}
-use Rattle.dcx_frac.specs.Frac.{value}
 use Rattle.dcx_atom.specs.Arrays.{number_at}
 use Rattle.dcx_convex.specs.Problems.{Holds}
 use Rattle.dcx_tree.specs.declared.constraint.Kind.{Kind}

@@ -1,12 +1,11 @@
 -- Forming values of nodes in 128 bits: which node stops first, and the checks that form values.
-use Rattle.std.specs.Prelude.{◌≡◌, ◌≢◌, ℕ, ◌<◌, true, List, [], ◌∷◌, length, Option, Some, None, slice_get, pos}
+use Rattle.std.specs.Prelude.{◌≡◌, ◌≢◌, ℕ, true, List, [], ◌∷◌, length, Option, Some, None, slice_get, pos}
 use Rattle.std.specs.List.{All}
 use Rattle.dcx_math.specs.Rational.{ℚ, whole}
 use Rattle.dcx_shape.specs.Shape.{sides_of}
 use Rattle.dcx_shape.specs.Sides.{entries_of}
 use Rattle.dcx_atom.specs.declared.stops.ValueStop.{ValueStop}
 use Rattle.dcx_atom.specs.declared.stops.ValueStop.TheVariants as value_stops
-use Rattle.dcx_affine.specs.declared.pairing.Pairing.{Pairing}
 use Rattle.dcx_affine.specs.declared.pairing.Pairing.TheVariants.{Times, MatTimes, Over}
 use Rattle.dcx_point.specs.Pairs.{Pairs}
 use Rattle.dcx_arena.specs.Nodes.{IsNode, call_at, args_at, sides_at}

@@ -43,7 +43,11 @@ pub fn first_broken(kind: Kind, left: &Array, right: &Array) -> Option<Broken>
         let x = lefts[entry as usize];
         let y = rights[entry as usize];
         if !holds(kind, &x, &y) {
-            return Some(Broken { entry, left: x, right: y });
+            return Some(Broken {
+                entry,
+                left: x,
+                right: y,
+            });
         }
     }
     None

@@ -79,6 +79,7 @@ pub(crate) fn mark_reached(
     low: u32,
     end: u32,
 ) -> Result<u32, AllocError>
+    requires nodes { AreNodes shape_of tree.now }
     requires count { length marks.old.items ≡ length tree.now }
     requires most { end ≤ length tree.now }
     requires within { AreWithin marks.old.items low end }

@@ -9,7 +9,7 @@ ghost use Rattle.dcx_tree.specs.Nodes.{Node};
 ghost use Rattle.dcx_tree.specs.Meaning.{IsAccepted};
 ghost use Rattle.dcx_tree.specs.Values.{array_at, IsMarked};
 ghost use Rattle.dcx_faults.specs.Checks.{Checked, each_below};
-ghost use Rattle.dcx_values.specs.Forming.{GivesParameters, IsBelowDivisor, divisor_in, nonzero, divisor_step, divisors};
+ghost use Rattle.dcx_values.specs.Forming.{GivesParameters, IsBelowDivisor, divisor_in, forming_at, nonzero, dividing_at, divisor_step, divisors};
 ghost use Rattle.dcx_values.specs.Tables.{AreKeptValues, StaysKept};
 ghost use Rattle.dcx_values.specs.Marks.{IsDivisor, AreClosed};
 
@@ -67,8 +67,9 @@ fn divisor_marks(alloc: Global, tree: &Tree) -> Result<Vec<bool>, AllocError>
 {
     let mut marks = vec![in alloc; false; tree.nodes() as usize]?;
     for i in 0..tree.nodes() {
-        if let Some(divisor) = divisor_of(tree, NodeId(i)) {
-            marks[divisor.0 as usize] = true;
+        match divisor_of(tree, NodeId(i)) {
+            Some(divisor) => marks[divisor.0 as usize] = true,
+            None => {}
         }
     }
     Ok(marks)
@@ -90,7 +91,56 @@ fn below_divisors(
     Ok(marks)
 }
 
-/// Forms a node that a divisor reaches, and tests the divisor of a quotient.
+/// Forms a node, if a divisor reaches it.
+fn form_below(
+    alloc: Global,
+    problem: &Problem,
+    node: NodeId,
+    is_below: bool,
+    setting: &Setting,
+    values: &mut Values,
+) -> Result<(), CertFault>
+    requires there { node.0 < length problem.now.tree }
+    requires below { is_below ≡ true → IsBelowDivisor problem.now node.0 }
+    requires known { IsBelowDivisor problem.now node.0 → (is_below ≡ true) ⊎ IsSome (array_at values.old node.0) }
+    requires given { (n : Node) → is_below ≡ true → IsNode problem.now.tree node.0 n → IsGiven n.call setting.now [] }
+    requires args { is_below ≡ true → All (λ a. IsSome (array_at values.old a)) (args_at problem.now.tree node.0) }
+    requires values { AreKeptValues problem.now setting.now [] values.old }
+    ensures checked { Checked (forming_at problem.now setting.now [] (IsBelowDivisor problem.now) node.0) result }
+    ensures kept { OnOk result (is_below ≡ true → IsSome (array_at values.new node.0)) }
+    ensures values { AreKeptValues problem.now setting.now [] values.new }
+    ensures stays { StaysKept values.old values.new }
+{
+    if !is_below {
+        return Ok(());
+    }
+    let point = Point::empty(alloc);
+    values.form_node(alloc, problem, node, &point, setting)
+}
+
+/// Whether no entry of the divisor is 0, if the node is a quotient.
+fn test_quotient(
+    problem: &Problem,
+    node: NodeId,
+    setting: &Setting,
+    values: &Values,
+) -> Result<(), CertFault>
+    requires there { node.0 < length problem.now.tree }
+    requires divisor { (d : ℕ) → divisor_in problem.now.tree node.0 ≡ Some d → IsSome (array_at values.now d) }
+    requires values { AreKeptValues problem.now setting.now [] values.now }
+    ensures { Checked (dividing_at problem.now setting.now node.0) result }
+{
+    match divisor_of(&problem.tree, node) {
+        Some(divisor) => test_divisor(
+            node,
+            problem.tree.shape(node).size(),
+            kept(values.as_slice(), divisor),
+        ),
+        None => Ok(()),
+    }
+}
+
+/// Forms a node, if a divisor reaches it, and tests the divisor, if the node is a quotient.
 fn step(
     alloc: Global,
     problem: &Problem,
@@ -111,14 +161,8 @@ fn step(
     ensures values { AreKeptValues problem.now setting.now [] values.new }
     ensures stays { StaysKept values.old values.new }
 {
-    if is_below {
-        let point = Point::empty(alloc);
-        values.form_node(alloc, problem, node, &point, setting)?;
-    }
-    match divisor_of(&problem.tree, node) {
-        Some(divisor) => test_divisor(node, problem.tree.shape(node).size(), kept(values.as_slice(), divisor)),
-        None => Ok(()),
-    }
+    form_below(alloc, problem, node, is_below, setting, values)?;
+    test_quotient(problem, node, setting, values)
 }
 
 /// Forms the values of the divisors of quotients and of the nodes below them, but for those that are kept, and tests each divisor at

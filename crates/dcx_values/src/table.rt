@@ -61,8 +61,8 @@ impl Values {
         }
     }
 
-    /// The places.
-    pub(crate) fn as_slice(&self) -> &[Option<Array>]
+    /// The places, one for each node: its array, where it is kept.
+    pub fn as_slice(&self) -> &[Option<Array>]
         ensures { result.now ≡ self.now }
     {
         self.arrays.as_slice()
