@@ -1,5 +1,5 @@
 -- What each comparison of the code tells of its demand.
-use Rattle.std.proofs.Common.{◌≡◌, ◌≢◌, ◌⊎◌, inl, inr, ℕ, zero, suc, ◌<◌, ◌≤◌, Bool, true, false, List, [], ◌∷◌, length, Option, Some, None, Result, MatchBool, refl, sym, ap, ap₂, ◌∙◌, subst, true≢false, arith, pos}
+use Rattle.std.proofs.Common.{◌≡◌, ◌⊎◌, inr, ℕ, zero, suc, ◌<◌, ◌≤◌, Bool, true, false, List, [], ◌∷◌, length, Option, Some, None, Result, MatchBool, refl, sym, ap, ap₂, ◌∙◌, subst, true≢false, arith, pos}
 use Rattle.std.specs.List.{slice_get}
 use Rattle.std.proofs.lemmas.Option.{slice_get_within}
 use Rattle.dcx_math.specs.Rational.{ℚ, whole, rat_eq, rat_le, ◌≤ℚ◌, ◌<ℚ◌}

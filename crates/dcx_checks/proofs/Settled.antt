@@ -1,21 +1,18 @@
 -- Each check tells one thing.
-use Rattle.std.proofs.Common.{◌≡◌, ℕ, List, Option, Some, None, sym, ap, ◌∙◌}
+use Rattle.std.proofs.Common.{◌≡◌, ℕ, Option, Some, None, sym, ap, ◌∙◌}
 use Rattle.dcx_math.specs.Rational.{ℚ, ◌≤ℚ◌}
 use Rattle.dcx_frac.specs.Frac.{value}
 use Rattle.dcx_frac.specs.declared.fraction.Frac.{Frac}
-use Rattle.dcx_shape.specs.declared.shape.Shape.{Shape}
 use Rattle.dcx_shape.specs.Shape.{sides_of}
 use Rattle.dcx_shape.specs.Sides.{entries_of}
-use Rattle.dcx_atom.specs.declared.array.Array.{Array}
 use Rattle.dcx_point.specs.Pairs.{Pairs}
 use Rattle.dcx_call.specs.declared.attribute.Variable.{Variable}
-use Rattle.dcx_call.specs.declared.attribute.Parameter.{Parameter}
 use Rattle.dcx_tree.specs.declared.constraint.Constraint.{Constraint}
 use Rattle.dcx_tree.specs.declared.problem.Problem.{Problem}
 use Rattle.dcx_fit.proofs.First.{stops_hold}
 use Rattle.dcx_sections.specs.declared.fault.CertFault.{CertFault}
 use Rattle.dcx_sections.specs.declared.fault.CertFault.TheVariants as faults
-use Rattle.dcx_faults.specs.Checks.{Check, each_below}
+use Rattle.dcx_faults.specs.Checks.{each_below}
 use Rattle.dcx_faults.specs.Laws.{IsSettled}
 use Rattle.dcx_faults.proofs.Settled.{settled_together}
 use Rattle.dcx_values.proofs.Settling.{settled_here}

@@ -1,5 +1,5 @@
 -- What is shown where the checks pass.
-use Rattle.std.proofs.Common.{◌≡◌, ◌↔◌, ℕ, ◌<◌, List, get_or, map, Some, sym, ap, ◌∙◌, subst}
+use Rattle.std.proofs.Common.{◌≡◌, ◌↔◌, ℕ, ◌<◌, List, get_or, Some, ap, ◌∙◌, subst}
 use Rattle.std.specs.List.{slice_get, All}
 use Rattle.std.specs.Prelude.{option_map}
 use Rattle.std.proofs.lemmas.Option.{slice_get-get_or, slice_get-map}
@@ -15,7 +15,7 @@ use Rattle.dcx_convex.specs.Answers.{MayMultiply, AreMultipliers}
 use Rattle.dcx_call.specs.Values.{given_by}
 use Rattle.dcx_tree.specs.declared.constraint.Constraint.{Constraint}
 use Rattle.dcx_tree.specs.declared.problem.Problem.{Problem}
-use Rattle.dcx_tree.specs.Meaning.{IsFeasible, IsInDomain, convex_constraint, convex_problem, setting_of, point_of, relation_of}
+use Rattle.dcx_tree.specs.Meaning.{IsFeasible, IsInDomain, convex_constraint, convex_problem, setting_of, point_of}
 use Rattle.dcx_tree.proofs.Lawful.{mapped}
 use Rattle.dcx_domain.specs.Points.{IsInside}
 use Rattle.dcx_domain.proofs.Entries.{entries_hold}

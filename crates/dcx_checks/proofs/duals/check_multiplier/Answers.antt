@@ -3,7 +3,7 @@ use Rattle.std.proofs.Common.{◌≡◌, ◌⊎◌, sym, subst}
 use Rattle.dcx_frac.specs.Frac.{value}
 use Rattle.dcx_sections.specs.declared.fault.CertFault.TheVariants as faults
 use Rattle.dcx_checks.specs.Checks.{multiplier_signed}
-use Rattle.dcx_checks.proofs.Demands.{multiplier_passes, multiplier_fails}
+use Rattle.dcx_checks.proofs.Demands.{multiplier_fails}
 use Rattle.dcx_checks.proofs.duals.check_multiplier.Goals as goal
 
 pub returns : goal.returns
