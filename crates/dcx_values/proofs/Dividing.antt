@@ -82,9 +82,6 @@ module _ (p : Problem) (setting : Pairs) (arrays : List (Option Array)) (h : Are
       (subst (λ (f : ℕ → ℚ). Checked (each_below (entries_of (sides_at p.tree i)) (nonzero i f)) r) (divisor_numbers d v kept)
       (subst (λ n. Checked (each_below n (nonzero i (number_at v.entries))) r) same k))
 
-  pub untested : (i : ℕ) → divisor_in p.tree i ≡ None → (dividing_at p setting i).passes
-  untested i is = subst (λ (o : Option ℕ). (dividing_if p setting i o).passes) (sym is) tt
-
 -- ---- nodes below divisors
 module _ (p : Problem) (setting : Pairs) (marks : List Bool) (old : List (Option Array)) where
   -- a marked node is below a divisor, and what is below one is marked or kept

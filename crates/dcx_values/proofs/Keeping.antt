@@ -1,5 +1,5 @@
 -- Values that are kept one by one, and the first node that isn't formed.
-use Rattle.std.proofs.Common.{◌≡◌, ◌⊎◌, inl, inr, ℕ, ◌+◌, ◌<◌, Bool, true, List, length, All, Option, Some, None, IsSome, refl, sym, subst, ◌∙◌, arith}
+use Rattle.std.proofs.Common.{◌≡◌, ◌⊎◌, inl, inr, ℕ, ◌<◌, Bool, true, List, length, All, Option, Some, None, IsSome, refl, sym, subst, ◌∙◌, arith}
 use Rattle.std.proofs.Math.ListN.{set}
 use Rattle.std.proofs.lemmas.Bool.{cases_eq}
 use Rattle.std.proofs.lemmas.List.{length-set, get_or-set_same, get_or-set_other}
@@ -22,7 +22,7 @@ use Rattle.dcx_sections.specs.declared.fault.CertFault.{CertFault}
 use Rattle.dcx_sections.specs.declared.fault.CertFault.TheVariants.{Memory}
 use Rattle.dcx_values.specs.Forming.{IsFormedAt, fault_of, IsUnformedAt, forming_at, forming_where}
 use Rattle.dcx_values.specs.Tables.{AreKeptValues, StaysKept}
-use Rattle.dcx_values.specs.Marks.{AreClosed, AreWithin}
+use Rattle.dcx_values.specs.Marks.{AreClosed}
 use Rattle.dcx_values.proofs.Known.{all_named}
 use Rattle.dcx_values.proofs.Marking.{not_both}
 
@@ -45,9 +45,6 @@ module _ (arrays : List (Option Array)) (i : ℕ) (v : Array) (lt : i < length a
 
   set_there : (k : ℕ) → (k ≡ i → ⊥) → array_at (set arrays i (Some v)) k ≡ array_at arrays k
   set_there k other = get_or-set_other arrays i k (Some v) None other
-
-  pub set_some : IsSome (array_at (set arrays i (Some v)) i)
-  set_some = some_from (array_at (set arrays i (Some v)) i) v set_here
 
   pub set_stays : array_at arrays i ≡ None → StaysKept arrays (set arrays i (Some v))
   set_stays free k w e = elim (cases_eq k i) [
@@ -107,20 +104,6 @@ module _ (p : Problem) (setting point : Pairs) where
     pub some : (k : ℕ) → k < n → IsMarked marks k → IsSome (array_at arrays k)
 
   module _ (marks : List Bool) (old : List (Option Array)) where
-    pub so_far_none : (low end : ℕ) → AreWithin marks low end → AreKeptValues p setting point old → AreKeptSoFar marks old low old
-    so_far_none low end w h = record { values = h; stays = stays_same old; some = λ k lt m. let b = (w k m).0 in absurd (omega (arith, lt, b)) }
-
-    pub so_far_more : (n : ℕ) (arrays now : List (Option Array)) → AreKeptSoFar marks old n arrays → AreKeptValues p setting point now → StaysKept arrays now → (IsMarked marks n → IsSome (array_at now n)) →
-        AreKeptSoFar marks old (n + 1) now
-    so_far_more n arrays now h values stays here = record {
-      values = values;
-      stays = stays_on old arrays now h.stays stays;
-      some = λ k lt m. elim (cases_eq k n) [
-        | inl z ↦ subst (λ j. IsSome (array_at now j)) (sym z) (here (subst (IsMarked marks) z m))
-        | inr other ↦ stays_some arrays now stays k (h.some k (omega (arith, lt, other)) m)
-      ];
-    }
-
     -- the arguments of a marked node are kept
     pub args_kept : AreClosed p.tree old marks → (n : ℕ) (arrays : List (Option Array)) → AreKeptSoFar marks old n arrays → IsMarked marks n → All (λ a. IsSome (array_at arrays a)) (args_at p.tree n)
     args_kept closed n arrays h m = All-from_has (λ a. IsSome (array_at arrays a)) (args_at p.tree n) (λ a of. elim (closed n a m of) [

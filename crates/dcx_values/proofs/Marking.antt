@@ -1,5 +1,5 @@
 -- Marks for the nodes whose values are to be formed, and that nothing which is reached is left out.
-use Rattle.std.proofs.Common.{◌≡◌, ◌↔◌, ◌⊎◌, inl, inr, ℕ, zero, suc, ◌+◌, ◌<◌, ◌≤◌, Bool, true, false, List, [], ◌∷◌, ◌++◌, length, get_or, take, All, Option, Some, None, IsSome, refl, sym, subst, ◌∙◌, arith, replicate}
+use Rattle.std.proofs.Common.{◌≡◌, ◌↔◌, ◌⊎◌, inl, inr, ℕ, zero, suc, ◌+◌, ◌<◌, ◌≤◌, Bool, true, false, List, [], ◌∷◌, ◌++◌, length, get_or, take, All, Option, Some, None, IsSome, refl, sym, subst, ◌∙◌, arith}
 use Rattle.std.proofs.Math.ListN.{set}
 use Rattle.std.proofs.lemmas.Bool.{cases_eq}
 use Rattle.std.proofs.lemmas.List.{take_more, length-set}
@@ -14,8 +14,8 @@ use Rattle.dcx_call.specs.Calls.{shape_of}
 use Rattle.dcx_tree.specs.Nodes.{Node}
 use Rattle.dcx_tree.specs.Values.{IsMarked, array_at}
 use Rattle.dcx_tree.proofs.Forming.{each_id}
-use Rattle.dcx_tree.proofs.Marks.{mark_one, reached_arg, reached_through, unmarked}
-use Rattle.dcx_values.specs.Marks.{AreWithin, AreClosed, LiesBelow, AreWanted, AreMarkedFrom}
+use Rattle.dcx_tree.proofs.Marks.{mark_one, reached_arg, reached_through}
+use Rattle.dcx_values.specs.Marks.{AreWithin, AreClosed, LiesBelow, AreWanted}
 
 pub some_or_none : {A : Type 0} (o : Option A) → (o ≡ None) ⊎ IsSome o
 some_or_none None = inl refl
@@ -170,23 +170,6 @@ kept_below nodes arrays kept roots starts j r = go r.path r.root r.leads (starts
     go : (path : List ℕ) (i : ℕ) → Leads nodes i path j → IsSome (array_at arrays i) → IsSome (array_at arrays j)
     go [] i e h = subst (λ z. IsSome (array_at arrays z)) e h
     go (a ∷ path) i l h = go path a l.1 (kept i a h l.0)
-
--- ---- from roots
-module _ (nodes : List Node) (arrays : List (Option Array)) (roots : List ℕ) (size : ℕ) (first : List Bool) (begun : AreMarkedOf arrays roots (replicate size false) first) where
-  pub begun_within : (low end : ℕ) → ((j : ℕ) → IsMarked first j → low ≤ j) → ((j : ℕ) → has roots j ≡ true → array_at arrays j ≡ None → j < end) → AreWithin first low end
-  begun_within low end lowest above j m = (lowest j m, elim ((begun j).0 m) [ inl o ↦ absurd (unmarked size j o) | inr t ↦ above j t.0 t.1 ])
-
-  pub marked_from : (marks : List Bool) → AreWanted nodes arrays first marks → AreMarkedFrom nodes arrays roots marks
-  marked_from marks w = record {
-    starts = λ j h. elim (some_or_none (array_at arrays j)) [ inl free ↦ inl (w.starts j ((begun j).1 (inr (h, free)))) | inr there ↦ inr there ];
-    sound = λ j m.
-        let l = w.sound j m in
-        elim ((begun l.mark).0 l.marked) [
-          | inl o ↦ absurd (unmarked size l.mark o)
-          | inr t ↦ record { root = l.mark; path = l.reached.path; is_root = t.0; leads = subst (λ z. Leads nodes z l.reached.path j) (sym (one_is l.mark l.reached.root l.reached.is_root)) l.reached.leads }
-        ];
-    closed = w.closed;
-  }
 
 -- ---- the end above what isn't kept
 pub above_more : (arrays : List (Option Array)) (ids : List ℕ) (k : ℕ) → k < length ids → (end next : ℕ) → ((j : ℕ) → has (take k ids) j ≡ true → array_at arrays j ≡ None → j < end) → end ≤ next →
