@@ -1,3 +1,4 @@
 -- The lemmas.
 pub mod Settled
 pub mod Shows
+pub mod Kept

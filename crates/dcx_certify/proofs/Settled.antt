@@ -11,11 +11,16 @@ use Rattle.dcx_sections.specs.declared.cert.Cert.TheVariants.{Optimal, Infeasibl
 use Rattle.dcx_faults.specs.Checks.{Check, in_turn}
 use Rattle.dcx_faults.specs.Laws.{IsSettled}
 use Rattle.dcx_faults.proofs.Settled.{two}
-use Rattle.dcx_checks.proofs.LawsHold.{checks_settled}
-use Rattle.dcx_bound.proofs.LawsHold.{bounds_settled}
-use Rattle.dcx_rays.proofs.LawsHold.{rays_settled}
+use Rattle.dcx_checks.proofs.Settled.{checks_settled}
+use Rattle.dcx_values.proofs.Settling.{settled_here}
+use Rattle.dcx_bound.proofs.Settled as bound
+use Rattle.dcx_bound.specs.Laws.{BoundsAreSettled}
+use Rattle.dcx_rays.proofs.Settled.{ray_settled}
 use Rattle.dcx_certify.specs.Checks.{setting_checks, point_checks, optimal_checks, infeasible_checks, unbounded_checks, checks_of}
 use Rattle.dcx_certify.specs.Laws.{TellsOneThing}
+
+bounds_settled : BoundsAreSettled
+bounds_settled = bound.bounds_settled settled_here.fixed
 
 -- one check and another
 both : {a b : Check} → IsSettled a → IsSettled b → IsSettled (in_turn a b)
@@ -34,4 +39,4 @@ tells_one_thing p s (Optimal number point duals weights params) =
 tells_one_thing p s (Infeasible duals gap weights params) =
     both (setting_settled p s params) (both (checks_settled.duals_signed p duals) (both (checks_settled.gap_positive gap) (bounds_settled p s duals weights false gap)))
 tells_one_thing p s (Unbounded point ray bound slope params) =
-    both (setting_settled p s params) (both (point_settled p s point) (both (checks_settled.start_bounded p s point bound) (both (checks_settled.slope_positive slope) (both (checks_settled.ray_inside p ray) (rays_settled p s ray slope)))))
+    both (setting_settled p s params) (both (point_settled p s point) (both (checks_settled.start_bounded p s point bound) (both (checks_settled.slope_positive slope) (both (checks_settled.ray_inside p ray) (ray_settled p s ray slope)))))

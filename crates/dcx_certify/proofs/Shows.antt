@@ -11,9 +11,10 @@ use Rattle.dcx_sections.specs.declared.cert.Cert.TheVariants.{Optimal, Infeasibl
 use Rattle.dcx_sections.specs.Shown.{IsCertOf}
 use Rattle.dcx_outline.specs.Drawn.{problem_outline}
 use Rattle.dcx_checks.specs.Checks.{point_inside}
-use Rattle.dcx_checks.proofs.LawsHold.{checks_sound, arrays_given}
-use Rattle.dcx_bound.proofs.LawsHold.{bounds_show_answers}
-use Rattle.dcx_rays.proofs.LawsHold.{passed_is_unbounded}
+use Rattle.dcx_checks.proofs.Sound.{checks_sound}
+use Rattle.dcx_checks.proofs.Given.{arrays_given}
+use Rattle.dcx_bound.proofs.Shown.{bounds_show}
+use Rattle.dcx_rays.proofs.Shown.{passed_is_unbounded}
 use Rattle.dcx_certify.specs.Checks.{checks_of}
 use Rattle.dcx_certify.specs.Shown.{IsShown}
 use Rattle.dcx_certify.specs.Laws.{PassedAreShown}
@@ -30,10 +31,10 @@ passed_are_shown p s (Optimal number point duals weights params) ok of (fits, ch
     let at = checks_sound.value p s point number checks.1.0 in
     let signed = (checks_sound.multipliers p duals).0 checks.1.1.0 in
     (checks_sound.fitting p s ok fits.0, domain_point p point of.variables inside,
-    (bounds_show_answers p s duals weights ok of.constraints).optimal number checks.1.1.1 (point_of p point) feasible at signed)
+    (bounds_show p s duals weights ok of.constraints).optimal number checks.1.1.1 (point_of p point) feasible at signed)
 passed_are_shown p s (Infeasible duals gap weights params) ok of (fits, checks) =
     let signed = (checks_sound.multipliers p duals).0 checks.0 in
-    (checks_sound.fitting p s ok fits.0, (bounds_show_answers p s duals weights ok of.constraints).infeasible gap checks.1.1 checks.1.0 signed)
+    (checks_sound.fitting p s ok fits.0, (bounds_show p s duals weights ok of.constraints).infeasible gap checks.1.1 checks.1.0 signed)
 passed_are_shown p s (Unbounded point ray bound slope params) ok of (fits, checks) =
     let inside = checks.0.0 in
     let feasible = checks_sound.feasible p s point inside checks.0.1 in

@@ -5,3 +5,4 @@ pub mod Settled
 pub mod Sound
 pub mod Given
 pub mod Sides
+pub mod Below

@@ -1,10 +1,11 @@
 //! Whether each constraint holds at a point.
-ghost use Rattle.std.specs.Prelude.{◌≡◌, length, slice_get, Some};
+ghost use Rattle.std.specs.Prelude.{◌≡◌, ℕ, ◌∷◌, [], length, slice_get, Some, OnOk};
 ghost use Rattle.dcx_shape.specs.Shape.{sides_of};
 ghost use Rattle.dcx_atom.specs.Arrays.{number_at};
 ghost use Rattle.dcx_faults.specs.Checks.{Checked};
 ghost use Rattle.dcx_values.specs.Forming.{GivesParameters, GivesVariables};
-ghost use Rattle.dcx_values.specs.Tables.{AreKeptValues};
+ghost use Rattle.dcx_values.specs.Tables.{AreKeptValues, AreKeptBelow, StaysKept};
+ghost use Rattle.dcx_tree.specs.declared.constraint.Constraint.{Constraint as Row};
 ghost use Rattle.dcx_checks.specs.Checks.{numbers_hold, constraint_holds, constraints_hold};
 
 use crate::kept::kept;
@@ -16,7 +17,8 @@ use dcx_values::{Values, first_broken};
 use std::alloc::Global;
 
 /// Whether each constraint holds at a point. The values of one constraint after the other are formed and compared:
-/// `Constraint` tells the first constraint, and its first entry, that doesn't hold.
+/// `Constraint` tells the first constraint, and its first entry, that doesn't hold. Where each holds, all values below both sides are
+/// kept.
 pub fn check_constraints(
     alloc: Global,
     problem: &Problem,
@@ -29,6 +31,7 @@ pub fn check_constraints(
     requires kept { AreKeptValues problem.now setting.now point.now values.old }
     ensures checked { Checked (constraints_hold problem.now setting.now point.now) result }
     ensures kept { AreKeptValues problem.now setting.now point.now values.new }
+    ensures below { OnOk result ((k : ℕ) (c : Row) → slice_get problem.now.constraints k ≡ Some c → AreKeptBelow problem.now (c.left.0 ∷ c.right.0 ∷ []) values.new) }
 {
     let constraints = problem.constraints.as_slice();
     'constraints: for k in 0..constraints.len() {
@@ -61,6 +64,8 @@ fn check_constraint(
     requires kept { AreKeptValues problem.now setting.now point.now values.old }
     ensures checked { Checked (constraint_holds problem.now setting.now point.now number constraint.now) result }
     ensures kept { AreKeptValues problem.now setting.now point.now values.new }
+    ensures below { OnOk result (AreKeptBelow problem.now (constraint.now.left.0 ∷ constraint.now.right.0 ∷ []) values.new) }
+    ensures stays { StaysKept values.old values.new }
 {
     let roots = [constraint.left, constraint.right];
     values.form(alloc, problem, &roots, point, setting)?;

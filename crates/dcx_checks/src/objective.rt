@@ -1,12 +1,12 @@
 //! Whether the minimized objective at a point is as a certificate states.
-ghost use Rattle.std.specs.Prelude.{◌≡◌, ◌∷◌, [], IfOk};
+ghost use Rattle.std.specs.Prelude.{◌≡◌, ◌∷◌, [], IfOk, OnOk};
 ghost use Rattle.dcx_frac.specs.Frac.{value};
 ghost use Rattle.dcx_atom.specs.Arrays.{number_at};
 ghost use Rattle.dcx_convex.specs.Problems.{minimized};
 ghost use Rattle.dcx_tree.specs.Meaning.{sense_of, setting_of, point_of, objective_at};
 ghost use Rattle.dcx_faults.specs.Checks.{Checked};
 ghost use Rattle.dcx_values.specs.Forming.{GivesParameters, GivesVariables, forming};
-ghost use Rattle.dcx_values.specs.Tables.{AreKeptValues};
+ghost use Rattle.dcx_values.specs.Tables.{AreKeptValues, AreKeptBelow, StaysKept};
 ghost use Rattle.dcx_checks.specs.Checks.{value_is, start_bounded};
 
 use crate::kept::kept;
@@ -41,7 +41,8 @@ pub fn check_value(
     Err(CertFault::Value { stated, found })
 }
 
-/// Whether the minimized objective at the start of a ray is at most the stated bound. `Bound` tells both where it isn't.
+/// Whether the minimized objective at the start of a ray is at most the stated bound. `Bound` tells both where it isn't. Where it is, all
+/// values below the objective are kept.
 pub fn check_start_bound(
     alloc: Global,
     problem: &Problem,
@@ -55,6 +56,8 @@ pub fn check_start_bound(
     requires kept { AreKeptValues problem.now setting.now point.now values.old }
     ensures checked { Checked (start_bounded problem.now setting.now point.now bound) result }
     ensures kept { AreKeptValues problem.now setting.now point.now values.new }
+    ensures below { OnOk result (AreKeptBelow problem.now (problem.now.objective.0 ∷ []) values.new) }
+    ensures stays { StaysKept values.old values.new }
 {
     let found = objective(alloc, problem, point, setting, values)?;
     if is_at_most(&found, &bound) {
@@ -80,6 +83,8 @@ fn objective(
     ensures checked { Checked (forming problem.now setting.now point.now (problem.now.objective.0 ∷ [])) result }
     ensures number { IfOk result (λ f. value f ≡ objective_at problem.now (setting_of problem.now setting.now) (point_of problem.now point.now)) }
     ensures kept { AreKeptValues problem.now setting.now point.now values.new }
+    ensures below { OnOk result (AreKeptBelow problem.now (problem.now.objective.0 ∷ []) values.new) }
+    ensures stays { StaysKept values.old values.new }
 {
     values.form(alloc, problem, &[problem.objective], point, setting)?;
     Ok(minimized(problem.sense, kept(values, problem.objective)))
