@@ -13,7 +13,7 @@ pub constraints-init : goal.constraints-init
 constraints-init c = ((λ k lt. absurd (omega (arith, lt))), c.requires.kept, (λ j row lt. absurd (omega (arith, lt))))
 
 pub check_constraint-requires-clause-kept : goal.check_constraint-requires-clause-kept
-check_constraint-requires-clause-kept c = c.constraints.invariant.1.0
+check_constraint-requires-clause-kept c = c.constraints.invariant.1
 
 pub constraints-preserved : goal.constraints-preserved
 constraints-preserved c =
@@ -22,9 +22,11 @@ constraints-preserved c =
     let check = constraint_holds p c.args.setting.now c.args.point.now in
     let x = c.index-constraints-k.result in
     let at : slice_get p.constraints c.constraints.k ≡ Some x =
-    subst (λ (cs : List Constraint). slice_get cs c.constraints.k ≡ Some x) c.as_slice-constraints.ensures (slice_get_read xs (length xs) c.constraints.k x refl c.constraints-test.true c.index-constraints-k.is) in
-    (one_more (at_place p.constraints check) c.constraints.k (at_passes p.constraints check c.constraints.k x at c.in_ok-check_constraint.ensures.checked) c.constraints.invariant.0, c.check_constraint.ensures.kept,
-    below_more p c.constraints.k x at c.constraints.values c.check_constraint.new.values c.constraints.invariant.1.1 c.check_constraint.ensures.stays c.in_ok-check_constraint.ensures.below)
+    subst (λ (cs : List Constraint). slice_get cs c.constraints.k ≡ Some x) c.as_slice-constraints.ensures (slice_get_read xs (length xs) c.constraints.k x refl c.constraints-test.true c.index-constraints-k.is) in (
+      one_more (at_place p.constraints check) c.constraints.k (at_passes p.constraints check c.constraints.k x at c.in_ok-check_constraint.ensures.checked) c.constraints.invariant.0,
+      c.check_constraint.ensures.kept,
+      below_more p c.constraints.k x at c.constraints.values c.check_constraint.new.values c.constraints.invariant.2 c.check_constraint.ensures.stays c.in_ok-check_constraint.ensures.below,
+    )
 
 pub returns-in_err-check_constraint-clause-checked : goal.returns-in_err-check_constraint-clause-checked
 returns-in_err-check_constraint-clause-checked c =
@@ -47,7 +49,7 @@ returns-clause-checked c =
     all_passed (at_place p.constraints (constraint_holds p c.args.setting.now c.args.point.now)) (length p.constraints) c.constraints.k (omega (arith, same, past)) c.constraints.invariant.0
 
 pub returns-clause-kept : goal.returns-clause-kept
-returns-clause-kept c = c.constraints.invariant.1.0
+returns-clause-kept c = c.constraints.invariant.1
 
 pub returns-clause-below : goal.returns-clause-below
 returns-clause-below c =
@@ -56,4 +58,4 @@ returns-clause-below c =
     let past = c.constraints-test.false in
     λ k row at.
     let there = slice_get_within p.constraints k row at in
-    c.constraints.invariant.1.1 k row (omega (arith, same, past, there)) at
+    c.constraints.invariant.2 k row (omega (arith, same, past, there)) at
