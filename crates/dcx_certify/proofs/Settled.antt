@@ -1,12 +1,7 @@
 -- The checks of a certificate tell one thing.
-use Rattle.std.proofs.Common.{List}
 use Rattle.std.specs.Prelude.{true, false, Option}
-use Rattle.dcx_frac.specs.declared.fraction.Frac.{Frac}
-use Rattle.dcx_atom.specs.declared.array.Array.{Array}
 use Rattle.dcx_point.specs.Pairs.{Pairs}
 use Rattle.dcx_tree.specs.declared.problem.Problem.{Problem}
-use Rattle.dcx_sections.specs.declared.weights.NodeWeights.{NodeWeights}
-use Rattle.dcx_sections.specs.declared.cert.Cert.{Cert}
 use Rattle.dcx_sections.specs.declared.cert.Cert.TheVariants.{Optimal, Infeasible, Unbounded}
 use Rattle.dcx_faults.specs.Checks.{Check, in_turn}
 use Rattle.dcx_faults.specs.Laws.{IsSettled}
@@ -16,7 +11,7 @@ use Rattle.dcx_values.proofs.Settling.{settled_here}
 use Rattle.dcx_bound.proofs.Settled as bound
 use Rattle.dcx_bound.specs.Laws.{BoundsAreSettled}
 use Rattle.dcx_rays.proofs.Settled.{ray_settled}
-use Rattle.dcx_certify.specs.Checks.{setting_checks, point_checks, optimal_checks, infeasible_checks, unbounded_checks, checks_of}
+use Rattle.dcx_certify.specs.Checks.{setting_checks, point_checks}
 use Rattle.dcx_certify.specs.Laws.{TellsOneThing}
 
 bounds_settled : BoundsAreSettled

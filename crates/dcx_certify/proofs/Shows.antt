@@ -1,14 +1,14 @@
 -- What passes its checks shows its answer.
-use Rattle.std.proofs.Common.{◌≡◌, List}
-use Rattle.dcx_frac.specs.declared.fraction.Frac.{Frac}
-use Rattle.dcx_atom.specs.declared.array.Array.{Array}
+use Rattle.std.proofs.Common.{◌≡◌, Result, Ok, Err, OnOk}
 use Rattle.dcx_point.specs.Pairs.{Pairs}
 use Rattle.dcx_lines.specs.Shown.{variables_of}
 use Rattle.dcx_tree.specs.declared.problem.Problem.{Problem}
 use Rattle.dcx_tree.specs.Meaning.{IsAccepted, IsDomainPoint, point_of}
 use Rattle.dcx_sections.specs.declared.cert.Cert.{Cert}
 use Rattle.dcx_sections.specs.declared.cert.Cert.TheVariants.{Optimal, Infeasible, Unbounded}
+use Rattle.dcx_sections.specs.declared.fault.CertFault.{CertFault}
 use Rattle.dcx_sections.specs.Shown.{IsCertOf}
+use Rattle.dcx_faults.specs.Checks.{Checked}
 use Rattle.dcx_outline.specs.Drawn.{problem_outline}
 use Rattle.dcx_checks.specs.Checks.{point_inside}
 use Rattle.dcx_checks.proofs.Sound.{checks_sound}
@@ -28,10 +28,12 @@ passed_are_shown p s (Optimal number point duals weights params) ok of (fits, ch
     let inside = checks.0.0 in
     let holds = checks.0.1 in
     let feasible = checks_sound.feasible p s point inside holds in
-    let at = checks_sound.value p s point number checks.1.0 in
-    let signed = (checks_sound.multipliers p duals).0 checks.1.1.0 in
-    (checks_sound.fitting p s ok fits.0, domain_point p point of.variables inside,
-    (bounds_show p s duals weights ok of.constraints).optimal number checks.1.1.1 (point_of p point) feasible at signed)
+    let at = checks_sound.objective p s point number checks.1.0 in
+    let signed = (checks_sound.multipliers p duals).0 checks.1.1.0 in (
+      checks_sound.fitting p s ok fits.0,
+      domain_point p point of.variables inside,
+      (bounds_show p s duals weights ok of.constraints).optimal number checks.1.1.1 (point_of p point) feasible at signed,
+    )
 passed_are_shown p s (Infeasible duals gap weights params) ok of (fits, checks) =
     let signed = (checks_sound.multipliers p duals).0 checks.0 in
     (checks_sound.fitting p s ok fits.0, (bounds_show p s duals weights ok of.constraints).infeasible gap checks.1.1 checks.1.0 signed)
@@ -39,6 +41,13 @@ passed_are_shown p s (Unbounded point ray bound slope params) ok of (fits, check
     let inside = checks.0.0 in
     let feasible = checks_sound.feasible p s point inside checks.0.1 in
     let fitting = checks_sound.fitting p s ok fits.0 in
-    let start = checks_sound.start p s point bound checks.1.0 in
-    (fitting, domain_point p point of.variables inside,
-    passed_is_unbounded p ok s fitting point ray bound slope feasible start checks.1.1.0 ((checks_sound.ray p ray).0 checks.1.1.1.0) checks.1.1.1.1)
+    let start = checks_sound.start p s point bound checks.1.0 in (
+      fitting,
+      domain_point p point of.variables inside,
+      passed_is_unbounded p ok s fitting point ray bound slope feasible start checks.1.1.0 ((checks_sound.ray p ray).0 checks.1.1.1.0) checks.1.1.1.1,
+    )
+
+-- so does what comes to that
+pub shown_where : (p : Problem) (s : Pairs) (cert : Cert) → IsAccepted p → IsCertOf (problem_outline p) cert → {T : Type 0} (r : Result T CertFault) → Checked (checks_of p s cert) r → OnOk r (IsShown p s cert)
+shown_where p s cert ok of (Ok x) h = passed_are_shown p s cert ok of h
+shown_where p s cert ok of (Err f) h = tt

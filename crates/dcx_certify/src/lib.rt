@@ -12,7 +12,7 @@
 //! | a certificate passes or fails, and not both, with one fault | `laws::tells_one_thing` |
 #![tactic(auto)]
 
-mod certify;
+mod checking;
 pub mod laws;
 
-pub use certify::certify;
+pub use checking::certify;

@@ -1,8 +1,9 @@
 //! The checks of a certificate, one after the other.
-ghost use Rattle.std.specs.Prelude.{◌≡◌, [], length, OnOk, map};
+ghost use Rattle.std.specs.Prelude.{◌≡◌, ℕ, [], ◌∷◌, length, OnOk, Some, slice_get};
 ghost use Rattle.dcx_tree.specs.Meaning.{IsAccepted, IsFitting};
-ghost use Rattle.dcx_lines.specs.Shown.{variables_of, constraints_of};
-ghost use Rattle.dcx_sections.specs.Shown.{IsCertOf, IsOptimalOf, IsInfeasibleOf, IsUnboundedOf, atoms_of};
+ghost use Rattle.dcx_tree.specs.declared.constraint.Constraint.{Constraint as Row};
+ghost use Rattle.dcx_lines.specs.Shown.{constraints_of};
+ghost use Rattle.dcx_sections.specs.Shown.{IsCertOf, atoms_of};
 ghost use Rattle.dcx_outline.specs.Drawn.{problem_outline};
 ghost use Rattle.dcx_faults.specs.Checks.{Checked};
 ghost use Rattle.dcx_values.specs.Forming.{GivesParameters, GivesVariables};
@@ -54,6 +55,7 @@ fn check_point(
     requires kept { AreKeptValues problem.now setting.now point.now values.old }
     ensures checked { Checked (point_checks problem.now setting.now point.now) result }
     ensures kept { AreKeptValues problem.now setting.now point.now values.new }
+    ensures below { OnOk result ((k : ℕ) (c : Row) → slice_get problem.now.constraints k ≡ Some c → AreKeptBelow problem.now (c.left.0 ∷ c.right.0 ∷ []) values.new) }
 {
     check_domain(problem, point)?;
     check_constraints(alloc, problem, point, setting, values)
@@ -80,7 +82,9 @@ fn check_optimal(
     check_point(alloc, problem, point, setting, &mut values)?;
     check_value(alloc, problem, point, setting, stated, &mut values)?;
     check_dual_signs(problem, duals)?;
-    check_bound(alloc, problem, setting, &fixed, duals, weights, true, stated)
+    check_bound(
+        alloc, problem, setting, &fixed, duals, weights, true, stated,
+    )
 }
 
 /// Checks that multipliers and weights leave a gap above 0 at every point of the domain.
@@ -127,26 +131,22 @@ fn check_unbounded(
     check_start_bound(alloc, problem, point, setting, bound, &mut values)?;
     check_descent(slope)?;
     check_ray_domain(problem, ray)?;
-    check_ray(alloc, problem, setting, &fixed, values.as_slice(), ray, slope)
+    check_ray(
+        alloc,
+        problem,
+        setting,
+        &fixed,
+        values.as_slice(),
+        ray,
+        slope,
+    )
 }
 
-/// Checks whether a certificate shows the answer to an accepted problem at a setting. It has the names, the shapes, the counts and the
-/// order of the problem.
-///
-/// The checks go in the order of the faults, and an `Err` is the fault of the first that fails: `Fit` where the setting doesn't fit,
-/// `Setting` where another one's values are told; `Domain`, `Constraint` and `Value` at the point; `DualSign` and `Gap`; `Slope`,
-/// `Variable` and `Bound` of what multipliers and weights show; or, along a ray, `Bound`, `Descent`, `RayDomain`, `RayConstraint` and
-/// `RayValue`. `Wide` where an operation passes 128 bits before one of them is met, and `Memory` where there is none.
-pub fn certify(
-    alloc: Global,
-    problem: &Problem,
-    setting: &Setting,
-    cert: &Cert,
-) -> Result<(), CertFault>
+/// Carries out the checks of a certificate.
+fn check(alloc: Global, problem: &Problem, setting: &Setting, cert: &Cert) -> Result<(), CertFault>
     requires accepted { IsAccepted problem.now }
     requires cert { IsCertOf (problem_outline problem.now) cert.now }
-    ensures checked { Checked (checks_of problem.now setting.now cert.now) result }
-    ensures shown { OnOk result (IsShown problem.now setting.now cert.now) }
+    ensures { Checked (checks_of problem.now setting.now cert.now) result }
 {
     match cert {
         Cert::Optimal {
@@ -179,4 +179,25 @@ pub fn certify(
             check_unbounded(alloc, problem, setting, point, ray, *bound, *slope)
         }
     }
+}
+
+/// Checks whether a certificate shows the answer to an accepted problem at a setting. It has the names, the shapes, the counts and the
+/// order of the problem.
+///
+/// The checks go in the order of the faults, and an `Err` is the fault of the first that fails: `Fit` where the setting doesn't fit,
+/// `Setting` where another one's values are told; `Domain`, `Constraint` and `Value` at the point; `DualSign` and `Gap`; `Slope`,
+/// `Variable` and `Bound` of what multipliers and weights show; or, along a ray, `Bound`, `Descent`, `RayDomain`, `RayConstraint` and
+/// `RayValue`. `Wide` where an operation passes 128 bits before one of them is met, and `Memory` where there is none.
+pub fn certify(
+    alloc: Global,
+    problem: &Problem,
+    setting: &Setting,
+    cert: &Cert,
+) -> Result<(), CertFault>
+    requires accepted { IsAccepted problem.now }
+    requires cert { IsCertOf (problem_outline problem.now) cert.now }
+    ensures checked { Checked (checks_of problem.now setting.now cert.now) result }
+    ensures shown { OnOk result (IsShown problem.now setting.now cert.now) }
+{
+    check(alloc, problem, setting, cert)
 }
