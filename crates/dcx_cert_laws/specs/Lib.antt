@@ -1,0 +1,2 @@
+-- The words of the laws.
+pub mod Laws
