@@ -1,10 +1,13 @@
-"""Writes worked cases of certificates that differ a little from right ones, with what the checker answers: `certificate_cases.py numbers|texts`.
+"""Writes worked cases of certificates: `certificate_cases.py numbers`, `certificate_cases.py texts` and `certificate_cases.py drawn SEED COUNT`.
 
-`numbers` changes one number of a certificate at a time, `texts` one thing of its text. The right ones are those of oracle/certifying.py.
+`numbers` and `texts` write certificates that differ a little from right ones, in one number or in one thing of the text, with what the checker
+answers. `drawn` writes those of scripts drawn at random, each of which passes its own checks. The right ones are those of oracle/certifying.py.
 """
+import random
 import re
 import sys
 
+import random_cases
 from oracle.cases import IMPORTS
 from oracle.commands import run
 
@@ -221,8 +224,32 @@ def texts():
         write_case(script, settings, changed)
 
 
+def drawn_case():
+    """A script with atoms, its settings and its certificate."""
+    while True:
+        model = random_cases.Model()
+        script = "\n".join(model.script())
+        settings = "\n".join(model.setting() for _ in range(random.randint(1, 2)))
+        status, text = run(["certificate", "model.py", "settings.txt"], files_of(script, settings).__getitem__)
+        if status == 0 and text.count("\n") <= 30 and (" unbounded" in text or re.search(r"^node .* = .*[1-9]", text, re.MULTILINE)):
+            return script, settings, text
+
+
+def drawn(seed, count):
+    random.seed(int(seed))
+    print(f"# Certificates of scripts drawn at random from the seed {seed}, by bench/certificate_cases.py.")
+    for _ in range(int(count)):
+        script, settings, text = drawn_case()
+        print("\ncase certificate model.py settings.txt")
+        print("file model.py\nimports", *(f"| {line}" for line in script.split("\n")), sep="\n")
+        print("file settings.txt", *(f"| {line}" for line in settings.split("\n")), sep="\n")
+        print("gives 0", *(f"| {line}" for line in text.splitlines()), sep="\n")
+
+
 if __name__ == "__main__":
     sys.setrecursionlimit(10_000)
-    if sys.argv[1:] not in (["numbers"], ["texts"]):
+    ways = {("numbers", 2): numbers, ("texts", 2): texts, ("drawn", 4): drawn}
+    way = ways.get((sys.argv[1] if len(sys.argv) > 1 else "", len(sys.argv)))
+    if way is None:
         raise SystemExit(__doc__)
-    {"numbers": numbers, "texts": texts}[sys.argv[1]]()
+    way(*sys.argv[2:])
