@@ -24,6 +24,7 @@ mod trial_lines;
 
 pub use dcx_answer::{Answer, Stop};
 pub use dcx_front::Refusal;
+pub use dcx_sections::CertFault;
 pub use dcx_tree::Sense;
 pub use outcome::{Outcome, OutcomeEnd};
 pub use outcomes::Outcomes;
