@@ -63,10 +63,14 @@ fault_details (RayValue stated found) = numbers_text stated found
 fault_details (Wide passes) = passes_text passes
 fault_details Memory = []
 
+-- FAULT, and what the fault carries
+unfoldable pub fault_text : CertFault → List ℕ
+fault_text fault = fault_name fault ++ fault_details fault
+
 -- certified SECTIONS: each section holds, and so many of them show an answer
 unfoldable pub certified_text : ℕ → List ℕ
 certified_text sections = codes "certified " ++ decimal sections ++ codes "\n"
 
 -- certificate refused section SECTION FAULT, and what the fault carries
 unfoldable pub cert_refused_text : ℕ → CertFault → List ℕ
-cert_refused_text section fault = codes "certificate refused section " ++ decimal section ++ codes " " ++ fault_name fault ++ fault_details fault ++ codes "\n"
+cert_refused_text section fault = codes "certificate refused section " ++ decimal section ++ codes " " ++ fault_text fault ++ codes "\n"

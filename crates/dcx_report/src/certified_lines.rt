@@ -1,7 +1,7 @@
 //! Appends the lines of a check of a certificate.
 ghost use Rattle.std.specs.Prelude.{◌≡◌, ◌++◌, OnOk, codes};
 ghost use Rattle.dcx_report.specs.StopText.{stop_name};
-ghost use Rattle.dcx_report.specs.CertifiedText.{index_text, numbers_text, number_at_text, numbers_at_text, fault_name, fault_details, certified_text, cert_refused_text};
+ghost use Rattle.dcx_report.specs.CertifiedText.{index_text, numbers_text, number_at_text, numbers_at_text, fault_name, fault_details, fault_text, certified_text, cert_refused_text};
 
 use crate::pieces::put_passes;
 use crate::stop_line::name_of_stop;
@@ -149,6 +149,15 @@ fn put_details(out: &mut Vec<u8>, fault: &CertFault) -> Result<(), AllocError>
     }
 }
 
+/// Appends the name of a fault, and what it carries.
+#[tactic(auto, unfolding(crate::specs::CertifiedText::fault_text))]
+fn put_fault(out: &mut Vec<u8>, fault: &CertFault) -> Result<(), AllocError>
+    ensures { OnOk result (out.new.items ≡ out.old.items ++ fault_text fault.now) }
+{
+    put_bytes(out, name_of_fault(fault))?;
+    put_details(out, fault)
+}
+
 /// Appends that a certificate holds, and how many of its sections show an answer.
 #[tactic(auto, unfolding(crate::specs::CertifiedText::certified_text))]
 pub(crate) fn put_certified(out: &mut Vec<u8>, sections: u32) -> Result<(), AllocError>
@@ -171,7 +180,6 @@ pub(crate) fn put_cert_refused(
     put_bytes(out, b"certificate refused section ")?;
     put_number(out, u64::from(section))?;
     put_bytes(out, b" ")?;
-    put_bytes(out, name_of_fault(fault))?;
-    put_details(out, fault)?;
+    put_fault(out, fault)?;
     put_bytes(out, b"\n")
 }
