@@ -133,7 +133,7 @@ fn put_run(out: &mut Vec<u8>, run: &Run) -> Result<(), AllocError>
             put_outcomes(out, *word, *sense, outcomes.as_slice())?;
             put_counts(out, outcomes.as_slice())
         }
-        Run::Certificates(text) => put_bytes(out, text.as_slice()),
+        Run::Certificates { text, .. } => put_bytes(out, text.as_slice()),
         Run::Certified { sections } => put_certified(out, *sections),
         Run::CertRefused { section, fault } => put_cert_refused(out, *section, fault),
         Run::Trial { size, outcomes } => {

@@ -33,7 +33,12 @@ pub enum Run {
         outcomes: Outcomes,
     },
     /// The text of a certificate: of the answers at each setting, or of sections that were read and hold.
-    Certificates(Bytes),
+    Certificates {
+        /// The text.
+        text: Bytes,
+        /// Whether a setting stopped, so that its section shows nothing.
+        stopped: bool,
+    },
     /// Each section of a certificate holds at its setting.
     Certified {
         /// How many sections show an answer.

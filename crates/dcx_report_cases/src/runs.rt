@@ -131,7 +131,14 @@ fn bytes_of(alloc: Global, lines: &[&str]) -> Result<Bytes, CaseFault> {
 }
 
 fn certificates_told(alloc: Global, lines: &[&str], out: &mut String) -> Result<(), CaseFault> {
-    put_report(alloc, &Run::Certificates(bytes_of(alloc, lines)?), out)
+    put_report(
+        alloc,
+        &Run::Certificates {
+            text: bytes_of(alloc, lines)?,
+            stopped: false,
+        },
+        out,
+    )
 }
 
 fn certified_told(alloc: Global, sections: &str, out: &mut String) -> Result<(), CaseFault> {
