@@ -1,4 +1,5 @@
 pub mod AnswerText
+pub mod CertifiedText
 pub mod CheckText
 pub mod Negated
 pub mod NodeStops

@@ -1,7 +1,8 @@
 -- The bytes of the report of a run. Each line ends with a line feed.
 use Rattle.std.specs.Prelude.{ℕ, List, ◌++◌, codes}
 use Rattle.dcx_report.specs.declared.run.Run.{Run}
-use Rattle.dcx_report.specs.declared.run.Run.TheVariants.{Usage, Refused, Checked, Solved, Trial, ReadFault, Memory}
+use Rattle.dcx_report.specs.declared.run.Run.TheVariants.{Usage, Refused, Checked, Solved, Certificates, Certified, CertRefused, Trial, ReadFault, Memory}
+use Rattle.dcx_report.specs.CertifiedText.{certified_text, cert_refused_text}
 use Rattle.dcx_report.specs.CheckText.{checked_text}
 use Rattle.dcx_report.specs.OutcomeText.{outcome_lines, count_line}
 use Rattle.dcx_report.specs.RefusalText.{refusal_text}
@@ -10,7 +11,7 @@ use Rattle.dcx_report.specs.TrialText.{trial_lines}
 -- the commands, with their operands
 abbrev pub usage_text : List ℕ
 usage_text =
-    codes "usage: dcx check SCRIPT | solve SCRIPT | resolve SCRIPT SETTINGS | certificate SCRIPT SETTINGS | certify SCRIPT SETTINGS CERT | trial N\n"
+    codes "usage: dcx check SCRIPT | solve SCRIPT | resolve SCRIPT SETTINGS | certificate SCRIPT SETTINGS | certify SCRIPT SETTINGS CERT | trial N | migrate SCRIPT SETTINGS CERT\n"
 
 -- the report of the run
 unfoldable pub text_of : Run → List ℕ
@@ -18,6 +19,9 @@ text_of Usage = usage_text
 text_of (Refused refusal) = refusal_text refusal
 text_of (Checked checked) = checked_text checked
 text_of (Solved word sense outcomes) = outcome_lines word sense outcomes ++ count_line outcomes
+text_of (Certificates text stopped) = text
+text_of (Certified sections) = certified_text sections
+text_of (CertRefused section fault) = cert_refused_text section fault
 text_of (Trial size outcomes) = trial_lines size outcomes ++ count_line outcomes
 text_of ReadFault = codes "fault read\n"
 text_of Memory = codes "want of memory\n"

@@ -5,12 +5,14 @@
 //! | the report of a run is its text, byte for byte | `report_text`, `text_of` of `specs/ReportText.antt` |
 //! | a value and a bound are told of the user's objective: negated back where it is maximized | `user_number` of `specs/AnswerText.antt` |
 //! | a trial tells of each setting how it ends, on one line, an optimal value with it | `trial_lines` of `specs/TrialText.antt` |
+//! | a refused certificate is told with its section, the check that fails there, and what that carries | `cert_refused_text` of `specs/CertifiedText.antt` |
 //! | the last line counts the settings that are answered and those that are stopped | `count_line` of `specs/OutcomeText.antt` |
 //! | an outcome has a place exactly where its stop names a node | `Outcome`, `names_node` of `specs/NodeStops.antt` |
 //! | two runs over one problem with the same report have the same answers | `laws::same_text_same_answers` |
 #![tactic(auto)]
 
 mod answer_lines;
+mod certified_lines;
 mod check_lines;
 pub mod laws;
 mod outcome;
@@ -24,6 +26,7 @@ mod trial_lines;
 
 pub use dcx_answer::{Answer, Stop};
 pub use dcx_front::Refusal;
+pub use dcx_sections::CertFault;
 pub use dcx_tree::Sense;
 pub use outcome::{Outcome, OutcomeEnd};
 pub use outcomes::Outcomes;

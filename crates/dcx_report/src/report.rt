@@ -4,6 +4,7 @@ ghost use Rattle.dcx_report.specs.OutcomeText.{word_text, end_text, outcome_text
 ghost use Rattle.dcx_report.specs.ReportText.{text_of};
 
 use crate::answer_lines::put_answer;
+use crate::certified_lines::{put_cert_refused, put_certified};
 use crate::check_lines::put_checked;
 use crate::refusal_line::put_refusal;
 use crate::stop_line::put_stopped;
@@ -113,7 +114,7 @@ fn put_counts(out: &mut Vec<u8>, outcomes: &[Outcome]) -> Result<(), AllocError>
 
 /// The commands, with their operands.
 const USAGE: &[u8] =
-    b"usage: dcx check SCRIPT | solve SCRIPT | resolve SCRIPT SETTINGS | certificate SCRIPT SETTINGS | certify SCRIPT SETTINGS CERT | trial N\n";
+    b"usage: dcx check SCRIPT | solve SCRIPT | resolve SCRIPT SETTINGS | certificate SCRIPT SETTINGS | certify SCRIPT SETTINGS CERT | trial N | migrate SCRIPT SETTINGS CERT\n";
 
 /// Appends the report of a run.
 #[tactic(auto, unfolding(crate::specs::ReportText::text_of))]
@@ -132,6 +133,9 @@ fn put_run(out: &mut Vec<u8>, run: &Run) -> Result<(), AllocError>
             put_outcomes(out, *word, *sense, outcomes.as_slice())?;
             put_counts(out, outcomes.as_slice())
         }
+        Run::Certificates { text, .. } => put_bytes(out, text.as_slice()),
+        Run::Certified { sections } => put_certified(out, *sections),
+        Run::CertRefused { section, fault } => put_cert_refused(out, *section, fault),
         Run::Trial { size, outcomes } => {
             put_trial(out, *size, outcomes.as_slice())?;
             put_counts(out, outcomes.as_slice())

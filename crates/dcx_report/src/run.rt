@@ -2,6 +2,8 @@
 
 use crate::{Outcomes, Refusal, Sense};
 use dcx_front::Checked;
+use dcx_sections::CertFault;
+use dcx_shape::Bytes;
 
 /// The word that a run's outcomes stand under.
 #[derive(Clone, Copy, Debug, PartialEq, Eq)]
@@ -29,6 +31,25 @@ pub enum Run {
         sense: Sense,
         /// The outcomes, in order.
         outcomes: Outcomes,
+    },
+    /// The text of a certificate: of the answers at each setting, or of sections that were read and hold.
+    Certificates {
+        /// The text.
+        text: Bytes,
+        /// Whether a setting stopped, so that its section shows nothing.
+        stopped: bool,
+    },
+    /// Each section of a certificate holds at its setting.
+    Certified {
+        /// How many sections show an answer.
+        sections: u32,
+    },
+    /// A certificate is refused.
+    CertRefused {
+        /// The section, counted from 1; 0 where the bytes are no text of a certificate for the problem.
+        section: u32,
+        /// Why it is refused.
+        fault: CertFault,
     },
     /// The trial problem of this size was solved, or stopped, at each setting.
     Trial {

@@ -71,7 +71,7 @@ fn put_site(out: &mut Vec<u8>, place: Option<Place>, site: &Site) -> Result<(), 
 
 /// The number and the name of a stop.
 #[tactic(auto, unfolding(crate::specs::StopText::stop_name))]
-fn name_of_stop(stop: &Stop) -> &'static [u8]
+pub(crate) fn name_of_stop(stop: &Stop) -> &'static [u8]
     ensures { result.now ≡ stop_name stop.now }
 {
     match stop {

@@ -2,6 +2,7 @@
 #![tactic(auto)]
 
 mod answers;
+mod faults;
 mod refusals;
 mod runs;
 mod stops;

@@ -1,4 +1,4 @@
-//! Refusals as they are written: the number, the line and the column, and what is carried.
+//! Refusals as they are written: the file if it is no script, the number, the line and the column, and what is carried.
 use crate::stops::passes;
 use dcx_arena::Count;
 use dcx_case_lines::{CaseFault, count};
@@ -18,10 +18,10 @@ fn rule(word: &str) -> Result<Rule, CaseFault> {
 }
 
 /// The refusal of this number that carries nothing.
-fn bare(number: &str, place: Place) -> Result<Refusal, CaseFault> {
+fn bare(source: RefusalSource, number: &str, place: Place) -> Result<Refusal, CaseFault> {
     match number.parse::<u8>() {
         Ok(number) if 0 < number && number < 18 => Ok(Refusal {
-            source: RefusalSource::Script,
+            source,
             number,
             place,
             carried: Carried::Nothing,
@@ -38,10 +38,16 @@ pub(crate) fn place(line: &str, column: &str) -> Result<Place, CaseFault> {
     })
 }
 
-/// The refusal of a script.
+/// The refusal of a script, or of the file that the first word names.
 pub(crate) fn refusal(words: &[&str]) -> Result<Refusal, CaseFault> {
     match *words {
-        [number, line, column] => bare(number, place(line, column)?),
+        ["settings", number, line, column] => {
+            bare(RefusalSource::Settings, number, place(line, column)?)
+        }
+        ["certificate", number, line, column] => {
+            bare(RefusalSource::Certificate, number, place(line, column)?)
+        }
+        [number, line, column] => bare(RefusalSource::Script, number, place(line, column)?),
         ["18", line, column, "items", items] => Ok(Refusal {
             source: RefusalSource::Script,
             number: 18,

@@ -1,13 +1,15 @@
 //! Runs as they are written, and the lines of their reports.
 use crate::answers::answer;
+use crate::faults::fault;
 use crate::refusals::{place, refusal};
 use crate::stops::{stop, stop_at};
 use dcx_case_lines::{CaseFault, Cases, count, put_between, words};
 use dcx_report::{Outcome, OutcomeEnd, Outcomes, Run, Sense, Word, report_text};
+use dcx_shape::Bytes;
 use std::alloc::Global;
 
-/// `usage`, `fault`, `memory`, `refused REFUSAL`, `WORD SENSE | OUTCOME | ..` or `trial SIZE | OUTCOME | ..`, and the report, in
-/// which each line ends with ` /`.
+/// `usage`, `fault`, `memory`, `refused REFUSAL`, `WORD SENSE | OUTCOME | ..`, `trial SIZE | OUTCOME | ..`,
+/// `certificates | LINE | ..`, `certified SECTIONS` or `section SECTION FAULT`, and the report, in which each line ends with ` /`.
 pub(crate) struct Reports;
 
 impl Cases for Reports {
@@ -30,6 +32,9 @@ fn told(alloc: Global, words: &[&str], rest: &[&str], out: &mut String) -> Resul
         ["refused", ref words @ ..] => put_report(alloc, &Run::Refused(refusal(words)?), out),
         ["solve", sense] => solved_told(alloc, Word::Solve, sense, rest, out),
         ["setting", sense] => solved_told(alloc, Word::Setting, sense, rest, out),
+        ["certificates"] => certificates_told(alloc, rest, out),
+        ["certified", sections] => certified_told(alloc, sections, out),
+        ["section", section, ref words @ ..] => fault_told(alloc, section, words, out),
         ["trial", size] => trial_told(alloc, size, rest, out),
         _ => Err(CaseFault::Unreadable),
     }
@@ -113,6 +118,43 @@ fn solved_told(
         },
         out,
     )
+}
+
+/// The bytes of lines.
+fn bytes_of(alloc: Global, lines: &[&str]) -> Result<Bytes, CaseFault> {
+    let mut bytes = Vec::new(alloc);
+    for line in lines {
+        bytes.extend_from_slice(line.as_bytes())?;
+        bytes.push(b'\n')?;
+    }
+    Ok(Bytes::from_vec(bytes))
+}
+
+fn certificates_told(alloc: Global, lines: &[&str], out: &mut String) -> Result<(), CaseFault> {
+    put_report(
+        alloc,
+        &Run::Certificates {
+            text: bytes_of(alloc, lines)?,
+            stopped: false,
+        },
+        out,
+    )
+}
+
+fn certified_told(alloc: Global, sections: &str, out: &mut String) -> Result<(), CaseFault> {
+    let sections = count(sections)?;
+    put_report(alloc, &Run::Certified { sections }, out)
+}
+
+fn fault_told(
+    alloc: Global,
+    section: &str,
+    words: &[&str],
+    out: &mut String,
+) -> Result<(), CaseFault> {
+    let section = count(section)?;
+    let fault = fault(alloc, words)?;
+    put_report(alloc, &Run::CertRefused { section, fault }, out)
 }
 
 fn trial_told(

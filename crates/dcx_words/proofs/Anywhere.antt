@@ -2,14 +2,10 @@
 use Rattle.std.proofs.Common.{◌≡◌, ℕ, Bool, true, false, cond, ◌||◌, List, [], ◌∷◌, ◌++◌, Option, Some, None, option_map, option_and_then, refl, sym, ap, ◌∙◌}
 use Rattle.std.specs.Prelude.{nat_eq, bytes_eq, codes}
 use Rattle.std.specs.List.{list_any, starts_with}
-use Rattle.dcx_words.specs.Commands.{Command, check, solve, resolve, trial, Operands, limit_of, option_word, option_front, unlimited, put_before, limited, without_option, file_of, files_of, size_of, limited_command, command_of}
+use Rattle.dcx_words.specs.Commands.{Command, check, solve, resolve, certificate, certify, migrate, trial, Operands, limit_of, option_word, option_front, unlimited, put_before, limited, without_option, file_of, files_of, three_files_of, size_of, limited_command, command_of}
 use Rattle.dcx_words.specs.Laws.{is_option, HasNoOption, with_limit, limited_by, OptionStandsAnywhere}
 use Rattle.dcx_words.proofs.Taking.{at_operand, put_twice}
-
-pub neither : (a b : Bool) → (a || b) ≡ false → (a ≡ false) × (b ≡ false)
-neither false false e = (refl, refl)
-neither false true e = cc
-neither true b e = cc
+use Rattle.dcx_words.proofs.NoOption.{neither, file_operand, three_file_operands, none_with_option}
 
 none_in : (front back : List (List ℕ)) → HasNoOption (front ++ back) → HasNoOption front × HasNoOption back
 none_in [] back h = (refl, h)
@@ -40,30 +36,21 @@ no_option (w ∷ ws) h =
 -- the operands with another limit
 relimited : (name : List ℕ) (words : List (List ℕ)) (m n : ℕ) (command : Command) → limited_command name (record { words = words; limit = m }) ≡ Some command
     → limited_command name (record { words = words; limit = n }) ≡ with_limit command n
-relimited name words m n command = by (bytes_eq name (codes "solve")) (bytes_eq name (codes "resolve")) (bytes_eq name (codes "trial")) (file_of words) (files_of words) (size_of words)
+relimited name words m n command = by (bytes_eq name (codes "solve")) (bytes_eq name (codes "resolve")) (bytes_eq name (codes "certificate")) (bytes_eq name (codes "trial"))
   where
-    same : (old : Command) → Some old ≡ Some command → with_limit old n ≡ with_limit command n
-    same old e = let d : old ≡ command = cc in ap (λ x. with_limit x n) d
+    -- of what the operands are made, whatever the limit
+    same : {X : Type 0} (form : X → ℕ → Command) (o : Option X) → ((x : X) → Some (form x n) ≡ with_limit (form x m) n) → option_map (λ x. form x m) o ≡ Some command → option_map (λ x. form x n) o ≡ with_limit command n
+    same form None h e = cc
+    same form (Some x) h e = let d : form x m ≡ command = cc in h x ∙ ap (λ c. with_limit c n) d
 
-    one : (f : Option (List ℕ)) → option_map (λ script. solve script m) f ≡ Some command → option_map (λ script. solve script n) f ≡ with_limit command n
-    one None e = cc
-    one (Some script) e = same (solve script m) e
-
-    two : (f : Option (List ℕ × List ℕ)) → option_map (λ files. resolve files.0 files.1 m) f ≡ Some command → option_map (λ files. resolve files.0 files.1 n) f ≡ with_limit command n
-    two None e = cc
-    two (Some files) e = same (resolve files.0 files.1 m) e
-
-    size : (f : Option ℕ) → option_map (λ size. trial size m) f ≡ Some command → option_map (λ size. trial size n) f ≡ with_limit command n
-    size None e = cc
-    size (Some k) e = same (trial k m) e
-
-    by : (a b d : Bool) (f : Option (List ℕ)) (g : Option (List ℕ × List ℕ)) (s : Option ℕ)
-        → cond a (option_map (λ script. solve script m) f) (cond b (option_map (λ files. resolve files.0 files.1 m) g) (cond d (option_map (λ size. trial size m) s) None)) ≡ Some command
-        → cond a (option_map (λ script. solve script n) f) (cond b (option_map (λ files. resolve files.0 files.1 n) g) (cond d (option_map (λ size. trial size n) s) None)) ≡ with_limit command n
-    by true b d f g s e = one f e
-    by false true d f g s e = two g e
-    by false false true f g s e = size s e
-    by false false false f g s e = cc
+    by : (a b c d : Bool)
+        → cond a (option_map (λ script. solve script m) (file_of words)) (cond b (option_map (λ files. resolve files.0 files.1 m) (files_of words)) (cond c (option_map (λ files. certificate files.0 files.1 m) (files_of words)) (cond d (option_map (λ size. trial size m) (size_of words)) None))) ≡ Some command
+        → cond a (option_map (λ script. solve script n) (file_of words)) (cond b (option_map (λ files. resolve files.0 files.1 n) (files_of words)) (cond c (option_map (λ files. certificate files.0 files.1 n) (files_of words)) (cond d (option_map (λ size. trial size n) (size_of words)) None))) ≡ with_limit command n
+    by true b c d e = same (λ script limit. solve script limit) (file_of words) (λ x. refl) e
+    by false true c d e = same (λ files limit. resolve files.0 files.1 limit) (files_of words) (λ x. refl) e
+    by false false true d e = same (λ files limit. certificate files.0 files.1 limit) (files_of words) (λ x. refl) e
+    by false false false true e = same (λ size limit. trial size limit) (size_of words) (λ x. refl) e
+    by false false false false e = cc
 
 -- all operands, with the limit that the text spells
 both_sides : (front back rest : List (List ℕ)) (text : List ℕ) → HasNoOption front → without_option rest ≡ limited text back → without_option (front ++ rest) ≡ limited text (front ++ back)
@@ -81,40 +68,52 @@ limited_same name words text command e = by (limit_of text)
     by None = refl
     by (Some n) = relimited name words 200000 n command e
 
--- a check has no operand that begins the option, and no second one
-no_two : (front back : List (List ℕ)) (text : List ℕ) → file_of (front ++ option_word ∷ text ∷ back) ≡ None
-no_two [] back text = refl
-no_two (w ∷ []) back text = refl
-no_two (w ∷ v ∷ ws) back text = refl
+-- ---- commands without the option
+-- words that begin the option
+words_begin : (text : List ℕ) → is_option (option_front ++ text) ≡ true
+words_begin text = refl
 
-no_one : (front back : List (List ℕ)) (text : List ℕ) → file_of (front ++ (option_front ++ text) ∷ back) ≡ None
-no_one [] [] text = refl
-no_one [] (v ∷ back) text = refl
-no_one (w ∷ []) back text = refl
-no_one (w ∷ v ∷ ws) back text = refl
-
-check_unlimited : (f : Option (List ℕ)) (text : List ℕ) (command : Command) → option_map check f ≡ Some command → None ≡ limited_by text command
-check_unlimited None text command e = cc
-check_unlimited (Some script) text command e = let d : check script ≡ command = cc in by (limit_of text) ∙ ap (limited_by text) d
+-- a command without a limit stays none with the option
+unlimited_stays : {X : Type 0} (form : X → Command) (o : Option X) (text : List ℕ) (command : Command) → ((x : X) (n : ℕ) → with_limit (form x) n ≡ None) → option_map form o ≡ Some command → None ≡ limited_by text command
+unlimited_stays form None text command h e = cc
+unlimited_stays form (Some x) text command h e = let d : form x ≡ command = cc in by (limit_of text) ∙ ap (limited_by text) d
   where
-    by : (o : Option ℕ) → None ≡ option_and_then (with_limit (check script)) o
+    by : (o : Option ℕ) → None ≡ option_and_then (with_limit (form x)) o
     by None = refl
-    by (Some n) = refl
+    by (Some n) = sym (h x n)
 
 -- what a name gives whose words have the option
-by_name : (name : List ℕ) (words rest : List (List ℕ)) (text : List ℕ) (command : Command) → HasNoOption words → file_of rest ≡ None → without_option rest ≡ limited text words
+record HasOption (words rest : List (List ℕ)) (text : List ℕ) : Type 0 where
+  front : List (List ℕ)
+  word : List ℕ
+  back : List (List ℕ)
+  is : rest ≡ front ++ word ∷ back
+  option : is_option word ≡ true
+  taken : without_option rest ≡ limited text words
+
+by_name : (name : List ℕ) (words rest : List (List ℕ)) (text : List ℕ) (command : Command) → HasNoOption words → HasOption words rest text
     → command_of (name ∷ words) ≡ Some command → command_of (name ∷ rest) ≡ limited_by text command
-by_name name words rest text command h f t = by (bytes_eq name (codes "check"))
+by_name name words rest text command h r = by (bytes_eq name (codes "check")) (bytes_eq name (codes "certify")) (bytes_eq name (codes "migrate"))
   where
-    by : (b : Bool) → cond b (option_map check (file_of words)) (option_and_then (limited_command name) (without_option words)) ≡ Some command
-        → cond b (option_map check (file_of rest)) (option_and_then (limited_command name) (without_option rest)) ≡ limited_by text command
-    by true e = ap (option_map check) f ∙ check_unlimited (file_of words) text command e
-    by false e = ap (option_and_then (limited_command name)) t ∙ limited_same name words text command (ap (option_and_then (limited_command name)) (sym (no_option words h)) ∙ e)
+    none : {X : Type 0} (f : List (List ℕ) → Option X) → ((words : List (List ℕ)) (x : X) → f words ≡ Some x → HasNoOption words) → f rest ≡ None
+    none f k = ap f r.is ∙ none_with_option f r.front r.back r.word k r.option
+
+    three : (form : List ℕ × List ℕ × List ℕ → Command) → ((x : List ℕ × List ℕ × List ℕ) (n : ℕ) → with_limit (form x) n ≡ None) → option_map form (three_files_of words) ≡ Some command → option_map form (three_files_of rest) ≡ limited_by text command
+    three form k e = ap (option_map form) (none three_files_of three_file_operands) ∙ unlimited_stays form (three_files_of words) text command k e
+
+    by : (a b c : Bool) → cond a (option_map check (file_of words)) (cond b (option_map (λ files. certify files.0 files.1 files.2) (three_files_of words)) (cond c (option_map (λ files. migrate files.0 files.1 files.2) (three_files_of words)) (option_and_then (limited_command name) (without_option words)))) ≡ Some command
+        → cond a (option_map check (file_of rest)) (cond b (option_map (λ files. certify files.0 files.1 files.2) (three_files_of rest)) (cond c (option_map (λ files. migrate files.0 files.1 files.2) (three_files_of rest)) (option_and_then (limited_command name) (without_option rest)))) ≡ limited_by text command
+    by true b c e = ap (option_map check) (none file_of file_operand) ∙ unlimited_stays check (file_of words) text command (λ x n. refl) e
+    by false true c e = three (λ files. certify files.0 files.1 files.2) (λ x n. refl) e
+    by false false true e = three (λ files. migrate files.0 files.1 files.2) (λ x n. refl) e
+    by false false false e = ap (option_and_then (limited_command name)) r.taken ∙ limited_same name words text command (ap (option_and_then (limited_command name)) (sym (no_option words h)) ∙ e)
 
 pub option_stands_anywhere : OptionStandsAnywhere
 option_stands_anywhere name front back text command h e =
     let p = none_in front back h in
     record {
-      in_two_words = by_name name (front ++ back) (front ++ option_word ∷ text ∷ back) text command h (no_two front back text) (both_sides front back (option_word ∷ text ∷ back) text p.0 refl) e;
-      in_one_word = by_name name (front ++ back) (front ++ (option_front ++ text) ∷ back) text command h (no_one front back text) (both_sides front back ((option_front ++ text) ∷ back) text p.0 refl) e;
+      in_two_words = by_name name (front ++ back) (front ++ option_word ∷ text ∷ back) text command h
+          (record { front = front; word = option_word; back = text ∷ back; is = refl; option = refl; taken = both_sides front back (option_word ∷ text ∷ back) text p.0 refl }) e;
+      in_one_word = by_name name (front ++ back) (front ++ (option_front ++ text) ∷ back) text command h
+          (record { front = front; word = option_front ++ text; back = back; is = refl; option = words_begin text; taken = both_sides front back ((option_front ++ text) ∷ back) text p.0 refl }) e;
     }

@@ -1,7 +1,7 @@
 -- Words that are a plain form, and words that are none.
 use Rattle.std.proofs.Common.{◌≡◌, [], ◌∷◌, refl, Some, None}
 use Rattle.std.specs.Prelude.{codes}
-use Rattle.dcx_words.specs.Commands.{check, solve, resolve, trial, command_of}
+use Rattle.dcx_words.specs.Commands.{check, solve, resolve, certificate, certify, migrate, trial, command_of}
 
 -- ---- plain forms
 check_a_script : command_of (codes "check" ∷ codes "a.py" ∷ []) ≡ Some (check (codes "a.py"))
@@ -12,6 +12,18 @@ solve_with_the_usual_limit = refl
 
 resolve_script_and_settings : command_of (codes "resolve" ∷ codes "a.py" ∷ codes "q.txt" ∷ []) ≡ Some (resolve (codes "a.py") (codes "q.txt") 200000)
 resolve_script_and_settings = refl
+
+certificate_with_the_usual_limit : command_of (codes "certificate" ∷ codes "a.py" ∷ codes "q.txt" ∷ []) ≡ Some (certificate (codes "a.py") (codes "q.txt") 200000)
+certificate_with_the_usual_limit = refl
+
+certificate_with_the_option : command_of (codes "certificate" ∷ codes "a.py" ∷ codes "q.txt" ∷ codes "--max-pivots=3" ∷ []) ≡ Some (certificate (codes "a.py") (codes "q.txt") 3)
+certificate_with_the_option = refl
+
+certify_three_files : command_of (codes "certify" ∷ codes "a.py" ∷ codes "q.txt" ∷ codes "c.txt" ∷ []) ≡ Some (certify (codes "a.py") (codes "q.txt") (codes "c.txt"))
+certify_three_files = refl
+
+migrate_three_files : command_of (codes "migrate" ∷ codes "a.py" ∷ codes "q.txt" ∷ codes "c.txt" ∷ []) ≡ Some (migrate (codes "a.py") (codes "q.txt") (codes "c.txt"))
+migrate_three_files = refl
 
 trial_with_leading_zeros : command_of (codes "trial" ∷ codes "0012" ∷ []) ≡ Some (trial 12 200000)
 trial_with_leading_zeros = refl
@@ -40,6 +52,21 @@ one_operand_more = refl
 
 check_with_the_option : command_of (codes "check" ∷ codes "--max-pivots=7" ∷ codes "a.py" ∷ []) ≡ None
 check_with_the_option = refl
+
+certify_with_the_option : command_of (codes "certify" ∷ codes "a.py" ∷ codes "q.txt" ∷ codes "c.txt" ∷ codes "--max-pivots=7" ∷ []) ≡ None
+certify_with_the_option = refl
+
+option_in_place_of_a_file : command_of (codes "certify" ∷ codes "a.py" ∷ codes "--max-pivots=7" ∷ codes "c.txt" ∷ []) ≡ None
+option_in_place_of_a_file = refl
+
+migrate_with_the_option : command_of (codes "migrate" ∷ codes "a.py" ∷ codes "q.txt" ∷ codes "c.txt" ∷ codes "--max-pivots" ∷ codes "7" ∷ []) ≡ None
+migrate_with_the_option = refl
+
+certify_without_its_certificate : command_of (codes "certify" ∷ codes "a.py" ∷ codes "q.txt" ∷ []) ≡ None
+certify_without_its_certificate = refl
+
+certificate_of_three_files : command_of (codes "certificate" ∷ codes "a.py" ∷ codes "q.txt" ∷ codes "c.txt" ∷ []) ≡ None
+certificate_of_three_files = refl
 
 two_minus_before_the_operand : command_of (codes "solve" ∷ codes "--" ∷ codes "a.py" ∷ []) ≡ None
 two_minus_before_the_operand = refl

@@ -11,6 +11,9 @@ pub data Command : Type 0 where
   check : (script : List ℕ) → Command
   solve : (script : List ℕ) (limit : ℕ) → Command
   resolve : (script settings : List ℕ) (limit : ℕ) → Command
+  certificate : (script settings : List ℕ) (limit : ℕ) → Command
+  certify : (script settings cert : List ℕ) → Command
+  migrate : (script settings cert : List ℕ) → Command
   trial : (size limit : ℕ) → Command
 
 -- ---- numbers
@@ -81,6 +84,11 @@ abbrev pub files_of : List (List ℕ) → Option (List ℕ × List ℕ)
 files_of (first ∷ second ∷ []) = if is_file first && is_file second then Some (first, second) else None
 files_of words = None
 
+-- three files
+abbrev pub three_files_of : List (List ℕ) → Option (List ℕ × List ℕ × List ℕ)
+three_files_of (first ∷ second ∷ third ∷ []) = if is_file first && is_file second && is_file third then Some (first, second, third) else None
+three_files_of words = None
+
 -- one size
 abbrev pub size_of : List (List ℕ) → Option ℕ
 size_of (word ∷ []) = number_within 4 1 1000 word
@@ -92,19 +100,25 @@ abbrev pub limited_command : (name : List ℕ) → Operands → Option Command
 limited_command name o =
     if bytes_eq name (codes "solve") then option_map (λ script. solve script o.limit) (file_of o.words)
     else (if bytes_eq name (codes "resolve") then option_map (λ files. resolve files.0 files.1 o.limit) (files_of o.words)
+    else (if bytes_eq name (codes "certificate") then option_map (λ files. certificate files.0 files.1 o.limit) (files_of o.words)
     else (if bytes_eq name (codes "trial") then option_map (λ size. trial size o.limit) (size_of o.words)
-    else None))
+    else None)))
 
 -- what the words ask for, where they are a plain form
 abbrev pub command_of : List (List ℕ) → Option Command
 command_of [] = None
 command_of (name ∷ words) =
     if bytes_eq name (codes "check") then option_map check (file_of words)
-    else option_and_then (limited_command name) (without_option words)
+    else (if bytes_eq name (codes "certify") then option_map (λ files. certify files.0 files.1 files.2) (three_files_of words)
+    else (if bytes_eq name (codes "migrate") then option_map (λ files. migrate files.0 files.1 files.2) (three_files_of words)
+    else option_and_then (limited_command name) (without_option words)))
 
 -- what a form that is read asks for
 abbrev pub command_in : Form → Command
 command_in (forms.Check script) = check script.now
 command_in (forms.Solve script limit) = solve script.now limit
 command_in (forms.Resolve script settings limit) = resolve script.now settings.now limit
+command_in (forms.Certificate script settings limit) = certificate script.now settings.now limit
+command_in (forms.Certify script settings cert) = certify script.now settings.now cert.now
+command_in (forms.Migrate script settings cert) = migrate script.now settings.now cert.now
 command_in (forms.Trial size limit) = trial size limit

@@ -1,7 +1,7 @@
 -- What the rules of the option come to.
 use Rattle.std.specs.Prelude.{◌≡◌, ◌≤◌, ℕ, Bool, false, ◌||◌, nat_eq, List, ◌∷◌, ◌++◌, Option, None, Some, option_and_then, bytes_eq}
 use Rattle.std.specs.List.{count_by, list_any, starts_with}
-use Rattle.dcx_words.specs.Commands.{Command, check, solve, resolve, trial, limit_of, option_word, option_front, command_of}
+use Rattle.dcx_words.specs.Commands.{Command, check, solve, resolve, certificate, certify, migrate, trial, limit_of, option_word, option_front, command_of}
 
 -- the word is the option, or begins with it and an equal sign
 abbrev pub is_option : List ℕ → Bool
@@ -10,11 +10,14 @@ is_option word = bytes_eq word option_word || starts_with nat_eq word option_fro
 abbrev pub HasNoOption : List (List ℕ) → Type 0
 HasNoOption words = list_any is_option words ≡ false
 
--- the command with another limit; `check` has none
+-- the command with another limit; `check`, `certify` and `migrate` have none
 abbrev pub with_limit : Command → ℕ → Option Command
 with_limit (check script) limit = None
 with_limit (solve script old) limit = Some (solve script limit)
 with_limit (resolve script settings old) limit = Some (resolve script settings limit)
+with_limit (certificate script settings old) limit = Some (certificate script settings limit)
+with_limit (certify script settings cert) limit = None
+with_limit (migrate script settings cert) limit = None
 with_limit (trial size old) limit = Some (trial size limit)
 
 -- the same command, limited by the number that the text spells; no plain form where it spells none

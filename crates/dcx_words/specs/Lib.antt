@@ -1,4 +1,5 @@
 -- The words that contracts cite.
 pub mod Commands
 pub mod Around
+pub mod Asked
 pub mod Laws

@@ -1,7 +1,9 @@
 //! The words of a command line: the plain forms, and what each of them asks for.
 //!
 //! The name of a command comes first, then its operands in order: `check SCRIPT`, `solve SCRIPT`,
-//! `resolve SCRIPT SETTINGS`, `trial SIZE`. All but `check` may have the option `--max-pivots N`, or `--max-pivots=N`.
+//! `resolve SCRIPT SETTINGS`, `certificate SCRIPT SETTINGS`, `certify SCRIPT SETTINGS CERT`, `trial SIZE`,
+//! `migrate SCRIPT SETTINGS CERT`. `solve`, `resolve`, `certificate` and `trial` may have the option `--max-pivots N`, or
+//! `--max-pivots=N`.
 //!
 //! | what must hold | where |
 //! |---|---|

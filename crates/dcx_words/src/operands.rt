@@ -1,7 +1,7 @@
 //! The operands of a command, and the option that stands anywhere among them.
 ghost use Rattle.std.specs.Prelude.{◌≡◌, ◌<◌, [], ◌∷◌, slice_index_or, true, false, nat_eq, length, drop, map, string_bytes, None, Some, MatchOption, option_map};
 ghost use Rattle.std.specs.List.{starts_with};
-ghost use Rattle.dcx_words.specs.Commands.{unlimited as unlimited_of, limited as limited_of, limited_by_next as limited_by_next_of, put_before, option_front, without_option as without_option_of, is_file as is_file_of, file_of, files_of, size_of};
+ghost use Rattle.dcx_words.specs.Commands.{unlimited as unlimited_of, limited as limited_of, limited_by_next as limited_by_next_of, put_before, option_front, without_option as without_option_of, is_file as is_file_of, file_of, files_of, three_files_of, size_of};
 ghost use Rattle.dcx_words.specs.Around.{words_around, operands_around, Gives};
 
 use crate::number::number_within;
@@ -127,6 +127,20 @@ impl<'a> Around<'a> {
             let script = file(self.at(0))?;
             let settings = file(self.at(1))?;
             Some((script, settings))
+        } else {
+            None
+        }
+    }
+
+    /// The three operands that are files.
+    pub fn three_files(self) -> Option<(&'a str, &'a str, &'a str)>
+        ensures { MatchOption result (three_files_of (words_around self.entry) ≡ None) (λ x. three_files_of (words_around self.entry) ≡ Some (x.0.now, x.1.now, x.2.now)) }
+    {
+        if self.count() == 3 {
+            let script = file(self.at(0))?;
+            let settings = file(self.at(1))?;
+            let certificate = file(self.at(2))?;
+            Some((script, settings, certificate))
         } else {
             None
         }
