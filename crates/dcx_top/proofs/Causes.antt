@@ -1,8 +1,13 @@
 -- What each command gives has its cause.
-use Rattle.std.proofs.Common.{◌≡◌, ◌↔◌, ◌∙◌, None, inl, inr, ℕ, List, Option, Some, Ok, Err, refl, sym, subst}
+use Rattle.std.proofs.Common.{◌≡◌, ◌↔◌, ◌∙◌, length, None, inl, inr, ℕ, List, Option, Some, Ok, Err, refl, sym, subst}
 use Rattle.std.proofs.lemmas.Option.{none-some}
 use Rattle.dcx_point.specs.Pairs.{Pairs}
 use Rattle.dcx_tree.specs.declared.constraint.Sense.{Sense}
+use Rattle.dcx_tree.specs.declared.problem.Problem.{Problem}
+use Rattle.dcx_elab.specs.declared.work.Work.{Work}
+use Rattle.dcx_sections.specs.declared.fault.CertFault.{CertFault}
+use Rattle.dcx_sections.specs.declared.section.Sections.{Sections}
+use Rattle.dcx_certificates.specs.Checking.{ArePassed, IsFirstRefused}
 use Rattle.dcx_host.specs.Files.{Files, IsTold}
 use Rattle.dcx_front.specs.declared.accepted.Accepted.{Accepted}
 use Rattle.dcx_front.specs.declared.checked.Checked.{Checked}
@@ -17,12 +22,12 @@ use Rattle.dcx_report.specs.declared.outcome.Outcome.{Outcome}
 use Rattle.dcx_report.specs.declared.run.Run.{Run}
 use Rattle.dcx_report.specs.declared.run.Run.TheVariants as run
 use Rattle.dcx_report.specs.declared.run.Word.TheVariants as word
-use Rattle.dcx_words.specs.Commands.{Command, check, solve, resolve, trial, command_of}
+use Rattle.dcx_words.specs.Commands.{Command, check, solve, resolve, certificate, trial, command_of}
 use Rattle.dcx_trial.specs.Trial.{trial_text}
-use Rattle.dcx_top.specs.Commands.{IsScriptOf, script_name, settings_name, AreSettingsOf, limit_of, TellsOutcomes}
-use Rattle.dcx_top.specs.Files.{run_of, RefusesScript, RefusesSettings, EndsAt}
+use Rattle.dcx_top.specs.Commands.{IsScriptOf, script_name, settings_name, certificate_name, AreOfFile, AreSettingsOf, limit_of, TellsOutcomes}
+use Rattle.dcx_top.specs.Files.{run_of, RefusesScript, RefusesSettings, EndsAt, HasTextOf, ReadsCertificate}
 use Rattle.dcx_top.specs.Whole.{HasNoWhole, IsRefusedForWhole, IsSolving}
-use Rattle.dcx_top.specs.Runs.{GivesProblem, OrWhole, SolvesAt, TriesAt, ResolvesFrom, long_script, bad_script, for_whole, bad_settings, no_script, no_settings, Causes}
+use Rattle.dcx_top.specs.Runs.{GivesProblem, OrWhole, SolvesAt, TriesAt, ResolvesFrom, CertifiesFrom, GivesSettings, GivesSections, EndsFiles, at_script, at_whole, at_settings, at_certificate, at_memory, HasCertificate, ReadsSections, HasPassed, misread, failed, long_script, bad_script, for_whole, bad_settings, long_certificate, no_script, no_settings, no_certificate, Causes}
 
 pub judged_of : (bytes : List ℕ) (a : Accepted) → Gives bytes (Ok a) → IsJudged a.work.problem a.verdict
 judged_of bytes a g = (acceptance bytes a g).judged
@@ -38,6 +43,9 @@ module _ (words : List (List ℕ)) (told : Option Files) (risen : Type 0) (comma
   script_ends name n run.Usage is of h = absurd h
   script_ends name n (run.Checked c) is of h = absurd h
   script_ends name n (run.Solved word sense outcomes) is of h = absurd h
+  script_ends name n (run.Certificates text stopped) is of h = absurd h
+  script_ends name n (run.Certified sections) is of h = absurd h
+  script_ends name n (run.CertRefused section fault) is of h = absurd h
   script_ends name n (run.Trial size outcomes) is of h = absurd h
 
   -- a script that is made, and not fetched
@@ -59,6 +67,9 @@ module _ (words : List (List ℕ)) (told : Option Files) (risen : Type 0) (comma
     settings_end continuous name n run.Usage is h = absurd h
     settings_end continuous name n (run.Checked c) is h = absurd h
     settings_end continuous name n (run.Solved word sense outcomes) is h = absurd h
+    settings_end continuous name n (run.Certificates text stopped) is h = absurd h
+    settings_end continuous name n (run.Certified sections) is h = absurd h
+    settings_end continuous name n (run.CertRefused section fault) is h = absurd h
     settings_end continuous name n (run.Trial size outcomes) is h = absurd h
 
     -- ---- the problem is solved
@@ -100,6 +111,63 @@ module _ (words : List (List ℕ)) (told : Option Files) (risen : Type 0) (comma
             steps = steps;
           }))
 
+-- ---- a certificate that is read
+module _ (words : List (List ℕ)) (told : Option Files) (risen : Type 0) (command : Command) (form : command_of words ≡ Some command) (script name file : List ℕ)
+    (scripted : script_name command ≡ Some script) (set : settings_name command ≡ Some name) (named : certificate_name command ≡ Some file) (solving : IsSolving command)
+    (of : (bytes : List ℕ) → IsTold told script bytes → IsScriptOf told command bytes) (asks : (work : Work) (settings : List Pairs) → AreOfFile told name work.last settings → AreSettingsOf told command work settings) where
+  has_certificate : (a : Accepted) (settings : List Pairs) → GivesSettings told script name a settings → HasCertificate words told command
+  has_certificate a settings h = record {
+    form = form;
+    name = file;
+    named = named;
+    accepted = a;
+    problem = record { bytes = h.bytes; are_of = of h.bytes h.are_told; gives = h.gives };
+    continuous = h.continuous;
+    settings = settings;
+    asked = asks a.work settings h.asked;
+  }
+
+  certificate_ends : (a : Accepted) (settings : List Pairs) (n : ℕ) (r : Run) → GivesSettings told script name a settings → ReadsCertificate told risen file a.work.problem (length settings) (Err r) → Causes words told risen n n r
+  certificate_ends a settings n run.ReadFault g h = (no_certificate command (has_certificate a settings g) h, refl)
+  certificate_ends a settings n (run.Refused r) g (inl long) = (long_certificate command (has_certificate a settings g) long, refl)
+  certificate_ends a settings n (run.Refused r) g (inr (bytes, there, h)) = absurd h
+  certificate_ends a settings n (run.CertRefused section fault) g h = (misread command (has_certificate a settings g) h, refl)
+  certificate_ends a settings n run.Memory g h = tt
+  certificate_ends a settings n run.Usage g h = absurd h
+  certificate_ends a settings n (run.Checked c) g h = absurd h
+  certificate_ends a settings n (run.Solved word sense outcomes) g h = absurd h
+  certificate_ends a settings n (run.Certificates text stopped) g h = absurd h
+  certificate_ends a settings n (run.Certified sections) g h = absurd h
+  certificate_ends a settings n (run.Trial size outcomes) g h = absurd h
+
+  -- one of the files ends the run
+  pub files_end : (n : ℕ) (r : Run) → EndsFiles told risen script name file r → Causes words told risen n n r
+  files_end n r (at_script h) = script_ends words told risen command form script n r scripted of h
+  files_end n r (at_whole a bytes t there gives h e) = whole_ends words told risen command form a (record { bytes = bytes; are_of = of bytes there; gives = gives }) n n r solving (t, h, e, refl)
+  files_end n r (at_settings a bytes there gives free h) = settings_end words told risen command form a (record { bytes = bytes; are_of = of bytes there; gives = gives }) free name n r set h
+  files_end n r (at_certificate a settings g h) = certificate_ends a settings n r g h
+  files_end n r (at_memory e) = subst (Causes words told risen n n) (sym e) tt
+
+  -- the sections are read
+  pub reads_sections : (p : Problem) (settings : List Pairs) (sections : Sections) (g : GivesSections told script name file p settings sections) → ReadsSections words told command sections
+  reads_sections p settings sections g = record {
+    files = has_certificate g.accepted settings g.files;
+    has = subst (λ (q : Problem). HasTextOf told file q settings sections) (sym g.is_of) g.has;
+  }
+
+  -- and a first one fails
+  pub section_fails : (p : Problem) (settings : List Pairs) (sections : Sections) (number n : ℕ) (fault : CertFault) → GivesSections told script name file p settings sections → IsFirstRefused p settings sections.list number fault →
+      Causes words told risen n n (run.CertRefused number fault)
+  section_fails p settings sections number n fault g h =
+      (failed command sections (reads_sections p settings sections g) (subst (λ (q : Problem). IsFirstRefused q settings sections.list number fault) (sym g.is_of) h), refl)
+
+  -- or all pass
+  pub sections_pass : (p : Problem) (settings : List Pairs) (sections : Sections) → GivesSections told script name file p settings sections → ArePassed p settings sections.list → HasPassed words told command sections
+  sections_pass p settings sections g h = record {
+    reads = reads_sections p settings sections g;
+    passed = subst (λ (q : Problem). ArePassed q settings sections.list) (sym g.is_of) h;
+  }
+
 -- ---- command by command
 module _ (words : List (List ℕ)) (told : Option Files) (risen : Type 0) where
   pub checked : (script bytes : List ℕ) (a : Accepted) (c : Checked) (n : ℕ) → command_of words ≡ Some (check script) → IsTold told script bytes → Gives bytes (Ok a) → IsFoundOf a.work.problem c → Causes words told risen n n (run.Checked c)
@@ -122,6 +190,31 @@ module _ (words : List (List ℕ)) (told : Option Files) (risen : Type 0) where
       subst (λ n. Causes words told risen old n r) (sym same)
       (settings_end words told risen (resolve script name limit) form a (record { bytes = bytes; are_of = there; gives = gives }) continuous name old r refl h)
   resolved script name bytes limit a old new r form there gives (inr h) = whole_ends words told risen (resolve script name limit) form a (record { bytes = bytes; are_of = there; gives = gives }) old new r tt h
+
+  pub certificate_told : (script name bytes : List ℕ) (limit : ℕ) (a : Accepted) (old new : ℕ) (r : Run) → command_of words ≡ Some (certificate script name limit) → IsTold told script bytes → Gives bytes (Ok a) →
+      OrWhole a.work.problem (CertifiesFrom told risen a.work name limit old new) old new r → Causes words told risen old new r
+  certificate_told script name bytes limit a old new r form there gives (inl (continuous, inl (settings, are, inl e))) = subst (Causes words told risen old new) (sym e) tt
+  certificate_told script name bytes limit a old new r form there gives (inl (continuous, inl (settings, are, inr (c, stopped, is, flag, steps, e)))) =
+      subst (Causes words told risen old new) (sym e) (inl (record {
+        script = script;
+        name = name;
+        limit = limit;
+        form = form;
+        accepted = a;
+        problem = record { bytes = bytes; are_of = there; gives = gives };
+        continuous = continuous;
+        settings = settings;
+        asked = are;
+        sections = c;
+        are = is;
+        flag = flag;
+        text = refl;
+        steps = steps;
+      }))
+  certificate_told script name bytes limit a old new r form there gives (inl (continuous, inr (h, same))) =
+      subst (λ n. Causes words told risen old n r) (sym same)
+      (settings_end words told risen (certificate script name limit) form a (record { bytes = bytes; are_of = there; gives = gives }) continuous name old r refl h)
+  certificate_told script name bytes limit a old new r form there gives (inr h) = whole_ends words told risen (certificate script name limit) form a (record { bytes = bytes; are_of = there; gives = gives }) old new r tt h
 
   pub tried : (size limit : ℕ) (a : Accepted) (old new : ℕ) (r : Run) → command_of words ≡ Some (trial size limit) → Gives (trial_text size) (Ok a) →
       OrWhole a.work.problem (TriesAt a.work size limit old new) old new r → Causes words told risen old new r

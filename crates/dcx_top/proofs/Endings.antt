@@ -16,10 +16,9 @@ use Rattle.dcx_elab.specs.declared.work.Work.{Work}
 use Rattle.dcx_report.specs.declared.run.Run.{Run}
 use Rattle.dcx_report.specs.declared.run.Run.TheVariants as run
 use Rattle.dcx_top.specs.Files.{run_of, RefusesScript, RefusesSettings, EndsAt}
-use Rattle.dcx_report.specs.declared.run.Word.TheVariants as word
 use Rattle.dcx_overlay.specs.Settings.{AreLaidOver}
 use Rattle.dcx_top.specs.Whole.{HasNoWhole}
-use Rattle.dcx_top.specs.Runs.{OrWhole, SolvesAt, ResolvesFrom}
+use Rattle.dcx_top.specs.Runs.{OrWhole, FromFile}
 
 -- a file whose bytes aren't had ends the run, whatever its bytes would be refused for
 pub ends_before : (told : Option Files) (risen : Type 0) (source : RefusalSource) (name : List ℕ) (Refuses : List ℕ → Refusal → Type 0) (r : Run) → EndsAt told risen source name (λ _ _. ⊥) r → EndsAt told risen source name Refuses r
@@ -30,6 +29,9 @@ ends_before told risen source name Refuses run.Memory h = tt
 ends_before told risen source name Refuses run.Usage h = absurd h
 ends_before told risen source name Refuses (run.Checked c) h = absurd h
 ends_before told risen source name Refuses (run.Solved word sense outcomes) h = absurd h
+ends_before told risen source name Refuses (run.Certificates text stopped) h = absurd h
+ends_before told risen source name Refuses (run.Certified n) h = absurd h
+ends_before told risen source name Refuses (run.CertRefused section fault) h = absurd h
 ends_before told risen source name Refuses (run.Trial size outcomes) h = absurd h
 
 -- a file whose bytes are had and refused ends it
@@ -75,25 +77,26 @@ ends_rising told risen rose source name Refuses run.Memory more h = tt
 ends_rising told risen rose source name Refuses run.Usage more h = absurd h
 ends_rising told risen rose source name Refuses (run.Checked c) more h = absurd h
 ends_rising told risen rose source name Refuses (run.Solved word sense outcomes) more h = absurd h
+ends_rising told risen rose source name Refuses (run.Certificates text stopped) more h = absurd h
+ends_rising told risen rose source name Refuses (run.Certified n) more h = absurd h
+ends_rising told risen rose source name Refuses (run.CertRefused section fault) more h = absurd h
 ends_rising told risen rose source name Refuses (run.Trial size outcomes) more h = absurd h
 
-pub resolves_rising : (told : Option Files) (risen rose : Type 0) (work : Work) (name : List ℕ) (limit old new : ℕ) (r : Run) → (risen → rose) →
-    OrWhole work.problem (ResolvesFrom told risen work name limit old new) old new r → OrWhole work.problem (ResolvesFrom told rose work name limit old new) old new r
-resolves_rising told risen rose work name limit old new r more (inl (continuous, inl h)) = inl (continuous, inl h)
-resolves_rising told risen rose work name limit old new r more (inl (continuous, inr (h, same))) = inl (continuous, inr (ends_rising told risen rose Settings name RefusesSettings r more h, same))
-resolves_rising told risen rose work name limit old new r more (inr h) = inr h
+module _ (work : Work) (name : List ℕ) (At : List Pairs → ℕ → ℕ → Run → Type 0) (old new : ℕ) (r : Run) where
+  pub from_file_rising : (told : Option Files) (risen rose : Type 0) → (risen → rose) → OrWhole work.problem (FromFile told risen work name At old new) old new r → OrWhole work.problem (FromFile told rose work name At old new) old new r
+  from_file_rising told risen rose more (inl (continuous, inl h)) = inl (continuous, inl h)
+  from_file_rising told risen rose more (inl (continuous, inr (h, same))) = inl (continuous, inr (ends_rising told risen rose Settings name RefusesSettings r more h, same))
+  from_file_rising told risen rose more (inr h) = inr h
 
--- the files that are told are the same after a part
-pub resolves_moved : (was told : Option Files) (risen rose : Type 0) (work : Work) (name : List ℕ) (limit old new : ℕ) (r : Run) → was ≡ told → (risen → rose) →
-    OrWhole work.problem (ResolvesFrom was risen work name limit old new) old new r → OrWhole work.problem (ResolvesFrom told rose work name limit old new) old new r
-resolves_moved was told risen rose work name limit old new r same more h =
-    resolves_rising told risen rose work name limit old new r more (subst (λ t. OrWhole work.problem (ResolvesFrom t risen work name limit old new) old new r) same h)
+  -- the files that are told are the same after a part
+  pub from_file_moved : (was told : Option Files) (risen rose : Type 0) → was ≡ told → (risen → rose) → OrWhole work.problem (FromFile was risen work name At old new) old new r → OrWhole work.problem (FromFile told rose work name At old new) old new r
+  from_file_moved was told risen rose same more h =
+      from_file_rising told risen rose more (subst (λ t. OrWhole work.problem (FromFile t risen work name At old new) old new r) same h)
 
--- ---- settings that are read
--- an accepted problem is solved at the lines of a settings file
-pub lines_solved : (told : Option Files) (risen : Type 0) (work : Work) (name bytes : List ℕ) (lines : List (List SettingItem)) (limit old new : ℕ) (r : Run) → HasNoWhole work.problem.tree → IsTold told name bytes → SpellSettings bytes lines →
-    ((r ≡ run.Memory) × (new ≡ old)) ⊎ ((settings : List Pairs) × AreLaidOver work.last lines settings × SolvesAt work.problem limit settings (λ os. run.Solved word.Setting work.problem.sense os) old new r) →
-    OrWhole work.problem (ResolvesFrom told risen work name limit old new) old new r
-lines_solved told risen work name bytes lines limit old new r continuous there spelled (inl (e, same)) = inl (continuous, inr (subst (EndsAt told risen Settings name RefusesSettings) (sym e) tt, same))
-lines_solved told risen work name bytes lines limit old new r continuous there spelled (inr (settings, laid, h)) =
-    inl (continuous, inl (settings, record { bytes = bytes; are_told = there; lines = lines; spelled = spelled; laid = laid }, h))
+  -- ---- settings that are read
+  -- something is done with an accepted problem at the lines of a settings file
+  pub lines_done : (told : Option Files) (risen : Type 0) (bytes : List ℕ) (lines : List (List SettingItem)) → HasNoWhole work.problem.tree → IsTold told name bytes → SpellSettings bytes lines →
+      ((r ≡ run.Memory) × (new ≡ old)) ⊎ ((settings : List Pairs) × AreLaidOver work.last lines settings × At settings old new r) → OrWhole work.problem (FromFile told risen work name At old new) old new r
+  lines_done told risen bytes lines continuous there spelled (inl (e, same)) = inl (continuous, inr (subst (EndsAt told risen Settings name RefusesSettings) (sym e) tt, same))
+  lines_done told risen bytes lines continuous there spelled (inr (settings, laid, h)) =
+      inl (continuous, inl (settings, record { bytes = bytes; are_told = there; lines = lines; spelled = spelled; laid = laid }, h))

@@ -1,5 +1,5 @@
 -- Words and told files have one run.
-use Rattle.std.proofs.Common.{◌≡◌, ℕ, List, Option, Some, None, refl, sym, ap, subst, ◌∙◌}
+use Rattle.std.proofs.Common.{◌≡◌, ℕ, ◌≤◌, List, length, Option, Some, None, refl, sym, ap, subst, ◌∙◌}
 use Rattle.std.proofs.lemmas.Option.{none-some, same_Some}
 use Rattle.dcx_point.specs.Pairs.{Pairs}
 use Rattle.dcx_tree.specs.declared.constraint.Sense.{Sense}
@@ -11,23 +11,31 @@ use Rattle.dcx_settings.proofs.OneList.{settings_one}
 use Rattle.dcx_front.specs.declared.accepted.Accepted.{Accepted}
 use Rattle.dcx_front.specs.declared.checked.Checked.{Checked}
 use Rattle.dcx_front.specs.declared.refusal.Refusal.{Refusal}
+use Rattle.dcx_front.specs.declared.refusal.RefusalSource.TheVariants.{Certificate}
 use Rattle.dcx_front.specs.Checks.{IsFoundOf}
+use Rattle.dcx_sections.specs.declared.fault.CertFault.{CertFault}
+use Rattle.dcx_sections.specs.declared.section.Sections.{Sections}
+use Rattle.dcx_outline.specs.Drawn.{problem_outline}
+use Rattle.dcx_cert_lines.specs.Forms.{IsTextOf}
+use Rattle.dcx_cert_laws.proofs.OneText.{one_text}
+use Rattle.dcx_cert_laws.proofs.Fronts.{one_line}
 use Rattle.dcx_front.proofs.OneCheck.{one_found}
 use Rattle.dcx_front.proofs.OneVerdict.{acceptance}
 use Rattle.dcx_report.specs.declared.outcome.Outcome.{Outcome}
 use Rattle.dcx_report.specs.declared.run.Run.{Run}
 use Rattle.dcx_report.specs.declared.run.Run.TheVariants as run
 use Rattle.dcx_report.specs.declared.run.Word.TheVariants as word
-use Rattle.dcx_words.specs.Commands.{Command, check, solve, resolve, trial, command_of}
+use Rattle.dcx_words.specs.Commands.{Command, check, solve, resolve, certificate, certify, migrate, trial, command_of}
 use Rattle.dcx_overlay.specs.Settings.{AreLaidOver}
 use Rattle.dcx_overlay.proofs.OneSetting.{settings_are_one}
 use Rattle.dcx_outcomes.specs.Outcomes.{AreOutcomes}
 use Rattle.dcx_outcomes.specs.Laws.{AreAlike}
 use Rattle.dcx_outcomes.proofs.OneOutcome.{outcomes_are_one}
-use Rattle.dcx_top.specs.Commands.{AreOfFile, AreSettingsOf, limit_of, TellsOutcomes}
-use Rattle.dcx_top.specs.Runs.{GivesProblem, IsChecked, IsSolvedRun, IsRefusedRun, long_script, bad_script, for_whole, bad_settings, Causes}
+use Rattle.dcx_top.specs.Commands.{certificate_name, AreOfFile, AreSettingsOf, limit_of, TellsOutcomes}
+use Rattle.dcx_top.specs.Files.{most_bytes, HasTextOf, IsMisread}
+use Rattle.dcx_top.specs.Runs.{GivesProblem, IsChecked, IsSolvedRun, IsCertificateRun, HasCertificate, ReadsSections, HasPassed, IsMigrateRun, IsCertifiedRun, IsCertRefusedRun, misread, failed, IsRefusedRun, long_script, bad_script, for_whole, bad_settings, long_certificate, Causes}
 use Rattle.dcx_top.specs.OneRun.{IsAnswered, AreAlikeOver, AreOneRun, IsOnlyRun}
-use Rattle.dcx_top.proofs.Refusals.{one_problem, same_command, refuses, one_refused, never_refused, never_refused_check}
+use Rattle.dcx_top.proofs.Refusals.{one_problem, same_command, refuses, one_refused, IsShort, never_refused, never_refused_check}
 
 module _ (words : List (List ℕ)) (files : Files) where
   -- ---- settings
@@ -41,6 +49,9 @@ module _ (words : List (List ℕ)) (files : Files) where
   one_settings (check script) work ss ts h k = absurd h
   one_settings (solve script limit) work ss ts h k = h ∙ sym k
   one_settings (resolve script name limit) work ss ts h k = one_of_file name work.last ss ts h k
+  one_settings (certificate script name limit) work ss ts h k = one_of_file name work.last ss ts h k
+  one_settings (certify script name cert) work ss ts h k = one_of_file name work.last ss ts h k
+  one_settings (migrate script name cert) work ss ts h k = one_of_file name work.last ss ts h k
   one_settings (trial size limit) work ss ts h k = settings_are_one.trial work.last ss ts h k
 
   -- ---- two runs that tell outcomes
@@ -48,6 +59,9 @@ module _ (words : List (List ℕ)) (files : Files) where
   tell_one (check script) sense os qs r s h k alike = absurd h
   tell_one (solve script limit) sense os qs r s h k alike = subst (λ (x : Run). AreOneRun words files x s) (sym h) (subst (λ (y : Run). AreOneRun words files (run.Solved word.Solve sense os) y) (sym k) (refl, refl, alike))
   tell_one (resolve script name limit) sense os qs r s h k alike = subst (λ (x : Run). AreOneRun words files x s) (sym h) (subst (λ (y : Run). AreOneRun words files (run.Solved word.Setting sense os) y) (sym k) (refl, refl, alike))
+  tell_one (certificate script name limit) sense os qs r s h k alike = absurd h
+  tell_one (certify script name cert) sense os qs r s h k alike = absurd h
+  tell_one (migrate script name cert) sense os qs r s h k alike = absurd h
   tell_one (trial size limit) sense os qs r s h k alike = subst (λ (x : Run). AreOneRun words files x s) (sym h) (subst (λ (y : Run). AreOneRun words files (run.Trial size os) y) (sym k) (refl, alike))
 
   -- the outcomes of one problem at the same settings
@@ -85,6 +99,23 @@ module _ (words : List (List ℕ)) (files : Files) where
           (subst (λ d. AreOutcomes b.work.problem (limit_of d) k.settings k.outcomes) same are)
           (subst (λ d. TellsOutcomes d b.work.problem.sense k.outcomes s) same tells)
 
+  -- ---- certificates that are too long
+  tells_none : (command : Command) (sense : Sense) (os : List Outcome) (r : Run) → TellsOutcomes command sense os r → certificate_name command ≡ None
+  tells_none (check script) sense os r h = absurd h
+  tells_none (solve script limit) sense os r h = refl
+  tells_none (resolve script name limit) sense os r h = refl
+  tells_none (certificate script name limit) sense os r h = absurd h
+  tells_none (certify script name cert) sense os r h = absurd h
+  tells_none (migrate script name cert) sense os r h = absurd h
+  tells_none (trial size limit) sense os r h = refl
+
+  short_of_none : (command : Command) → certificate_name command ≡ None → IsShort files command
+  short_of_none command none name bytes named there = absurd (none-some name (sym none ∙ named))
+
+  short_of : (command : Command) (name bytes : List ℕ) → certificate_name command ≡ Some name → files name ≡ Some bytes → length bytes ≤ most_bytes Certificate → IsShort files command
+  short_of command name bytes is there few other others named also =
+      subst (λ b. length b ≤ most_bytes Certificate) (same_Some bytes others (sym there ∙ ap files (same_Some name other (sym is ∙ named)) ∙ also)) few
+
   -- ---- runs of different kinds
   checked_or_solved : (c : Checked) (old new : ℕ) (r : Run) → IsChecked words (Some files) c → IsSolvedRun words (Some files) old new r → ⊥
   checked_or_solved c old new r h k = subst (λ d. TellsOutcomes d k.accepted.work.problem.sense k.outcomes r) (same_command words files (check h.script) h.form k.command k.form) k.tells
@@ -93,13 +124,54 @@ module _ (words : List (List ℕ)) (files : Files) where
   refused_or_checked r c h k = never_refused_check files k.script k.accepted r k.problem (refuses words files (check k.script) k.form r h)
 
   refused_or_solved : (r : Refusal) (old new : ℕ) (s : Run) → IsRefusedRun words (Some files) r → IsSolvedRun words (Some files) old new s → ⊥
-  refused_or_solved r old new s h k = never_refused files k.command k.accepted k.settings r k.problem k.continuous k.asked (refuses words files k.command k.form r h)
+  refused_or_solved r old new s h k =
+      never_refused files k.command k.accepted k.settings r k.problem k.continuous k.asked (short_of_none k.command (tells_none k.command k.accepted.work.problem.sense k.outcomes s k.tells)) (refuses words files k.command k.form r h)
+
+  -- ---- files of a certificate
+  refused_or_files : (r : Refusal) (command : Command) (f : HasCertificate words (Some files) command) → IsShort files command → IsRefusedRun words (Some files) r → ⊥
+  refused_or_files r command f short h = never_refused files command f.accepted f.settings r f.problem f.continuous f.asked short (refuses words files command f.form r h)
+
+  solved_or_files : (old new : ℕ) (s : Run) (command : Command) → HasCertificate words (Some files) command → IsSolvedRun words (Some files) old new s → ⊥
+  solved_or_files old new s command f k =
+      let same = same_command words files command f.form k.command k.form in
+      none-some f.name (sym (subst (λ c. certificate_name c ≡ None) same (tells_none k.command k.accepted.work.problem.sense k.outcomes s k.tells)) ∙ f.named)
+
+  checked_or_files : (c : Checked) (command : Command) → HasCertificate words (Some files) command → IsChecked words (Some files) c → ⊥
+  checked_or_files c command f k = none-some f.name (subst (λ d. certificate_name d ≡ Some f.name) (sym (same_command words files command f.form (check k.script) k.form)) f.named)
+
+  module _ (command : Command) (f g : HasCertificate words (Some files) command) where
+    same_name : f.name ≡ g.name
+    same_name = same_Some f.name g.name (sym f.named ∙ g.named)
+
+    same_problem : f.accepted ≡ g.accepted
+    same_problem = one_problem files command f.accepted g.accepted f.problem g.problem
+
+    same_settings : f.settings ≡ g.settings
+    same_settings = one_settings command g.accepted.work f.settings g.settings (subst (λ (x : Accepted). AreSettingsOf (Some files) command x.work f.settings) same_problem f.asked) g.asked
+
+    -- the sections of a certificate are one
+    same_sections : (a b : Sections) → HasTextOf (Some files) f.name f.accepted.work.problem f.settings a → HasTextOf (Some files) g.name g.accepted.work.problem g.settings b → a ≡ b
+    same_sections a b h k =
+        let bytes = same_Some h.bytes k.bytes (sym h.are_told ∙ ap files same_name ∙ k.are_told) in
+        (one_text (problem_outline g.accepted.work.problem) (length f.settings) (length g.settings) k.bytes a b
+        (subst (λ (x : Accepted). IsTextOf (problem_outline x.work.problem) (length f.settings) k.bytes a) same_problem
+        (subst (λ c. IsTextOf (problem_outline f.accepted.work.problem) (length f.settings) c a) bytes h.text)) k.text).0
+
+    -- what is read isn't misread
+    read_or_misread : (a : Sections) (section : ℕ) (fault : CertFault) → HasTextOf (Some files) f.name f.accepted.work.problem f.settings a → IsMisread (Some files) g.name g.accepted.work.problem (length g.settings) section fault → ⊥
+    read_or_misread a section fault h k =
+        let bytes = same_Some h.bytes k.bytes (sym h.are_told ∙ ap files same_name ∙ k.are_told) in
+        k.misfit.no_text a
+        (subst (λ (x : List Pairs). IsTextOf (problem_outline g.accepted.work.problem) (length x) k.bytes a) same_settings
+        (subst (λ (x : Accepted). IsTextOf (problem_outline x.work.problem) (length f.settings) k.bytes a) same_problem
+        (subst (λ c. IsTextOf (problem_outline f.accepted.work.problem) (length f.settings) c a) bytes h.text)))
 
   command_of_refused : (r : Refusal) → IsRefusedRun words (Some files) r → (c : Command) × (command_of words ≡ Some c)
   command_of_refused r (long_script c name e is long) = (c, e)
   command_of_refused r (bad_script c bytes e of h) = (c, e)
   command_of_refused r (for_whole c a e g solving h) = (c, e)
   command_of_refused r (bad_settings c a name e g free is h) = (c, e)
+  command_of_refused r (long_certificate c f long) = (c, f.form)
 
   refused_once : (r t : Refusal) → IsRefusedRun words (Some files) r → IsRefusedRun words (Some files) t → r ≡ t
   refused_once r t h k =

@@ -1,6 +1,7 @@
 -- What a refusal says of files that are told: one fault, and no other.
-use Rattle.std.proofs.Common.{◌≡◌, inl, inr, ℕ, ◌<◌, List, Some, Ok, Err, refl, sym, ap, subst, ◌∙◌, arith}
+use Rattle.std.proofs.Common.{◌≡◌, inl, inr, ℕ, ◌<◌, ◌≤◌, List, length, Some, Ok, Err, refl, sym, ap, subst, ◌∙◌, arith}
 use Rattle.std.proofs.lemmas.Option.{none-some, same_Some}
+use Rattle.dcx_tokens.specs.declared.fault.ReadFault.{ReadFault}
 use Rattle.dcx_tokens.specs.declared.fault.ReadFault.TheVariants as reads
 use Rattle.dcx_tokens.specs.Position.{start_of_text}
 use Rattle.dcx_read.specs.Parses.{no_text as no_script_text}
@@ -16,15 +17,15 @@ use Rattle.dcx_front.specs.declared.accepted.Accepted.{Accepted}
 use Rattle.dcx_front.specs.declared.fault.FrontFault.TheVariants as front
 use Rattle.dcx_front.specs.declared.refusal.Refusal.{Refusal}
 use Rattle.dcx_front.specs.declared.refusal.Carried.TheVariants.{Nothing}
-use Rattle.dcx_front.specs.declared.refusal.RefusalSource.TheVariants.{Script, Settings}
-use Rattle.dcx_front.specs.Checks.{IsRefusedAs}
+use Rattle.dcx_front.specs.declared.refusal.RefusalSource.TheVariants.{Script, Settings, Certificate}
+use Rattle.dcx_front.specs.Checks.{IsTooLong, IsRefusedAs}
 use Rattle.dcx_front.specs.Accepts.{Given, Gives, unread, Ending, refused, without_memory, IsRefusedBy, read_ending}
 use Rattle.dcx_front.proofs.OneAnswer.{one_answer}
 use Rattle.dcx_front.proofs.OneCheck.{one_refusal}
-use Rattle.dcx_words.specs.Commands.{Command, check, solve, resolve, trial, command_of}
-use Rattle.dcx_top.specs.Commands.{IsScriptOf, script_name, settings_name, AreSettingsOf}
-use Rattle.dcx_top.specs.Files.{RefusesScript, RefusesSettings}
-use Rattle.dcx_top.specs.Runs.{GivesProblem, IsRefusedRun, long_script, bad_script, for_whole, bad_settings}
+use Rattle.dcx_words.specs.Commands.{Command, check, solve, resolve, certificate, certify, migrate, trial, command_of}
+use Rattle.dcx_top.specs.Commands.{IsScriptOf, script_name, settings_name, certificate_name, AreOfFile, AreSettingsOf}
+use Rattle.dcx_top.specs.Files.{most_bytes, RefusesScript, RefusesSettings}
+use Rattle.dcx_top.specs.Runs.{GivesProblem, HasCertificate, IsRefusedRun, long_script, bad_script, for_whole, bad_settings, long_certificate}
 use Rattle.dcx_top.specs.Whole.{HasNoWhole, IsFirstWhole, IsRefusedForWhole, IsSolving}
 
 -- ---- answers of the front
@@ -52,12 +53,18 @@ module _ (files : Files) where
   one_script (check script) b c h k = told_once script b c h k
   one_script (solve script limit) b c h k = told_once script b c h k
   one_script (resolve script settings limit) b c h k = told_once script b c h k
+  one_script (certificate script settings limit) b c h k = told_once script b c h k
+  one_script (certify script settings cert) b c h k = told_once script b c h k
+  one_script (migrate script settings cert) b c h k = told_once script b c h k
   one_script (trial size limit) b c h k = h ∙ sym k
 
   script_is : (command : Command) (name bytes : List ℕ) → script_name command ≡ Some name → files name ≡ Some bytes → IsScriptOf (Some files) command bytes
   script_is (check script) name bytes e h = subst (λ n. files n ≡ Some bytes) (sym (same_Some script name e)) h
   script_is (solve script limit) name bytes e h = subst (λ n. files n ≡ Some bytes) (sym (same_Some script name e)) h
   script_is (resolve script settings limit) name bytes e h = subst (λ n. files n ≡ Some bytes) (sym (same_Some script name e)) h
+  script_is (certificate script settings limit) name bytes e h = subst (λ n. files n ≡ Some bytes) (sym (same_Some script name e)) h
+  script_is (certify script settings cert) name bytes e h = subst (λ n. files n ≡ Some bytes) (sym (same_Some script name e)) h
+  script_is (migrate script settings cert) name bytes e h = subst (λ n. files n ≡ Some bytes) (sym (same_Some script name e)) h
   script_is (trial size limit) name bytes e h = absurd (none-some name e)
 
   -- an accepted problem is one
@@ -66,22 +73,32 @@ module _ (files : Files) where
       let same = one_script command g.bytes h.bytes g.are_of h.are_of in
       one_accepted h.bytes a b (subst (λ x. Gives x (Ok a)) same g.gives) h.gives
 
+  -- the settings of a file are spelled by its bytes
+  spelled_in : (file : List ℕ) (work : Work) (settings : List Pairs) (name bytes : List ℕ) → AreOfFile (Some files) file work.last settings → Some file ≡ Some name → files name ≡ Some bytes → (lines : List (List SettingItem)) × SpellSettings bytes lines
+  spelled_in file work settings name bytes are e h =
+      let same = told_once name are.bytes bytes (subst (λ n. files n ≡ Some are.bytes) (same_Some file name e) are.are_told) h in
+      (are.lines, subst (λ b. SpellSettings b are.lines) same are.spelled)
+
   -- settings at which the problem is solved are spelled by the settings file, where there is one
   pub spelled_by : (command : Command) (work : Work) (settings : List Pairs) (name bytes : List ℕ) → AreSettingsOf (Some files) command work settings → settings_name command ≡ Some name → files name ≡ Some bytes →
       (lines : List (List SettingItem)) × SpellSettings bytes lines
   spelled_by (check script) work settings name bytes are e h = absurd (none-some name e)
   spelled_by (solve script limit) work settings name bytes are e h = absurd (none-some name e)
-  spelled_by (resolve script file limit) work settings name bytes are e h =
-      let same = told_once name are.bytes bytes (subst (λ n. files n ≡ Some are.bytes) (same_Some file name e) are.are_told) h in
-      (are.lines, subst (λ b. SpellSettings b are.lines) same are.spelled)
+  spelled_by (resolve script file limit) work settings name bytes are e h = spelled_in file work settings name bytes are e h
+  spelled_by (certificate script file limit) work settings name bytes are e h = spelled_in file work settings name bytes are e h
+  spelled_by (certify script file cert) work settings name bytes are e h = spelled_in file work settings name bytes are e h
+  spelled_by (migrate script file cert) work settings name bytes are e h = spelled_in file work settings name bytes are e h
   spelled_by (trial size limit) work settings name bytes are e h = absurd (none-some name e)
 
 -- ---- what is refused
--- the script, for what stands in it or for a variable that is to be whole, or else the settings file
+-- the script, for what stands in it or for a variable that is to be whole, or else the settings file, or else the certificate for its
+-- length
 pub data Refuses (files : Files) (command : Command) (r : Refusal) : Type 0 where
   in_script : (bytes : List ℕ) → IsScriptOf (Some files) command bytes → RefusesScript bytes r → Refuses files command r
   in_problem : (a : Accepted) → GivesProblem (Some files) command a → IsSolving command → IsRefusedForWhole a.work.problem.tree r → Refuses files command r
   in_settings : (a : Accepted) (name bytes : List ℕ) → GivesProblem (Some files) command a → HasNoWhole a.work.problem.tree → settings_name command ≡ Some name → files name ≡ Some bytes → RefusesSettings bytes r → Refuses files command r
+  in_length : (a : Accepted) (settings : List Pairs) (name bytes : List ℕ) → GivesProblem (Some files) command a → HasNoWhole a.work.problem.tree → AreSettingsOf (Some files) command a.work settings → certificate_name command ≡ Some name →
+      files name ≡ Some bytes → most_bytes Certificate < length bytes → IsTooLong Certificate r → Refuses files command r
 
 module _ (words : List (List ℕ)) (files : Files) (command : Command) (form : command_of words ≡ Some command) where
   pub same_command : (c : Command) → command_of words ≡ Some c → c ≡ command
@@ -99,6 +116,7 @@ module _ (words : List (List ℕ)) (files : Files) (command : Command) (form : c
   refuses r (bad_settings c a name e g free is (inl (long, (bytes, there, more)))) =
       of_command r c e (in_settings a name bytes g free is there (record { fault = reads.TooLong start_of_text.place; refused = no_settings_text (more, refl); told = long }))
   refuses r (bad_settings c a name e g free is (inr (bytes, there, h))) = of_command r c e (in_settings a name bytes g free is there h)
+  refuses r (long_certificate c f (long, (bytes, there, more))) = of_command r c f.form (in_length f.accepted f.settings f.name bytes f.problem f.continuous f.asked f.named there more long)
 
 -- the first variable that is to be whole is one
 one_first : (nodes : List Node) (i j : ℕ) → IsFirstWhole nodes i → IsFirstWhole nodes j → i ≡ j
@@ -134,14 +152,27 @@ module _ (files : Files) (command : Command) where
       let k = subst (λ (x : Accepted). IsRefusedForWhole x.work.problem.tree r) (one_problem files command a b g i) h in
       free k.node k.first.is
 
+  -- a settings file that gives settings isn't refused
+  settings_or_not : (work : Work) (settings : List Pairs) (name bytes : List ℕ) (fault : ReadFault) → AreSettingsOf (Some files) command work settings → settings_name command ≡ Some name → files name ≡ Some bytes → IsRefused bytes fault → ⊥
+  settings_or_not work settings name bytes fault are is there h =
+      let (lines, spelled) = spelled_by files command work settings name bytes are is there in
+      settings_apart bytes lines fault spelled h
+
   pub one_refused : (r t : Refusal) → Refuses files command r → Refuses files command t → r ≡ t
   one_refused r t (in_script b of h) (in_script c also k) =
       same_refused r t (one_answer c (Err (front.Refused r)) (subst (λ x. RefusesScript x r) (one_script files command b c of also) h) (Err (front.Refused t)) k)
   one_refused r t (in_script b of h) (in_problem a g solving k) = absurd (in_script_once a r b g of h)
   one_refused r t (in_script b of h) (in_settings a name c g free is there k) = absurd (in_script_once a r b g of h)
+  one_refused r t (in_script b of h) (in_length a settings name c g free asked named there more long) = absurd (in_script_once a r b g of h)
   one_refused r t (in_problem a g solving k) (in_script b of h) = absurd (in_script_once a t b g of h)
   one_refused r t (in_problem a g solving h) (in_problem b i also k) = in_problem_once a b r t g i h k
   one_refused r t (in_problem a g solving h) (in_settings b name c i free is there k) = absurd (whole_or_free a b r g i h free)
+  one_refused r t (in_problem a g solving h) (in_length b settings name c i free asked named there more long) = absurd (whole_or_free a b r g i h free)
+  one_refused r t (in_length b settings name c i free asked named there more long) (in_script d of h) = absurd (in_script_once b t d i of h)
+  one_refused r t (in_length b settings name c i free asked named there more long) (in_problem a g solving h) = absurd (whole_or_free a b t g i h free)
+  one_refused r t (in_length b settings name c i free asked named there more long) (in_settings a other d g unmarked is here k) = absurd (settings_or_not b.work settings other d k.fault asked is here k.refused)
+  one_refused r t (in_length b settings name c i free asked named there more long) (in_length a others other d g unmarked also known here most such) = one_refusal Certificate 8 _ _ r t long such
+  one_refused r t (in_settings a other d g unmarked is here k) (in_length b settings name c i free asked named there more long) = absurd (settings_or_not b.work settings other d k.fault asked is here k.refused)
   one_refused r t (in_settings a name c g free is there k) (in_script b of h) = absurd (in_script_once a t b g of h)
   one_refused r t (in_settings b name c i free is there k) (in_problem a g solving h) = absurd (whole_or_free a b t g i h free)
   one_refused r t (in_settings a name b g free is there h) (in_settings d other c i unmarked also here k) =
@@ -149,16 +180,20 @@ module _ (files : Files) (command : Command) where
       let fault = refused_one c h.fault k.fault (subst (λ x. IsRefused x h.fault) same h.refused) k.refused in
       one_told (read_ending k.fault) r t (subst (λ f. IsRefusedBy Settings (read_ending f) r) fault h.told) k.told
 
+  -- the certificate isn't too long, where there is one
+  abbrev pub IsShort : Type 0
+  IsShort = (name bytes : List ℕ) → certificate_name command ≡ Some name → files name ≡ Some bytes → length bytes ≤ most_bytes Certificate
+
   -- nothing is refused where the problem is solved
-  pub never_refused : (a : Accepted) (settings : List Pairs) (r : Refusal) → GivesProblem (Some files) command a → HasNoWhole a.work.problem.tree → AreSettingsOf (Some files) command a.work settings → Refuses files command r → ⊥
-  never_refused a settings r g free are (in_script b of h) = in_script_once a r b g of h
-  never_refused a settings r g free are (in_problem b i solving h) = whole_or_free b a r i g h free
-  never_refused a settings r g free are (in_settings d name bytes i unmarked is there h) =
-      let (lines, spelled) = spelled_by files command a.work settings name bytes are is there in
-      settings_apart bytes lines h.fault spelled h.refused
+  pub never_refused : (a : Accepted) (settings : List Pairs) (r : Refusal) → GivesProblem (Some files) command a → HasNoWhole a.work.problem.tree → AreSettingsOf (Some files) command a.work settings → IsShort → Refuses files command r → ⊥
+  never_refused a settings r g free are short (in_script b of h) = in_script_once a r b g of h
+  never_refused a settings r g free are short (in_problem b i solving h) = whole_or_free b a r i g h free
+  never_refused a settings r g free are short (in_settings d name bytes i unmarked is there h) = settings_or_not a.work settings name bytes h.fault are is there h.refused
+  never_refused a settings r g free are short (in_length d others name bytes i unmarked asked named there more long) = let few = short name bytes named there in omega (arith, few, more)
 
 -- nor where it is checked
 pub never_refused_check : (files : Files) (script : List ℕ) (a : Accepted) (r : Refusal) → GivesProblem (Some files) (check script) a → Refuses files (check script) r → ⊥
 never_refused_check files script a r g (in_script b of h) = in_script_once files (check script) a r b g of h
 never_refused_check files script a r g (in_problem b i solving h) = solving
 never_refused_check files script a r g (in_settings d name bytes i free is there h) = none-some name is
+never_refused_check files script a r g (in_length d settings name bytes i free asked named there more long) = none-some name named

@@ -1,15 +1,20 @@
 -- A run with its cause is right.
-use Rattle.std.proofs.Common.{◌≡◌, ℕ, List, Option, Some}
+use Rattle.std.proofs.Common.{◌≡◌, inl, inr, ℕ, Bool, List, Option, Some}
 use Rattle.dcx_host.specs.Files.{Files}
 use Rattle.dcx_front.specs.declared.accepted.Accepted.{Accepted}
 use Rattle.dcx_front.proofs.OneVerdict.{acceptance}
 use Rattle.dcx_report.specs.declared.run.Run.{Run}
 use Rattle.dcx_report.specs.declared.run.Run.TheVariants as run
-use Rattle.dcx_words.specs.Commands.{Command, check, command_of}
+use Rattle.dcx_words.specs.Commands.{Command, check, certificate, certify, migrate, command_of}
 use Rattle.dcx_outcomes.proofs.Right.{outcomes_are_right}
+use Rattle.dcx_sections.specs.declared.section.Section.{Section}
+use Rattle.dcx_sections.specs.declared.section.Sections.{Sections}
+use Rattle.dcx_certificates.specs.Checking.{AreShown}
+use Rattle.dcx_certificates.proofs.Shown.{sections_are_shown}
 use Rattle.dcx_top.specs.Commands.{limit_of}
-use Rattle.dcx_top.specs.Runs.{GivesProblem, IsSolvedRun, Causes}
-use Rattle.dcx_top.specs.Headline.{IsAcceptedWork, IsRightlySolved, IsRightRun}
+use Rattle.dcx_top.specs.Runs.{GivesProblem, IsSolvedRun, IsCertificateRun, HasCertificate, HasPassed, IsMigrateRun, Causes}
+use Rattle.dcx_top.specs.Headline.{IsAcceptedWork, IsRightlySolved, IsRightlyShown, IsRightRun}
+use Rattle.dcx_top.proofs.Passed.{passed_shown, migrated_shown}
 
 accepted_work : (words : List (List ℕ)) (told : Option Files) (command : Command) (a : Accepted) → command_of words ≡ Some command → GivesProblem told command a → IsAcceptedWork words told command a.work
 accepted_work words told command a form g = let h = acceptance g.bytes a g.gives in record {
@@ -35,11 +40,50 @@ solved_right words told old new r h = let w = accepted_work words told h.command
   right = outcomes_are_right h.accepted.work.problem (limit_of h.command) h.settings h.outcomes w.accepted h.are;
 }
 
+-- ---- certificates
+certificate_right : (words : List (List ℕ)) (told : Option Files) (old new : ℕ) (text : List ℕ) (stopped : Bool) (h : IsCertificateRun words told old new text stopped) → IsRightlyShown words told h.sections.list
+certificate_right words told old new text stopped h = let w = accepted_work words told (certificate h.script h.name h.limit) h.accepted h.form h.problem in record {
+  command = certificate h.script h.name h.limit;
+  work = h.accepted.work;
+  accepted = w;
+  settings = h.settings;
+  asked = h.asked;
+  shown = sections_are_shown h.accepted.work.problem h.limit h.settings h.sections.list w.accepted h.are.sections;
+}
+
+shown_of : (words : List (List ℕ)) (told : Option Files) (command : Command) (list : List Section) (f : HasCertificate words told command) → AreShown f.accepted.work.problem f.settings list → IsRightlyShown words told list
+shown_of words told command list f h = record {
+  command = command;
+  work = f.accepted.work;
+  accepted = accepted_work words told command f.accepted f.form f.problem;
+  settings = f.settings;
+  asked = f.asked;
+  shown = h;
+}
+
+passed_show : (words : List (List ℕ)) (told : Option Files) (command : Command) (sections : Sections) (h : HasPassed words told command sections) → AreShown h.reads.files.accepted.work.problem h.reads.files.settings sections.list
+passed_show words told command sections h =
+    let f = h.reads.files in
+    passed_shown f.accepted.work.problem f.settings sections.list (acceptance f.problem.bytes f.accepted f.problem.gives).judged.accepted h.reads.has.text.certificate.shown h.passed
+
+passed_right : (words : List (List ℕ)) (told : Option Files) (command : Command) (sections : Sections) → HasPassed words told command sections → IsRightlyShown words told sections.list
+passed_right words told command sections h = shown_of words told command sections.list h.reads.files (passed_show words told command sections h)
+
+migrate_right : (words : List (List ℕ)) (told : Option Files) (text : List ℕ) (h : IsMigrateRun words told text) → IsRightlyShown words told h.migrated.list
+migrate_right words told text h =
+    let command = migrate h.script h.settings h.name in
+    let f = h.passed.reads.files in
+    shown_of words told command h.migrated.list f (migrated_shown f.accepted.work.problem f.settings h.sections h.migrated h.are (passed_show words told command h.sections h.passed))
+
 pub caused_are_right : (words : List (List ℕ)) (told : Option Files) (risen : Type 0) (old new : ℕ) (r : Run) → Causes words told risen old new r → IsRightRun words told r
 caused_are_right words told risen old new (run.Checked c) (h, same) =
     record { command = check h.script; work = h.accepted.work; accepted = accepted_work words told (check h.script) h.accepted h.form h.problem; found = h.found }
 caused_are_right words told risen old new (run.Solved word sense outcomes) h = solved_right words told old new (run.Solved word sense outcomes) h
 caused_are_right words told risen old new (run.Trial size outcomes) h = solved_right words told old new (run.Trial size outcomes) h
+caused_are_right words told risen old new (run.Certificates text stopped) (inl h) = (h.sections, h.text, certificate_right words told old new text stopped h)
+caused_are_right words told risen old new (run.Certificates text stopped) (inr (h, off, same)) = (h.migrated, h.text, migrate_right words told text h)
+caused_are_right words told risen old new (run.Certified n) (h, same) = (h.sections.list, h.count, passed_right words told (certify h.script h.settings h.name) h.sections h.passed)
+caused_are_right words told risen old new (run.CertRefused section fault) h = tt
 caused_are_right words told risen old new run.Usage h = tt
 caused_are_right words told risen old new (run.Refused r) h = tt
 caused_are_right words told risen old new run.ReadFault h = tt

@@ -1,5 +1,5 @@
 -- A run refuses its files exactly where they are at fault.
-use Rattle.std.proofs.Common.{◌≡◌, ℕ, List, Option, Some, None, refl, sym, ap, subst, ◌∙◌, Ok}
+use Rattle.std.proofs.Common.{◌≡◌, ℕ, ◌<◌, List, length, Option, Some, None, refl, sym, ap, subst, ◌∙◌, Ok, arith}
 use Rattle.std.proofs.lemmas.Option.{none-some, same_Some}
 use Rattle.dcx_tokens.proofs.OneReading.{one_reading}
 use Rattle.dcx_syntax.specs.declared.tree.Script.{Script}
@@ -22,12 +22,13 @@ use Rattle.dcx_report.specs.declared.run.Run.{Run}
 use Rattle.dcx_report.specs.declared.run.Run.TheVariants as run
 use Rattle.dcx_words.specs.Commands.{Command, check, command_of}
 use Rattle.dcx_top.specs.Commands.{settings_name, AreSettingsOf}
-use Rattle.dcx_top.specs.Files.{RefusesScript}
+use Rattle.dcx_top.specs.Files.{most_bytes, RefusesScript}
+use Rattle.dcx_front.specs.declared.refusal.RefusalSource.TheVariants.{Certificate}
 use Rattle.dcx_top.specs.Runs.{GivesProblem, IsChecked, IsSolvedRun, Causes}
 use Rattle.dcx_top.specs.Whole.{IsWholeAt, HasNoWhole, IsSolving}
 use Rattle.dcx_top.specs.OneRun.{IsAnswered}
-use Rattle.dcx_top.specs.Verdicts.{IsRefusal, IsAcceptance, Has, AreFaultless, AreAtFault, bad_script, has_whole, bad_settings, AreWithoutFault, IsVerdictOn, IsRightVerdict}
-use Rattle.dcx_top.proofs.Refusals.{one_script, spelled_by, same_command, Refuses, in_script, in_problem, in_settings, refuses}
+use Rattle.dcx_top.specs.Verdicts.{IsRefusal, IsAcceptance, Has, AreFaultless, AreAtFault, bad_script, has_whole, bad_settings, long_certificate, AreWithoutFault, IsVerdictOn, IsRightVerdict}
+use Rattle.dcx_top.proofs.Refusals.{one_script, spelled_by, same_command, Refuses, in_script, in_problem, in_settings, in_length, IsShort, refuses}
 
 -- bytes spell one script
 one_view : (bytes : List ℕ) (script other : Script) → IsReading bytes (Ok script) → IsReading bytes (Ok other) → script_view script ≡ script_view other
@@ -41,42 +42,47 @@ abbrev without_fault : (bytes : List ℕ) (a : Accepted) → Gives bytes (Ok a) 
 without_fault bytes a g = let h = acceptance bytes a g in
     record { script = h.script; spelled = h.spelled; work = a.work; stands_for = h.stands_for; accepted = h.judged.accepted }
 
-module _ (files : Files) (command : Command) (script settings : List ℕ) (has : Has files command script settings) where
-  no_faults : AreWithoutFault command script settings → AreAtFault command script settings → ⊥
+module _ (files : Files) (command : Command) (script settings certificate : List ℕ) (has : Has files command script settings certificate) where
+  no_faults : AreWithoutFault command script settings certificate → AreAtFault command script settings certificate → ⊥
   no_faults w (bad_script f) = apart script w.no_script_fault f
   no_faults w (has_whole h solving i is) =
       let same = one_work w.no_script_fault.script h.script (one_view script w.no_script_fault.script h.script w.no_script_fault.spelled h.spelled) w.no_script_fault.work h.work w.no_script_fault.stands_for h.stands_for in
       w.no_whole solving i (subst (λ (x : Work). IsWholeAt x.problem.tree i) (sym same) is)
+  no_faults w (long_certificate o f long) = w.not_long long
   no_faults w (bad_settings o f) = let (lines, spelled) = w.no_settings_fault f.name f.asked in settings_apart settings lines f.fault spelled f.refused
 
   accepted : (a : Accepted) → GivesProblem (Some files) command a → Gives script (Ok a)
   accepted a g = subst (λ b. Gives b (Ok a)) (one_script files command g.bytes script g.are_of has.is_script) g.gives
 
-  at_fault : (r : Refusal) → Refuses files command r → AreAtFault command script settings
+  at_fault : (r : Refusal) → Refuses files command r → AreAtFault command script settings certificate
   at_fault r (in_script bytes of h) = bad_script (refused_for script r (subst (λ b. RefusesScript b r) (one_script files command bytes script of has.is_script) h))
   at_fault r (in_problem a g solving h) = has_whole (without_fault script a (accepted a g)) solving h.node h.first.is
   at_fault r (in_settings a name bytes g free is there h) =
       bad_settings (without_fault script a (accepted a g))
       (record { name = name; asked = is; fault = h.fault; refused = subst (λ b. IsRefused b h.fault) (same_Some bytes settings (sym there ∙ has.are_settings name is)) h.refused })
 
-  without : (a : Accepted) → GivesProblem (Some files) command a → (IsSolving command → HasNoWhole a.work.problem.tree) → AreFaultless command settings → AreWithoutFault command script settings
-  without a g free f = record { no_script_fault = without_fault script a (accepted a g); no_whole = free; no_settings_fault = f }
+  at_fault r (in_length a others name bytes g free asked named there more long) =
+      long_certificate (without_fault script a (accepted a g)) (λ name is. spelled_by files command a.work others name settings asked is (has.are_settings name is))
+      (record { name = name; asked = named; long = subst (λ b. most_bytes Certificate < length b) (same_Some bytes certificate (sym there ∙ has.is_certificate name named)) more })
 
-  refuses_so : (r : Refusal) → AreAtFault command script settings → IsVerdictOn command script settings (run.Refused r)
+  without : (a : Accepted) → GivesProblem (Some files) command a → (IsSolving command → HasNoWhole a.work.problem.tree) → AreFaultless command settings → IsShort files command → AreWithoutFault command script settings certificate
+  without a g free f short = record { no_script_fault = without_fault script a (accepted a g); no_whole = free; no_settings_fault = f; not_long = λ l. let few = short l.name certificate l.asked (has.is_certificate l.name l.asked) in omega (arith, few, l.long) }
+
+  refuses_so : (r : Refusal) → AreAtFault command script settings certificate → IsVerdictOn command script settings certificate (run.Refused r)
   refuses_so r f = record { refused = (λ t. f, λ q. tt); accepted = (λ t. absurd t, λ w. absurd (no_faults w f)) }
 
-  accepts_so : (r : Run) → IsAcceptance r → (IsRefusal r → ⊥) → AreWithoutFault command script settings → IsVerdictOn command script settings r
+  accepts_so : (r : Run) → IsAcceptance r → (IsRefusal r → ⊥) → AreWithoutFault command script settings certificate → IsVerdictOn command script settings certificate r
   accepts_so r i n w = record { refused = (λ t. absurd (n t), λ q. absurd (no_faults w q)); accepted = (λ t. w, λ q. i) }
 
   module _ (words : List (List ℕ)) (form : command_of words ≡ Some command) (risen : Type 0) (old new : ℕ) where
-    solved : (r : Run) → IsAcceptance r → (IsRefusal r → ⊥) → IsSolvedRun words (Some files) old new r → IsVerdictOn command script settings r
+    solved : (r : Run) → IsAcceptance r → (IsRefusal r → ⊥) → IsSolvedRun words (Some files) old new r → IsVerdictOn command script settings certificate r
     solved r i n h =
         let same = same_command words files command form h.command h.form in
         let g = subst (λ c. GivesProblem (Some files) c h.accepted) same h.problem in
         let asked = subst (λ c. AreSettingsOf (Some files) c h.accepted.work h.settings) same h.asked in
         accepts_so r i n (without h.accepted g (λ solving. h.continuous) (λ name is. spelled_by files command h.accepted.work h.settings name settings asked is (has.are_settings name is)))
 
-    checked : (c : Checked) → IsChecked words (Some files) c → IsVerdictOn command script settings (run.Checked c)
+    checked : (c : Checked) → IsChecked words (Some files) c → IsVerdictOn command script settings certificate (run.Checked c)
     checked c h =
         let same = same_command words files command form (check h.script) h.form in
         let g = subst (λ c. GivesProblem (Some files) c h.accepted) same h.problem in
@@ -84,7 +90,7 @@ module _ (files : Files) (command : Command) (script settings : List ℕ) (has :
         let only : IsSolving command → ⊥ = subst (λ c. IsSolving c → ⊥) same (λ t. t) in
         accepts_so (run.Checked c) tt (λ t. t) (without h.accepted g (λ solving. absurd (only solving)) (λ name is. absurd (none-some name (sym none ∙ is))))
 
-    verdict_on : (r : Run) → Causes words (Some files) risen old new r → IsAnswered r → IsVerdictOn command script settings r
+    verdict_on : (r : Run) → Causes words (Some files) risen old new r → IsAnswered r → IsVerdictOn command script settings certificate r
     verdict_on run.Usage h i = absurd (none-some command (sym h.0 ∙ form))
     verdict_on (run.Refused r) h i = refuses_so r (at_fault r (refuses words files command form r h.0))
     verdict_on (run.Checked c) h i = checked c h.0
@@ -95,4 +101,4 @@ module _ (files : Files) (command : Command) (script settings : List ℕ) (has :
 
 pub right_verdict : (words : List (List ℕ)) (told : Option Files) (risen : Type 0) (old new : ℕ) (r : Run) → Causes words told risen old new r → IsRightVerdict words told r
 right_verdict words None risen old new r h = tt
-right_verdict words (Some files) risen old new r h = λ i command script settings form has. verdict_on files command script settings has words form risen old new r h i
+right_verdict words (Some files) risen old new r h = λ i command script settings certificate form has. verdict_on files command script settings certificate has words form risen old new r h i

@@ -10,7 +10,7 @@ use Rattle.dcx_report.specs.declared.outcome.Outcome.{Outcome}
 use Rattle.dcx_report.specs.declared.run.Run.{Run}
 use Rattle.dcx_report.specs.declared.run.Run.TheVariants as run
 use Rattle.dcx_report.specs.declared.run.Word.TheVariants as word
-use Rattle.dcx_words.specs.Commands.{Command, check, solve, resolve, trial}
+use Rattle.dcx_words.specs.Commands.{Command, check, solve, resolve, certificate, certify, migrate, trial}
 use Rattle.dcx_trial.specs.Trial.{trial_text}
 use Rattle.dcx_overlay.specs.Settings.{AreLaidOver, AreTrialSettings}
 
@@ -20,6 +20,9 @@ abbrev pub IsScriptOf : Option Files → Command → List ℕ → Type 0
 IsScriptOf told (check script) bytes = IsTold told script bytes
 IsScriptOf told (solve script limit) bytes = IsTold told script bytes
 IsScriptOf told (resolve script settings limit) bytes = IsTold told script bytes
+IsScriptOf told (certificate script settings limit) bytes = IsTold told script bytes
+IsScriptOf told (certify script settings cert) bytes = IsTold told script bytes
+IsScriptOf told (migrate script settings cert) bytes = IsTold told script bytes
 IsScriptOf told (trial size limit) bytes = bytes ≡ trial_text size
 
 -- the file that the script is read from
@@ -27,6 +30,9 @@ abbrev pub script_name : Command → Option (List ℕ)
 script_name (check script) = Some script
 script_name (solve script limit) = Some script
 script_name (resolve script settings limit) = Some script
+script_name (certificate script settings limit) = Some script
+script_name (certify script settings cert) = Some script
+script_name (migrate script settings cert) = Some script
 script_name (trial size limit) = None
 
 -- the file that settings are read from
@@ -34,7 +40,20 @@ abbrev pub settings_name : Command → Option (List ℕ)
 settings_name (check script) = None
 settings_name (solve script limit) = None
 settings_name (resolve script settings limit) = Some settings
+settings_name (certificate script settings limit) = Some settings
+settings_name (certify script settings cert) = Some settings
+settings_name (migrate script settings cert) = Some settings
 settings_name (trial size limit) = None
+
+-- the file that a certificate is read from
+abbrev pub certificate_name : Command → Option (List ℕ)
+certificate_name (check script) = None
+certificate_name (solve script limit) = None
+certificate_name (resolve script settings limit) = None
+certificate_name (certificate script settings limit) = None
+certificate_name (certify script settings cert) = Some cert
+certificate_name (migrate script settings cert) = Some cert
+certificate_name (trial size limit) = None
 
 -- ---- the settings
 -- each line of the file, laid over a setting
@@ -50,6 +69,9 @@ abbrev pub AreSettingsOf : Option Files → Command → Work → List Pairs → 
 AreSettingsOf told (check script) work settings = ⊥
 AreSettingsOf told (solve script limit) work settings = settings ≡ work.events
 AreSettingsOf told (resolve script name limit) work settings = AreOfFile told name work.last settings
+AreSettingsOf told (certificate script name limit) work settings = AreOfFile told name work.last settings
+AreSettingsOf told (certify script name cert) work settings = AreOfFile told name work.last settings
+AreSettingsOf told (migrate script name cert) work settings = AreOfFile told name work.last settings
 AreSettingsOf told (trial size limit) work settings = AreTrialSettings work.last settings
 
 -- the most pivots at a setting
@@ -57,6 +79,9 @@ abbrev pub limit_of : Command → ℕ
 limit_of (check script) = 0
 limit_of (solve script limit) = limit
 limit_of (resolve script settings limit) = limit
+limit_of (certificate script settings limit) = limit
+limit_of (certify script settings cert) = 0
+limit_of (migrate script settings cert) = 0
 limit_of (trial size limit) = limit
 
 -- ---- the run
@@ -65,4 +90,7 @@ abbrev pub TellsOutcomes : Command → Sense → List Outcome → Run → Type 0
 TellsOutcomes (check script) sense outcomes r = ⊥
 TellsOutcomes (solve script limit) sense outcomes r = r ≡ run.Solved word.Solve sense outcomes
 TellsOutcomes (resolve script settings limit) sense outcomes r = r ≡ run.Solved word.Setting sense outcomes
+TellsOutcomes (certificate script settings limit) sense outcomes r = ⊥
+TellsOutcomes (certify script settings cert) sense outcomes r = ⊥
+TellsOutcomes (migrate script settings cert) sense outcomes r = ⊥
 TellsOutcomes (trial size limit) sense outcomes r = r ≡ run.Trial size outcomes

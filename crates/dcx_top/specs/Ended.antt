@@ -6,7 +6,7 @@ use Rattle.std.specs.Io.KnownBytes.{Appends}
 use Rattle.dcx_report.specs.ReportText.{text_of}
 use Rattle.dcx_answer.specs.declared.stop.Stop.TheVariants.{Memory as StopMemory}
 use Rattle.dcx_report.specs.declared.run.Run.{Run}
-use Rattle.dcx_report.specs.declared.run.Run.TheVariants.{Usage, Refused, Checked, Solved, Trial, ReadFault, Memory}
+use Rattle.dcx_report.specs.declared.run.Run.TheVariants.{Usage, Refused, Checked, Solved, Certificates, Certified, CertRefused, Trial, ReadFault, Memory}
 use Rattle.dcx_report.specs.declared.outcome.Outcome.{Outcome}
 use Rattle.dcx_report.specs.declared.outcome.OutcomeEnd.{OutcomeEnd}
 use Rattle.dcx_report.specs.declared.outcome.OutcomeEnd.TheVariants.{Answer, Stop}
@@ -32,6 +32,9 @@ status_of Usage = 2
 status_of (Refused refusal) = 1
 status_of (Checked checked) = 0
 status_of (Solved word sense outcomes) = outcomes_status outcomes
+status_of (Certificates text stopped) = if stopped then 6 else 0
+status_of (Certified sections) = 0
+status_of (CertRefused section fault) = 7
 status_of (Trial size outcomes) = outcomes_status outcomes
 status_of ReadFault = 3
 status_of Memory = 5

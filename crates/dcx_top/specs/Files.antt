@@ -1,5 +1,5 @@
 -- What the files of a command give: an accepted problem, and settings; or the run that ends there.
-use Rattle.std.specs.Prelude.{⊤, ℕ, ◌⊎◌, List, Option, Result, Ok, Err}
+use Rattle.std.specs.Prelude.{◌≡◌, ⊤, ℕ, ◌≤◌, ◌⊎◌, List, length, Option, Result, Ok, Err}
 use Rattle.dcx_tokens.specs.declared.fault.ReadFault.{ReadFault}
 use Rattle.dcx_host.specs.Files.{Files, IsTold, Lacks, HasMore}
 use Rattle.dcx_settings.specs.declared.settings.SettingItem.{SettingItem}
@@ -9,20 +9,29 @@ use Rattle.dcx_front.specs.declared.fault.FrontFault.{FrontFault}
 use Rattle.dcx_front.specs.declared.fault.FrontFault.TheVariants as front
 use Rattle.dcx_front.specs.declared.refusal.Refusal.{Refusal}
 use Rattle.dcx_front.specs.declared.refusal.RefusalSource.{RefusalSource}
-use Rattle.dcx_front.specs.declared.refusal.RefusalSource.TheVariants.{Script, Settings}
+use Rattle.dcx_front.specs.declared.refusal.RefusalSource.TheVariants.{Script, Settings, Certificate}
 use Rattle.dcx_front.specs.Checks.{IsTooLong}
 use Rattle.dcx_front.specs.Accepts.{Gives, IsRefusedBy, read_ending}
+use Rattle.dcx_tree.specs.declared.problem.Problem.{Problem}
+use Rattle.dcx_point.specs.Pairs.{Pairs}
+use Rattle.dcx_sections.specs.declared.fault.CertFault.{CertFault}
+use Rattle.dcx_sections.specs.declared.fault.CertFault.TheVariants as faults
+use Rattle.dcx_sections.specs.declared.section.Sections.{Sections}
+use Rattle.dcx_outline.specs.Drawn.{problem_outline}
+use Rattle.dcx_cert_lines.specs.Forms.{IsTextOf, IsMisfit}
 use Rattle.dcx_report.specs.declared.run.Run.{Run}
 use Rattle.dcx_report.specs.declared.run.Run.TheVariants as run
 
--- how many bytes a script has at most, and a settings file
-abbrev pub file_limit : ℕ
-file_limit = 1048576
+-- how many bytes a script has at most, a settings file, and a certificate
+abbrev pub most_bytes : RefusalSource → ℕ
+most_bytes Script = 1048576
+most_bytes Settings = 1048576
+most_bytes Certificate = 67108864
 
 -- ---- refusals
 -- the file is refused for its length, which it has where files are told
 abbrev pub IsLong : Option Files → RefusalSource → List ℕ → Refusal → Type 0
-IsLong told source name r = IsTooLong source r × HasMore told name file_limit
+IsLong told source name r = IsTooLong source r × HasMore told name (most_bytes source)
 
 -- it has bytes that are refused so
 abbrev pub IsRefusedIn : Option Files → List ℕ → (List ℕ → Refusal → Type 0) → Refusal → Type 0
@@ -61,6 +70,9 @@ EndsAt told risen source name Refuses run.Memory = ⊤
 EndsAt told risen source name Refuses run.Usage = ⊥
 EndsAt told risen source name Refuses (run.Checked c) = ⊥
 EndsAt told risen source name Refuses (run.Solved word sense outcomes) = ⊥
+EndsAt told risen source name Refuses (run.Certificates text stopped) = ⊥
+EndsAt told risen source name Refuses (run.Certified n) = ⊥
+EndsAt told risen source name Refuses (run.CertRefused section fault) = ⊥
 EndsAt told risen source name Refuses (run.Trial size outcomes) = ⊥
 
 -- what a script in a file gives
@@ -72,3 +84,36 @@ ReadsScript told risen name (Err r) = EndsAt told risen Script name RefusesScrip
 abbrev pub ReadsSettings : Option Files → Type 0 → List ℕ → Result (List (List SettingItem)) Run → Type 0
 ReadsSettings told risen name (Ok lines) = (bytes : List ℕ) × IsTold told name bytes × SpellSettings bytes lines
 ReadsSettings told risen name (Err r) = EndsAt told risen Settings name RefusesSettings r
+
+-- ---- certificates
+-- the bytes of a certificate are refused by no reading of the file: a fault in them is one of the certificate
+abbrev pub RefusesNothing : List ℕ → Refusal → Type 0
+RefusesNothing bytes r = ⊥
+
+-- the bytes are the text of no certificate for the problem at so many settings, and this line is the first that shows it
+pub record IsMisread (told : Option Files) (name : List ℕ) (p : Problem) (count section : ℕ) (f : CertFault) : Type 0 where
+  pub bytes : List ℕ
+  pub are_told : IsTold told name bytes
+  pub few : length bytes ≤ most_bytes Certificate
+  pub line : ℕ
+  pub fault : f ≡ faults.Form line
+  pub misfit : IsMisfit (problem_outline p) count bytes line
+  pub none : section ≡ 0
+
+-- the run of a certificate that is refused at a section, or at none; want of memory is told as such
+abbrev pub refused_at : ℕ → CertFault → Run
+refused_at section faults.Memory = run.Memory
+refused_at section fault = run.CertRefused section fault
+
+-- the file has the text of these sections for the problem, as many as there are settings
+pub record HasTextOf (told : Option Files) (name : List ℕ) (p : Problem) (settings : List Pairs) (sections : Sections) : Type 0 where
+  pub bytes : List ℕ
+  pub are_told : IsTold told name bytes
+  pub few : length bytes ≤ most_bytes Certificate
+  pub text : IsTextOf (problem_outline p) (length settings) bytes sections
+
+-- the sections of a certificate in a file, for a problem at so many settings; or the run that ends there
+abbrev pub ReadsCertificate : Option Files → Type 0 → List ℕ → Problem → ℕ → Result Sections Run → Type 0
+ReadsCertificate told risen name p count (Ok sections) = (bytes : List ℕ) × IsTold told name bytes × (length bytes ≤ most_bytes Certificate) × IsTextOf (problem_outline p) count bytes sections
+ReadsCertificate told risen name p count (Err (run.CertRefused section fault)) = IsMisread told name p count section fault
+ReadsCertificate told risen name p count (Err r) = EndsAt told risen Certificate name RefusesNothing r

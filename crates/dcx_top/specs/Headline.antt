@@ -1,5 +1,5 @@
 -- The headline: what is printed of an accepted problem is right, in the user's own problem.
-use Rattle.std.specs.Prelude.{◌≡◌, ⊤, ℕ, List, Option, Some, Ok}
+use Rattle.std.specs.Prelude.{◌≡◌, ⊤, ℕ, List, Option, Some, Ok, count_by}
 use Rattle.dcx_point.specs.Pairs.{Pairs}
 use Rattle.dcx_convex.specs.Nodes.{Setting}
 use Rattle.dcx_tree.specs.Meaning.{Fits, IsAccepted, IsConvex}
@@ -15,6 +15,10 @@ use Rattle.dcx_report.specs.declared.run.Run.{Run}
 use Rattle.dcx_report.specs.declared.run.Run.TheVariants as run
 use Rattle.dcx_words.specs.Commands.{Command, command_of}
 use Rattle.dcx_outcomes.specs.Right.{AreRight}
+use Rattle.dcx_sections.specs.declared.section.Section.{Section}
+use Rattle.dcx_sections.specs.declared.section.Sections.{Sections}
+use Rattle.dcx_cert_lines.specs.CertText.{cert_text}
+use Rattle.dcx_certificates.specs.Checking.{is_cert, AreShown}
 use Rattle.dcx_top.specs.Commands.{IsScriptOf, AreSettingsOf, TellsOutcomes}
 
 -- The script of the command spells what stands for this work: a problem with its settings. The rules accept the problem, and it is
@@ -48,7 +52,27 @@ pub record IsRightlySolved (words : List (List ℕ)) (told : Option Files) (r : 
   pub tells : TellsOutcomes command work.problem.sense outcomes r
   pub right : AreRight work.problem settings outcomes
 
+-- Each section of the certificate is empty or shows the answer of the accepted problem at its setting.
+pub record IsRightlyShown (words : List (List ℕ)) (told : Option Files) (list : List Section) : Type 0 where
+  pub command : Command
+  pub work : Work
+  pub accepted : IsAcceptedWork words told command work
+  pub settings : List Pairs
+  pub asked : AreSettingsOf told command work settings
+  pub shown : AreShown work.problem settings list
+
+-- the bytes are the text of such a certificate
+abbrev pub AreRightBytes : List (List ℕ) → Option Files → List ℕ → Type 0
+AreRightBytes words told bytes = (c : Sections) × (bytes ≡ cert_text c) × IsRightlyShown words told c.list
+
+-- so many sections show an answer
+abbrev pub IsRightCount : List (List ℕ) → Option Files → ℕ → Type 0
+IsRightCount words told n = (list : List Section) × (n ≡ count_by is_cert list) × IsRightlyShown words told list
+
 abbrev pub IsRightRun : List (List ℕ) → Option Files → Run → Type 0
+IsRightRun words told (run.Certificates text stopped) = AreRightBytes words told text
+IsRightRun words told (run.Certified n) = IsRightCount words told n
+IsRightRun words told (run.CertRefused section fault) = ⊤
 IsRightRun words told (run.Checked c) = IsRightlyFound words told c
 IsRightRun words told (run.Solved word sense outcomes) = IsRightlySolved words told (run.Solved word sense outcomes)
 IsRightRun words told (run.Trial size outcomes) = IsRightlySolved words told (run.Trial size outcomes)

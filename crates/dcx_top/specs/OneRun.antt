@@ -6,8 +6,11 @@ use Rattle.dcx_report.specs.declared.outcome.Outcome.{Outcome}
 use Rattle.dcx_report.specs.declared.run.Run.{Run}
 use Rattle.dcx_report.specs.declared.run.Run.TheVariants as run
 use Rattle.dcx_front.specs.declared.accepted.Accepted.{Accepted}
-use Rattle.dcx_words.specs.Commands.{Command, command_of}
+use Rattle.dcx_words.specs.Commands.{Command, check, solve, resolve, certificate, certify, migrate, trial, command_of}
 use Rattle.dcx_outcomes.specs.Laws.{AreAlike}
+use Rattle.dcx_sections.specs.declared.section.Sections.{Sections}
+use Rattle.dcx_cert_lines.specs.CertText.{cert_text}
+use Rattle.dcx_certificates.specs.Laws.{AreAlike as AreAlikeSections}
 use Rattle.dcx_top.specs.Runs.{GivesProblem, Causes}
 
 -- neither the library nor memory failed
@@ -18,6 +21,9 @@ IsAnswered run.Usage = ⊤
 IsAnswered (run.Refused r) = ⊤
 IsAnswered (run.Checked c) = ⊤
 IsAnswered (run.Solved word sense outcomes) = ⊤
+IsAnswered (run.Certificates text stopped) = ⊤
+IsAnswered (run.Certified n) = ⊤
+IsAnswered (run.CertRefused section fault) = ⊤
 IsAnswered (run.Trial size outcomes) = ⊤
 
 -- of the problem that a command's script gives, the outcomes are alike: the same answers, but for what their arrays hold past their
@@ -25,10 +31,25 @@ IsAnswered (run.Trial size outcomes) = ⊤
 abbrev pub AreAlikeOver : List (List ℕ) → Files → List Outcome → List Outcome → Type 0
 AreAlikeOver words files os qs = (command : Command) (a : Accepted) → command_of words ≡ Some command → GivesProblem (Some files) command a → AreAlike a.work.problem os qs
 
+-- texts of certificates of the answers to the problem that a command's script gives: of sections that are alike
+abbrev pub AreAlikeTexts : Files → Command → List ℕ → List ℕ → Type 0
+AreAlikeTexts files command a b = (c d : Sections) × (a ≡ cert_text c) × (b ≡ cert_text d) × ((x : Accepted) → GivesProblem (Some files) command x → AreAlikeSections x.work.problem c.list d.list)
+
+-- the same text, but for what arrays of answers hold past their ends
+abbrev pub AreOneText : Files → Command → List ℕ → List ℕ → Type 0
+AreOneText files (certificate script settings limit) a b = AreAlikeTexts files (certificate script settings limit) a b
+AreOneText files (migrate script settings cert) a b = a ≡ b
+AreOneText files (check script) a b = ⊥
+AreOneText files (solve script limit) a b = ⊥
+AreOneText files (resolve script settings limit) a b = ⊥
+AreOneText files (certify script settings cert) a b = ⊥
+AreOneText files (trial size limit) a b = ⊥
+
 -- two runs that tell the same
 abbrev pub AreOneRun : List (List ℕ) → Files → Run → Run → Type 0
 AreOneRun words files (run.Solved word sense os) (run.Solved other way qs) = (word ≡ other) × (sense ≡ way) × AreAlikeOver words files os qs
 AreOneRun words files (run.Trial size os) (run.Trial other qs) = (size ≡ other) × AreAlikeOver words files os qs
+AreOneRun words files (run.Certificates a stopped) (run.Certificates b halted) = (stopped ≡ halted) × ((command : Command) × (command_of words ≡ Some command) × AreOneText files command a b)
 AreOneRun words files r s = r ≡ s
 
 -- where the run is answered and files are told, each run with a cause tells the same

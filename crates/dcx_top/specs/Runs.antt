@@ -1,25 +1,33 @@
 -- Each run with its cause.
-use Rattle.std.specs.Prelude.{◌≡◌, ⊤, ℕ, ◌⊎◌, List, length, Option, Some, None, Ok}
+use Rattle.std.specs.Prelude.{◌≡◌, ◌↔◌, ◌≤◌, IsTrue, Bool, false, ⊤, ℕ, ◌⊎◌, List, length, Option, Some, None, Ok, Err, count_by}
 use Rattle.dcx_point.specs.Pairs.{Pairs}
 use Rattle.dcx_tree.specs.declared.problem.Problem.{Problem}
-use Rattle.dcx_host.specs.Files.{Files}
+use Rattle.dcx_host.specs.Files.{Files, IsTold}
 use Rattle.dcx_elab.specs.declared.work.Work.{Work}
 use Rattle.dcx_front.specs.declared.accepted.Accepted.{Accepted}
 use Rattle.dcx_front.specs.declared.checked.Checked.{Checked}
 use Rattle.dcx_front.specs.declared.refusal.Refusal.{Refusal}
-use Rattle.dcx_front.specs.declared.refusal.RefusalSource.TheVariants.{Script, Settings}
+use Rattle.dcx_front.specs.declared.refusal.RefusalSource.TheVariants.{Script, Settings, Certificate}
 use Rattle.dcx_front.specs.Checks.{IsFoundOf}
 use Rattle.dcx_front.specs.Accepts.{Gives}
 use Rattle.dcx_report.specs.declared.outcome.Outcome.{Outcome}
 use Rattle.dcx_report.specs.declared.run.Run.{Run}
 use Rattle.dcx_report.specs.declared.run.Run.TheVariants as run
 use Rattle.dcx_report.specs.declared.run.Word.TheVariants as word
-use Rattle.dcx_words.specs.Commands.{Command, check, command_of}
+use Rattle.dcx_words.specs.Commands.{Command, check, certificate, certify, migrate, command_of}
 use Rattle.dcx_overlay.specs.Settings.{AreTrialSettings}
 use Rattle.dcx_outcomes.specs.Outcomes.{AreOutcomes, Counts}
-use Rattle.dcx_top.specs.Commands.{IsScriptOf, script_name, settings_name, AreOfFile, AreSettingsOf, limit_of, TellsOutcomes}
+use Rattle.dcx_sections.specs.declared.fault.CertFault.{CertFault}
+use Rattle.dcx_sections.specs.declared.section.Sections.{Sections}
+use Rattle.dcx_outline.specs.Drawn.{problem_outline}
+use Rattle.dcx_cert_lines.specs.CertText.{cert_text}
+use Rattle.dcx_cert_lines.specs.Forms.{IsTextOf}
+use Rattle.dcx_certificates.specs.Sections.{StopsSomewhere, IsCertificateAt}
+use Rattle.dcx_certificates.specs.Checking.{is_cert, ArePassed, IsFirstRefused}
+use Rattle.dcx_certificates.specs.Migrating.{IsMigrated}
+use Rattle.dcx_top.specs.Commands.{IsScriptOf, script_name, settings_name, certificate_name, AreOfFile, AreSettingsOf, limit_of, TellsOutcomes}
 use Rattle.dcx_top.specs.Whole.{HasNoWhole, IsRefusedForWhole, IsSolving}
-use Rattle.dcx_top.specs.Files.{RefusesScript, RefusesSettings, IsLong, IsRefusedIn, IsNotHad, EndsAt}
+use Rattle.dcx_top.specs.Files.{RefusesScript, RefusesSettings, IsLong, IsRefusedIn, IsNotHad, EndsAt, IsMisread, HasTextOf, ReadsCertificate}
 
 -- ---- scripts
 -- the script of a command gives an accepted problem
@@ -51,6 +59,75 @@ pub record IsSolvedRun (words : List (List ℕ)) (told : Option Files) (old new 
   pub tells : TellsOutcomes command accepted.work.problem.sense outcomes r
   pub steps : Counts accepted.work.problem (length settings) old new
 
+-- ---- certificates
+-- a problem without variables that are to be whole is solved at the settings of a file, these are the bytes of the certificate of its
+-- answers, it is told whether a setting stopped, and so many steps were counted
+pub record IsCertificateRun (words : List (List ℕ)) (told : Option Files) (old new : ℕ) (bytes : List ℕ) (stopped : Bool) : Type 0 where
+  pub script : List ℕ
+  pub name : List ℕ
+  pub limit : ℕ
+  pub form : command_of words ≡ Some (certificate script name limit)
+  pub accepted : Accepted
+  pub problem : GivesProblem told (certificate script name limit) accepted
+  pub continuous : HasNoWhole accepted.work.problem.tree
+  pub settings : List Pairs
+  pub asked : AreOfFile told name accepted.work.last settings
+  pub sections : Sections
+  pub are : IsCertificateAt accepted.work.problem limit settings sections
+  pub flag : IsTrue stopped ↔ StopsSomewhere accepted.work.problem limit settings
+  pub text : bytes ≡ cert_text sections
+  pub steps : Counts accepted.work.problem (length settings) old new
+
+-- the problem and the settings of a command that has a certificate
+pub record HasCertificate (words : List (List ℕ)) (told : Option Files) (command : Command) : Type 0 where
+  pub form : command_of words ≡ Some command
+  pub name : List ℕ
+  pub named : certificate_name command ≡ Some name
+  pub accepted : Accepted
+  pub problem : GivesProblem told command accepted
+  pub continuous : HasNoWhole accepted.work.problem.tree
+  pub settings : List Pairs
+  pub asked : AreSettingsOf told command accepted.work settings
+
+-- its file has the text of these sections for the problem, as many as there are settings
+pub record ReadsSections (words : List (List ℕ)) (told : Option Files) (command : Command) (sections : Sections) : Type 0 where
+  pub files : HasCertificate words told command
+  pub has : HasTextOf told files.name files.accepted.work.problem files.settings sections
+
+-- and each passes its checks at its setting
+pub record HasPassed (words : List (List ℕ)) (told : Option Files) (command : Command) (sections : Sections) : Type 0 where
+  pub reads : ReadsSections words told command sections
+  pub passed : ArePassed reads.files.accepted.work.problem reads.files.settings sections.list
+
+-- sections that passed are written with the settings' values
+pub record IsMigrateRun (words : List (List ℕ)) (told : Option Files) (bytes : List ℕ) : Type 0 where
+  pub script : List ℕ
+  pub settings : List ℕ
+  pub name : List ℕ
+  pub sections : Sections
+  pub passed : HasPassed words told (migrate script settings name) sections
+  pub migrated : Sections
+  pub are : IsMigrated passed.reads.files.accepted.work.problem passed.reads.files.settings sections migrated
+  pub text : bytes ≡ cert_text migrated
+
+-- the bytes are the text of a certificate: of the answers, or of sections that were read and passed, where no step is counted
+abbrev pub AreBytesOf : List (List ℕ) → Option Files → ℕ → ℕ → List ℕ → Bool → Type 0
+AreBytesOf words told old new bytes stopped = IsCertificateRun words told old new bytes stopped ⊎ (IsMigrateRun words told bytes × (stopped ≡ false) × (new ≡ old))
+
+-- sections passed, so many of which show an answer
+pub record IsCertifiedRun (words : List (List ℕ)) (told : Option Files) (n : ℕ) : Type 0 where
+  pub script : List ℕ
+  pub settings : List ℕ
+  pub name : List ℕ
+  pub sections : Sections
+  pub passed : HasPassed words told (certify script settings name) sections
+  pub count : n ≡ count_by is_cert sections.list
+
+-- a certificate is refused: its bytes are the text of none for the problem, or this section is the first that fails
+pub data IsCertRefusedRun (words : List (List ℕ)) (told : Option Files) (section : ℕ) (f : CertFault) : Type 0 where
+  misread : (command : Command) (files : HasCertificate words told command) → IsMisread told files.name files.accepted.work.problem (length files.settings) section f → IsCertRefusedRun words told section f
+  failed : (command : Command) (sections : Sections) (reads : ReadsSections words told command sections) → IsFirstRefused reads.files.accepted.work.problem reads.files.settings sections.list section f → IsCertRefusedRun words told section f
+
 -- no variable is to be whole, and the run is one of these; or it refuses the script for the first one, and no step is counted
 abbrev pub OrWhole : Problem → (Run → Type 0) → ℕ → ℕ → Run → Type 0
 OrWhole p Next old new r = (HasNoWhole p.tree × Next r) ⊎ ((t : Refusal) × IsRefusedForWhole p.tree t × (r ≡ run.Refused t) × (new ≡ old))
@@ -63,26 +140,68 @@ SolvesAt p limit settings tells old new r = (r ≡ run.Memory) ⊎ ((outcomes : 
 abbrev pub TriesAt : Work → ℕ → ℕ → ℕ → ℕ → Run → Type 0
 TriesAt work size limit old new r = (r ≡ run.Memory) ⊎ ((settings : List Pairs) × AreTrialSettings work.last settings × SolvesAt work.problem limit settings (λ os. run.Trial size os) old new r)
 
--- an accepted problem is solved at the settings of a file, or its settings file ends the run; want of memory is free
+-- the certificate of a problem at settings is told; want of memory is free
+abbrev pub CertifiesAt : Problem → ℕ → List Pairs → ℕ → ℕ → Run → Type 0
+CertifiesAt p limit settings old new r =
+    (r ≡ run.Memory)
+    ⊎ ((c : Sections) × (stopped : Bool) × IsCertificateAt p limit settings c × (IsTrue stopped ↔ StopsSomewhere p limit settings) × Counts p (length settings) old new × (r ≡ run.Certificates (cert_text c) stopped))
+
+-- the settings of a file give this run, or the file ends it, and no step is counted
+abbrev pub FromFile : Option Files → Type 0 → Work → List ℕ → (List Pairs → ℕ → ℕ → Run → Type 0) → ℕ → ℕ → Run → Type 0
+FromFile told risen work name At old new r =
+    ((settings : List Pairs) × AreOfFile told name work.last settings × At settings old new r) ⊎ (EndsAt told risen Settings name RefusesSettings r × (new ≡ old))
+
+-- an accepted problem is solved at the settings of a file, or its certificate is told there
+abbrev pub ResolvesAt : Work → ℕ → List Pairs → ℕ → ℕ → Run → Type 0
+ResolvesAt work limit settings old new r = SolvesAt work.problem limit settings (λ os. run.Solved word.Setting work.problem.sense os) old new r
+
 abbrev pub ResolvesFrom : Option Files → Type 0 → Work → List ℕ → ℕ → ℕ → ℕ → Run → Type 0
-ResolvesFrom told risen work name limit old new r =
-    ((settings : List Pairs) × AreOfFile told name work.last settings × SolvesAt work.problem limit settings (λ os. run.Solved word.Setting work.problem.sense os) old new r)
-    ⊎ (EndsAt told risen Settings name RefusesSettings r × (new ≡ old))
+ResolvesFrom told risen work name limit old new r = FromFile told risen work name (ResolvesAt work limit) old new r
+
+abbrev pub CertifiesFrom : Option Files → Type 0 → Work → List ℕ → ℕ → ℕ → ℕ → Run → Type 0
+CertifiesFrom told risen work name limit old new r = FromFile told risen work name (CertifiesAt work.problem limit) old new r
+
+-- ---- the files of a certificate that is read
+-- a script gives an accepted problem without variables that are to be whole, and a file these settings
+pub record GivesSettings (told : Option Files) (script name : List ℕ) (a : Accepted) (settings : List Pairs) : Type 0 where
+  pub bytes : List ℕ
+  pub are_told : IsTold told script bytes
+  pub gives : Gives bytes (Ok a)
+  pub continuous : HasNoWhole a.work.problem.tree
+  pub asked : AreOfFile told name a.work.last settings
+
+-- a third file has the text of these sections for the problem at the settings
+pub record GivesSections (told : Option Files) (script name file : List ℕ) (p : Problem) (settings : List Pairs) (sections : Sections) : Type 0 where
+  pub accepted : Accepted
+  pub is_of : accepted.work.problem ≡ p
+  pub files : GivesSettings told script name accepted settings
+  pub has : HasTextOf told file p settings sections
+
+-- one of the files ends the run: the script, a variable that is to be whole, the settings file, or the certificate; want of memory is free
+pub data EndsFiles (told : Option Files) (risen : Type 0) (script name file : List ℕ) (r : Run) : Type 0 where
+  at_script : EndsAt told risen Script script RefusesScript r → EndsFiles told risen script name file r
+  at_whole : (a : Accepted) (bytes : List ℕ) (t : Refusal) → IsTold told script bytes → Gives bytes (Ok a) → IsRefusedForWhole a.work.problem.tree t → r ≡ run.Refused t → EndsFiles told risen script name file r
+  at_settings : (a : Accepted) (bytes : List ℕ) → IsTold told script bytes → Gives bytes (Ok a) → HasNoWhole a.work.problem.tree → EndsAt told risen Settings name RefusesSettings r → EndsFiles told risen script name file r
+  at_certificate : (a : Accepted) (settings : List Pairs) → GivesSettings told script name a settings → ReadsCertificate told risen file a.work.problem (length settings) (Err r) → EndsFiles told risen script name file r
+  at_memory : r ≡ run.Memory → EndsFiles told risen script name file r
 
 -- a file of a command is refused: its script, for its length, for what stands in it, or, where its problem is to be solved, for a
--- variable that is to be whole; or else its settings file
+-- variable that is to be whole; or else its settings file; or else its certificate, for its length
 pub data IsRefusedRun (words : List (List ℕ)) (told : Option Files) (r : Refusal) : Type 0 where
   long_script : (command : Command) (name : List ℕ) → command_of words ≡ Some command → script_name command ≡ Some name → IsLong told Script name r → IsRefusedRun words told r
   bad_script : (command : Command) (bytes : List ℕ) → command_of words ≡ Some command → IsScriptOf told command bytes → RefusesScript bytes r → IsRefusedRun words told r
   for_whole : (command : Command) (a : Accepted) → command_of words ≡ Some command → GivesProblem told command a → IsSolving command → IsRefusedForWhole a.work.problem.tree r → IsRefusedRun words told r
   bad_settings : (command : Command) (a : Accepted) (name : List ℕ) → command_of words ≡ Some command → GivesProblem told command a → HasNoWhole a.work.problem.tree → settings_name command ≡ Some name →
       IsLong told Settings name r ⊎ IsRefusedIn told name RefusesSettings r → IsRefusedRun words told r
+  long_certificate : (command : Command) (files : HasCertificate words told command) → IsLong told Certificate files.name r → IsRefusedRun words told r
 
--- a file of a command could not be had: its script, or, where that gives an accepted problem, its settings file
+-- a file of a command could not be had: its script, or, where that gives an accepted problem, its settings file, or, where that gives
+-- settings, its certificate
 pub data IsReadFault (words : List (List ℕ)) (told : Option Files) (risen : Type 0) : Type 0 where
   no_script : (command : Command) (name : List ℕ) → command_of words ≡ Some command → script_name command ≡ Some name → IsNotHad told risen name → IsReadFault words told risen
   no_settings : (command : Command) (a : Accepted) (name : List ℕ) → command_of words ≡ Some command → GivesProblem told command a → HasNoWhole a.work.problem.tree → settings_name command ≡ Some name → IsNotHad told risen name →
       IsReadFault words told risen
+  no_certificate : (command : Command) (files : HasCertificate words told command) → IsNotHad told risen files.name → IsReadFault words told risen
 
 -- Each run with its cause. `risen` says that the library's count of faults rose in this run; the counter of steps goes from `old` to
 -- `new`. Want of memory alone is free.
@@ -91,6 +210,9 @@ Causes words told risen old new run.Usage = (command_of words ≡ None) × (new 
 Causes words told risen old new (run.Refused r) = IsRefusedRun words told r × (new ≡ old)
 Causes words told risen old new (run.Checked c) = IsChecked words told c × (new ≡ old)
 Causes words told risen old new (run.Solved word sense outcomes) = IsSolvedRun words told old new (run.Solved word sense outcomes)
+Causes words told risen old new (run.Certificates text stopped) = AreBytesOf words told old new text stopped
+Causes words told risen old new (run.Certified n) = IsCertifiedRun words told n × (new ≡ old)
+Causes words told risen old new (run.CertRefused section fault) = IsCertRefusedRun words told section fault × (new ≡ old)
 Causes words told risen old new (run.Trial size outcomes) = IsSolvedRun words told old new (run.Trial size outcomes)
 Causes words told risen old new run.ReadFault = IsReadFault words told risen × (new ≡ old)
 Causes words told risen old new run.Memory = ⊤

@@ -1,5 +1,6 @@
--- A run refuses its files exactly where they are at fault, and goes on exactly where they are not.
-use Rattle.std.specs.Prelude.{◌≡◌, ◌↔◌, ⊤, ℕ, List, Option, Some, None}
+-- A run refuses its files exactly where they are at fault, and goes on exactly where they are not. What stands in a certificate is no
+-- fault of the file: the run tells whether it is accepted.
+use Rattle.std.specs.Prelude.{◌≡◌, ◌↔◌, ⊤, ℕ, ◌<◌, List, length, Option, Some, None}
 use Rattle.dcx_tokens.specs.declared.fault.ReadFault.{ReadFault}
 use Rattle.dcx_host.specs.Files.{Files}
 use Rattle.dcx_settings.specs.declared.settings.SettingItem.{SettingItem}
@@ -8,7 +9,9 @@ use Rattle.dcx_front.specs.OneAnswer.{IsAtFault, IsWithoutFault}
 use Rattle.dcx_report.specs.declared.run.Run.{Run}
 use Rattle.dcx_report.specs.declared.run.Run.TheVariants as run
 use Rattle.dcx_words.specs.Commands.{Command, command_of}
-use Rattle.dcx_top.specs.Commands.{IsScriptOf, settings_name}
+use Rattle.dcx_front.specs.declared.refusal.RefusalSource.TheVariants.{Certificate}
+use Rattle.dcx_top.specs.Commands.{IsScriptOf, settings_name, certificate_name}
+use Rattle.dcx_top.specs.Files.{most_bytes}
 use Rattle.dcx_top.specs.Whole.{IsWholeAt, HasNoWhole, IsSolving}
 use Rattle.dcx_top.specs.OneRun.{IsAnswered}
 
@@ -17,6 +20,9 @@ IsRefusal (run.Refused r) = ⊤
 IsRefusal run.Usage = ⊥
 IsRefusal (run.Checked c) = ⊥
 IsRefusal (run.Solved word sense outcomes) = ⊥
+IsRefusal (run.Certificates text stopped) = ⊥
+IsRefusal (run.Certified n) = ⊥
+IsRefusal (run.CertRefused section fault) = ⊥
 IsRefusal (run.Trial size outcomes) = ⊥
 IsRefusal run.ReadFault = ⊥
 IsRefusal run.Memory = ⊥
@@ -24,6 +30,9 @@ IsRefusal run.Memory = ⊥
 abbrev pub IsAcceptance : Run → Type 0
 IsAcceptance (run.Checked c) = ⊤
 IsAcceptance (run.Solved word sense outcomes) = ⊤
+IsAcceptance (run.Certificates text stopped) = ⊤
+IsAcceptance (run.Certified n) = ⊤
+IsAcceptance (run.CertRefused section fault) = ⊤
 IsAcceptance (run.Trial size outcomes) = ⊤
 IsAcceptance run.Usage = ⊥
 IsAcceptance (run.Refused r) = ⊥
@@ -32,9 +41,10 @@ IsAcceptance run.Memory = ⊥
 
 -- ---- the files of a command
 -- these files are told, and have these bytes
-pub record Has (files : Files) (command : Command) (script settings : List ℕ) : Type 0 where
+pub record Has (files : Files) (command : Command) (script settings certificate : List ℕ) : Type 0 where
   pub is_script : IsScriptOf (Some files) command script
   pub are_settings : (name : List ℕ) → settings_name command ≡ Some name → files name ≡ Some settings
+  pub is_certificate : (name : List ℕ) → certificate_name command ≡ Some name → files name ≡ Some certificate
 
 -- the settings file has a fault, where there is one
 pub record AreFaulty (command : Command) (settings : List ℕ) : Type 0 where
@@ -46,24 +56,33 @@ pub record AreFaulty (command : Command) (settings : List ℕ) : Type 0 where
 abbrev pub AreFaultless : Command → List ℕ → Type 0
 AreFaultless command settings = (name : List ℕ) → settings_name command ≡ Some name → (lines : List (List SettingItem)) × SpellSettings settings lines
 
--- the script is at fault, or its problem, which is to be solved, has a variable that is to be whole, or the settings file is at fault
-pub data AreAtFault (command : Command) (script settings : List ℕ) : Type 0 where
-  bad_script : IsAtFault script → AreAtFault command script settings
-  has_whole : (h : IsWithoutFault script) → IsSolving command → (i : ℕ) → IsWholeAt h.work.problem.tree i → AreAtFault command script settings
-  bad_settings : IsWithoutFault script → AreFaulty command settings → AreAtFault command script settings
+-- the certificate is too long, where there is one
+pub record IsLongCertificate (command : Command) (certificate : List ℕ) : Type 0 where
+  pub name : List ℕ
+  pub asked : certificate_name command ≡ Some name
+  pub long : most_bytes Certificate < length certificate
+
+-- the script is at fault, or its problem, which is to be solved, has a variable that is to be whole, or the settings file is at fault,
+-- or the certificate is too long
+pub data AreAtFault (command : Command) (script settings certificate : List ℕ) : Type 0 where
+  bad_script : IsAtFault script → AreAtFault command script settings certificate
+  has_whole : (h : IsWithoutFault script) → IsSolving command → (i : ℕ) → IsWholeAt h.work.problem.tree i → AreAtFault command script settings certificate
+  bad_settings : IsWithoutFault script → AreFaulty command settings → AreAtFault command script settings certificate
+  long_certificate : IsWithoutFault script → AreFaultless command settings → IsLongCertificate command certificate → AreAtFault command script settings certificate
 
 -- nothing is
-pub record AreWithoutFault (command : Command) (script settings : List ℕ) : Type 0 where
+pub record AreWithoutFault (command : Command) (script settings certificate : List ℕ) : Type 0 where
   pub no_script_fault : IsWithoutFault script
   pub no_whole : IsSolving command → HasNoWhole no_script_fault.work.problem.tree
   pub no_settings_fault : AreFaultless command settings
+  pub not_long : ¬ IsLongCertificate command certificate
 
 -- ---- of a run
-pub record IsVerdictOn (command : Command) (script settings : List ℕ) (r : Run) : Type 0 where
-  pub refused : IsRefusal r ↔ AreAtFault command script settings
-  pub accepted : IsAcceptance r ↔ AreWithoutFault command script settings
+pub record IsVerdictOn (command : Command) (script settings certificate : List ℕ) (r : Run) : Type 0 where
+  pub refused : IsRefusal r ↔ AreAtFault command script settings certificate
+  pub accepted : IsAcceptance r ↔ AreWithoutFault command script settings certificate
 
 -- where the run is answered and files are told
 abbrev pub IsRightVerdict : List (List ℕ) → Option Files → Run → Type 0
 IsRightVerdict words None r = ⊤
-IsRightVerdict words (Some files) r = IsAnswered r → (command : Command) (script settings : List ℕ) → command_of words ≡ Some command → Has files command script settings → IsVerdictOn command script settings r
+IsRightVerdict words (Some files) r = IsAnswered r → (command : Command) (script settings certificate : List ℕ) → command_of words ≡ Some command → Has files command script settings certificate → IsVerdictOn command script settings certificate r

@@ -19,9 +19,10 @@ ghost use Rattle.dcx_top.specs.OneRun.{IsOnlyRun};
 ghost use Rattle.dcx_top.specs.Verdicts.{IsRightVerdict};
 ghost use Rattle.dcx_top.specs.Ended.{Reports, outcomes_status as outcomes_status_of, status_of, is_stop, wants_memory};
 
+use crate::certifying::{certify, migrate};
 use crate::checking::check;
 use crate::ended::Ended;
-use crate::solving::{resolve, solve, trial};
+use crate::solving::{certificate_of, resolve, solve, trial};
 use crate::write::write_all;
 use dcx_answer::Stop;
 use dcx_host::{Library, Sink, SinkFault};
@@ -53,6 +54,21 @@ fn answer<L: Library, S: Ledger>(
             settings,
             limit,
         } => resolve(alloc, script, settings, limit, library, steps),
+        Form::Certificate {
+            script,
+            settings,
+            limit,
+        } => certificate_of(alloc, script, settings, limit, library, steps),
+        Form::Certify {
+            script,
+            settings,
+            certificate,
+        } => certify(alloc, script, settings, certificate, library),
+        Form::Migrate {
+            script,
+            settings,
+            certificate,
+        } => migrate(alloc, script, settings, certificate, library),
         Form::Trial { size, limit } => trial(alloc, size, limit, steps),
     }
 }
@@ -95,6 +111,10 @@ fn status(run: &Run) -> u8
         Run::Refused(_) => 1,
         Run::Checked(_) => 0,
         Run::Solved { outcomes, .. } => outcomes_status(outcomes.as_slice()),
+        Run::Certificates { stopped: true, .. } => 6,
+        Run::Certificates { stopped: false, .. } => 0,
+        Run::Certified { .. } => 0,
+        Run::CertRefused { .. } => 7,
         Run::Trial { outcomes, .. } => outcomes_status(outcomes.as_slice()),
         Run::ReadFault => 3,
         Run::Memory => 5,
@@ -103,8 +123,8 @@ fn status(run: &Run) -> u8
 
 /// All that the program does: it carries out the words and writes the report of the run to the sink.
 ///
-/// `words` are the words after the program's name. Files are fetched from `library`: the script first, and the settings file once the
-/// script gives an accepted problem. `steps` counts the nodes that are reduced. Want of memory is the one free answer: as
+/// `words` are the words after the program's name. Files are fetched from `library`: the script first, the settings file once the
+/// script gives an accepted problem, and the certificate once the settings are read. `steps` counts the nodes that are reduced. Want of memory is the one free answer: as
 /// `Run::Memory`, as the stop of an outcome, or in place of the report, and each has the status 5.
 pub fn run<L: Library, K: Sink, S: Ledger>(
     alloc: Global,

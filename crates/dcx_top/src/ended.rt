@@ -5,8 +5,8 @@ use dcx_report::Run;
 #[derive(Drop)]
 pub struct Ended {
     /// The exit status: 0 where all was answered, 1 where the script was refused, 2 where the words are no plain
-    /// form, 3 where the script could not be fetched, 4 where a write failed, 5 for want of memory, 6 where the
-    /// problem's solution stopped.
+    /// form, 3 where a file could not be fetched, 4 where a write failed, 5 for want of memory, 6 where a
+    /// setting stopped, 7 where a certificate was refused.
     pub status: u8,
     /// What the report tells.
     pub run: Run,

@@ -1,17 +1,27 @@
 //! What the files of a command give, or the run that ends where one isn't had or is refused.
-ghost use Rattle.std.specs.Prelude.{◌≡◌, ◌≤◌, IfErr};
+ghost use Rattle.std.specs.Prelude.{◌≡◌, ◌≤◌, length, IfOk, IfErr};
 ghost use Rattle.dcx_host.specs.Faults.{Rose};
-ghost use Rattle.dcx_top.specs.Files.{run_of, GivesBytes, EndsAt, ReadsScript, ReadsSettings};
+ghost use Rattle.dcx_top.specs.Files.{most_bytes as most_bytes_of, run_of, GivesBytes, EndsAt, ReadsScript, ReadsSettings, refused_at as refused_at_of, ReadsCertificate};
 
+use dcx_cert_text::read_cert;
 use dcx_front::{Accepted, FrontFault, Refusal, RefusalSource, accept, unread};
 use dcx_host::{FetchFault, Library};
 use dcx_report::Run;
+use dcx_sections::{CertFault, Sections};
 use dcx_settings::{Settings, parse_settings};
 use dcx_shape::Bytes;
+use dcx_tree::Problem;
 use std::alloc::Global;
 
-/// How many bytes a script has at most, and a settings file.
-const FILE_LIMIT: usize = 1_048_576;
+/// How many bytes a script has at most, a settings file, and a certificate.
+fn most_bytes(source: RefusalSource) -> usize
+    ensures { result ≡ most_bytes_of source }
+{
+    match source {
+        RefusalSource::Script | RefusalSource::Settings => 1_048_576,
+        RefusalSource::Certificate => 67_108_864,
+    }
+}
 
 /// The bytes of a file, or the run that ends where they aren't had or are too many.
 fn fetched<L: Library>(
@@ -21,11 +31,12 @@ fn fetched<L: Library>(
     library: &mut L,
 ) -> Result<Bytes, Run>
     ensures bytes { GivesBytes (L.told library.old) name.now result }
+    ensures few { IfOk result (λ bytes. length bytes ≤ most_bytes_of source) }
     ensures ends { IfErr result (EndsAt (L.told library.old) (Rose (L.faults library.old) (L.faults library.new)) source name.now (λ _ _. ⊥)) }
     ensures same { L.told library.new ≡ L.told library.old }
     ensures never_falls { L.faults library.old ≤ L.faults library.new }
 {
-    match library.fetch(alloc, name, FILE_LIMIT) {
+    match library.fetch(alloc, name, most_bytes(source)) {
         Ok(bytes) => Ok(bytes),
         Err(FetchFault::TooLong) => Err(Run::Refused(Refusal::too_long(source))),
         Err(FetchFault::Absent) => Err(Run::ReadFault),
@@ -75,5 +86,34 @@ pub(crate) fn read_settings<L: Library>(
     match parse_settings(alloc, bytes.as_slice()) {
         Ok(settings) => Ok(settings),
         Err(fault) => Err(ended(unread(RefusalSource::Settings, fault))),
+    }
+}
+
+/// The run of a certificate that is refused: at a section, or, where it can't be read, at none.
+pub(crate) fn refused_at(section: u32, fault: CertFault) -> Run
+    ensures { result ≡ refused_at_of section fault }
+{
+    match fault {
+        CertFault::Memory => Run::Memory,
+        fault => Run::CertRefused { section, fault },
+    }
+}
+
+/// The sections of a certificate in a file, for a problem at so many settings.
+pub(crate) fn read_certificate<L: Library>(
+    alloc: Global,
+    name: &str,
+    problem: &Problem,
+    count: u32,
+    library: &mut L,
+) -> Result<Sections, Run>
+    ensures reads { ReadsCertificate (L.told library.old) (Rose (L.faults library.old) (L.faults library.new)) name.now problem.now count result }
+    ensures same { L.told library.new ≡ L.told library.old }
+    ensures never_falls { L.faults library.old ≤ L.faults library.new }
+{
+    let bytes = fetched(alloc, RefusalSource::Certificate, name, library)?;
+    match read_cert(alloc, problem, count, bytes.as_slice()) {
+        Ok(sections) => Ok(sections),
+        Err(fault) => Err(refused_at(0, fault)),
     }
 }

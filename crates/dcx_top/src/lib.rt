@@ -1,8 +1,9 @@
 //! What the program does: it reads its words, fetches its files, checks or solves a problem, and writes a report and a status.
 //!
-//! One function a command: `checking`, `solving`; `files` has what reading a file gives, or the run that ends there.
+//! One function a command: `checking`, `solving`, `certifying`; `files` has what reading a file gives, or the run that ends there.
 #![tactic(auto)]
 
+mod certifying;
 mod checking;
 mod command;
 mod ended;

@@ -1,8 +1,9 @@
 use Rattle.std.proofs.Common.{refl}
 use Rattle.dcx_host.specs.Faults.{Rose}
 use Rattle.dcx_words.specs.Commands.{resolve}
+use Rattle.dcx_top.specs.Runs.{ResolvesAt}
 use Rattle.dcx_top.proofs.Rising.{rose_behind}
-use Rattle.dcx_top.proofs.Endings.{resolves_moved}
+use Rattle.dcx_top.proofs.Endings.{from_file_moved}
 use Rattle.dcx_top.proofs.Causes.{script_ends, resolved}
 use Rattle.dcx_top.proofs.solving.resolve.Goals as goal
 
@@ -13,8 +14,8 @@ returns-in-Ok-clause-causes g c = λ words form.
     let mid = g.L.Library.faults c.read_script.new.library in
     let new = g.L.Library.faults c.resolve_from.new.library in
     resolved words (g.L.Library.told c.args.library.now) (Rose old new) c.args.script.now c.args.settings.now bytes c.args.limit c.in-Ok.accepted c.args.steps.now c.resolve_from.new.steps c.resolve_from.result form there gives
-    (resolves_moved (g.L.Library.told c.read_script.new.library) (g.L.Library.told c.args.library.now) (Rose mid new) (Rose old new) c.in-Ok.accepted.work c.args.settings.now c.args.limit c.args.steps.now c.resolve_from.new.steps
-    c.resolve_from.result c.read_script.ensures.same (rose_behind old mid new c.read_script.ensures.never_falls) c.resolve_from.ensures.run)
+    (from_file_moved c.in-Ok.accepted.work c.args.settings.now (ResolvesAt c.in-Ok.accepted.work c.args.limit) c.args.steps.now c.resolve_from.new.steps c.resolve_from.result
+    (g.L.Library.told c.read_script.new.library) (g.L.Library.told c.args.library.now) (Rose mid new) (Rose old new) c.read_script.ensures.same (rose_behind old mid new c.read_script.ensures.never_falls) c.resolve_from.ensures.run)
 
 pub returns-in-Err-clause-causes : goal.returns-in-Err-clause-causes
 returns-in-Err-clause-causes g c = λ words form.

@@ -1,6 +1,7 @@
 use Rattle.std.proofs.Common.{refl, inr}
 use Rattle.dcx_settings.proofs.Full.{items_full_in}
-use Rattle.dcx_top.proofs.Endings.{lines_solved}
+use Rattle.dcx_top.specs.Runs.{ResolvesAt}
+use Rattle.dcx_top.proofs.Endings.{lines_done}
 use Rattle.dcx_top.proofs.solving.resolve_from.Goals as goal
 
 pub returns-in-Some-clause-run : goal.returns-in-Some-clause-run
@@ -12,4 +13,4 @@ solve_lines-requires-clause-full g c = let (bytes, there, spelled) = c.in-Ok.ens
 pub returns-in-Ok-clause-run : goal.returns-in-Ok-clause-run
 returns-in-Ok-clause-run g c =
     let (bytes, there, spelled) = c.in-Ok.ensures.reads in
-    lines_solved _ _ c.args.accepted.work c.args.settings.now bytes c.in-Ok.lines c.args.limit c.args.steps.now c.solve_lines.new.steps c.solve_lines.result c.in_default.ensures there spelled c.solve_lines.ensures
+    lines_done c.args.accepted.work c.args.settings.now (ResolvesAt c.args.accepted.work c.args.limit) c.args.steps.now c.solve_lines.new.steps c.solve_lines.result _ _ bytes c.in-Ok.lines c.in_default.ensures there spelled c.solve_lines.ensures
