@@ -32,8 +32,8 @@ use Rattle.dcx_top.proofs.OneSettings.{one_settings}
 
 same_flag : (s t : Bool) → (IsTrue s → IsTrue t) → (IsTrue t → IsTrue s) → s ≡ t
 same_flag true true f g = refl
-same_flag true false f g = absurd (f tt)
-same_flag false true f g = absurd (g tt)
+same_flag true false f g = sym (f refl)
+same_flag false true f g = g refl
 same_flag false false f g = refl
 
 -- ---- a problem and its settings
