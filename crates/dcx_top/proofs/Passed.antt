@@ -1,6 +1,6 @@
 -- Sections that pass their checks show their answers, also with the values of their settings.
 use Rattle.std.proofs.Common.{◌≡◌, ℕ, ◌<◌, List, length, get_or, Some, sym, ◌∙◌, subst, arith}
-use Rattle.std.specs.List.{slice_get, All}
+use Rattle.std.specs.List.{slice_get}
 use Rattle.std.proofs.lemmas.Option.{same_Some, slice_get-get_or, slice_get_within, get_or_from_slice_get}
 use Rattle.std.proofs.lemmas.List.Elements.{All-get_or}
 use Rattle.dcx_point.specs.Pairs.{Pairs}

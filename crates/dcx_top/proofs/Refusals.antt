@@ -25,7 +25,7 @@ use Rattle.dcx_front.proofs.OneCheck.{one_refusal}
 use Rattle.dcx_words.specs.Commands.{Command, check, solve, resolve, certificate, certify, migrate, trial, command_of}
 use Rattle.dcx_top.specs.Commands.{IsScriptOf, script_name, settings_name, certificate_name, AreOfFile, AreSettingsOf}
 use Rattle.dcx_top.specs.Files.{most_bytes, RefusesScript, RefusesSettings}
-use Rattle.dcx_top.specs.Runs.{GivesProblem, HasCertificate, IsRefusedRun, long_script, bad_script, for_whole, bad_settings, long_certificate}
+use Rattle.dcx_top.specs.Runs.{GivesProblem, IsRefusedRun, long_script, bad_script, for_whole, bad_settings, long_certificate}
 use Rattle.dcx_top.specs.Whole.{HasNoWhole, IsFirstWhole, IsRefusedForWhole, IsSolving}
 
 -- ---- answers of the front

@@ -1,5 +1,5 @@
 -- A run refuses its files exactly where they are at fault.
-use Rattle.std.proofs.Common.{◌≡◌, ℕ, ◌<◌, List, length, Option, Some, None, refl, sym, ap, subst, ◌∙◌, Ok, arith}
+use Rattle.std.proofs.Common.{◌≡◌, ℕ, ◌<◌, ◌≤◌, Bool, inl, inr, List, length, Option, Some, None, refl, sym, ap, subst, ◌∙◌, Ok, arith}
 use Rattle.std.proofs.lemmas.Option.{none-some, same_Some}
 use Rattle.dcx_tokens.proofs.OneReading.{one_reading}
 use Rattle.dcx_syntax.specs.declared.tree.Script.{Script}
@@ -20,11 +20,15 @@ use Rattle.dcx_front.proofs.OneAnswer.{one_work}
 use Rattle.dcx_front.proofs.OneVerdict.{apart, refused_for, acceptance}
 use Rattle.dcx_report.specs.declared.run.Run.{Run}
 use Rattle.dcx_report.specs.declared.run.Run.TheVariants as run
-use Rattle.dcx_words.specs.Commands.{Command, check, command_of}
-use Rattle.dcx_top.specs.Commands.{settings_name, AreSettingsOf}
+use Rattle.dcx_report.specs.declared.outcome.Outcome.{Outcome}
+use Rattle.dcx_tree.specs.declared.constraint.Sense.{Sense}
+use Rattle.dcx_point.specs.Pairs.{Pairs}
+use Rattle.dcx_sections.specs.declared.section.Sections.{Sections}
+use Rattle.dcx_words.specs.Commands.{Command, check, solve, resolve, certificate as certificate_command, certify, migrate, trial, command_of}
+use Rattle.dcx_top.specs.Commands.{settings_name, certificate_name, AreSettingsOf, TellsOutcomes}
 use Rattle.dcx_top.specs.Files.{most_bytes, RefusesScript}
 use Rattle.dcx_front.specs.declared.refusal.RefusalSource.TheVariants.{Certificate}
-use Rattle.dcx_top.specs.Runs.{GivesProblem, IsChecked, IsSolvedRun, Causes}
+use Rattle.dcx_top.specs.Runs.{GivesProblem, IsChecked, IsSolvedRun, IsCertificateRun, HasCertificate, ReadsSections, misread, failed, Causes}
 use Rattle.dcx_top.specs.Whole.{IsWholeAt, HasNoWhole, IsSolving}
 use Rattle.dcx_top.specs.OneRun.{IsAnswered}
 use Rattle.dcx_top.specs.Verdicts.{IsRefusal, IsAcceptance, Has, AreFaultless, AreAtFault, bad_script, has_whole, bad_settings, long_certificate, AreWithoutFault, IsVerdictOn, IsRightVerdict}
@@ -41,6 +45,16 @@ one_view bytes script other h k =
 abbrev without_fault : (bytes : List ℕ) (a : Accepted) → Gives bytes (Ok a) → IsWithoutFault bytes
 without_fault bytes a g = let h = acceptance bytes a g in
     record { script = h.script; spelled = h.spelled; work = a.work; stands_for = h.stands_for; accepted = h.judged.accepted }
+
+-- a command whose outcomes are told has no certificate
+told_without : (c : Command) (sense : Sense) (outcomes : List Outcome) (r : Run) → TellsOutcomes c sense outcomes r → certificate_name c ≡ None
+told_without (check script) sense outcomes r h = absurd h
+told_without (solve script limit) sense outcomes r h = refl
+told_without (resolve script settings limit) sense outcomes r h = refl
+told_without (certificate_command script settings limit) sense outcomes r h = absurd h
+told_without (certify script settings cert) sense outcomes r h = absurd h
+told_without (migrate script settings cert) sense outcomes r h = absurd h
+told_without (trial size limit) sense outcomes r h = refl
 
 module _ (files : Files) (command : Command) (script settings certificate : List ℕ) (has : Has files command script settings certificate) where
   no_faults : AreWithoutFault command script settings certificate → AreAtFault command script settings certificate → ⊥
@@ -74,13 +88,23 @@ module _ (files : Files) (command : Command) (script settings certificate : List
   accepts_so : (r : Run) → IsAcceptance r → (IsRefusal r → ⊥) → AreWithoutFault command script settings certificate → IsVerdictOn command script settings certificate r
   accepts_so r i n w = record { refused = (λ t. absurd (n t), λ q. absurd (no_faults w q)); accepted = (λ t. w, λ q. i) }
 
+  -- a command without a certificate has none that is too long
+  short_without : (c : Command) → c ≡ command → certificate_name c ≡ None → IsShort files command
+  short_without c same none name bytes is there = absurd (none-some name (sym (subst (λ d. certificate_name d ≡ None) same none) ∙ is))
+
   module _ (words : List (List ℕ)) (form : command_of words ≡ Some command) (risen : Type 0) (old new : ℕ) where
+    -- the problem is solved, or its certificate is checked
+    goes_on : (r : Run) → IsAcceptance r → (IsRefusal r → ⊥) → (c : Command) → c ≡ command → (a : Accepted) (list : List Pairs) → GivesProblem (Some files) c a → HasNoWhole a.work.problem.tree → AreSettingsOf (Some files) c a.work list →
+        IsShort files command → IsVerdictOn command script settings certificate r
+    goes_on r i n c same a list gives free asked short =
+        let g = subst (λ d. GivesProblem (Some files) d a) same gives in
+        let are = subst (λ d. AreSettingsOf (Some files) d a.work list) same asked in
+        accepts_so r i n (without a g (λ solving. free) (λ name is. spelled_by files command a.work list name settings are is (has.are_settings name is)) short)
+
     solved : (r : Run) → IsAcceptance r → (IsRefusal r → ⊥) → IsSolvedRun words (Some files) old new r → IsVerdictOn command script settings certificate r
     solved r i n h =
         let same = same_command words files command form h.command h.form in
-        let g = subst (λ c. GivesProblem (Some files) c h.accepted) same h.problem in
-        let asked = subst (λ c. AreSettingsOf (Some files) c h.accepted.work h.settings) same h.asked in
-        accepts_so r i n (without h.accepted g (λ solving. h.continuous) (λ name is. spelled_by files command h.accepted.work h.settings name settings asked is (has.are_settings name is)))
+        goes_on r i n h.command same h.accepted h.settings h.problem h.continuous h.asked (short_without h.command same (told_without h.command h.accepted.work.problem.sense h.outcomes r h.tells))
 
     checked : (c : Checked) → IsChecked words (Some files) c → IsVerdictOn command script settings certificate (run.Checked c)
     checked c h =
@@ -88,13 +112,38 @@ module _ (files : Files) (command : Command) (script settings certificate : List
         let g = subst (λ c. GivesProblem (Some files) c h.accepted) same h.problem in
         let none : settings_name command ≡ None = subst (λ c. settings_name c ≡ None) same refl in
         let only : IsSolving command → ⊥ = subst (λ c. IsSolving c → ⊥) same (λ t. t) in
-        accepts_so (run.Checked c) tt (λ t. t) (without h.accepted g (λ solving. absurd (only solving)) (λ name is. absurd (none-some name (sym none ∙ is))))
+        accepts_so (run.Checked c) tt (λ t. t) (without h.accepted g (λ solving. absurd (only solving)) (λ name is. absurd (none-some name (sym none ∙ is))) (short_without (check h.script) same refl))
+
+    certificate_written : (text : List ℕ) (stopped : Bool) → IsCertificateRun words (Some files) old new text stopped → IsVerdictOn command script settings certificate (run.Certificates text stopped)
+    certificate_written text stopped h =
+        let c = certificate_command h.script h.name h.limit in
+        let same = same_command words files command form c h.form in
+        goes_on (run.Certificates text stopped) tt (λ t. t) c same h.accepted h.settings h.problem h.continuous h.asked (short_without c same refl)
+
+    -- a certificate that is read isn't too long
+    certificate_read : (r : Run) → IsAcceptance r → (IsRefusal r → ⊥) → (c : Command) (f : HasCertificate words (Some files) c) (bytes : List ℕ) → files f.name ≡ Some bytes → length bytes ≤ most_bytes Certificate →
+        IsVerdictOn command script settings certificate r
+    certificate_read r i n c f bytes there few =
+        let same = same_command words files command form c f.form in
+        let named : certificate_name command ≡ Some f.name = subst (λ d. certificate_name d ≡ Some f.name) same f.named in
+        let short : IsShort files command = (λ name other is here.
+              let one = same_Some bytes other (sym there ∙ ap files (same_Some f.name name (sym named ∙ is)) ∙ here) in
+              subst (λ b. length b ≤ most_bytes Certificate) one few) in
+        goes_on r i n c same f.accepted f.settings f.problem f.continuous f.asked short
+
+    sections_read : (r : Run) → IsAcceptance r → (IsRefusal r → ⊥) → (c : Command) (sections : Sections) → ReadsSections words (Some files) c sections → IsVerdictOn command script settings certificate r
+    sections_read r i n c sections h = certificate_read r i n c h.files h.has.bytes h.has.are_told h.has.few
 
     verdict_on : (r : Run) → Causes words (Some files) risen old new r → IsAnswered r → IsVerdictOn command script settings certificate r
     verdict_on run.Usage h i = absurd (none-some command (sym h.0 ∙ form))
     verdict_on (run.Refused r) h i = refuses_so r (at_fault r (refuses words files command form r h.0))
     verdict_on (run.Checked c) h i = checked c h.0
     verdict_on (run.Solved w s os) h i = solved (run.Solved w s os) tt (λ t. t) h
+    verdict_on (run.Certificates text stopped) (inl h) i = certificate_written text stopped h
+    verdict_on (run.Certificates text stopped) (inr (h, off, same)) i = sections_read (run.Certificates text stopped) tt (λ t. t) (migrate h.script h.settings h.name) h.sections h.passed.reads
+    verdict_on (run.Certified n) (h, same) i = sections_read (run.Certified n) tt (λ t. t) (certify h.script h.settings h.name) h.sections h.passed.reads
+    verdict_on (run.CertRefused section fault) (misread c f h, same) i = certificate_read (run.CertRefused section fault) tt (λ t. t) c f h.bytes h.are_told h.few
+    verdict_on (run.CertRefused section fault) (failed c sections h first, same) i = sections_read (run.CertRefused section fault) tt (λ t. t) c sections h
     verdict_on (run.Trial n os) h i = solved (run.Trial n os) tt (λ t. t) h
     verdict_on run.ReadFault h i = absurd i
     verdict_on run.Memory h i = absurd i
