@@ -2,7 +2,6 @@
 use Rattle.std.proofs.Common.{◌≡◌, ◌↔◌, ℕ, IsTrue, Bool, true, false, List, length, count_by, Some, refl, sym, ap, subst, ◌∙◌}
 use Rattle.std.proofs.lemmas.Option.{same_Some}
 use Rattle.dcx_point.specs.Pairs.{Pairs}
-use Rattle.dcx_tree.specs.declared.problem.Problem.{Problem}
 use Rattle.dcx_host.specs.Files.{Files}
 use Rattle.dcx_front.specs.declared.accepted.Accepted.{Accepted}
 use Rattle.dcx_front.proofs.OneVerdict.{acceptance}
@@ -70,10 +69,16 @@ module _ (words : List (List ℕ)) (files : Files) where
       → IsTrue s ↔ StopsSomewhere a.work.problem (limit_of c) ss → IsTrue t ↔ StopsSomewhere b.work.problem (limit_of d) ts → bytes ≡ cert_text x → others ≡ cert_text y → (s ≡ t) × AreAlikeTexts files c bytes others
   written_by c d same a b ss ts x y s t bytes others g i asked also h k p q text other =
       let j = subst (λ e. GivesProblem (Some files) e b) same i in
-      let here = subst (λ e. AreSettingsOf (Some files) e b.work ts) same also in
-      (same_stops files c a b ss ts g j asked here s t p (subst (λ e. IsTrue t ↔ StopsSomewhere b.work.problem (limit_of e) ts) same q),
-      (x, y, text, other,
-      alike_over files c a b ss ts g j asked here x y (alike files c a b ss ts g j asked here x y h (subst (λ e. IsCertificateAt b.work.problem (limit_of e) ts y) same k))))
+      let here = subst (λ e. AreSettingsOf (Some files) e b.work ts) same also in (
+        same_stops files c a b ss ts g j asked here s t p (subst (λ e. IsTrue t ↔ StopsSomewhere b.work.problem (limit_of e) ts) same q),
+        (
+          x,
+          y,
+          text,
+          other,
+          alike_over files c a b ss ts g j asked here x y (alike files c a b ss ts g j asked here x y h (subst (λ e. IsCertificateAt b.work.problem (limit_of e) ts y) same k)),
+        ),
+      )
 
   pub written_once : (old new was now : ℕ) (bytes others : List ℕ) (s t : Bool) → IsCertificateRun words (Some files) old new bytes s → IsCertificateRun words (Some files) was now others t
       → AreOneRun words files (run.Certificates bytes s) (run.Certificates others t)

@@ -9,7 +9,7 @@ use Rattle.dcx_report.specs.declared.outcome.Outcome.{Outcome}
 use Rattle.dcx_report.specs.declared.run.Run.{Run}
 use Rattle.dcx_words.specs.Commands.{Command, check, solve, resolve, certificate, certify, migrate, trial, command_of}
 use Rattle.dcx_top.specs.Commands.{certificate_name, TellsOutcomes}
-use Rattle.dcx_top.specs.Runs.{IsChecked, IsSolvedRun, IsCertificateRun, HasCertificate, IsMigrateRun, IsCertifiedRun, IsCertRefusedRun, misread, failed}
+use Rattle.dcx_top.specs.Runs.{IsChecked, IsSolvedRun, IsCertificateRun, IsMigrateRun, IsCertifiedRun, IsCertRefusedRun, misread, failed}
 use Rattle.dcx_top.proofs.Refusals.{same_command}
 
 -- what a command does with its problem

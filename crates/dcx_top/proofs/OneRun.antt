@@ -1,5 +1,5 @@
 -- Words and told files have one run.
-use Rattle.std.proofs.Common.{◌≡◌, ◌⊎◌, inl, inr, ℕ, Bool, List, Option, Some, None, refl, sym, ap, subst, ◌∙◌}
+use Rattle.std.proofs.Common.{◌≡◌, inl, inr, ℕ, Bool, List, Option, Some, None, refl, sym, ap, subst, ◌∙◌}
 use Rattle.std.proofs.lemmas.Option.{none-some}
 use Rattle.dcx_host.specs.Faults.{Rose}
 use Rattle.dcx_host.specs.Files.{Files}
@@ -11,12 +11,37 @@ use Rattle.dcx_front.proofs.OneCheck.{one_found}
 use Rattle.dcx_sections.specs.declared.fault.CertFault.{CertFault}
 use Rattle.dcx_report.specs.declared.run.Run.{Run}
 use Rattle.dcx_report.specs.declared.run.Run.TheVariants as run
-use Rattle.dcx_words.specs.Commands.{Command, check, migrate, command_of}
+use Rattle.dcx_words.specs.Commands.{check, migrate, command_of}
 use Rattle.dcx_top.specs.Runs.{GivesProblem, IsChecked, IsSolvedRun, AreBytesOf, IsCertifiedRun, IsCertRefusedRun, IsRefusedRun, Causes}
 use Rattle.dcx_top.specs.OneRun.{IsAnswered, AreOneRun, IsOnlyRun}
 use Rattle.dcx_top.proofs.Refusals.{one_problem, same_command}
-use Rattle.dcx_top.proofs.OneKind.{Kind, checks, solves, writes, certifies, migrates, Asks, checks_solves, checks_writes, checks_certifies, checks_migrates, solves_writes, solves_certifies, solves_migrates, writes_certifies, writes_migrates, migrates_certifies,
-    same_kind, not_reading, ask_checks, ask_solves, ask_writes, ask_migrates, ask_certifies, ask_reading}
+use Rattle.dcx_top.proofs.OneKind.{
+  Kind,
+  checks,
+  solves,
+  writes,
+  certifies,
+  migrates,
+  Asks,
+  checks_solves,
+  checks_writes,
+  checks_certifies,
+  checks_migrates,
+  solves_writes,
+  solves_certifies,
+  solves_migrates,
+  writes_certifies,
+  writes_migrates,
+  migrates_certifies,
+  same_kind,
+  not_reading,
+  ask_checks,
+  ask_solves,
+  ask_writes,
+  ask_migrates,
+  ask_certifies,
+  ask_reading,
+}
 use Rattle.dcx_top.proofs.OneSolved.{solved_once}
 use Rattle.dcx_top.proofs.OneRefusal.{command_of_refused, refused_once, refused_or_checked, refused_or_solved, refused_or_written, refused_or_migrated, refused_or_certified, refused_or_cert_refused}
 use Rattle.dcx_top.proofs.OneCertificate.{written_once, migrated_once, certified_once, cert_refused_once, certified_or_refused, migrated_or_refused}
