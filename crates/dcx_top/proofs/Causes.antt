@@ -250,31 +250,37 @@ module _ (words : List (List ℕ)) (told : Option Files) (risen : Type 0) where
 
   pub certified : (script name file : List ℕ) (p : Problem) (settings : List Pairs) (sections : Sections) (list : List Section) (n certs : ℕ) → command_of words ≡ Some (certify script name file) →
       GivesSections told script name file p settings sections → list ≡ sections.list → ArePassed p settings list → certs ≡ count_by is_cert list → Causes words told risen n n (run.Certified certs)
-  certified script name file p settings sections list n certs form g same passed counted =
-      (record {
-        script = script;
-        settings = name;
-        name = file;
-        sections = sections;
-        passed = sections_pass words told risen (certify script name file) form script name file refl refl refl tt (λ b h. h) (λ w s h. h) p settings sections g (subst (ArePassed p settings) same passed);
-        count = counted ∙ ap (count_by is_cert) same;
-      }, refl)
+  certified script name file p settings sections list n certs form g same passed counted = (
+    record {
+      script = script;
+      settings = name;
+      name = file;
+      sections = sections;
+      passed = sections_pass words told risen (certify script name file) form script name file refl refl refl tt (λ b h. h) (λ w s h. h) p settings sections g (subst (ArePassed p settings) same passed);
+      count = counted ∙ ap (count_by is_cert) same;
+    },
+    refl,
+  )
 
   pub migrated_told : (script name file : List ℕ) (p : Problem) (settings : List Pairs) (sections : Sections) (list : List Section) (n : ℕ) (r : Run) → command_of words ≡ Some (migrate script name file) →
       GivesSections told script name file p settings sections → list ≡ sections.list → ArePassed p settings list →
       (r ≡ run.Memory) ⊎ ((after : Sections) × IsMigrated p settings sections after × (r ≡ run.Certificates (cert_text after) false)) → Causes words told risen n n r
   migrated_told script name file p settings sections list n r form g same passed (inl e) = subst (Causes words told risen n n) (sym e) tt
   migrated_told script name file p settings sections list n r form g same passed (inr (after, are, e)) =
-      subst (Causes words told risen n n) (sym e) (inr (record {
-        script = script;
-        settings = name;
-        name = file;
-        sections = sections;
-        passed = sections_pass words told risen (migrate script name file) form script name file refl refl refl tt (λ b h. h) (λ w s h. h) p settings sections g (subst (ArePassed p settings) same passed);
-        migrated = after;
-        are = subst (λ (q : Problem). IsMigrated q settings sections after) (sym g.is_of) are;
-        text = refl;
-      }, refl, refl))
+      subst (Causes words told risen n n) (sym e) (inr (
+        record {
+          script = script;
+          settings = name;
+          name = file;
+          sections = sections;
+          passed = sections_pass words told risen (migrate script name file) form script name file refl refl refl tt (λ b h. h) (λ w s h. h) p settings sections g (subst (ArePassed p settings) same passed);
+          migrated = after;
+          are = subst (λ (q : Problem). IsMigrated q settings sections after) (sym g.is_of) are;
+          text = refl;
+        },
+        refl,
+        refl,
+      ))
 
   pub tried : (size limit : ℕ) (a : Accepted) (old new : ℕ) (r : Run) → command_of words ≡ Some (trial size limit) → Gives (trial_text size) (Ok a) →
       OrWhole a.work.problem (TriesAt a.work size limit old new) old new r → Causes words told risen old new r
