@@ -9,7 +9,7 @@ use Rattle.dcx_sections.specs.declared.fault.CertFault.{CertFault}
 use Rattle.dcx_sections.specs.declared.fault.CertFault.TheVariants as faults
 use Rattle.dcx_sections.specs.declared.section.Sections.{Sections}
 use Rattle.dcx_sections.specs.Shown.{AreSectionsOf}
-use Rattle.dcx_cert_lines.specs.Forms.{IsTextOf, IsReadFault}
+use Rattle.dcx_cert_lines.specs.Forms.{IsReadFault}
 use Rattle.dcx_settings.specs.declared.settings.SettingItem.{SettingItem}
 use Rattle.dcx_settings.specs.File.{SpellSettings}
 use Rattle.dcx_overlay.specs.Settings.{AreLaidOver}
