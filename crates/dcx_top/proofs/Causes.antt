@@ -1,5 +1,5 @@
 -- What each command gives has its cause.
-use Rattle.std.proofs.Common.{◌≡◌, ◌↔◌, ◌∙◌, length, None, inl, inr, ℕ, List, Option, Some, Ok, Err, refl, sym, subst}
+use Rattle.std.proofs.Common.{◌≡◌, ◌↔◌, ◌⊎◌, ◌∙◌, ◌≤◌, ◌+◌, ◌*◌, length, count_by, None, inl, inr, ℕ, Bool, false, IsTrue, List, Option, Some, Ok, Err, refl, sym, ap, subst}
 use Rattle.std.proofs.lemmas.Option.{none-some}
 use Rattle.dcx_point.specs.Pairs.{Pairs}
 use Rattle.dcx_tree.specs.declared.constraint.Sense.{Sense}
@@ -7,7 +7,14 @@ use Rattle.dcx_tree.specs.declared.problem.Problem.{Problem}
 use Rattle.dcx_elab.specs.declared.work.Work.{Work}
 use Rattle.dcx_sections.specs.declared.fault.CertFault.{CertFault}
 use Rattle.dcx_sections.specs.declared.section.Sections.{Sections}
-use Rattle.dcx_certificates.specs.Checking.{ArePassed, IsFirstRefused}
+use Rattle.dcx_sections.specs.declared.fault.CertFault.TheVariants as faults
+use Rattle.dcx_sections.specs.declared.section.Section.{Section}
+use Rattle.dcx_cert_lines.specs.CertText.{cert_text}
+use Rattle.dcx_cache.specs.Programs.{HasMap}
+use Rattle.dcx_outcomes.specs.Outcomes.{Counts}
+use Rattle.dcx_certificates.specs.Sections.{StopsSomewhere, IsCertificateAt}
+use Rattle.dcx_certificates.specs.Checking.{is_cert, ArePassed, IsFirstRefused}
+use Rattle.dcx_certificates.specs.Migrating.{IsMigrated}
 use Rattle.dcx_host.specs.Files.{Files, IsTold}
 use Rattle.dcx_front.specs.declared.accepted.Accepted.{Accepted}
 use Rattle.dcx_front.specs.declared.checked.Checked.{Checked}
@@ -22,12 +29,13 @@ use Rattle.dcx_report.specs.declared.outcome.Outcome.{Outcome}
 use Rattle.dcx_report.specs.declared.run.Run.{Run}
 use Rattle.dcx_report.specs.declared.run.Run.TheVariants as run
 use Rattle.dcx_report.specs.declared.run.Word.TheVariants as word
-use Rattle.dcx_words.specs.Commands.{Command, check, solve, resolve, certificate, trial, command_of}
+use Rattle.dcx_words.specs.Commands.{Command, check, solve, resolve, certificate, certify, migrate, trial, command_of}
 use Rattle.dcx_trial.specs.Trial.{trial_text}
 use Rattle.dcx_top.specs.Commands.{IsScriptOf, script_name, settings_name, certificate_name, AreOfFile, AreSettingsOf, limit_of, TellsOutcomes}
-use Rattle.dcx_top.specs.Files.{run_of, RefusesScript, RefusesSettings, EndsAt, HasTextOf, ReadsCertificate}
+use Rattle.dcx_top.specs.Files.{run_of, RefusesScript, RefusesSettings, EndsAt, refused_at, HasTextOf, ReadsCertificate}
+use Rattle.dcx_top.proofs.Reading.{told_fault}
 use Rattle.dcx_top.specs.Whole.{HasNoWhole, IsRefusedForWhole, IsSolving}
-use Rattle.dcx_top.specs.Runs.{GivesProblem, OrWhole, SolvesAt, TriesAt, ResolvesFrom, CertifiesFrom, GivesSettings, GivesSections, EndsFiles, at_script, at_whole, at_settings, at_certificate, at_memory, HasCertificate, ReadsSections, HasPassed, misread, failed, long_script, bad_script, for_whole, bad_settings, long_certificate, no_script, no_settings, no_certificate, Causes}
+use Rattle.dcx_top.specs.Runs.{GivesProblem, OrWhole, SolvesAt, TriesAt, CertifiesAt, ResolvesFrom, CertifiesFrom, GivesSettings, GivesSections, EndsFiles, at_script, at_whole, at_settings, at_certificate, at_memory, HasCertificate, ReadsSections, HasPassed, misread, failed, long_script, bad_script, for_whole, bad_settings, long_certificate, no_script, no_settings, no_certificate, Causes}
 
 pub judged_of : (bytes : List ℕ) (a : Accepted) → Gives bytes (Ok a) → IsJudged a.work.problem a.verdict
 judged_of bytes a g = (acceptance bytes a g).judged
@@ -115,7 +123,7 @@ module _ (words : List (List ℕ)) (told : Option Files) (risen : Type 0) (comma
 module _ (words : List (List ℕ)) (told : Option Files) (risen : Type 0) (command : Command) (form : command_of words ≡ Some command) (script name file : List ℕ)
     (scripted : script_name command ≡ Some script) (set : settings_name command ≡ Some name) (named : certificate_name command ≡ Some file) (solving : IsSolving command)
     (of : (bytes : List ℕ) → IsTold told script bytes → IsScriptOf told command bytes) (asks : (work : Work) (settings : List Pairs) → AreOfFile told name work.last settings → AreSettingsOf told command work settings) where
-  has_certificate : (a : Accepted) (settings : List Pairs) → GivesSettings told script name a settings → HasCertificate words told command
+  abbrev has_certificate : (a : Accepted) (settings : List Pairs) → GivesSettings told script name a settings → HasCertificate words told command
   has_certificate a settings h = record {
     form = form;
     name = file;
@@ -149,7 +157,7 @@ module _ (words : List (List ℕ)) (told : Option Files) (risen : Type 0) (comma
   files_end n r (at_memory e) = subst (Causes words told risen n n) (sym e) tt
 
   -- the sections are read
-  pub reads_sections : (p : Problem) (settings : List Pairs) (sections : Sections) (g : GivesSections told script name file p settings sections) → ReadsSections words told command sections
+  abbrev pub reads_sections : (p : Problem) (settings : List Pairs) (sections : Sections) (g : GivesSections told script name file p settings sections) → ReadsSections words told command sections
   reads_sections p settings sections g = record {
     files = has_certificate g.accepted settings g.files;
     has = subst (λ (q : Problem). HasTextOf told file q settings sections) (sym g.is_of) g.has;
@@ -161,12 +169,36 @@ module _ (words : List (List ℕ)) (told : Option Files) (risen : Type 0) (comma
   section_fails p settings sections number n fault g h =
       (failed command sections (reads_sections p settings sections g) (subst (λ (q : Problem). IsFirstRefused q settings sections.list number fault) (sym g.is_of) h), refl)
 
+  section_tells : (p : Problem) (settings : List Pairs) (sections : Sections) (list : List Section) (number n : ℕ) (fault : CertFault) (r : Run) → GivesSections told script name file p settings sections → list ≡ sections.list →
+      IsFirstRefused p settings list number fault → r ≡ refused_at number fault → (refused_at number fault ≡ run.Memory) ⊎ (refused_at number fault ≡ run.CertRefused number fault) → Causes words told risen n n r
+  section_tells p settings sections list number n fault r g same h is (inl e) = subst (Causes words told risen n n) (sym (is ∙ e)) tt
+  section_tells p settings sections list number n fault r g same h is (inr e) =
+      subst (Causes words told risen n n) (sym (is ∙ e)) (section_fails p settings sections number n fault g (subst (λ xs. IsFirstRefused p settings xs number fault) same h))
+
+  -- it is told with its fault, or memory is wanting
+  pub section_told : (p : Problem) (settings : List Pairs) (sections : Sections) (list : List Section) (number n : ℕ) (fault : CertFault) (r : Run) → GivesSections told script name file p settings sections → list ≡ sections.list →
+      (fault ≡ faults.Memory) ⊎ IsFirstRefused p settings list number fault → r ≡ refused_at number fault → Causes words told risen n n r
+  section_told p settings sections list number n fault r g same (inl e) is = subst (Causes words told risen n n) (sym (is ∙ ap (refused_at number) e)) tt
+  section_told p settings sections list number n fault r g same (inr h) is = section_tells p settings sections list number n fault r g same h is (told_fault number fault)
+
   -- or all pass
-  pub sections_pass : (p : Problem) (settings : List Pairs) (sections : Sections) → GivesSections told script name file p settings sections → ArePassed p settings sections.list → HasPassed words told command sections
+  abbrev pub sections_pass : (p : Problem) (settings : List Pairs) (sections : Sections) → GivesSections told script name file p settings sections → ArePassed p settings sections.list → HasPassed words told command sections
   sections_pass p settings sections g h = record {
     reads = reads_sections p settings sections g;
     passed = subst (λ (q : Problem). ArePassed q settings sections.list) (sym g.is_of) h;
   }
+
+-- ---- a certificate that is written
+-- it is told, or memory is wanting
+told_at : (p : Problem) (limit : ℕ) (settings : List Pairs) (c : Sections) (stopped : Bool) (old new : ℕ) (r : Run) → IsCertificateAt p limit settings c → (IsTrue stopped ↔ StopsSomewhere p limit settings) → Counts p (length settings) old new →
+    (r ≡ run.Memory) ⊎ (r ≡ run.Certificates (cert_text c) stopped) → CertifiesAt p limit settings old new r
+told_at p limit settings c stopped old new r is flag steps (inl e) = inl e
+told_at p limit settings c stopped old new r is flag steps (inr e) = inr (c, stopped, is, flag, steps, e)
+
+pub certificate_at : (p : Problem) (limit : ℕ) (settings slice : List Pairs) (c : Sections) (stopped : Bool) (old new : ℕ) (r : Run) → slice ≡ settings → IsCertificateAt p limit slice c → (IsTrue stopped ↔ StopsSomewhere p limit slice) →
+    (HasMap p → new ≡ old + length p.tree) → new ≤ old + length p.tree + length slice * length p.tree → (r ≡ run.Memory) ⊎ (r ≡ run.Certificates (cert_text c) stopped) → CertifiesAt p limit settings old new r
+certificate_at p limit settings slice c stopped old new r same is flag mapped anew h =
+    subst (λ s. CertifiesAt p limit s old new r) same (told_at p limit slice c stopped old new r is flag (record { mapped = mapped; anew = anew }) h)
 
 -- ---- command by command
 module _ (words : List (List ℕ)) (told : Option Files) (risen : Type 0) where
@@ -215,6 +247,40 @@ module _ (words : List (List ℕ)) (told : Option Files) (risen : Type 0) where
       subst (λ n. Causes words told risen old n r) (sym same)
       (settings_end words told risen (certificate script name limit) form a (record { bytes = bytes; are_of = there; gives = gives }) continuous name old r refl h)
   certificate_told script name bytes limit a old new r form there gives (inr h) = whole_ends words told risen (certificate script name limit) form a (record { bytes = bytes; are_of = there; gives = gives }) old new r tt h
+
+  pub certified : (script name file : List ℕ) (p : Problem) (settings : List Pairs) (sections : Sections) (list : List Section) (n certs : ℕ) → command_of words ≡ Some (certify script name file) →
+      GivesSections told script name file p settings sections → list ≡ sections.list → ArePassed p settings list → certs ≡ count_by is_cert list → Causes words told risen n n (run.Certified certs)
+  certified script name file p settings sections list n certs form g same passed counted = (
+    record {
+      script = script;
+      settings = name;
+      name = file;
+      sections = sections;
+      passed = sections_pass words told risen (certify script name file) form script name file refl refl refl tt (λ b h. h) (λ w s h. h) p settings sections g (subst (ArePassed p settings) same passed);
+      count = counted ∙ ap (count_by is_cert) same;
+    },
+    refl,
+  )
+
+  pub migrated_told : (script name file : List ℕ) (p : Problem) (settings : List Pairs) (sections : Sections) (list : List Section) (n : ℕ) (r : Run) → command_of words ≡ Some (migrate script name file) →
+      GivesSections told script name file p settings sections → list ≡ sections.list → ArePassed p settings list →
+      (r ≡ run.Memory) ⊎ ((after : Sections) × IsMigrated p settings sections after × (r ≡ run.Certificates (cert_text after) false)) → Causes words told risen n n r
+  migrated_told script name file p settings sections list n r form g same passed (inl e) = subst (Causes words told risen n n) (sym e) tt
+  migrated_told script name file p settings sections list n r form g same passed (inr (after, are, e)) =
+      subst (Causes words told risen n n) (sym e) (inr (
+        record {
+          script = script;
+          settings = name;
+          name = file;
+          sections = sections;
+          passed = sections_pass words told risen (migrate script name file) form script name file refl refl refl tt (λ b h. h) (λ w s h. h) p settings sections g (subst (ArePassed p settings) same passed);
+          migrated = after;
+          are = subst (λ (q : Problem). IsMigrated q settings sections after) (sym g.is_of) are;
+          text = refl;
+        },
+        refl,
+        refl,
+      ))
 
   pub tried : (size limit : ℕ) (a : Accepted) (old new : ℕ) (r : Run) → command_of words ≡ Some (trial size limit) → Gives (trial_text size) (Ok a) →
       OrWhole a.work.problem (TriesAt a.work size limit old new) old new r → Causes words told risen old new r

@@ -69,7 +69,7 @@ settings_ending told risen name bytes slice fault f r same there reading tells i
 
 -- ---- a part of a run
 -- a count that rose in a part of a run rose in the run
-ends_rising : (told : Option Files) (risen rose : Type 0) (source : RefusalSource) (name : List ℕ) (Refuses : List ℕ → Refusal → Type 0) (r : Run) → (risen → rose) → EndsAt told risen source name Refuses r → EndsAt told rose source name Refuses r
+pub ends_rising : (told : Option Files) (risen rose : Type 0) (source : RefusalSource) (name : List ℕ) (Refuses : List ℕ → Refusal → Type 0) (r : Run) → (risen → rose) → EndsAt told risen source name Refuses r → EndsAt told rose source name Refuses r
 ends_rising told risen rose source name Refuses run.ReadFault more (inl lacks) = inl lacks
 ends_rising told risen rose source name Refuses run.ReadFault more (inr h) = inr (more h)
 ends_rising told risen rose source name Refuses (run.Refused r) more h = h

@@ -74,7 +74,6 @@ module _ (files : Files) (command : Command) (script settings certificate : List
   at_fault r (in_settings a name bytes g free is there h) =
       bad_settings (without_fault script a (accepted a g))
       (record { name = name; asked = is; fault = h.fault; refused = subst (λ b. IsRefused b h.fault) (same_Some bytes settings (sym there ∙ has.are_settings name is)) h.refused })
-
   at_fault r (in_length a others name bytes g free asked named there more long) =
       long_certificate (without_fault script a (accepted a g)) (λ name is. spelled_by files command a.work others name settings asked is (has.are_settings name is))
       (record { name = name; asked = named; long = subst (λ b. most_bytes Certificate < length b) (same_Some bytes certificate (sym there ∙ has.is_certificate name named)) more })

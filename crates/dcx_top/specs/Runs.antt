@@ -1,5 +1,5 @@
 -- Each run with its cause.
-use Rattle.std.specs.Prelude.{◌≡◌, ◌↔◌, ◌≤◌, IsTrue, Bool, false, ⊤, ℕ, ◌⊎◌, List, length, Option, Some, None, Ok, Err, count_by}
+use Rattle.std.specs.Prelude.{◌≡◌, ◌↔◌, IsTrue, Bool, false, ⊤, ℕ, ◌⊎◌, List, length, Option, Some, None, Ok, Err, count_by}
 use Rattle.dcx_point.specs.Pairs.{Pairs}
 use Rattle.dcx_tree.specs.declared.problem.Problem.{Problem}
 use Rattle.dcx_host.specs.Files.{Files, IsTold}
@@ -19,9 +19,7 @@ use Rattle.dcx_overlay.specs.Settings.{AreTrialSettings}
 use Rattle.dcx_outcomes.specs.Outcomes.{AreOutcomes, Counts}
 use Rattle.dcx_sections.specs.declared.fault.CertFault.{CertFault}
 use Rattle.dcx_sections.specs.declared.section.Sections.{Sections}
-use Rattle.dcx_outline.specs.Drawn.{problem_outline}
 use Rattle.dcx_cert_lines.specs.CertText.{cert_text}
-use Rattle.dcx_cert_lines.specs.Forms.{IsTextOf}
 use Rattle.dcx_certificates.specs.Sections.{StopsSomewhere, IsCertificateAt}
 use Rattle.dcx_certificates.specs.Checking.{is_cert, ArePassed, IsFirstRefused}
 use Rattle.dcx_certificates.specs.Migrating.{IsMigrated}
