@@ -126,8 +126,8 @@ module _ (files : Files) (command : Command) (script settings certificate : List
         let same = same_command words files command form c f.form in
         let named : certificate_name command ≡ Some f.name = subst (λ d. certificate_name d ≡ Some f.name) same f.named in
         let short : IsShort files command = (λ name other is here.
-              let one = same_Some bytes other (sym there ∙ ap files (same_Some f.name name (sym named ∙ is)) ∙ here) in
-              subst (λ b. length b ≤ most_bytes Certificate) one few) in
+        let one = same_Some bytes other (sym there ∙ ap files (same_Some f.name name (sym named ∙ is)) ∙ here) in
+        subst (λ b. length b ≤ most_bytes Certificate) one few) in
         goes_on r i n c same f.accepted f.settings f.problem f.continuous f.asked short
 
     sections_read : (r : Run) → IsAcceptance r → (IsRefusal r → ⊥) → (c : Command) (sections : Sections) → ReadsSections words (Some files) c sections → IsVerdictOn command script settings certificate r
