@@ -1,0 +1,190 @@
+-- Families are determined by the point and the unknowns, those of the first nodes by the first unknowns; and where their numbers stand.
+use Rattle.std.proofs.Common.{◌≡◌, ◌≢◌, ℕ, zero, suc, ◌+◌, ◌<◌, ◌≤◌, arith, Bool, true, false, nat_lt, if◌then◌else◌, List, [], ◌∷◌, map, length, get_or, All, refl, sym, ap, ap₂, ◌∙◌, subst, Option, Some, None, slice_get, pos}
+use Rattle.std.specs.Prelude.{option_map, unwrap_or}
+use native.Mathlib.Decide.{ℕ_discrete}
+use Rattle.std.proofs.Math.Path.{fun_ext}
+use Rattle.std.proofs.lemmas.Bool.{false≢true, le-ltb, ltb-true, ltb-false}
+use Rattle.std.proofs.lemmas.List.{length-map}
+use Rattle.std.proofs.lemmas.Option.{slice_get-map, slice_get-get_or, get_or_from_slice_get, slice_get_within}
+use Rattle.dcx_math.specs.Rational.{whole, ◌*ℚ◌}
+use Rattle.dcx_math.specs.Sums.{rat_sum_below}
+use Rattle.dcx_math.proofs.Sums.{rat_sum_below-same}
+use Rattle.dcx_frac.specs.declared.fraction.Frac.{Frac}
+use Rattle.dcx_shape.specs.declared.shape.Sides.{Sides}
+use Rattle.dcx_shape.specs.declared.shape.Sides.TheVariants.{Scalar}
+use Rattle.dcx_shape.specs.Shape.{sides_of}
+use Rattle.dcx_shape.specs.Sides.{entries_of}
+use Rattle.dcx_atom.specs.declared.array.Array.{Array}
+use Rattle.dcx_atom.specs.Arrays.{number_at}
+use Rattle.dcx_atom.specs.Rows.{Filling}
+use Rattle.dcx_affine.specs.declared.pairing.Pairing.TheVariants.{Times, MatTimes, Over}
+use Rattle.dcx_arena.specs.Nodes.{AreNodes, IsNode, sides_at}
+use Rattle.dcx_convex.specs.Nodes.{Numbers, Setting, Point, first_of, arguments, zeros, value_by, value_at}
+use Rattle.dcx_convex.specs.Pairs.{products_at, quotients_at}
+use Rattle.dcx_convex.proofs.Told.{map-same, value_tells}
+use Rattle.dcx_call.specs.declared.call.Call.{Call}
+use Rattle.dcx_call.specs.declared.call.Call.TheVariants as calls
+use Rattle.dcx_call.specs.Calls.{shape_of}
+use Rattle.dcx_call.specs.Atoms.{atom_meaning}
+use Rattle.dcx_call.specs.Linears.{linear_meaning}
+use Rattle.dcx_tree.specs.Nodes.{Names, Node, number_in, pairs_of, head_of, arg_sides, convex_node, convex_nodes}
+use Rattle.dcx_tree.specs.Values.{array_at}
+use Rattle.dcx_tree.proofs.Lawful.{tree_lawful}
+use Rattle.dcx_reduced.specs.Equations.{call_entry}
+use Rattle.dcx_collect.specs.Starts.{start_of, place_of}
+use Rattle.dcx_collect.proofs.Sharing.{past_end}
+use Rattle.dcx_collect.proofs.Flat.{dot, dot-sum, flat, flat-place, by_nodes}
+use Rattle.dcx_collect.proofs.Bound.{number_of}
+use Rattle.dcx_collect.proofs.Points.{own_is, some_item}
+use Rattle.dcx_certified.specs.Families.{IsFamily, call_rows, rows_if, rows_below}
+
+-- ---- unknowns that are changed at one node
+picked : {i k : ℕ} → Dec (i ≡ k) → Filling → Filling → Filling
+picked (yes e) u t = u
+picked (no d) u t = t
+
+pub changed : (ℕ → Filling) → ℕ → Filling → ℕ → Filling
+changed t k u i = picked (ℕ_discrete i k) u (t i)
+
+pub changed_itself : (t : ℕ → Filling) (k : ℕ) (u : Filling) → changed t k u k ≡ u
+unfolding changed picked
+changed_itself t k u = by (ℕ_discrete k k)
+  where
+    by : (d : Dec (k ≡ k)) → picked d u (t k) ≡ u
+    by (yes e) = refl
+    by (no d) = absurd (d refl)
+
+pub changed_other : (t : ℕ → Filling) (k : ℕ) (u : Filling) (i : ℕ) → i ≢ k → changed t k u i ≡ t i
+unfolding changed picked
+changed_other t k u i n = by (ℕ_discrete i k)
+  where
+    by : (d : Dec (i ≡ k)) → picked d u (t i) ≡ t i
+    by (yes e) = absurd (n e)
+    by (no d) = refl
+
+-- ---- what is there
+pub node_there : (nodes : List Node) (i : ℕ) → i < length nodes → (n : Node) × IsNode nodes i n
+node_there nodes i b = (get_or nodes i (some_item nodes i b), slice_get-get_or nodes i (some_item nodes i b) b)
+
+pub node_sides : (nodes : List Node) (i : ℕ) (n : Node) → IsNode nodes i n → sides_at nodes i ≡ n.sides
+node_sides nodes i n at = ap (λ (o : Option Node). unwrap_or (option_map (λ (k : Node). k.sides) o) Scalar) at
+
+-- ---- numbers below a size, and 0 from there on
+pub first_past : (n : ℕ) (g : Numbers) (j : ℕ) → n ≤ j → first_of n g j ≡ whole (pos 0)
+first_past n g j b = by (nat_lt j n) (le-ltb j n b)
+  where
+    by : (t : Bool) → t ≡ false → (if t then g j else whole (pos 0)) ≡ whole (pos 0)
+    by true e = absurd (false≢true (sym e))
+    by false e = refl
+
+number_past : (xs : List Frac) (j : ℕ) → length xs ≤ j → number_at xs j ≡ whole (pos 0)
+number_past [] j b = refl
+number_past (x ∷ xs) zero b = absurd (omega arith)
+number_past (x ∷ xs) (suc j) b = number_past xs j (omega arith)
+
+past_size : (names : Names) (s : Setting) (y : Point) (call : Call) (args : List Sides) (sides : Sides) (values : List Numbers) → shape_of call args ≡ Some sides → (j : ℕ) → entries_of sides ≤ j →
+    value_by s y (head_of names call args sides) values j ≡ whole (pos 0)
+past_size names s y (calls.Variable v) args sides values e j b = first_past (entries_of (sides_of v.shape)) (y (number_in names.variables v.name)) j (omega (arith, ap entries_of (own_is (sides_of v.shape) args sides e), b))
+past_size names s y (calls.Parameter q) args sides values e j b = first_past (entries_of (sides_of q.shape)) (s (number_in names.parameters q.name)) j (omega (arith, ap entries_of (own_is (sides_of q.shape) args sides e), b))
+past_size names s y (calls.Constant x) args sides values e j b = number_past x.entries j (omega (arith, x.full, ap entries_of (own_is (sides_of x.shape) args sides e), b))
+past_size names s y (calls.Atom m) args sides values e j b = first_past (entries_of sides) ((atom_meaning m).value args (arguments values)) j b
+past_size names s y (calls.Linear l) args sides values e j b = first_past (entries_of sides) ((linear_meaning l).value args (arguments values)) j b
+past_size names s y (calls.Pairing Times) args sides values e j b = first_past (entries_of sides) (λ k. products_at (pairs_of Times args k) (arguments values)) j b
+past_size names s y (calls.Pairing MatTimes) args sides values e j b = first_past (entries_of sides) (λ k. products_at (pairs_of MatTimes args k) (arguments values)) j b
+past_size names s y (calls.Pairing Over) args sides values e j b = first_past (entries_of sides) (λ k. quotients_at (pairs_of Over args k) (arguments values)) j b
+
+-- ---- where numbers stand
+some_there : {A : Type 0} (xs : List A) (k : ℕ) (d : A) → k < length xs → slice_get xs k ≡ None → ⊥
+some_there xs k d b h = let g = sym h ∙ slice_get-get_or xs k d b in cc
+
+among : (n : ℕ) (xs : List ℕ) (j a : ℕ) → All (λ i. i < n) xs → slice_get xs j ≡ Some a → a < n
+among n xs j a all h = subst (λ i. i < n) (get_or_from_slice_get xs j a 0 h) (all j 0 (slice_get_within xs j a h))
+
+none_past : (f : ℕ → Numbers) (xs : List ℕ) (j : ℕ) → slice_get xs j ≡ None → length (map f xs) ≤ j
+none_past f xs j h = by (nat_lt j (length xs)) refl
+  where
+    by : (t : Bool) → nat_lt j (length xs) ≡ t → length (map f xs) ≤ j
+    by true c = absurd (some_there xs j 0 (ltb-true j _ c) h)
+    by false c = omega (arith, length-map xs f, ltb-false j _ c)
+
+-- arrays that are 0 past the ends of their nodes
+abbrev pub End : List Node → (ℕ → Numbers) → Type 0
+End nodes f = (i e : ℕ) → i < length nodes → entries_of (sides_at nodes i) ≤ e → f i e ≡ whole (pos 0)
+
+-- what stands at the place of an argument's entry is its number
+pub argument_place : (nodes : List Node) (f : ℕ → Numbers) → End nodes f → (args : List ℕ) → All (λ a. a < length nodes) args → (k e : ℕ) →
+    number_of (flat nodes f) (place_of nodes (slice_get args k) e) ≡ arguments (map f args) k e
+argument_place nodes f ends args there k e = by (slice_get args k) refl
+  where
+    in_place : (a : ℕ) → a < length nodes → number_of (flat nodes f) (place_of nodes (Some a) e) ≡ f a e
+    in_place a b = inner (nat_lt e (entries_of (sides_at nodes a))) refl
+      where
+        inner : (t : Bool) → nat_lt e (entries_of (sides_at nodes a)) ≡ t → number_of (flat nodes f) (if t then Some (start_of nodes a + e) else None) ≡ f a e
+        inner true h = flat-place nodes f a e b (ltb-true e _ h)
+        inner false h = sym (ends a e b (ltb-false e _ h))
+
+    by : (o : Option ℕ) → slice_get args k ≡ o → number_of (flat nodes f) (place_of nodes o e) ≡ arguments (map f args) k e
+    by None h = ap (λ (v : Numbers). v e) (sym (past_end (map f args) k zeros (none_past f args k h)))
+    by (Some a) h =
+        in_place a (among (length nodes) args k a there h)
+        ∙ ap (λ (v : Numbers). v e) (sym (get_or_from_slice_get (map f args) k (f a) zeros (slice_get-map f args k ∙ ap (option_map f) h)))
+
+-- coefficients of the first nodes alone
+pub first_dots : (nodes : List Node) (i : ℕ) → i ≤ length nodes → (t : List Frac) → length t ≡ start_of nodes i → (f g : ℕ → Numbers) → ((k : ℕ) → k < i → f k ≡ g k) → dot t (flat nodes f) ≡ dot t (flat nodes g)
+first_dots nodes i b t count f g same = sums f ∙ rat_sum_below-same i _ _ (λ k l. ap (λ (v : Numbers). rat_sum_below (entries_of (sides_at nodes k)) (λ e. number_at t (start_of nodes k + e) *ℚ v e)) (same k l)) ∙ sym (sums g)
+  where
+    sums : (f : ℕ → Numbers) → dot t (flat nodes f) ≡ rat_sum_below i (λ k. rat_sum_below (entries_of (sides_at nodes k)) (λ e. number_at t (start_of nodes k + e) *ℚ f k e))
+    sums f =
+        dot-sum t (flat nodes f) ∙ ap (λ n. rat_sum_below n (λ q. number_at t q *ℚ flat nodes f q)) count
+        ∙ by_nodes nodes (λ q. number_at t q *ℚ flat nodes f q) i b
+        ∙ rat_sum_below-same i _ _ (λ k l. rat_sum_below-same (entries_of (sides_at nodes k)) _ _ (λ e c. ap (λ z. number_at t (start_of nodes k + e) *ℚ z) (flat-place nodes f k e (omega (arith, l, b)) c)))
+
+module _ (names : Names) (nodes : List Node) (are : AreNodes shape_of nodes) (s : Setting) (values : List (Option Array)) where
+  -- a family is 0 past the ends
+  node_ends : (x : Point) (t : ℕ → Filling) (g : ℕ → Numbers) → IsFamily names nodes s values x t g → (i e : ℕ) → i < length nodes → (n : Node) → IsNode nodes i n → entries_of n.sides ≤ e → g i e ≡ whole (pos 0)
+  node_ends x t g family i e b n at beyond = by (array_at values i) refl
+    where
+      told : value_at (convex_nodes names nodes) s x i ≡ value_by s x (head_of names n.call (arg_sides nodes n) n.sides) (map (value_at (convex_nodes names nodes) s x) n.args)
+      told =
+          value_tells (convex_nodes names nodes) (tree_lawful names nodes are).ordered s x i (convex_node names nodes n)
+          (slice_get-map (convex_node names nodes) nodes i ∙ ap (option_map (convex_node names nodes)) at)
+
+      by : (o : Option Array) → array_at values i ≡ o → g i e ≡ whole (pos 0)
+      by (Some y) h =
+          family.known i b y h e ∙ ap (λ (v : Numbers). v e) told
+          ∙ past_size names s x n.call (arg_sides nodes n) n.sides (map (value_at (convex_nodes names nodes) s x) n.args) (are.shaped i n at) e beyond
+      by None h = family.others i n at h e ∙ first_past (entries_of n.sides) (call_entry names s x n.call (arg_sides nodes n) (arguments (map g n.args)) (t i)) e beyond
+
+  pub ends : (x : Point) (t : ℕ → Filling) (g : ℕ → Numbers) → IsFamily names nodes s values x t g → End nodes g
+  ends x t g family i e b past = let (n, at) = node_there nodes i b in node_ends x t g family i e b n at (subst (λ r. entries_of r ≤ e) (node_sides nodes i n at) past)
+
+  module _ (x : Point) (t u : ℕ → Filling) (g h : ℕ → Numbers) (G : IsFamily names nodes s values x t g) (H : IsFamily names nodes s values x u h) where
+    node_same : (i : ℕ) → i < length nodes → t i ≡ u i → ((a : ℕ) → a < i → g a ≡ h a) → g i ≡ h i
+    node_same i b same earlier = fun_ext (λ j. by (array_at values i) refl j)
+      where
+        by : (o : Option Array) → array_at values i ≡ o → (j : ℕ) → g i j ≡ h i j
+        by (Some y) e j = G.known i b y e j ∙ sym (H.known i b y e j)
+        by None e j =
+            let (n, at) = node_there nodes i b in
+            G.others i n at e j
+            ∙ ap₂ (λ (fs : List Numbers) (v : Filling). first_of (entries_of n.sides) (call_entry names s x n.call (arg_sides nodes n) (arguments fs) v) j)
+            (map-same (λ a. a < i) g h earlier n.args (are.earlier i n at)) same
+            ∙ sym (H.others i n at e j)
+
+    -- families at the same point and the same first unknowns have the same first arrays
+    pub first_same : (b : ℕ) → b ≤ length nodes → ((i : ℕ) → i < b → t i ≡ u i) → (i : ℕ) → i < b → g i ≡ h i
+    first_same zero within same i l = absurd (omega arith)
+    first_same (suc b) within same i l =
+        node_same i (omega (arith, l, within)) (same i l) (λ a k. first_same b (omega (arith, within)) (λ c m. same c (omega (arith, m))) a (omega (arith, k, l)))
+
+-- rows of the first nodes are the same where their arrays and unknowns are
+pub first_rows : (nodes : List Node) (are : AreNodes shape_of nodes) (values : List (Option Array)) (weights : ℕ → List Frac) (b : ℕ) → b ≤ length nodes → (g h : ℕ → Numbers) (t u : ℕ → Filling) →
+    ((i : ℕ) → i < b → g i ≡ h i) → ((i : ℕ) → i < b → t i ≡ u i) → rows_below nodes values weights b g t ≡ rows_below nodes values weights b h u
+first_rows nodes are values weights b within g h t u arrays unknowns = rat_sum_below-same b _ _ (λ i l. by i l (array_at values i) (slice_get nodes i) refl)
+  where
+    by : (i : ℕ) → i < b → (a : Option Array) (o : Option Node) → slice_get nodes i ≡ o → rows_if nodes a o (weights i) g (t i) ≡ rows_if nodes a o (weights i) h (u i)
+    by i l (Some y) o e = refl
+    by i l None None e = refl
+    by i l None (Some n) e =
+        ap₂ (λ (fs : List Numbers) (v : Filling). call_rows n.call (arg_sides nodes n) (entries_of n.sides) (weights i) (arguments fs) v)
+        (map-same (λ a. a < i) g h (λ a k. arrays a (omega (arith, k, l))) n.args (are.earlier i n e)) (unknowns i l)

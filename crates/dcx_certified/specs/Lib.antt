@@ -1,0 +1,6 @@
+-- What the laws of this crate cite.
+pub mod Demanded
+pub mod Families
+pub mod Bounded
+pub mod Rows
+pub mod Laws

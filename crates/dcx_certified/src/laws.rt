@@ -1,0 +1,20 @@
+//! The laws above the definitions of `specs/`. There is no code: each clause is a statement about all problems.
+ghost use Rattle.dcx_certified.specs.Laws.{AtomsHaveDualGraphs, BoundsFailWide, FormsBoundPrograms};
+
+/// Of each nonlinear call the slopes are those of the weighted rows of its graph; weights that let no unknown lower coefficients times
+/// results meet the conditions of slopes, and these are fractions of 128 bits where no step stops.
+pub fn atoms_have_dual_graphs()
+    ensures { AtomsHaveDualGraphs }
+{}
+
+/// Where multipliers and weights bound the program of an accepted problem at a setting that fits, the bound checks pass, or an operation
+/// passes 128 bits.
+pub fn bounds_fail_wide()
+    ensures { BoundsFailWide }
+{}
+
+/// Where a program's forms meet the equations of the nodes, and the multipliers of its rows are the weights, what bounds the program at
+/// all unknowns of their kinds bounds it at all points and unknowns of the graphs.
+pub fn forms_bound_programs()
+    ensures { FormsBoundPrograms }
+{}
