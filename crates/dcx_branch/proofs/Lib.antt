@@ -1,0 +1,4 @@
+-- The lemmas.
+pub mod Lifting
+pub mod Entries
+pub mod Leaves

@@ -1,0 +1,3 @@
+-- The lemmas.
+pub mod Boxes
+pub mod Trees
