@@ -23,6 +23,7 @@ use Rattle.dcx_convex.specs.Pairs.{products_at, quotients_at}
 use Rattle.dcx_affine.specs.declared.pairing.Pairing.TheVariants.{Times, MatTimes, Over}
 use Rattle.dcx_tree.specs.Nodes.{Names, Node, number_in, pairs_of, head_of, arg_sides, convex_node, convex_nodes}
 use Rattle.dcx_tree.proofs.Lawful.{tree_lawful}
+use Rattle.dcx_tree.proofs.NodeValues.{number_past}
 use Rattle.dcx_collect.specs.Starts.{start_of, place_of}
 use Rattle.dcx_collect.proofs.Starting.{start_next}
 use Rattle.dcx_collect.proofs.Sharing.{past_end}
@@ -37,24 +38,19 @@ first_in n g j b = by (nat_lt j n) (lt-ltb j n b)
     by true e = refl
     by false e = absurd (false≢true e)
 
-first_past : (n : ℕ) (g : Numbers) (j : ℕ) → n ≤ j → first_of n g j ≡ whole (pos 0)
+pub first_past : (n : ℕ) (g : Numbers) (j : ℕ) → n ≤ j → first_of n g j ≡ whole (pos 0)
 first_past n g j b = by (nat_lt j n) (le-ltb j n b)
   where
     by : (t : Bool) → t ≡ false → (if t then g j else whole (pos 0)) ≡ whole (pos 0)
     by true e = absurd (false≢true (sym e))
     by false e = refl
 
-number_past : (xs : List Frac) (j : ℕ) → length xs ≤ j → number_at xs j ≡ whole (pos 0)
-number_past [] j b = refl
-number_past (x ∷ xs) zero b = absurd (omega arith)
-number_past (x ∷ xs) (suc j) b = number_past xs j (omega arith)
-
 pub own_is : (own : Sides) (args : List Sides) (sides : Sides) → own_sides own args ≡ Some sides → own ≡ sides
 own_is own [] sides e = same_Some own sides e
 own_is own (a ∷ rest) sides e = cc
 
 -- the value of a call is 0 from its size on
-past_size : (names : Names) (s : Setting) (y : Point) (call : Call) (args : List Sides) (sides : Sides) (values : List Numbers) → shape_of call args ≡ Some sides → (j : ℕ) → entries_of sides ≤ j →
+pub past_size : (names : Names) (s : Setting) (y : Point) (call : Call) (args : List Sides) (sides : Sides) (values : List Numbers) → shape_of call args ≡ Some sides → (j : ℕ) → entries_of sides ≤ j →
     value_by s y (head_of names call args sides) values j ≡ whole (pos 0)
 past_size names s y (calls.Variable v) args sides values e j b = first_past (entries_of (sides_of v.shape)) (y (number_in names.variables v.name)) j (omega (arith, ap entries_of (own_is (sides_of v.shape) args sides e), b))
 past_size names s y (calls.Parameter q) args sides values e j b = first_past (entries_of (sides_of q.shape)) (s (number_in names.parameters q.name)) j (omega (arith, ap entries_of (own_is (sides_of q.shape) args sides e), b))

@@ -41,7 +41,7 @@ rows_nonpositive [] w u h k = ≤ℚ_refl _
 rows_nonpositive (row ∷ rows) w u h k = +ℚ-nonpositive (*ℚ-nonpositive (h 0) (k 0 row refl)) (rows_nonpositive rows (λ n. w (suc n)) u (λ n. h (suc n)) (λ n. k (suc n)))
 
 -- constraints weighed by gaps that are the same
-weighed_same : (f g : Constraint → ℕ → ℚ) (constraints : List Constraint) (m : Multipliers) → ((k : ℕ) (c : Constraint) → slice_get constraints k ≡ Some c → (j : ℕ) → f c j ≡ g c j) →
+pub weighed_same : (f g : Constraint → ℕ → ℚ) (constraints : List Constraint) (m : Multipliers) → ((k : ℕ) (c : Constraint) → slice_get constraints k ≡ Some c → (j : ℕ) → f c j ≡ g c j) →
     weighed f constraints m ≡ weighed g constraints m
 weighed_same f g [] m h = refl
 weighed_same f g (c ∷ constraints) m h =
@@ -78,12 +78,12 @@ module _ (rules : Rules) (p : Problem) (law : AreLawful p.nodes) (formed : IsWel
       }
 
   -- the penalty of the lifted point is that of the point
-  lifted_penalty : (y : Point) (m : Multipliers) (u : Unknowns) → IsLifted r p s y u → penalty_of p m (r.forms u) ≡ penalty p s y m
+  pub lifted_penalty : (y : Point) (m : Multipliers) (u : Unknowns) → IsLifted r p s y u → penalty_of p m (r.forms u) ≡ penalty p s y m
   lifted_penalty y m u h =
       weighed_same (gap_of (r.forms u)) (gap_at p s y) p.constraints m
       (λ k c e j. ap₂ ◌-ℚ◌ (ap (λ f. f j) (h.same c.left (formed.sides k c e).0)) (ap (λ f. f j) (h.same c.right (formed.sides k c e).1)))
 
-  lifted_objective : (y : Point) (u : Unknowns) → IsLifted r p s y u → objective_of p (r.forms u) ≡ objective_at p s y
+  pub lifted_objective : (y : Point) (u : Unknowns) → IsLifted r p s y u → objective_of p (r.forms u) ≡ objective_at p s y
   lifted_objective y u h = ap (λ f. minimized p.sense (f 0)) (h.same p.objective formed.objective)
 
   optimal_bound : (v : ℚ) (u : Unknowns) (m : Multipliers) (w : ℕ → ℚ) → IsRightOptimal p r v u m w → (y : Point) → IsInDomain p.nodes y → v ≤ℚ lagrangian p s y m

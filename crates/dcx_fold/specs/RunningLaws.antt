@@ -110,7 +110,7 @@ slope_of_entry : (j : ℕ) (w : ℕ → ℚ) (a : Entries) → w 0 *ℚ a 0 j �
 slope_of_entry zero w a = first_slope (w 0) (a 0 0)
 slope_of_entry (suc j) w a = next_slope (w 0) (w 1) (a 0 (suc j))
 
-row_slopes : AreRowSlopes running_meaning
+pub row_slopes : AreRowSlopes running_meaning
 row_slopes [] sides is w a = cc
 row_slopes (Scalar ∷ []) sides is w a = cc
 row_slopes (Vector n ∷ []) sides is w a =
@@ -122,10 +122,10 @@ row_slopes (s ∷ r ∷ rs) sides is w a = cc
 
 -- ---- what weights balance
 -- the weight that is carried on from entry j
-carry : ℕ → (ℕ → ℕ → ℚ) → ℕ → ℚ
+pub carry : ℕ → (ℕ → ℕ → ℚ) → ℕ → ℚ
 carry n w j = rat_sum (next_weights n w j)
 
-carry_on : (n j : ℕ) (w : ℕ → ℕ → ℚ) → suc j < n → carry n w j ≡ w (suc j) 1
+pub carry_on : (n j : ℕ) (w : ℕ → ℕ → ℚ) → suc j < n → carry n w j ≡ w (suc j) 1
 unfolding carry
 carry_on n j w h = by (nat_lt (suc j) n) (lt-ltb (suc j) n h)
   where
@@ -133,7 +133,7 @@ carry_on n j w h = by (nat_lt (suc j) n) (lt-ltb (suc j) n h)
     by true e = +ℚ_idr (w (suc j) 1)
     by false e = cc
 
-carry_none : (j : ℕ) (w : ℕ → ℕ → ℚ) → carry (suc j) w j ≡ whole (pos 0)
+pub carry_none : (j : ℕ) (w : ℕ → ℕ → ℚ) → carry (suc j) w j ≡ whole (pos 0)
 unfolding carry
 carry_none j w = by (nat_lt (suc j) (suc j)) refl
   where
@@ -142,7 +142,7 @@ carry_none j w = by (nat_lt (suc j) (suc j)) refl
     by false e = refl
 
 -- coefficient times result with the weighted rows, of the unknowns alone
-left_of : (c : ℕ → ℚ) (w : ℕ → ℕ → ℚ) (t : Filling) (j : ℕ) → ℚ
+pub left_of : (c : ℕ → ℚ) (w : ℕ → ℕ → ℚ) (t : Filling) (j : ℕ) → ℚ
 left_of c w t j = c j *ℚ form_at (unknown_form j) t +ℚ weighted (running_rows j) (w j) no_entries t
 
 first_left : (c w v t : ℚ) → w +ℚ whole (pos 0) ≡ c +ℚ v →

@@ -17,7 +17,7 @@ use Rattle.dcx_mapping.proofs.LawsHold as program
 use Rattle.dcx_graph.specs.Backward.{AnswersCarryOver}
 
 -- a problem is well formed in the terms of disciplined convex programming
-well_formed : (p : Problem) → IsWellFormed (convex_problem p)
+pub well_formed : (p : Problem) → IsWellFormed (convex_problem p)
 well_formed p = record {
   ordered = (tree_lawful (names_in p) p.tree p.nodes).ordered;
   objective = inside p.objective.0 p.objective_kept.there;

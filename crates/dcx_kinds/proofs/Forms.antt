@@ -1,6 +1,6 @@
 -- What the form of a list tells of what it is where an expression is wanted.
-use Rattle.std.specs.Prelude.{◌≡◌, ◌≢◌, ◌<◌, ◌≤◌, ◌||◌, ℕ, nat_eq, Bool, true, false, if◌then◌else◌, List, [], ◌∷◌, map, length, Option, Some, None, option_map, IsSome}
-use Rattle.std.specs.List.{list_all}
+use Rattle.std.specs.Prelude.{◌≡◌, ◌≢◌, ◌<◌, ◌≤◌, ℕ, nat_eq, Bool, true, false, if◌then◌else◌, List, [], ◌∷◌, map, length, Option, Some, None, option_map, IsSome}
+use Rattle.std.specs.List.{list_all, list_any}
 use Rattle.std.proofs.Common.{refl, sym, ap, ◌∙◌, arith}
 use Rattle.std.proofs.lemmas.Bool.{false≢true}
 use Rattle.dcx_shape.specs.declared.shape.Sides.TheVariants.{Vector}
@@ -43,7 +43,7 @@ not_none v vs = grind (arith, some_entries v vs)
 
 pub is_fit-form : (vs : List Value) → length vs ≤ 20000 → is_fit_form (form_of vs) ≡ is_fit (list_reading vs)
 is_fit-form [] few = refl
-is_fit-form (v ∷ vs) few = rw (not_none v vs) (by (list_all is_number (v ∷ vs)) (list_all (λ u. is_number u || is_list u) (v ∷ vs)))
+is_fit-form (v ∷ vs) few = rw (not_none v vs) (by (list_all is_number (v ∷ vs)) (list_any is_list (v ∷ vs)))
   where
     by : (b d : Bool) → is_fit_form (if b then forms.Numbers else (if d then forms.Nested else forms.Unfit)) ≡ is_fit (if b then or_unfit (vector_of (v ∷ vs)) else (if d then nested else unfit))
     by true d = sym (fit_some _ (shape_with (Vector (length (v ∷ vs)))) (vector_there v vs few))
@@ -52,7 +52,7 @@ is_fit-form (v ∷ vs) few = rw (not_none v vs) (by (list_all is_number (v ∷ v
 
 pub is_constant-form : (vs : List Value) → length vs ≤ 20000 → is_constant_form (form_of vs) ≡ is_constant (list_reading vs)
 is_constant-form [] few = refl
-is_constant-form (v ∷ vs) few = rw (not_none v vs) (by (list_all is_number (v ∷ vs)) (list_all (λ u. is_number u || is_list u) (v ∷ vs)))
+is_constant-form (v ∷ vs) few = rw (not_none v vs) (by (list_all is_number (v ∷ vs)) (list_any is_list (v ∷ vs)))
   where
     by : (b d : Bool) → is_constant_form (if b then forms.Numbers else (if d then forms.Nested else forms.Unfit)) ≡ is_constant (if b then or_unfit (vector_of (v ∷ vs)) else (if d then nested else unfit))
     by true d = sym (constant_some _ (shape_with (Vector (length (v ∷ vs)))) (vector_there v vs few))
@@ -74,7 +74,7 @@ or_unfit-sides f same (Some s) = ap (λ x. Some (sides_of x)) (same s)
 -- the sides of a list of numbers are those of its vector
 pub numbers_sides : (vs : List Value) → form_of vs ≡ forms.Numbers → reading_sides [] (list_reading vs) ≡ option_map sides_of (shape_with (Vector (length vs)))
 numbers_sides [] e = cc
-numbers_sides (v ∷ vs) e = by (list_all is_number (v ∷ vs)) (list_all (λ u. is_number u || is_list u) (v ∷ vs)) (rw (not_none v vs) at e)
+numbers_sides (v ∷ vs) e = by (list_all is_number (v ∷ vs)) (list_any is_list (v ∷ vs)) (rw (not_none v vs) at e)
   where
     by : (b d : Bool) → (if b then forms.Numbers else (if d then forms.Nested else forms.Unfit)) ≡ forms.Numbers
         → reading_sides [] (if b then or_unfit (vector_of (v ∷ vs)) else (if d then nested else unfit)) ≡ option_map sides_of (shape_with (Vector (length (v ∷ vs))))
@@ -88,7 +88,7 @@ numbers_sides-many vs e many = numbers_sides vs e ∙ ap (option_map sides_of) (
 -- a list of another form has none
 pub other_sides : (vs : List Value) → form_of vs ≢ forms.Numbers → reading_sides [] (list_reading vs) ≡ None
 other_sides [] other = refl
-other_sides (v ∷ vs) other = by (list_all is_number (v ∷ vs)) (list_all (λ u. is_number u || is_list u) (v ∷ vs)) (rw (not_none v vs) at other)
+other_sides (v ∷ vs) other = by (list_all is_number (v ∷ vs)) (list_any is_list (v ∷ vs)) (rw (not_none v vs) at other)
   where
     by : (b d : Bool) → (if b then forms.Numbers else (if d then forms.Nested else forms.Unfit)) ≢ forms.Numbers
         → reading_sides [] (if b then or_unfit (vector_of (v ∷ vs)) else (if d then nested else unfit)) ≡ None

@@ -1,6 +1,6 @@
 -- What a value may stand for: an operand, a whole number, a shape, rows of numbers, an axis.
 use Rattle.std.specs.Prelude.{ℕ, nat_eq, pos, negsuc, int_le, ℤ, unsigned_abs, Bool, true, false, ◌&&◌, ◌||◌, if◌then◌else◌, List, [], ◌∷◌, map, length, Option, Some, None, option_and_then, option_map}
-use Rattle.std.specs.List.{list_all, flat_map}
+use Rattle.std.specs.List.{list_all, list_any, flat_map}
 use Rattle.dcx_frac.specs.declared.fraction.Frac.{Frac}
 use Rattle.dcx_shape.specs.declared.shape.Sides.{Sides}
 use Rattle.dcx_shape.specs.declared.shape.Sides.TheVariants.{Scalar, Vector, Matrix}
@@ -65,12 +65,12 @@ abbrev pub or_unfit : Option Array → Reading
 or_unfit (Some a) = operand (constant a)
 or_unfit None = unfit
 
--- a list of numbers stands for a vector; a list with a list in it, and nothing but numbers and lists, is nested
+-- a list of numbers stands for a vector; a list with a list in it, whatever else it holds, is nested
 abbrev pub list_reading : List Value → Reading
 list_reading [] = empty
 list_reading (v ∷ vs) =
     if list_all is_number (v ∷ vs) then or_unfit (vector_of (v ∷ vs))
-    else (if list_all (λ u. is_number u || is_list u) (v ∷ vs) then nested else unfit)
+    else (if list_any is_list (v ∷ vs) then nested else unfit)
 
 abbrev pub reading : Value → Reading
 reading (plain a) = operand (constant a)

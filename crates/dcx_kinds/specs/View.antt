@@ -1,7 +1,7 @@
 -- Operands, readings and shapes of the code, as those of the definitions, and what it means that a function returns what
 -- was meant.
-use Rattle.std.specs.Prelude.{◌≡◌, Bool, true, false, ◌||◌, if◌then◌else◌, nat_eq, length, List, Result, Ok, Err}
-use Rattle.std.specs.List.{list_all}
+use Rattle.std.specs.Prelude.{◌≡◌, Bool, true, false, if◌then◌else◌, nat_eq, length, List, Result, Ok, Err}
+use Rattle.std.specs.List.{list_all, list_any}
 use Rattle.dcx_shape.specs.declared.shape.Sides.{Sides}
 use Rattle.dcx_shape.specs.declared.shape.Sides.TheVariants.{Scalar, Vector, Matrix}
 use Rattle.dcx_kinds.specs.declared.fault.ElabFault.{ElabFault}
@@ -39,7 +39,7 @@ extent_sides (extents.Matrix m n) = Matrix m n
 abbrev pub form_of : List Value → ListForm
 form_of vs =
     if nat_eq (length vs) 0 then forms.Empty
-    else (if list_all is_number vs then forms.Numbers else (if list_all (λ u. is_number u || is_list u) vs then forms.Nested else forms.Unfit))
+    else (if list_all is_number vs then forms.Numbers else (if list_any is_list vs then forms.Nested else forms.Unfit))
 
 -- a list of this form may be given where an expression is wanted
 abbrev pub is_fit_form : ListForm → Bool

@@ -1,6 +1,6 @@
 //! What a value is where an expression is wanted.
-ghost use Rattle.std.specs.Prelude.{◌≡◌, ◌<◌, ◌||◌, ◌++◌, [], map, length, MatchOption, IfOk, IfSome, IfNone, OnOk, option_map};
-ghost use Rattle.std.specs.List.{list_all};
+ghost use Rattle.std.specs.Prelude.{◌≡◌, ◌<◌, ◌++◌, [], map, length, MatchOption, IfOk, IfSome, IfNone, OnOk, option_map};
+ghost use Rattle.std.specs.List.{list_all, list_any};
 ghost use Rattle.dcx_shape.specs.Shape.{sides_of};
 ghost use Rattle.dcx_shape.specs.Sides.{HasFewEntries};
 ghost use Rattle.dcx_kinds.specs.Kinds.{is_number, number_of, whole_number, is_list, vector_of, or_unfit, list_reading, reading, is_fit, is_constant, reading_sides, is_long, are_rows, rows_sides, row_numbers, rows_array};
@@ -30,7 +30,7 @@ pub enum Operand {
 pub enum Reading {
     /// An operand.
     Operand(Operand),
-    /// A list with a list in it, and nothing but numbers and lists.
+    /// A list with a list in it, whatever else it holds.
     Nested,
     /// An empty list.
     Empty,
@@ -92,23 +92,23 @@ pub fn are_numbers(values: &[Value]) -> bool
     true
 }
 
-/// Whether a value is a plain number or a list.
-fn is_number_or_list(value: &Value) -> bool
-    ensures { result ≡ is_number (meant value.now) || is_list (meant value.now) }
+/// Whether a value is a list.
+fn is_list(value: &Value) -> bool
+    ensures { result ≡ is_list (meant value.now) }
 {
-    matches!(value, Value::List(_)) || is_number(value)
+    matches!(value, Value::List(_))
 }
 
-/// Whether all items are plain numbers or lists.
-fn are_numbers_or_lists(values: &[Value]) -> bool
-    ensures { result ≡ list_all (λ v. is_number v || is_list v) (map meant values.now) }
+/// Whether a list is among the items.
+fn holds_list(values: &[Value]) -> bool
+    ensures { result ≡ list_any is_list (map meant values.now) }
 {
     for value in values {
-        if !is_number_or_list(value) {
-            return false;
+        if is_list(value) {
+            return true;
         }
     }
-    true
+    false
 }
 
 /// What a list of these items is where an expression is wanted.
@@ -119,7 +119,7 @@ fn list_form(values: &[Value]) -> ListForm
         ListForm::Empty
     } else if are_numbers(values) {
         ListForm::Numbers
-    } else if are_numbers_or_lists(values) {
+    } else if holds_list(values) {
         ListForm::Nested
     } else {
         ListForm::Unfit

@@ -191,8 +191,9 @@ fn cost_column<T: Tableau>(tableau: &T, status: LpStatus) -> u32
     }
 }
 
-/// The answer at an end of this status, without a ray.
-fn read_costs<T: Tableau>(
+/// The numbers that the tableau of a basis shows for an end of this status, without a ray: of the columns, and of the rows by the
+/// costs of that status.
+pub fn read_costs<T: Tableau>(
     alloc: Global,
     tableau: &T,
     program: &Program,

@@ -18,7 +18,7 @@ use Rattle.dcx_arena.proofs.Unfolds.{node_there}
 use Rattle.dcx_call.specs.declared.call.Call.{Call}
 use Rattle.dcx_call.specs.Calls.{shape_of}
 use Rattle.dcx_tree.specs.Nodes.{Node}
-use Rattle.dcx_tree.specs.Values.{EachReached, IsValueOf, IsValueStop, array_at, AreValues, AreArguments, IsNodeStop}
+use Rattle.dcx_tree.specs.Values.{IsValueOf, IsValueStop, array_at, AreValues, AreArguments, IsNodeStop}
 use Rattle.dcx_tree.proofs.Names.{found_in}
 use Rattle.dcx_tree.proofs.Marks.{reached_self, reached_arg, reached_through}
 
@@ -84,10 +84,6 @@ module _ (nodes : List Node) (are : AreNodes shape_of nodes) (setting point : Pa
       let here : array_at arrays a ≡ Some v = cc in
       let rest : map Some args ≡ map (array_at arrays) ids = cc in
       (h a v here, arguments_kept arrays h ids args rest)
-
-  -- what holds of all that a node reaches holds of all that a node reaches which it reaches
-  pub each_through : (P : Node → Type 0) (i k : ℕ) → IsReached nodes (i ∷ []) k → EachReached nodes i P → EachReached nodes k P
-  each_through P i k r h = λ j n s at. h j n (reached_through nodes i k j r s) at
 
   -- the arguments of a node that is reached are there, where all before it that are reached are
   pub args_there : (arrays : List (Option Array)) (i : ℕ) → IsReached nodes (root ∷ []) i → ((k : ℕ) → k < i → IsReached nodes (root ∷ []) k → IsSome (array_at arrays k)) →

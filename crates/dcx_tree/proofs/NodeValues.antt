@@ -31,18 +31,18 @@ use Rattle.dcx_call.specs.declared.call.Call.{Call}
 use Rattle.dcx_call.specs.declared.call.Call.TheVariants as calls
 use Rattle.dcx_call.specs.Calls.{own_sides, shape_of}
 use Rattle.dcx_call.specs.Values as call_values
-use Rattle.dcx_call.specs.Values.{given_by, call_value, entry_formed, formed_at, IsGiven, IsValue}
+use Rattle.dcx_call.specs.Values.{given_by, call_value, entry_formed, formed_at, IsValue}
 use Rattle.dcx_call.specs.Forming.{IsStop}
 use Rattle.dcx_call.proofs.Entries.{stop_alike}
 use Rattle.dcx_tree.specs.Nodes.{Names, Node, head_of, arg_sides, convex_node, convex_nodes, numbers_by, source_value}
-use Rattle.dcx_tree.specs.Values.{IsNamed, AreGiven, AreNamed, node_formed, IsFormed, IsValueOf, AreArguments, IsNodeStop}
+use Rattle.dcx_tree.specs.Values.{IsNamed, AreNamed, node_formed, IsFormed, IsValueOf, AreArguments, IsNodeStop}
 use Rattle.dcx_tree.proofs.Lawful.{tree_lawful}
 use Rattle.dcx_tree.proofs.Names.{found_in}
 use Rattle.dcx_tree.proofs.Values.{taken}
 use Rattle.dcx_tree.proofs.Marks.{reached_self, reached_arg, reached_through, reached_cases}
 
 -- ---- entries
-number_past : (xs : List Frac) (j : ℕ) → length xs ≤ j → number_at xs j ≡ whole (pos 0)
+pub number_past : (xs : List Frac) (j : ℕ) → length xs ≤ j → number_at xs j ≡ whole (pos 0)
 number_past [] j h = refl
 number_past (x ∷ xs) zero h = absurd (omega arith)
 number_past (x ∷ xs) (suc j) h = number_past xs j (omega arith)
@@ -195,11 +195,6 @@ module _ (nodes : List Node) (are : AreNodes shape_of nodes) (setting point : Pa
     apply_shape =
         let (n, at, is) = found_in (slice_get nodes i) call read in
         subst (λ c. shape_of c (array_sides args) ≡ Some (sides_at nodes i)) is (shape_is i n at args (own_args n at) ∙ ap Some (sym (sides_are nodes i n at)))
-
-    pub apply_given : AreGiven nodes setting point i → IsGiven call setting point
-    apply_given given =
-        let (n, at, is) = found_in (slice_get nodes i) call read in
-        subst (λ c. IsGiven c setting point) is (given i n (reached_self nodes i) at)
 
     pub apply_value : (v : Array) → IsValue call setting point args v → IsValueOf nodes setting point i v
     apply_value v its =

@@ -15,6 +15,7 @@
 //! | readers tell call, arguments, shape and place of the node | `Tree::call`, `Tree::arg`, `Tree::args`, `Tree::shape`, `Tree::place` |
 //! | the value of a node is the defined one, or the first operation that passes 128 bits or divisor that is 0 is named, where the nodes that it reaches are formed in rising order | `Tree::value`, `specs/Values.antt` |
 //! | the value of a node is that of the finite tree to which its arguments unfold | `laws::values_unfold`, `specs/Expressions.antt` |
+//! | the value of a node from what is kept of its arguments, or why it isn't formed | `node_value` |
 //! | whether each leaf is given an array of its shape | `Tree::is_given` |
 //! | ids are nodes, arguments stand first, each node is reached and numbered as it is first finished, both sides of a constraint have its shape, what is listed is what stands in the tree, symmetric and diagonal variables are square | the type `Problem`, `specs/Problems.antt` |
 //! | whether nodes may be the objective and the sides of the constraints of a problem | `Tree::is_objective`, `Tree::has_shape`, `Tree::is_constraint`, `Tree::are_constraints` |
@@ -46,3 +47,4 @@ pub use lists::{Constraints, Parameters, Variables};
 pub use problem::Problem;
 pub use roots::Roots;
 pub use tree::Tree;
+pub use value::{kept_value, node_value};

@@ -51,12 +51,12 @@ impl Tree {
             Err(_) => return Err(ValueStop::Memory),
         };
         let arrays = form_earlier(alloc, self, node, &reached, point, setting)?;
-        form(alloc, self, node, &arrays, point, setting)
+        node_value(alloc, self, node, &arrays, point, setting)
     }
 }
 
-/// The array that is kept for a node.
-fn kept(arrays: &[Option<Array>], node: NodeId) -> &Array
+/// The array that is kept for a node among those of a tree, by their places.
+pub fn kept_value(arrays: &[Option<Array>], node: NodeId) -> &Array
     requires { IsSome (array_at arrays.now node.0) }
     ensures { array_at arrays.now node.0 ≡ Some result.now }
 {
@@ -77,7 +77,7 @@ fn copies_of(
 {
     let mut copies = Vec::new(alloc);
     for id in ids {
-        copies.push(copy_array(alloc, kept(arrays, *id))?)?;
+        copies.push(copy_array(alloc, kept_value(arrays, *id))?)?;
     }
     Ok(copies)
 }
@@ -93,7 +93,7 @@ fn apply(
 ) -> Result<Array, ValueStop>
     requires nodes { AreNodes shape_of tree.now }
     requires there { node.0 < length tree.now }
-    requires given { AreGiven tree.now setting.now point.now node.0 }
+    requires given { (n : Node) → IsNode tree.now node.0 n → IsGiven n.call setting.now point.now }
     requires args { AreArguments tree.now setting.now point.now (args_at tree.now node.0) args.now }
     ensures ok { IfOk result (IsValueOf tree.now setting.now point.now node.0) }
     ensures stop { IfErr result (IsNodeStop tree.now setting.now point.now node.0) }
@@ -101,9 +101,11 @@ fn apply(
     tree.call(node).value(alloc, point, setting, args)
 }
 
-/// The value of a node, from what is kept of its arguments. An only argument is read in its place. Several are copied, which
-/// takes no more steps than their call, which reads them all.
-fn form(
+/// The value of a node, from what is kept of its arguments, by their places in the tree. An only argument is read in its
+/// place. Several are copied, which takes no more steps than their call, which reads them all.
+///
+/// `Passes` where an operation passes 128 bits, and `ZeroDivisor` where a divisor entry is 0: the first of both.
+pub fn node_value(
     alloc: Global,
     tree: &Tree,
     node: NodeId,
@@ -113,7 +115,7 @@ fn form(
 ) -> Result<Array, ValueStop>
     requires nodes { AreNodes shape_of tree.now }
     requires there { node.0 < length tree.now }
-    requires given { AreGiven tree.now setting.now point.now node.0 }
+    requires given { (n : Node) → IsNode tree.now node.0 n → IsGiven n.call setting.now point.now }
     requires args { All (λ a. IsSome (array_at arrays.now a)) (args_at tree.now node.0) }
     requires values { AreValues tree.now setting.now point.now arrays.now }
     ensures ok { IfOk result (IsValueOf tree.now setting.now point.now node.0) }
@@ -124,7 +126,7 @@ fn form(
         Err(_) => return Err(ValueStop::Memory),
     };
     if ids.len() == 1 {
-        let only = slice::from_ref(kept(arrays, ids[0]));
+        let only = slice::from_ref(kept_value(arrays, ids[0]));
         return apply(alloc, tree, node, only, point, setting);
     }
     match copies_of(alloc, arrays, &ids) {
@@ -154,7 +156,7 @@ fn form_earlier(
     let mut arrays = Vec::new(alloc);
     for i in 0..node.0 {
         let array = if reached[i as usize] {
-            Some(form(alloc, tree, NodeId(i), &arrays, point, setting)?)
+            Some(node_value(alloc, tree, NodeId(i), &arrays, point, setting)?)
         } else {
             None
         };

@@ -32,7 +32,7 @@ use Rattle.dcx_unknowns.proofs.Sources.{Owns, source_own, source_mirror, source_
 use Rattle.dcx_unknowns.proofs.Owners.{owner_of, are_numbered, owned}
 
 -- ---- arrays
-below : (n : ℕ) (f : Numbers) (j : ℕ) → j < n → first_of n f j ≡ f j
+pub below : (n : ℕ) (f : Numbers) (j : ℕ) → j < n → first_of n f j ≡ f j
 below n f j h = ap (λ b. if b then f j else whole (pos 0)) (lt-ltb j n h)
 
 -- what is demanded of a variable, in the terms of disciplined convex programming

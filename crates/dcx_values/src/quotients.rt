@@ -14,7 +14,6 @@ ghost use Rattle.dcx_values.specs.Tables.{AreKeptValues, StaysKept};
 ghost use Rattle.dcx_values.specs.Marks.{IsDivisor, AreClosed};
 
 use crate::marks::{is_marked, mark_reached};
-use crate::node::kept;
 use crate::table::Values;
 use dcx_affine::Pairing;
 use dcx_answer::Stop;
@@ -22,7 +21,7 @@ use dcx_atom::Array;
 use dcx_frac::Frac;
 use dcx_point::{Point, Setting};
 use dcx_sections::CertFault;
-use dcx_tree::{Call, NodeId, Problem, Tree};
+use dcx_tree::{Call, NodeId, Problem, Tree, kept_value};
 use std::alloc::{AllocError, Global};
 
 /// The divisor of a node, where it is a quotient.
@@ -134,7 +133,7 @@ fn test_quotient(
         Some(divisor) => test_divisor(
             node,
             problem.tree.shape(node).size(),
-            kept(values.as_slice(), divisor),
+            kept_value(values.as_slice(), divisor),
         ),
         None => Ok(()),
     }

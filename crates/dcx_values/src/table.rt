@@ -15,11 +15,11 @@ ghost use Rattle.dcx_values.specs.Tables.{AreKeptValues, StaysKept, AreKeptBelow
 ghost use Rattle.dcx_values.specs.Marks.{AreWithin, AreClosed};
 
 use crate::marks::{end_of, is_kept, is_marked, wanted};
-use crate::node::{fault_of, form};
+use crate::node::fault_of;
 use dcx_atom::Array;
 use dcx_point::{Point, Setting};
 use dcx_sections::CertFault;
-use dcx_tree::{NodeId, Problem};
+use dcx_tree::{NodeId, Problem, node_value};
 use std::alloc::{AllocError, Global};
 use std::marker::Model;
 
@@ -168,7 +168,7 @@ impl Values {
         if is_kept(&self.arrays, node) {
             return Ok(());
         }
-        match form(alloc, &problem.tree, node, &self.arrays, point, setting) {
+        match node_value(alloc, &problem.tree, node, &self.arrays, point, setting) {
             Ok(array) => {
                 self.arrays[node.0 as usize] = Some(array);
                 Ok(())

@@ -1,12 +1,13 @@
 -- The call's value at the values of the arguments.
-use Rattle.std.proofs.Common.{IsSome, refl, sym, subst}
+use Rattle.std.proofs.Common.{IsSome, slice_get, refl, sym, subst}
 use Rattle.dcx_shape.specs.Sides.{entries_of}
 use Rattle.dcx_atom.specs.Arrays.{array_sides}
 use Rattle.dcx_arena.specs.Nodes.{sides_at}
 use Rattle.dcx_call.specs.Calls.{shape_of}
-use Rattle.dcx_call.specs.Values.{IsValueStop}
+use Rattle.dcx_call.specs.Values.{IsGiven, IsValueStop}
 use Rattle.dcx_call.proofs.Entries.{ok_weaker, err_weaker, some_fact}
-use Rattle.dcx_tree.proofs.NodeValues.{apply_shape, apply_given, apply_value, apply_stop}
+use Rattle.dcx_tree.proofs.Names.{found_in}
+use Rattle.dcx_tree.proofs.NodeValues.{apply_shape, apply_value, apply_stop}
 use Rattle.dcx_tree.proofs.value.apply.Goals as goal
 
 pub value-requires-clause-shape : goal.value-requires-clause-shape
@@ -15,7 +16,8 @@ value-requires-clause-shape c =
 
 pub value-requires-clause-given : goal.value-requires-clause-given
 value-requires-clause-given c =
-    apply_given c.args.tree.now c.requires.nodes c.args.setting.now c.args.point.now c.args.node.0 c.call.result.now c.call.ensures c.args.args.now c.requires.args c.requires.given
+    let (n, at, is) = found_in (slice_get c.args.tree.now c.args.node.0) c.call.result.now c.call.ensures in
+    subst (λ call. IsGiven call c.args.setting.now c.args.point.now) is (c.requires.given n at)
 
 pub returns-clause-ok : goal.returns-clause-ok
 returns-clause-ok c =

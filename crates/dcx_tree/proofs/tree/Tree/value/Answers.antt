@@ -15,20 +15,23 @@ pub form_earlier-requires-clause-marked : goal.form_earlier-requires-clause-mark
 form_earlier-requires-clause-marked c =
     subst (λ (ms : List Bool). (i : ℕ) → IsMarked ms i ↔ IsReached c.args.self.now (c.args.node.0 ∷ []) i) (sym c.deref.ensures.value) c.in-Ok.ensures.marked
 
-pub form-requires-clause-args : goal.form-requires-clause-args
-form-requires-clause-args c =
+pub node_value-requires-clause-given : goal.node_value-requires-clause-given
+node_value-requires-clause-given c = λ n at. c.requires.given c.args.node.0 n (reached_self c.args.self.now c.args.node.0) at
+
+pub node_value-requires-clause-args : goal.node_value-requires-clause-args
+node_value-requires-clause-args c =
     let nodes = c.args.self.now in
     let root = c.args.node.0 in
     let some = subst (λ (xs : List (Option Array)). (k : ℕ) → k < root → IsReached nodes (root ∷ []) k → IsSome (array_at xs k)) (sym c.deref-2.ensures.value) c.in_ok-arrays.ensures.some in
     args_there nodes c.in-Ok.ensures.nodes c.args.setting.now c.args.point.now root c.deref-2.result.now root (reached_self nodes root) some
 
-pub form-requires-clause-values : goal.form-requires-clause-values
-form-requires-clause-values c = subst (AreValues c.args.self.now c.args.setting.now c.args.point.now) (sym c.deref-2.ensures.value) c.in_ok-arrays.ensures.values
+pub node_value-requires-clause-values : goal.node_value-requires-clause-values
+node_value-requires-clause-values c = subst (AreValues c.args.self.now c.args.setting.now c.args.point.now) (sym c.deref-2.ensures.value) c.in_ok-arrays.ensures.values
 
 pub returns-clause-stop : goal.returns-clause-stop
 returns-clause-stop c =
     let nodes = c.args.self.now in
     let root = c.args.node.0 in
-    err_weaker c.form.result
+    err_weaker c.node_value.result
     (λ e h. first_stop nodes c.in-Ok.ensures.nodes c.args.setting.now c.args.point.now root c.in_ok-arrays.arrays.items root e c.requires.there (reached_self nodes root) c.in_ok-arrays.ensures.some c.in_ok-arrays.ensures.values h)
-    c.form.ensures.stop
+    c.node_value.ensures.stop

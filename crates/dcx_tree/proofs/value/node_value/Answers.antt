@@ -3,7 +3,7 @@ use Rattle.std.proofs.Common.{ℕ, All, Some, IsSome, map, sym, ap, ◌∙◌, s
 use Rattle.dcx_arena.specs.Nodes.{positions, args_at}
 use Rattle.dcx_tree.specs.Values.{array_at}
 use Rattle.dcx_tree.proofs.Forming.{arguments_kept}
-use Rattle.dcx_tree.proofs.value.form.Goals as goal
+use Rattle.dcx_tree.proofs.value.node_value.Goals as goal
 
 pub copies_of-requires : goal.copies_of-requires
 copies_of-requires c =

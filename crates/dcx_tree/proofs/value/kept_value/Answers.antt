@@ -1,7 +1,7 @@
 -- What is kept is there.
 use Rattle.std.proofs.Common.{◌∙◌, sym, arith}
 use Rattle.dcx_tree.proofs.Forming.{kept_at, some_within}
-use Rattle.dcx_tree.proofs.value.kept.Goals as goal
+use Rattle.dcx_tree.proofs.value.kept_value.Goals as goal
 
 pub bounds-arrays-node : goal.bounds-arrays-node
 bounds-arrays-node c = some_within c.args.arrays.now c.args.node.0 c.requires
