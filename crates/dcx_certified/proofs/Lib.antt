@@ -22,3 +22,8 @@ pub mod Rowwise
 pub mod Bounded
 pub mod Answered
 pub mod Noted
+pub mod Level
+pub mod Taken
+pub mod Steep
+pub mod Rests
+pub mod Descent

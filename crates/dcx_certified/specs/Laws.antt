@@ -8,7 +8,7 @@ use Rattle.dcx_point.specs.Pairs.{Pairs}
 use Rattle.dcx_call.specs.declared.atoms.AtomCall.{AtomCall}
 use Rattle.dcx_call.specs.Atoms.{atom_meaning}
 use Rattle.dcx_tree.specs.declared.problem.Problem.{Problem}
-use Rattle.dcx_tree.specs.Meaning.{setting_of, IsAccepted, Fits}
+use Rattle.dcx_tree.specs.Meaning.{convex_problem, setting_of, IsAccepted, Fits, IsUnbounded}
 use Rattle.dcx_collect.specs.Multipliers.{AreDuals}
 use Rattle.dcx_sections.specs.declared.weights.NodeWeights.{NodeWeights}
 use Rattle.dcx_sections.specs.declared.fault.CertFault.{CertFault}
@@ -16,7 +16,9 @@ use Rattle.dcx_bound.specs.Fixed.{AreFixedValues}
 use Rattle.dcx_bound.specs.Weights.{weights_at}
 use Rattle.dcx_bound.specs.Checks.{bound_checks}
 use Rattle.dcx_certified.specs.Demanded.{HasDualGraph, GiveFractions}
+use Rattle.dcx_convex.specs.Nodes.{Setting, Point}
 use Rattle.dcx_convex.specs.Rules.{Rules}
+use Rattle.dcx_recession.specs.Rays.{IsRay}
 use Rattle.dcx_reduced.specs.Equations.{Forms, AllStand}
 use Rattle.dcx_certified.specs.Bounded.{IsWide, BoundsPrograms}
 use Rattle.dcx_certified.specs.Rows.{BoundsForms, AreRowWeights}
@@ -42,3 +44,8 @@ FormsBoundPrograms =
     (rules : Rules) (p : Problem) (setting : Pairs) (values : List (Option Array)) (forms : Forms) (duals : List Array) (weights : ℕ → List Frac) (with_objective : Bool) (v : ℚ) (m : ℕ → ℚ) (first : ℕ) →
     AreFixedValues p setting values → AllStand rules p (setting_of p setting) forms → AreRowWeights rules p values weights m first →
     BoundsForms rules p (setting_of p setting) forms duals with_objective v m first → BoundsPrograms p (setting_of p setting) duals weights with_objective v values
+
+-- a ray along which an accepted problem is unbounded leaves neither the domain nor, by the steepness of their sides, the constraints,
+-- and the steepness of the minimized objective is at most minus the slope
+abbrev pub UnboundedGoesByRays : Type 0
+UnboundedGoesByRays = (p : Problem) → IsAccepted p → (s : Setting) → Fits p s → (x d : Point) (b e : ℚ) → IsUnbounded p s x d b e → IsRay (convex_problem p) s x d b e

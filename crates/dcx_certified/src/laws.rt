@@ -1,5 +1,5 @@
 //! The laws above the definitions of `specs/`. There is no code: each clause is a statement about all problems.
-ghost use Rattle.dcx_certified.specs.Laws.{AtomsHaveDualGraphs, BoundsFailWide, FormsBoundPrograms};
+ghost use Rattle.dcx_certified.specs.Laws.{AtomsHaveDualGraphs, BoundsFailWide, FormsBoundPrograms, UnboundedGoesByRays};
 
 /// Of each nonlinear call the slopes are those of the weighted rows of its graph; weights that let no unknown lower coefficients times
 /// results meet the conditions of slopes, and these are fractions of 128 bits where no step stops.
@@ -17,4 +17,10 @@ pub fn bounds_fail_wide()
 /// all unknowns of their kinds bounds it at all points and unknowns of the graphs.
 pub fn forms_bound_programs()
     ensures { FormsBoundPrograms }
+{}
+
+/// Along a ray by which an accepted problem is unbounded the steepness of both sides of each constraint keeps the constraint, and that of
+/// the minimized objective is at most minus the slope.
+pub fn unbounded_goes_by_rays()
+    ensures { UnboundedGoesByRays }
 {}
