@@ -27,3 +27,9 @@ pub mod Taken
 pub mod Steep
 pub mod Rests
 pub mod Descent
+pub mod Raywise
+pub mod Programs
+pub mod Weighed
+pub mod Settings
+pub mod Pointwise
+pub mod Certified
