@@ -38,13 +38,13 @@ never_above c h = <ℚ-not zero-<ℚ-one (linear (c ∷ []) (+ℚ-≤ℚ (square
 
 pub steps_low : (s c : ℚ) → ((k : ℚ) → whole (pos 0) <ℚ k → k *ℚ s ≤ℚ c) → s ≤ℚ whole (pos 0)
 steps_low s c h = elim (≤ℚ-or-<ℚ s (whole (pos 0))) [
-    | inl low ↦ low
-    | inr high ↦
+  | inl low ↦ low
+  | inr high ↦
       let w = c *ℚ c +ℚ whole (pos 1) in
       let positive : whole (pos 0) <ℚ w = subst (λ z. whole (pos 0) <ℚ z) (+ℚ_comm (whole (pos 1)) (c *ℚ c)) (+ℚ-positive zero-<ℚ-one (square-nonnegative c)) in
       let e : (w *ℚ inverse s) *ℚ s ≡ w = *ℚ_assoc w (inverse s) s ∙ ap (λ z. w *ℚ z) (*ℚ_comm (inverse s) s ∙ *ℚ-inverse_positive high) ∙ *ℚ_idr w in
       absurd (never_above c (subst (λ z. z ≤ℚ c) e (h (w *ℚ inverse s) (*ℚ-positive positive (inverse-positive high)))))
-  ]
+]
 
 -- ---- the domain
 turned_step : (x k d : ℚ) → whole (pos 0) ≤ℚ x +ℚ k *ℚ d → k *ℚ neg_ℚ d ≤ℚ x

@@ -46,9 +46,9 @@ module _ (p : Problem) (setting : Pairs) (fits : Fits p (setting_of p setting)) 
   fit_wide : FitsParameters p.parameters setting → (f : CertFault) → (setting_fits p setting).fails f → IsWide f
   fit_wide met f (inl h) = absurd (misfit_unfit p.parameters setting h.stop h.first met)
   fit_wide met f (inr (passed, h)) = elim h.here [
-      | inl k ↦ unformed_wide p setting [] fits h.position f k.1
-      | inr k ↦ absurd (dividing_never h.position (divisor_in p.tree h.position) refl f k.1)
-    ]
+    | inl k ↦ unformed_wide p setting [] fits h.position f k.1
+    | inr k ↦ absurd (dividing_never h.position (divisor_in p.tree h.position) refl f k.1)
+  ]
 
 -- ---- the values are those of the setting
 module _ (setting : Pairs) where
