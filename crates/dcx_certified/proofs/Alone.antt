@@ -35,12 +35,11 @@ use Rattle.dcx_unknowns.specs.Unknowns.{sides_in}
 use Rattle.dcx_unknowns.proofs.Domains.{number_is, to_domain}
 use Rattle.dcx_collect.specs.declared.collected.Reached.{Reached}
 use Rattle.dcx_collect.specs.Laws.{reached_times}
-use Rattle.dcx_collect.proofs.Points.{first_in}
+use Rattle.dcx_collect.proofs.Points.{first_in, first_past}
 use Rattle.dcx_bound.specs.Variables.{is_named, reaching}
 use Rattle.dcx_bound.proofs.Falling.{AreFalling}
 use Rattle.dcx_bound.proofs.Reaching.{listed}
 use Rattle.dcx_certified.specs.Families.{variable_by, variable_if, variable_numbers}
-use Rattle.dcx_certified.proofs.Families.{first_past}
 use Rattle.dcx_certified.proofs.Scaling.{bounded_multiples}
 use Rattle.dcx_certified.proofs.Sums.{further_zero, past_end}
 

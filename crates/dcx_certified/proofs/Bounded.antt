@@ -48,7 +48,7 @@ module _ (p : Problem) (duals : List Array) (f g : ℕ → Numbers) (same : (i :
   started_same false = penalty_same
 
 -- a node whose value isn't known reaches a variable
-unfixed : (p : Problem) (setting : Pairs) (values : List (Option Array)) → AreFixedValues p setting values → (i : ℕ) → i < length p.tree → array_at values i ≡ None → is_fixed (convex_problem p).nodes i ≡ false
+pub unfixed : (p : Problem) (setting : Pairs) (values : List (Option Array)) → AreFixedValues p setting values → (i : ℕ) → i < length p.tree → array_at values i ≡ None → is_fixed (convex_problem p).nodes i ≡ false
 unfixed p setting values fixed i b none = by (is_fixed (convex_problem p).nodes i) refl
   where
     by : (t : Bool) → is_fixed (convex_problem p).nodes i ≡ t → t ≡ false

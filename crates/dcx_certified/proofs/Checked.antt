@@ -77,9 +77,9 @@ divided_stop j x y stop n e = by (rat_eq y (whole (pos 0))) refl e
     by true is h = absurd (n ((IsTrue-rat_eq y (whole (pos 0))).0 is))
     by false is h = formed_stop j (quotient_of (frac_at x) (frac_at y)) stop h
 
-module _ (p : Problem) (setting : Pairs) (fits : Fits p (setting_of p setting)) where
+module _ (p : Problem) (setting point : Pairs) (fits : Fits p (setting_of p setting)) where
   entry_stop : (call : Call) (ss : List Sides) (a : ℕ → Numbers) (j : ℕ) (stop : ValueStop) → (call ≡ calls.Pairing Over → a 1 j ≢ whole (pos 0)) →
-      entry_formed call (given_by setting) (given_by []) ss a j ≡ Err stop → (passes : Passes) × (stop ≡ value_stops.Passes j passes)
+      entry_formed call (given_by setting) (given_by point) ss a j ≡ Err stop → (passes : Passes) × (stop ≡ value_stops.Passes j passes)
   entry_stop (calls.Variable v) ss a j stop n e = cc
   entry_stop (calls.Parameter q) ss a j stop n e = cc
   entry_stop (calls.Constant x) ss a j stop n e = cc
@@ -89,21 +89,24 @@ module _ (p : Problem) (setting : Pairs) (fits : Fits p (setting_of p setting)) 
   entry_stop (calls.Pairing MatTimes) ss a j stop n e = formed_stop j _ stop e
   entry_stop (calls.Pairing Over) ss a j stop n e = divided_stop j (a 0 j) (a 1 j) stop (n refl) e
 
-  divisor_nonzero : (i : ℕ) (n : Node) → IsNode p.tree i n → n.call ≡ calls.Pairing Over → (j : ℕ) → j < entries_of n.sides → arguments (map (source_value p.tree (names_in p) setting []) n.args) 1 j ≢ whole (pos 0)
+  pub divisor_nonzero : (i : ℕ) (n : Node) → IsNode p.tree i n → n.call ≡ calls.Pairing Over → (j : ℕ) → j < entries_of n.sides → arguments (map (source_value p.tree (names_in p) setting point) n.args) 1 j ≢ whole (pos 0)
   divisor_nonzero i n at is j b =
       let names = names_in p in
       let node = convex_node names p.tree n in
       let there : convex.IsNode (convex_nodes names p.tree) i node = slice_get-map (convex_node names p.tree) p.tree i ∙ ap (option_map (convex_node names p.tree)) at in
-      subst (λ call. convex.HasNoZeroDivisor (head_of names call (arg_sides p.tree n) n.sides) (map (convex.value_at (convex_nodes names p.tree) (setting_of p setting) (point_of p [])) n.args)) is
-      (fits.divisors (point_of p []) i node there) j b
+      subst (λ call. convex.HasNoZeroDivisor (head_of names call (arg_sides p.tree n) n.sides) (map (convex.value_at (convex_nodes names p.tree) (setting_of p setting) (point_of p point)) n.args)) is
+      (fits.divisors (point_of p point) i node there) j b
 
-  forming_wide : (f : CertFault) → (forming_fixed p setting).fails f → IsWide f
-  forming_wide f h =
-      let here = h.here.1 in
+  -- a node that isn't formed, and the first of some nodes that isn't
+  pub unformed_wide : (i : ℕ) (f : CertFault) → forming.IsUnformedAt p setting point i f → IsWide f
+  unformed_wide i f here =
       let first = here.here in
-      let (passes, is) = entry_stop here.node.call (arg_sides p.tree here.node) (arguments (map (source_value p.tree (names_in p) setting []) here.node.args)) first.entry here.stop
-      (λ same. divisor_nonzero h.position here.node here.there same first.entry first.within) first.here in
-      (passes, here.told ∙ ap (forming.fault_of h.position) is)
+      let (passes, is) = entry_stop here.node.call (arg_sides p.tree here.node) (arguments (map (source_value p.tree (names_in p) setting point) here.node.args)) first.entry here.stop
+      (λ same. divisor_nonzero i here.node here.there same first.entry first.within) first.here in
+      (passes, here.told ∙ ap (forming.fault_of i) is)
+
+  pub forming_wide : (Q : ℕ → Type 0) (f : CertFault) → (forming.forming_where p setting point Q).fails f → IsWide f
+  forming_wide Q f h = unformed_wide h.position f h.here.1
 
 -- ---- attributes
 counted_is : (w : Whole) (a : Attribute) → attribute_of (counted w a) ≡ variable_attribute w a
@@ -188,7 +191,7 @@ module _ (p : Problem) (setting : Pairs) (duals : List Array) (weights : List No
   shown_wide (Ok kept) e end f (inr (fractions, inr (may, h))) = absurd (<ℚ-not h.0 (total_bound kept end))
 
 pub bounds_fail_wide : BoundsFailWide
-bounds_fail_wide p setting duals weights with_objective stated ok fits are bounded f (inl h) = forming_wide p setting fits f h
+bounds_fail_wide p setting duals weights with_objective stated ok fits are bounded f (inl h) = forming_wide p setting [] fits (forming.IsFixedNode p) f h
 bounds_fail_wide p setting duals weights with_objective stated ok fits are bounded f (inr (formed, (values, fixed, h))) =
     shown_wide p setting duals weights with_objective stated ok fits are bounded values fixed (collected p values duals (weights_at weights) with_objective) refl
     (ended p setting duals weights with_objective stated ok fits are bounded values fixed) f h

@@ -3,7 +3,7 @@ use Rattle.std.proofs.Common.{◌≡◌, ◌≢◌, ℕ, zero, suc, ◌+◌, ◌
 use Rattle.std.specs.Prelude.{option_map, unwrap_or}
 use native.Mathlib.Decide.{ℕ_discrete}
 use Rattle.std.proofs.Math.Path.{fun_ext}
-use Rattle.std.proofs.lemmas.Bool.{false≢true, le-ltb, ltb-true, ltb-false}
+use Rattle.std.proofs.lemmas.Bool.{ltb-true, ltb-false}
 use Rattle.std.proofs.lemmas.List.{length-map}
 use Rattle.std.proofs.lemmas.Option.{slice_get-map, slice_get-get_or, get_or_from_slice_get, slice_get_within}
 use Rattle.dcx_math.specs.Rational.{whole, ◌*ℚ◌}
@@ -12,22 +12,15 @@ use Rattle.dcx_math.proofs.Sums.{rat_sum_below-same}
 use Rattle.dcx_frac.specs.declared.fraction.Frac.{Frac}
 use Rattle.dcx_shape.specs.declared.shape.Sides.{Sides}
 use Rattle.dcx_shape.specs.declared.shape.Sides.TheVariants.{Scalar}
-use Rattle.dcx_shape.specs.Shape.{sides_of}
 use Rattle.dcx_shape.specs.Sides.{entries_of}
 use Rattle.dcx_atom.specs.declared.array.Array.{Array}
 use Rattle.dcx_atom.specs.Arrays.{number_at}
 use Rattle.dcx_atom.specs.Rows.{Filling}
-use Rattle.dcx_affine.specs.declared.pairing.Pairing.TheVariants.{Times, MatTimes, Over}
 use Rattle.dcx_arena.specs.Nodes.{AreNodes, IsNode, sides_at}
 use Rattle.dcx_convex.specs.Nodes.{Numbers, Setting, Point, first_of, arguments, zeros, value_by, value_at}
-use Rattle.dcx_convex.specs.Pairs.{products_at, quotients_at}
 use Rattle.dcx_convex.proofs.Told.{map-same, value_tells}
-use Rattle.dcx_call.specs.declared.call.Call.{Call}
-use Rattle.dcx_call.specs.declared.call.Call.TheVariants as calls
 use Rattle.dcx_call.specs.Calls.{shape_of}
-use Rattle.dcx_call.specs.Atoms.{atom_meaning}
-use Rattle.dcx_call.specs.Linears.{linear_meaning}
-use Rattle.dcx_tree.specs.Nodes.{Names, Node, number_in, pairs_of, head_of, arg_sides, convex_node, convex_nodes}
+use Rattle.dcx_tree.specs.Nodes.{Names, Node, head_of, arg_sides, convex_node, convex_nodes}
 use Rattle.dcx_tree.specs.Values.{array_at}
 use Rattle.dcx_tree.proofs.Lawful.{tree_lawful}
 use Rattle.dcx_reduced.specs.Equations.{call_entry}
@@ -35,7 +28,7 @@ use Rattle.dcx_collect.specs.Starts.{start_of, place_of}
 use Rattle.dcx_collect.proofs.Sharing.{past_end}
 use Rattle.dcx_collect.proofs.Flat.{dot, dot-sum, flat, flat-place, by_nodes}
 use Rattle.dcx_collect.proofs.Bound.{number_of}
-use Rattle.dcx_collect.proofs.Points.{own_is, some_item}
+use Rattle.dcx_collect.proofs.Points.{some_item, first_past, past_size}
 use Rattle.dcx_certified.specs.Families.{IsFamily, call_rows, rows_if, rows_below}
 
 -- ---- unknowns that are changed at one node
@@ -68,30 +61,6 @@ node_there nodes i b = (get_or nodes i (some_item nodes i b), slice_get-get_or n
 
 pub node_sides : (nodes : List Node) (i : ℕ) (n : Node) → IsNode nodes i n → sides_at nodes i ≡ n.sides
 node_sides nodes i n at = ap (λ (o : Option Node). unwrap_or (option_map (λ (k : Node). k.sides) o) Scalar) at
-
--- ---- numbers below a size, and 0 from there on
-pub first_past : (n : ℕ) (g : Numbers) (j : ℕ) → n ≤ j → first_of n g j ≡ whole (pos 0)
-first_past n g j b = by (nat_lt j n) (le-ltb j n b)
-  where
-    by : (t : Bool) → t ≡ false → (if t then g j else whole (pos 0)) ≡ whole (pos 0)
-    by true e = absurd (false≢true (sym e))
-    by false e = refl
-
-number_past : (xs : List Frac) (j : ℕ) → length xs ≤ j → number_at xs j ≡ whole (pos 0)
-number_past [] j b = refl
-number_past (x ∷ xs) zero b = absurd (omega arith)
-number_past (x ∷ xs) (suc j) b = number_past xs j (omega arith)
-
-past_size : (names : Names) (s : Setting) (y : Point) (call : Call) (args : List Sides) (sides : Sides) (values : List Numbers) → shape_of call args ≡ Some sides → (j : ℕ) → entries_of sides ≤ j →
-    value_by s y (head_of names call args sides) values j ≡ whole (pos 0)
-past_size names s y (calls.Variable v) args sides values e j b = first_past (entries_of (sides_of v.shape)) (y (number_in names.variables v.name)) j (omega (arith, ap entries_of (own_is (sides_of v.shape) args sides e), b))
-past_size names s y (calls.Parameter q) args sides values e j b = first_past (entries_of (sides_of q.shape)) (s (number_in names.parameters q.name)) j (omega (arith, ap entries_of (own_is (sides_of q.shape) args sides e), b))
-past_size names s y (calls.Constant x) args sides values e j b = number_past x.entries j (omega (arith, x.full, ap entries_of (own_is (sides_of x.shape) args sides e), b))
-past_size names s y (calls.Atom m) args sides values e j b = first_past (entries_of sides) ((atom_meaning m).value args (arguments values)) j b
-past_size names s y (calls.Linear l) args sides values e j b = first_past (entries_of sides) ((linear_meaning l).value args (arguments values)) j b
-past_size names s y (calls.Pairing Times) args sides values e j b = first_past (entries_of sides) (λ k. products_at (pairs_of Times args k) (arguments values)) j b
-past_size names s y (calls.Pairing MatTimes) args sides values e j b = first_past (entries_of sides) (λ k. products_at (pairs_of MatTimes args k) (arguments values)) j b
-past_size names s y (calls.Pairing Over) args sides values e j b = first_past (entries_of sides) (λ k. quotients_at (pairs_of Over args k) (arguments values)) j b
 
 -- ---- where numbers stand
 some_there : {A : Type 0} (xs : List A) (k : ℕ) (d : A) → k < length xs → slice_get xs k ≡ None → ⊥

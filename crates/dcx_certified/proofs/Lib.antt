@@ -22,3 +22,14 @@ pub mod Rowwise
 pub mod Bounded
 pub mod Answered
 pub mod Noted
+pub mod Level
+pub mod Taken
+pub mod Steep
+pub mod Rests
+pub mod Descent
+pub mod Raywise
+pub mod Programs
+pub mod Weighed
+pub mod Settings
+pub mod Pointwise
+pub mod Certified

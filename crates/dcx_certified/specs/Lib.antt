@@ -3,4 +3,6 @@ pub mod Demanded
 pub mod Families
 pub mod Bounded
 pub mod Rows
+pub mod Programs
+pub mod Certified
 pub mod Laws
