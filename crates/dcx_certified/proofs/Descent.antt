@@ -1,16 +1,13 @@
 -- A ray along which an accepted problem is unbounded shows it by the steepness along it.
-use Rattle.std.proofs.Common.{◌≡◌, inl, inr, ℕ, ◌<◌, Bool, IsTrue, List, [], ◌∷◌, refl, sym, ap, ap₂, ◌∙◌, subst, pos}
-use Rattle.std.specs.Prelude.{◌≢◌}
+use Rattle.std.proofs.Common.{◌≡◌, inl, inr, ℕ, Bool, IsTrue, [], ◌∷◌, sym, ap, ap₂, ◌∙◌, subst, pos}
 use Rattle.std.specs.List.{list_all}
 use Rattle.std.proofs.lemmas.Bool.{and_parts}
 use Rattle.dcx_math.specs.Rational.{ℚ, whole, ◌+ℚ◌, ◌-ℚ◌, ◌*ℚ◌, neg_ℚ, inverse, ◌≤ℚ◌, ◌<ℚ◌}
 use Rattle.dcx_math.specs.Sums.{IsNonnegative}
 use Rattle.dcx_math.proofs.Ring.{ring, reads}
-use Rattle.dcx_math.proofs.Orders.{linear, ≤ℚ_refl, ≤ℚ_trans, ≤ℚ_antisym, ≤ℚ-from_≡, ≤ℚ-or-<ℚ, <ℚ-≤ℚ, <ℚ-not, +ℚ-≤ℚ, +ℚ-positive, *ℚ_assoc, *ℚ_comm, *ℚ_idl, *ℚ_idr, whole-≤ℤ, +ℚ_comm}
+use Rattle.dcx_math.proofs.Orders.{linear, ≤ℚ_refl, ≤ℚ_trans, ≤ℚ_antisym, ≤ℚ-from_≡, ≤ℚ-or-<ℚ, <ℚ-≤ℚ, <ℚ-not, +ℚ-≤ℚ, +ℚ-positive, *ℚ_assoc, *ℚ_comm, *ℚ_idr, whole-≤ℤ, +ℚ_comm}
 use Rattle.dcx_math.proofs.Products.{square-nonnegative, zero-<ℚ-one, *ℚ-positive, *ℚ-inverse_positive, inverse-positive}
 use Rattle.dcx_shape.specs.declared.shape.Sides.{Sides}
-use Rattle.dcx_shape.specs.Sides.{entries_of}
-use Rattle.dcx_shape.specs.Places.{HasEntry}
 use Rattle.dcx_atom.specs.declared.flags.Bend.TheVariants.{Convex, Concave}
 use Rattle.dcx_atom.specs.Arrays.{entry_at}
 use Rattle.dcx_atom.specs.Signs.{shifted}
@@ -38,13 +35,13 @@ never_above c h = <ℚ-not zero-<ℚ-one (linear (c ∷ []) (+ℚ-≤ℚ (square
 
 pub steps_low : (s c : ℚ) → ((k : ℚ) → whole (pos 0) <ℚ k → k *ℚ s ≤ℚ c) → s ≤ℚ whole (pos 0)
 steps_low s c h = elim (≤ℚ-or-<ℚ s (whole (pos 0))) [
-    | inl low ↦ low
-    | inr high ↦
+  | inl low ↦ low
+  | inr high ↦
       let w = c *ℚ c +ℚ whole (pos 1) in
       let positive : whole (pos 0) <ℚ w = subst (λ z. whole (pos 0) <ℚ z) (+ℚ_comm (whole (pos 1)) (c *ℚ c)) (+ℚ-positive zero-<ℚ-one (square-nonnegative c)) in
       let e : (w *ℚ inverse s) *ℚ s ≡ w = *ℚ_assoc w (inverse s) s ∙ ap (λ z. w *ℚ z) (*ℚ_comm (inverse s) s ∙ *ℚ-inverse_positive high) ∙ *ℚ_idr w in
       absurd (never_above c (subst (λ z. z ≤ℚ c) e (h (w *ℚ inverse s) (*ℚ-positive positive (inverse-positive high)))))
-  ]
+]
 
 -- ---- the domain
 turned_step : (x k d : ℚ) → whole (pos 0) ≤ℚ x +ℚ k *ℚ d → k *ℚ neg_ℚ d ≤ℚ x

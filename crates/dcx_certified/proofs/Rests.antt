@@ -5,7 +5,7 @@ use Rattle.std.specs.List.{list_all}
 use Rattle.std.proofs.lemmas.Bool.{and_parts, or_cases, false≢true, ltb-true, ltb-false}
 use Rattle.dcx_math.specs.Rational.{ℚ, whole, ◌+ℚ◌, ◌-ℚ◌, ◌*ℚ◌, neg_ℚ, inverse, ◌≤ℚ◌, ◌<ℚ◌}
 use Rattle.dcx_math.proofs.Ring.{ring, reads}
-use Rattle.dcx_math.proofs.Orders.{≤ℚ_refl, ≤ℚ_trans, ≤ℚ-from_≡, <ℚ-≤ℚ, *ℚ-≤ℚ, *ℚ-zero, *ℚ_assoc, *ℚ_idl, *ℚ_comm, -ℚ_self, +ℚ-≤ℚ_right, +ℚ_idl, whole-≤ℤ}
+use Rattle.dcx_math.proofs.Orders.{≤ℚ_trans, ≤ℚ-from_≡, <ℚ-≤ℚ, *ℚ-≤ℚ, *ℚ-zero, *ℚ_assoc, *ℚ_idl, *ℚ_comm, -ℚ_self, +ℚ-≤ℚ_right, +ℚ_idl, whole-≤ℤ}
 use Rattle.dcx_math.proofs.Products.{*ℚ-nonnegative, *ℚ-nonpositive, *ℚ-inverse_positive, inverse-positive}
 use Rattle.dcx_shape.specs.Sides.{entries_of}
 use Rattle.dcx_atom.specs.declared.flags.Sign.{Sign}
@@ -197,14 +197,17 @@ module _ (nodes : List Node) (ordered : IsOrdered nodes) (law : AreLawful nodes)
   none_fixed i e = ap (λ (o : Option Node). (told no_argument (judgement_by Plain) (told_within no_argument (judgement_by Plain) nodes i) o).fixed) e
 
   node_rest : (i : ℕ) (n : Node) → slice_get nodes i ≡ Some n → IsFalse (is_fixed nodes i) → (f : ℕ → Numbers) → ((a : ℕ) → a < i → IsRest a (f a)) → (r : Numbers) × IsRest i r
-  node_rest i n e loose f known = (rest_by i f known n.args (ordered i n e) n.head, λ k low j bend b.
-      let g = judgement_tells Plain nodes ordered i n e in
-      let told : steep i ≡ steep_by nodes s d n.head n.args steep = steep_tells nodes s d ordered i n e ∙ ap (λ t. if t then zeros else steep_by nodes s d n.head n.args steep) loose in
-      let r = rest_by i f known n.args (ordered i n e) n.head in
-      subst (λ (z : Numbers). IsBeyond bend (k *ℚ steep i j) (z j -ℚ r j)) (sym (value_tells nodes ordered s (shifted x k d) i n e))
-      (subst (λ (z : Numbers). IsBeyond bend (k *ℚ z j) (value_by s (shifted x k d) n.head (map (there k) n.args) j -ℚ r j)) (sym told)
-      (head_rest i f known n.args (ordered i n e) n.head (law i n e) (recede i n e) (start i n e) (sym (ap (λ (q : Judgement). q.fixed) g) ∙ loose) k low bend
-      (subst (λ t. IsTrue t) (ap (is_bent bend) g ∙ bent_is Plain bend n.head (map judged n.args)) b) j)))
+  node_rest i n e loose f known = (
+    rest_by i f known n.args (ordered i n e) n.head,
+    λ k low j bend b.
+        let g = judgement_tells Plain nodes ordered i n e in
+        let told : steep i ≡ steep_by nodes s d n.head n.args steep = steep_tells nodes s d ordered i n e ∙ ap (λ t. if t then zeros else steep_by nodes s d n.head n.args steep) loose in
+        let r = rest_by i f known n.args (ordered i n e) n.head in
+        subst (λ (z : Numbers). IsBeyond bend (k *ℚ steep i j) (z j -ℚ r j)) (sym (value_tells nodes ordered s (shifted x k d) i n e))
+        (subst (λ (z : Numbers). IsBeyond bend (k *ℚ z j) (value_by s (shifted x k d) n.head (map (there k) n.args) j -ℚ r j)) (sym told)
+        (head_rest i f known n.args (ordered i n e) n.head (law i n e) (recede i n e) (start i n e) (sym (ap (λ (q : Judgement). q.fixed) g) ∙ loose) k low bend
+        (subst (λ t. IsTrue t) (ap (is_bent bend) g ∙ bent_is Plain bend n.head (map judged n.args)) b) j)),
+  )
 
   one_rest : (i : ℕ) (f : ℕ → Numbers) → ((a : ℕ) → a < i → IsRest a (f a)) → (r : Numbers) × IsRest i r
   one_rest i f known = by (is_fixed nodes i) refl
