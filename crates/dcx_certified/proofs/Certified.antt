@@ -7,12 +7,10 @@ use Rattle.dcx_frac.specs.declared.fraction.Frac.{Frac}
 use Rattle.dcx_frac.specs.Frac.{value}
 use Rattle.dcx_shape.specs.Shape.{sides_of}
 use Rattle.dcx_atom.specs.declared.array.Array.{Array}
-use Rattle.dcx_atom.specs.Arrays.{numbers_of}
 use Rattle.dcx_point.specs.Pairs.{Pairs}
 use Rattle.dcx_tree.specs.declared.constraint.Constraint.{Constraint}
 use Rattle.dcx_tree.specs.declared.problem.Problem.{Problem}
-use Rattle.dcx_tree.specs.Meaning.{convex_problem, setting_of, IsAccepted, IsFitting}
-use Rattle.dcx_tree.specs.Values.{array_at}
+use Rattle.dcx_tree.specs.Meaning.{convex_problem, setting_of, IsAccepted}
 use Rattle.dcx_lp_answer.specs.declared.answer.LpStatus.{LpStatus}
 use Rattle.dcx_lp_answer.specs.declared.answer.LpStatus.TheVariants as status
 use Rattle.dcx_lp_answer.specs.declared.answer.RowNote.{RowNote}
@@ -39,22 +37,18 @@ use Rattle.dcx_graph.specs.Answers.{rows_of, IsAnswered, IsRead, IsRightFor}
 use Rattle.dcx_graph.proofs.Slacks.{have_slacks, multiplier_is}
 use Rattle.dcx_graph.proofs.Mapped.{read_right}
 use Rattle.dcx_build.specs.Built.{AreWeightsIn, values_in, IsBuilt}
-use Rattle.dcx_bound.specs.Fixed.{AreFixedValues}
 use Rattle.dcx_bound.specs.Weights.{weights_at}
 use Rattle.dcx_bound.specs.Checks.{bound_checks}
 use Rattle.dcx_faults.specs.Checks.{Check, Checked}
 use Rattle.dcx_certify.specs.Checks.{checks_of}
-use Rattle.dcx_solved.specs.declared.solving.Solved.{Solved}
-use Rattle.dcx_cache.specs.Answers.{IsAnswerOf}
 use Rattle.dcx_cache.proofs.Answered.{is_answered}
-use Rattle.dcx_certified.specs.Bounded.{IsWide, BoundsPrograms}
 use Rattle.dcx_certified.specs.Certified.{FailsWide, IsAcceptedOrWide}
 use Rattle.dcx_certified.specs.Programs.{HasForms}
 use Rattle.dcx_certified.specs.Laws.{BuiltIsCertified}
 use Rattle.dcx_certified.proofs.Answered.{optimal_bounds, infeasible_bounds}
 use Rattle.dcx_certified.proofs.Bounded.{forms_bound_programs}
 use Rattle.dcx_certified.proofs.Checked.{bounds_fail_wide}
-use Rattle.dcx_certified.proofs.Pointwise.{point_wide, value_wide, start_wide, ray_never, signs_never, gap_never, slope_never}
+use Rattle.dcx_certified.proofs.Pointwise.{point_wide, value_wide, signs_never, gap_never}
 use Rattle.dcx_certified.proofs.Programs.{session_programs_have_forms}
 use Rattle.dcx_certified.proofs.Raywise.{descent_wide}
 use Rattle.dcx_certified.proofs.Settings.{setting_wide}

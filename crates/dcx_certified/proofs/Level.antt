@@ -1,6 +1,6 @@
 -- A nonlinear call at nothing isn't beyond 0: its graph holds at nothing.
-use Rattle.std.proofs.Common.{◌≡◌, ℕ, ◌<◌, List, [], ◌∷◌, Some, sym, ap, ap₂, ◌∙◌, refl, subst, pos}
-use Rattle.dcx_math.specs.Rational.{ℚ, whole, ◌+ℚ◌, ◌*ℚ◌}
+use Rattle.std.proofs.Common.{◌≡◌, ℕ, ◌<◌, List, [], ◌∷◌, Some, ap, ap₂, ◌∙◌, refl, subst, pos}
+use Rattle.dcx_math.specs.Rational.{whole, ◌+ℚ◌, ◌*ℚ◌}
 use Rattle.dcx_math.proofs.Orders.{≤ℚ_refl, ≤ℚ-from_≡, *ℚ-zero, +ℚ_idl}
 use Rattle.dcx_shape.specs.declared.shape.Sides.{Sides}
 use Rattle.dcx_shape.specs.Sides.{entries_of}

@@ -1,5 +1,5 @@
 -- The checks of a certificate at a point fail with nothing but an operation that passes, where the answer is right.
-use Rattle.std.proofs.Common.{◌≡◌, inl, inr, ℕ, ◌<◌, List, map, Option, Some, None, option_map, slice_get, refl, sym, ap, ◌∙◌, subst, pos}
+use Rattle.std.proofs.Common.{◌≡◌, inl, inr, ℕ, List, Option, Some, None, option_map, slice_get, refl, ap, ◌∙◌, pos}
 use Rattle.std.proofs.lemmas.Option.{slice_get-map}
 use Rattle.dcx_math.specs.Rational.{ℚ, whole, ◌≤ℚ◌, ◌<ℚ◌}
 use Rattle.dcx_frac.specs.declared.fraction.Frac.{Frac}
@@ -15,7 +15,7 @@ use Rattle.dcx_tree.specs.Meaning.{convex_constraint, convex_problem, setting_of
 use Rattle.dcx_sections.specs.declared.fault.CertFault.{CertFault}
 use Rattle.dcx_sections.specs.declared.fault.CertFault.TheVariants as faults
 use Rattle.dcx_checks.specs.Demands.{check_if}
-use Rattle.dcx_checks.specs.Checks.{constraint_holds, constraints_hold, objective_is, value_is, start_bounded, point_inside, ray_inside, duals_signed, gap_positive, slope_positive}
+use Rattle.dcx_checks.specs.Checks.{constraint_holds, constraints_hold, objective_is, value_is, start_bounded, ray_inside, duals_signed, gap_positive, slope_positive}
 use Rattle.dcx_checks.proofs.Settled.{checks_settled}
 use Rattle.dcx_checks.proofs.Sound.{checks_sound}
 use Rattle.dcx_certify.specs.Checks.{point_checks}

@@ -1,5 +1,5 @@
 -- The program of a session at a setting is that of forms that meet the equations of the nodes.
-use Rattle.std.proofs.Common.{◌≡◌, ◌↔◌, ℕ, zero, suc, ◌<◌, arith, List, [], ◌∷◌, ◌++◌, length, map, get_or, Option, Some, None, option_map, Result, Ok, Err, slice_get, refl, sym, ap, ap₂, ◌∙◌, subst, pos, negsuc}
+use Rattle.std.proofs.Common.{◌≡◌, ◌↔◌, ℕ, zero, suc, arith, List, [], ◌∷◌, ◌++◌, length, map, get_or, Option, Some, None, option_map, Result, Ok, Err, slice_get, refl, sym, ap, ap₂, ◌∙◌, subst, negsuc}
 use Rattle.std.specs.Option.{unwrap_or, option_and_then}
 use Rattle.std.proofs.Math.Path.{fun_ext}
 use Rattle.std.proofs.lemmas.List.{map-append}
@@ -16,7 +16,7 @@ use Rattle.dcx_point.specs.Pairs.{Pairs, array_of}
 use Rattle.dcx_call.specs.Values.{given_by}
 use Rattle.dcx_convex.specs.Nodes.{Setting}
 use Rattle.dcx_convex.specs.Rules.{Rules, Plain, Parametrized}
-use Rattle.dcx_convex.specs.Problems.{minimized, objective_of}
+use Rattle.dcx_convex.specs.Problems.{minimized}
 use Rattle.dcx_convex.specs.Reductions.{Unknowns, IsAssignment}
 use Rattle.dcx_tree.specs.declared.constraint.Sense.{Sense}
 use Rattle.dcx_tree.specs.declared.constraint.Sense.TheVariants.{Minimize, Maximize}
@@ -50,7 +50,6 @@ use Rattle.dcx_formed.specs.Forms.{forms_at}
 use Rattle.dcx_formed.specs.Forms as formed
 use Rattle.dcx_formed.proofs.LawsHold.{fracs_meet_equations, param_forms_meet_equations}
 use Rattle.dcx_mapping.specs.Programs.{gap_rows, bound_row, IsProgramOf}
-use Rattle.dcx_fit.specs.Fit.{FitsParameters}
 use Rattle.dcx_graph.specs.Program as program
 use Rattle.dcx_graph.specs.Program.{Program, minus_one, entry_origin, constraint_entries, Least, graph_row, EntryRow, EntryRows, IsProgram}
 use Rattle.dcx_graph.specs.AsLinear.{row_at, linear_at}
@@ -61,7 +60,7 @@ use Rattle.dcx_graph.proofs.AsLinear.{entry_at, all_constraints, minus_one_value
 use Rattle.dcx_graph.proofs.AtSetting.{form_listed}
 use Rattle.dcx_graph.proofs.Correct.{affine_are_known}
 use Rattle.dcx_build.proofs.Laid.{graph_rows_are}
-use Rattle.dcx_cache.specs.Programs.{SessionGives, mapped, anew}
+use Rattle.dcx_cache.specs.Programs.{mapped, anew}
 use Rattle.dcx_certified.specs.Programs.{HasForms}
 use Rattle.dcx_certified.specs.Laws.{SessionProgramsHaveForms}
 

@@ -1,7 +1,6 @@
 -- The checks of an unbounded certificate fail with nothing but an operation that passes, where the problem is unbounded along its ray.
-use Rattle.std.proofs.Common.{◌≡◌, inl, inr, ℕ, Option, Some, None, option_map, slice_get, sym, ap, ◌∙◌, subst, refl}
+use Rattle.std.proofs.Common.{◌≡◌, inl, inr, ℕ, Option, Some, None, option_map, slice_get, ap, ◌∙◌, refl}
 use Rattle.std.proofs.lemmas.Option.{slice_get-map}
-use Rattle.dcx_math.specs.Rational.{ℚ}
 use Rattle.dcx_frac.specs.declared.fraction.Frac.{Frac}
 use Rattle.dcx_frac.specs.Frac.{value}
 use Rattle.dcx_point.specs.Pairs.{Pairs}
@@ -9,10 +8,8 @@ use Rattle.dcx_tree.specs.declared.constraint.Constraint.{Constraint}
 use Rattle.dcx_tree.specs.declared.problem.Problem.{Problem}
 use Rattle.dcx_tree.specs.Meaning.{convex_constraint, convex_problem, setting_of, point_of, IsAccepted, Fits, IsUnbounded}
 use Rattle.dcx_recession.specs.Rays.{IsRay}
-use Rattle.dcx_sections.specs.declared.fault.CertFault.{CertFault}
 use Rattle.dcx_rays.specs.Rays.{constraint_check, constraints_check, value_check, ray_checks}
 use Rattle.dcx_certify.specs.Checks.{unbounded_checks}
-use Rattle.dcx_certified.specs.Bounded.{IsWide}
 use Rattle.dcx_certified.specs.Certified.{FailsWide}
 use Rattle.dcx_certified.proofs.Descent.{unbounded_goes_by_rays}
 use Rattle.dcx_certified.proofs.Pointwise.{point_wide, start_wide, ray_never, slope_never}

@@ -5,7 +5,7 @@ use Rattle.std.specs.List.{list_all}
 use Rattle.std.proofs.lemmas.Bool.{and_parts, or_cases, false≢true, ltb-true, ltb-false}
 use Rattle.dcx_math.specs.Rational.{ℚ, whole, ◌+ℚ◌, ◌-ℚ◌, ◌*ℚ◌, neg_ℚ, inverse, ◌≤ℚ◌, ◌<ℚ◌}
 use Rattle.dcx_math.proofs.Ring.{ring, reads}
-use Rattle.dcx_math.proofs.Orders.{≤ℚ_refl, ≤ℚ_trans, ≤ℚ-from_≡, <ℚ-≤ℚ, *ℚ-≤ℚ, *ℚ-zero, *ℚ_assoc, *ℚ_idl, *ℚ_comm, -ℚ_self, +ℚ-≤ℚ_right, +ℚ_idl, whole-≤ℤ}
+use Rattle.dcx_math.proofs.Orders.{≤ℚ_trans, ≤ℚ-from_≡, <ℚ-≤ℚ, *ℚ-≤ℚ, *ℚ-zero, *ℚ_assoc, *ℚ_idl, *ℚ_comm, -ℚ_self, +ℚ-≤ℚ_right, +ℚ_idl, whole-≤ℤ}
 use Rattle.dcx_math.proofs.Products.{*ℚ-nonnegative, *ℚ-nonpositive, *ℚ-inverse_positive, inverse-positive}
 use Rattle.dcx_shape.specs.Sides.{entries_of}
 use Rattle.dcx_atom.specs.declared.flags.Sign.{Sign}

@@ -1,19 +1,17 @@
 -- The checks of a setting that fits, with the values that a certificate has of it, fail with nothing but an operation that passes.
-use Rattle.std.proofs.Common.{◌≡◌, ◌≢◌, inl, inr, ℕ, zero, suc, ◌<◌, Bool, true, false, if◌then◌else◌, List, [], ◌∷◌, ◌++◌, map, Option, Some, None, option_map, slice_get, refl, sym, ap, ◌∙◌, subst, pos, true≢false}
+use Rattle.std.proofs.Common.{◌≡◌, inl, inr, ℕ, zero, suc, ◌<◌, Bool, true, false, List, [], ◌∷◌, ◌++◌, map, Option, Some, None, option_map, slice_get, refl, sym, ap, ◌∙◌, subst, true≢false}
 use Rattle.std.specs.Prelude.{get_or}
 use Rattle.std.specs.List.{flat_map}
 use Rattle.std.specs.Option.{unwrap_or}
 use Rattle.std.proofs.lemmas.Option.{none-some, same_Some, slice_get-map, get_or_from_slice_get, slice_get-get_or}
-use Rattle.dcx_math.specs.Rational.{ℚ, whole}
 use Rattle.dcx_shape.specs.declared.shape.Sides.TheVariants.{Scalar}
 use Rattle.dcx_shape.specs.Sides.{entries_of}
 use Rattle.dcx_atom.specs.declared.array.Array.{Array}
 use Rattle.dcx_atom.specs.Arrays.{number_at}
 use Rattle.dcx_point.specs.Pairs.{Pairs, same_name, array_of}
 use Rattle.dcx_point.proofs.Puts.{same_name-refl, same_name-true}
-use Rattle.dcx_arena.specs.Nodes.{IsNode, sides_at}
+use Rattle.dcx_arena.specs.Nodes.{sides_at}
 use Rattle.dcx_call.specs.declared.attribute.Parameter.{Parameter}
-use Rattle.dcx_call.specs.Values.{given_by}
 use Rattle.dcx_convex.specs.Nodes.{Numbers, arguments, zeros}
 use Rattle.dcx_tree.specs.declared.problem.Problem.{Problem}
 use Rattle.dcx_tree.specs.Nodes.{Node, source_value}
@@ -21,7 +19,7 @@ use Rattle.dcx_tree.specs.Meaning.{names_in, setting_of, Fits}
 use Rattle.dcx_fit.specs.Fit.{FitsParameters}
 use Rattle.dcx_fit.proofs.Misfits.{misfit_unfit}
 use Rattle.dcx_sections.specs.declared.fault.CertFault.{CertFault}
-use Rattle.dcx_values.specs.Forming.{IsBelowDivisor, divisor_in, dividing_if}
+use Rattle.dcx_values.specs.Forming.{divisor_in, dividing_if}
 use Rattle.dcx_values.proofs.Fixed.{divisor_found}
 use Rattle.dcx_checks.specs.Checks.{setting_fits, setting_is}
 use Rattle.dcx_checks.proofs.Settled.{checks_settled}

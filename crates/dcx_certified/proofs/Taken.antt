@@ -1,6 +1,5 @@
 -- What calls are taken at along a ray: one side of a product or a quotient stands, and the others go.
 use Rattle.std.proofs.Common.{◌≡◌, inl, inr, ℕ, ◌<◌, Bool, true, false, IsTrue, if◌then◌else◌, List, [], ◌∷◌, nat_eq, refl, sym, ap, ◌∙◌, subst, pos}
-use Rattle.std.specs.Prelude.{◌⊎◌}
 use Rattle.std.proofs.lemmas.Bool.{or_cases, false≢true}
 use Rattle.dcx_math.specs.Rational.{ℚ, whole, ◌+ℚ◌, ◌*ℚ◌, ◌≤ℚ◌}
 use Rattle.dcx_math.proofs.Ring.{reads}

@@ -1,15 +1,13 @@
 -- The weights of a certificate that is built are the multipliers of the rows of the graphs.
-use Rattle.std.proofs.Common.{◌≡◌, ℕ, zero, suc, ◌+◌, ◌<◌, arith, Bool, true, false, if◌then◌else◌, List, [], ◌∷◌, ◌++◌, length, map, drop, Option, Some, None, option_map, Result, Ok, slice_get, refl, sym, ap, ap₂, ◌∙◌, subst, zero-add}
+use Rattle.std.proofs.Common.{◌≡◌, ℕ, zero, suc, ◌+◌, ◌<◌, arith, Bool, true, false, if◌then◌else◌, List, [], ◌∷◌, ◌++◌, length, map, Option, Some, None, option_map, Result, Ok, slice_get, refl, sym, ap, ap₂, ◌∙◌, subst, zero-add}
 use Rattle.std.specs.List.{flat_map, range_with_len, filter_map, zip}
 use Rattle.std.proofs.lemmas.List.{length-append, length-map, map-id, append-nil}
 use Rattle.std.proofs.lemmas.List.FromFn.{map-range_with_len_more}
 use Rattle.std.proofs.lemmas.Grind.{flat_map-append}
-use Rattle.std.proofs.lemmas.Option.{none-some, same_Some, slice_get-map, slice_get_within}
+use Rattle.std.proofs.lemmas.Option.{slice_get-map, slice_get_within}
 use Rattle.dcx_math.specs.Rational.{ℚ}
-use Rattle.dcx_math.specs.Sums.{IsNonnegative}
 use Rattle.dcx_frac.specs.declared.fraction.Frac.{Frac}
 use Rattle.dcx_frac.specs.declared.fraction.Passes.{Passes}
-use Rattle.dcx_frac.specs.Frac.{value}
 use Rattle.dcx_shape.specs.Sides.{entries_of}
 use Rattle.dcx_atom.specs.declared.array.Array.{Array}
 use Rattle.dcx_atom.specs.Arrays.{number_at, list_below, joined_below}
@@ -23,18 +21,14 @@ use Rattle.dcx_call.specs.declared.call.Call.TheVariants as calls
 use Rattle.dcx_call.specs.Atoms.{atom_meaning}
 use Rattle.dcx_convex.specs.Certificates.{is_fixed}
 use Rattle.dcx_convex.specs.Reductions.{Unknowns}
-use Rattle.dcx_convex.specs.Rules.{Rules}
 use Rattle.dcx_tree.specs.declared.problem.Problem.{Problem}
 use Rattle.dcx_tree.specs.Nodes.{Node, arg_sides}
-use Rattle.dcx_tree.specs.Values.{array_at}
 use Rattle.dcx_tree.specs.Meaning.{convex_problem, setting_of}
 use Rattle.dcx_linear.specs.declared.row.RowKind.TheVariants.{AtMost}
 use Rattle.dcx_linear.specs.Rows.{HaveSigns}
 use Rattle.dcx_unknowns.specs.Layout.{is_reduced, call_rows, rows_if, rows_at}
-use Rattle.dcx_reduced.specs.Equations.{Forms}
 use Rattle.dcx_reduced.proofs.Lists.{flat_first}
-use Rattle.dcx_mapping.specs.Programs.{gap_rows, bound_row}
-use Rattle.dcx_lp_answer.specs.declared.answer.LpStatus.{LpStatus}
+use Rattle.dcx_mapping.specs.Programs.{bound_row}
 use Rattle.dcx_lp_answer.specs.declared.answer.RowNote.{RowNote}
 use Rattle.dcx_lp_answer.specs.declared.answer.LpAnswer.{LpAnswer}
 use Rattle.dcx_lp_answer.specs.Right.{is_inequality, multiplier_at}
@@ -50,7 +44,7 @@ use Rattle.dcx_graph.specs.declared.origin.Origin.TheVariants as origins
 use Rattle.dcx_graph.specs.Program.{Program, entry_origin, constraint_entries}
 use Rattle.dcx_graph.specs.Answers.{rows_of, IsAnswered}
 use Rattle.dcx_graph.proofs.AsLinear.{entry_at, all_constraints}
-use Rattle.dcx_build.specs.Origins.{entry_count, entry_rows, node_rows, graph_origins}
+use Rattle.dcx_build.specs.Origins.{entry_count, node_rows}
 use Rattle.dcx_build.specs.Weights.{graph_multiplier, note_of, node_multipliers}
 use Rattle.dcx_build.specs.Built.{AreWeightsIn}
 use Rattle.dcx_build.proofs.Fixed.{unfixed_is_reduced}
