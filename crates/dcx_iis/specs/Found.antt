@@ -1,17 +1,15 @@
 -- What filtering finds: a feasible point; or constraints that no point keeps together, with what shows it, and with each of them a
 -- point that keeps all the others.
-use Rattle.std.specs.Prelude.{◌≡◌, ◌≢◌, ℕ, suc, ◌<◌, ◌≤◌, IsTrue, List, All, length, pos}
+use Rattle.std.specs.Prelude.{◌≡◌, ◌≢◌, ℕ, ◌<◌, ◌≤◌, IsTrue, List, All, length, pos}
 use Rattle.std.specs.List.{AllZip}
 use Rattle.dcx_math.specs.Rational.{whole}
 use Rattle.dcx_frac.specs.declared.fraction.Frac.{Frac}
 use Rattle.dcx_frac.specs.Frac.{value}
-use Rattle.dcx_shape.specs.Shape.{sides_of}
 use Rattle.dcx_atom.specs.declared.array.Array.{Array}
 use Rattle.dcx_point.specs.Pairs.{Pairs}
 use Rattle.dcx_convex.specs.Nodes.{Setting}
 use Rattle.dcx_convex.specs.Rules.{Rules}
 use Rattle.dcx_convex.specs.Problems.{accepted_by}
-use Rattle.dcx_tree.specs.declared.constraint.Constraint.{Constraint}
 use Rattle.dcx_tree.specs.declared.problem.Problem.{Problem}
 use Rattle.dcx_tree.specs.Meaning.{convex_problem, point_of, Fits, IsFeasible, IsInfeasible, IsDomainPoint}
 use Rattle.dcx_linear.specs.Terms.{IsRising}
@@ -19,13 +17,15 @@ use Rattle.dcx_std.specs.Solutions.{linear_program}
 use Rattle.dcx_postsolve.specs.Duals.{AreDuals, multipliers_in}
 use Rattle.dcx_lp_answer.specs.declared.answer.LpStatus.TheVariants as status
 use Rattle.dcx_solved.specs.declared.solving.Solved.{Solved}
+use Rattle.dcx_solved.specs.Solved.{IsSolved}
 use Rattle.dcx_graph.specs.Program.{Program}
 use Rattle.dcx_graph.specs.AsLinear.{IsReductionAt}
-use Rattle.dcx_graph.specs.Answers.{rows_of, IsPointRead}
+use Rattle.dcx_graph.specs.Answers.{rows_of}
 use Rattle.dcx_iis.specs.declared.filtered.Filtered.{Filtered}
 use Rattle.dcx_iis.specs.declared.filtered.Filtered.TheVariants as filtered
 use Rattle.dcx_iis.specs.Sets.{ConstraintSet, every_constraint, set_of, Keeps, IsFilterSet}
-use Rattle.dcx_iis.specs.Steps.{kept_of, IsSolvedAt, HasAnswer, IsLastImpossible}
+use Rattle.dcx_iis.specs.Multipliers.{HasShapeOf}
+use Rattle.dcx_iis.specs.Steps.{kept_of, program_of_set, HasAnswer, IsReadIn, IsReadAt, IsLastImpossible}
 
 -- ---- what is asked for
 -- the rules accept the problem, the setting fits, and the program is a reduced program of the problem there
@@ -53,7 +53,7 @@ pub record IsIrreducible (p : Problem) (s : Setting) (members : List ℕ) (duals
   pub rising : IsRising (λ k. k) members
   pub within : All (λ k. k < length p.constraints) members
   pub shown : IsInfeasible p s (multipliers_in duals) (value gap)
-  pub shaped : AllZip (λ (c : Constraint) (x : Array). sides_of x.shape ≡ sides_of c.shape) p.constraints duals
+  pub shaped : AllZip HasShapeOf p.constraints duals
   pub outside : (k : ℕ) → ¬ IsTrue (set_of members k) → (j : ℕ) → multipliers_in duals k j ≡ whole (pos 0)
   pub points : AllZip (KeepsOthers p s members) members points
 
@@ -62,27 +62,18 @@ IsRight p s (filtered.Feasible point) = IsFeasiblePoint p s point
 IsRight p s (filtered.Infeasible members duals gap points) = IsIrreducible p s members duals gap points
 
 -- ---- how it is found
--- the point is read from the answer of step i
-pub record IsPointOf (p : Problem) (q : Program Frac) (limit : ℕ) (set : ConstraintSet) (i : ℕ) (point : Pairs) : Type 0 where
-  pub solved : Solved
-  pub is_solved : IsSolvedAt p q limit set i solved
-  pub read : IsPointRead p q.kinds solved.answer.columns point
-
--- the step that tries constraint k
-abbrev pub IsReadAt : Problem → Program Frac → ℕ → ConstraintSet → ℕ → Pairs → Type 0
-IsReadAt p q limit set k point = IsPointOf p q limit set (suc k) point
-
--- all steps have answers; the gap and the multipliers are those of the last that was impossible, and each point is that of its own
+-- all steps have answers; the gap and the multipliers are those of the last that was impossible, whose program is that of the set, and
+-- each point is that of its own
 pub record AreFound (p : Problem) (q : Program Frac) (limit : ℕ) (set : ConstraintSet) (members : List ℕ) (duals : List Array) (gap : Frac) (points : List Pairs) : Type 0 where
   pub answers : (i : ℕ) → i ≤ length p.constraints → HasAnswer p q limit set i
   pub step : ℕ
   pub last : IsLastImpossible (length p.constraints) set step
   pub solved : Solved
-  pub is_solved : IsSolvedAt p q limit set step solved
+  pub is_solved : IsSolved limit (program_of_set p q set) solved
   pub gap_is : gap ≡ solved.answer.number
   pub formed : AreDuals status.Infeasible (kept_of set p.constraints) solved.answer.rows (kept_of set duals)
   pub read : AllZip (IsReadAt p q limit set) members points
 
 abbrev pub IsFound : Problem → Program Frac → ℕ → Filtered → Type 0
-IsFound p q limit (filtered.Feasible point) = IsPointOf p q limit every_constraint 0 point
+IsFound p q limit (filtered.Feasible point) = IsReadIn p q limit every_constraint 0 point
 IsFound p q limit (filtered.Infeasible members duals gap points) = AreFound p q limit (set_of members) members duals gap points

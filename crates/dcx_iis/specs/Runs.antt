@@ -3,7 +3,6 @@ use Rattle.std.specs.Prelude.{◌≡◌, ◌≢◌, ◌⊎◌, ⊤, ℕ, suc, �
 use Rattle.std.specs.List.{AllZip}
 use Rattle.dcx_frac.specs.declared.fraction.Frac.{Frac}
 use Rattle.dcx_frac.specs.declared.fraction.Passes.{Passes}
-use Rattle.dcx_point.specs.Pairs.{Pairs}
 use Rattle.dcx_tree.specs.declared.problem.Problem.{Problem}
 use Rattle.dcx_lp_answer.specs.declared.answer.LpStatus.TheVariants as status
 use Rattle.dcx_lp_answer.specs.declared.answer.LpAnswer.{LpAnswer}
@@ -25,7 +24,7 @@ use Rattle.dcx_iis.specs.declared.trying.Tried.{Tried}
 use Rattle.dcx_iis.specs.declared.trying.Tried.TheVariants as tried
 use Rattle.dcx_iis.specs.declared.left.Left.{Left}
 use Rattle.dcx_iis.specs.Sets.{ConstraintSet, every_constraint, flagged, left_beside}
-use Rattle.dcx_iis.specs.Steps.{kept_of, program_of_set, step_set, solve_stop, IsLastImpossible}
+use Rattle.dcx_iis.specs.Steps.{kept_of, program_of_set, step_set, IsReadAt, solve_stop, IsLastImpossible}
 
 -- ---- one step
 -- the program of the set is solved so, and names unknowns of its own alone
@@ -63,12 +62,6 @@ pub record IsDecided (p : Problem) (q : Program Frac) (limit : ℕ) (set : Const
   pub solved : Solved
   pub is_step : IsStep p q limit (left_beside set k) solved
   pub stays : IsTrue (set k) ↔ (solved.answer.status ≢ status.Infeasible)
-
--- the point is read from the answer of the step that tries constraint k
-pub record IsReadAt (p : Problem) (q : Program Frac) (limit : ℕ) (set : ConstraintSet) (k : ℕ) (point : Pairs) : Type 0 where
-  pub solved : Solved
-  pub is_solved : IsSolved limit (program_of_set p q (left_beside set k)) solved
-  pub read : IsPointRead p q.kinds solved.answer.columns point
 
 -- the numbers of the flags that are set, the first of which has the number i
 abbrev pub numbers_from : ℕ → List Bool → List ℕ

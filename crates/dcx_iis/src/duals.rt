@@ -1,16 +1,14 @@
 //! The multipliers of all constraints, where some are left out.
-ghost use Rattle.std.specs.Prelude.{◌≡◌, ◌<◌, ◌≤◌, ◌^◌, ℕ, List, length, sum_by, pos, IfOk, IfErr};
+ghost use Rattle.std.specs.Prelude.{◌≡◌, ◌<◌, ◌≤◌, ◌^◌, List, length, sum_by, IfOk, IfErr};
+ghost use Rattle.std.specs.List.{AllZip};
 ghost use Rattle.std.specs.Vec.Iter.{into_iter_items};
-ghost use Rattle.dcx_math.specs.Rational.{whole};
-ghost use Rattle.dcx_shape.specs.Shape.{sides_of};
 ghost use Rattle.dcx_atom.specs.declared.array.Array.{Array as ArrayOf};
-ghost use Rattle.dcx_atom.specs.Arrays.{number_at};
 ghost use Rattle.dcx_lp_answer.specs.Multipliers.{passing_from, StopsAt};
 ghost use Rattle.dcx_unknowns.specs.Layout.{constraint_rows};
 ghost use Rattle.dcx_postsolve.specs.Duals.{all_multipliers, AreDuals};
 ghost use Rattle.dcx_iis.specs.Sets.{flagged};
 ghost use Rattle.dcx_iis.specs.Steps.{kept_of};
-ghost use Rattle.dcx_iis.specs.Multipliers.{AreZeros, AreSpreadIf, AreSpread, TakesNext};
+ghost use Rattle.dcx_iis.specs.Multipliers.{HasShapeOf, AreZeros, TakesNext, AreSpread};
 
 use dcx_answer::Duals;
 use dcx_atom::Array;
@@ -76,7 +74,7 @@ fn spread(
     formed: Duals,
 ) -> Result<Duals, AllocError>
     requires flags { length kept.now ≡ length constraints.now }
-    requires count { length formed ≡ length (kept_of (flagged kept.now) constraints.now) }
+    requires shaped { AllZip HasShapeOf (kept_of (flagged kept.now) constraints.now) formed }
     ensures { IfOk result (AreSpread (flagged kept.now) constraints.now formed) }
 {
     let mut formed = formed.into_vec().into_iter();

@@ -5,7 +5,7 @@ ghost use Rattle.dcx_std.specs.GivenRows.{given};
 ghost use Rattle.dcx_std.specs.Solutions.{HasKinds};
 ghost use Rattle.dcx_solved.specs.Solved.{IsSolved, Stops};
 ghost use Rattle.dcx_iis.specs.Sets.{flagged};
-ghost use Rattle.dcx_iis.specs.Steps.{rows_of_set, program_of_set};
+ghost use Rattle.dcx_iis.specs.Steps.{rows_from, program_of_set};
 
 use dcx_frac::Frac;
 use dcx_graph::Reduced;
@@ -57,7 +57,7 @@ fn rows_kept(
 ) -> Result<Vec<Row<Frac>>, AllocError>
     requires rows { sum_by constraint_rows constraints.now ≤ length rows.now }
     requires flags { length kept.now ≡ length constraints.now }
-    ensures { IfOk result (λ v. v.items ≡ rows_of_set (flagged kept.now) constraints.now rows.now) }
+    ensures { IfOk result (λ v. v.items ≡ rows_from (flagged kept.now) 0 constraints.now rows.now) }
 {
     let mut copies = Vec::new(alloc);
     let mut next = 0usize;

@@ -1,0 +1,10 @@
+-- The lemmas.
+pub mod Sets
+pub mod Kept
+pub mod Telling
+pub mod Spread
+pub mod Shown
+pub mod Flags
+pub mod Trying
+pub mod Finding
+pub mod Ends
