@@ -32,10 +32,10 @@ def pivots(text):
 
 
 def plain_form(words):
-    """The command, its operands and the limit of pivots."""
+    """The command, its operands, the limit of pivots, and whether answers are found from earlier ones."""
     if not words or words[0] not in OPERANDS:
         raise Usage
-    command, operands, limit = words[0], [], None
+    command, operands, limit, warm = words[0], [], None, False
     rest = iter(words[1:])
     for word in rest:
         is_option = word == "--max-pivots" or word.startswith("--max-pivots=")
@@ -43,11 +43,13 @@ def plain_form(words):
             if limit is not None:
                 raise Usage
             limit = pivots(word.partition("=")[2] if "=" in word else next(rest, ""))
+        elif word == "--warm" and command == "resolve" and not warm:
+            warm = True
         else:
             operands.append(word)
     if len(operands) != OPERANDS[command] or any(not o or o.startswith("-") for o in operands):
         raise Usage
-    return command, operands, MOST_PIVOTS if limit is None else limit
+    return command, operands, MOST_PIVOTS if limit is None else limit, warm
 
 
 def trial_script(n):
@@ -91,6 +93,20 @@ def ends_of(accepted, settings, limit):
     return ends
 
 
+def warm_ends_of(accepted, settings, limit):
+    """The ends where each answer is found from the one before it, if that goes, and how many were."""
+    session = Session(accepted.problem, accepted.verdict)
+    ends, count = [], 0
+    for setting in settings:
+        try:
+            answer, is_warm = session.solve_warm(setting, limit)
+            ends.append(answer)
+            count += is_warm
+        except Stopped as stop:
+            ends.append(stop)
+    return ends, count
+
+
 def laid_over(last, line):
     """A line of the settings file over the setting at the script's end."""
     setting = dict(last)
@@ -103,7 +119,7 @@ def status_of(ends):
     return 6 if any(isinstance(end, Stopped) for end in ends) else 0
 
 
-def run_command(command, operands, limit, fetch):
+def run_command(command, operands, limit, warm, fetch):
     if command == "trial":
         return trial(operands[0], limit)
     accepted = Accepted(fetch(operands[0]))
@@ -114,6 +130,9 @@ def run_command(command, operands, limit, fetch):
         ends = ends_of(accepted, accepted.events, limit)
         return status_of(ends), report.solved(accepted.problem, "solve", ends)
     settings = [laid_over(accepted.last, line) for line in settings_of(fetch(operands[1]))]
+    if command == "resolve" and warm:
+        ends, count = warm_ends_of(accepted, settings, limit)
+        return status_of(ends), report.solved(accepted.problem, "setting", ends) + f"warm {count}\n"
     if command == "resolve":
         ends = ends_of(accepted, settings, limit)
         return status_of(ends), report.solved(accepted.problem, "setting", ends)

@@ -3,7 +3,7 @@ from . import shapes
 from .faults import Stopped
 from .numbers import number
 from .reduce import Layout, TooLarge, Wide, ZeroDivisor, affine_map, fixed, reduced, stopped
-from .simplex import Reading, Run, Tableau
+from .simplex import Reading, Run, Tableau, WarmRun
 from .verify import verify
 
 FAULTS = (TooLarge, ZeroDivisor, Wide)
@@ -24,7 +24,7 @@ class Answer:
 class Session:
     def __init__(self, problem, verdict):
         self.problem = problem
-        self.map = None
+        self.map = self.columns = None
         if verdict.dpp:
             try:
                 self.map = affine_map(problem)
@@ -59,7 +59,9 @@ class Session:
             raise Stopped(27, f" {limit}")
         if end.kind == "wide":
             raise Stopped(26, f" pivot {end.pivots} row {end.row} column {end.column}")
-        reading = Reading(tableau, end)
+        return self.read(Reading(tableau, end), end)
+
+    def read(self, reading, end):
         answer = Answer(end.kind, reading.number)
         if end.kind != "infeasible":
             answer.point = self.arrays(reading.point())
@@ -70,15 +72,46 @@ class Session:
         return answer, reading
 
     def solve(self, setting, limit):
+        return self.solve_from(setting, limit, lambda program: self.answer(Tableau(program), limit))
+
+    def solve_from(self, setting, limit, found):
+        """The answer that is found to the program at the setting; the basic columns of an optimal one are kept."""
         self.fit(setting)
         try:
-            answer, reading = self.answer(Tableau(self.program(setting)), limit)
+            answer, reading = found(self.program(setting))
         except FAULTS as fault:
             raise stopped(self.problem, fault) from None
         if answer.kind != "unbounded":
             answer.weights = self.weights(reading)
+        if answer.kind == "optimal":
+            self.columns = list(reading.tableau.basis)
         verify(self.problem, setting, answer)
         return answer
+
+    def solve_warm(self, setting, limit):
+        """The answer from the columns that are kept, where there is one, else that of `solve`; and whether it is from them."""
+        warm = False
+
+        def found(program):
+            nonlocal warm
+            answer = self.warmed(program, limit)
+            warm = answer is not None
+            return answer or self.answer(Tableau(program), limit)
+
+        return self.solve_from(setting, limit, found), warm
+
+    def warmed(self, program, limit):
+        """The answer from the columns that are kept, or None."""
+        if self.map is None or self.columns is None:
+            return None
+        try:
+            tableau = Tableau(program)
+            if max(self.columns, default=0) >= tableau.plain:
+                return None
+            end = WarmRun(tableau, self.columns, limit).end
+            return None if end is None else self.read(Reading(tableau, end), end)
+        except FAULTS:
+            return None
 
     def weights(self, reading):
         """The exact multipliers of the graphs' rows."""

@@ -230,6 +230,39 @@ class Run:
         return None
 
 
+class WarmRun(Run):
+    """The run from columns that were basic in an earlier optimal answer, by the dual simplex. It ends optimal, or it fails, and `end` is None."""
+
+    def __init__(self, tableau, columns, limit):
+        self.tableau, self.limit, self.pivots = tableau, limit, 0
+        has_ended = len(columns) == tableau.count and self.install(columns) and self.costs_are_least() and self.repair()
+        self.end = End("optimal", self.pivots) if has_ended else None
+
+    def install(self, columns):
+        """Makes the columns basic."""
+        tableau, listed = self.tableau, set(columns)
+        for column in sorted(listed - set(tableau.basis)):
+            rows = (r for r in range(tableau.count) if tableau.basis[r] not in listed and tableau.rows[r].get(column, 0))
+            row = next(rows, None)
+            if row is None or self.pivot(row, column):
+                return False
+        return True
+
+    def costs_are_least(self):
+        return self.entering(self.tableau.count) is None
+
+    def repair(self):
+        """Pivots until no right side is negative."""
+        tableau = self.tableau
+        while negative := [r for r in range(tableau.count) if tableau.rows[r].get(tableau.right, 0) < 0]:
+            row = min(negative, key=lambda r: tableau.basis[r])
+            costs = tableau.rows[tableau.count]
+            ratios = [(Fraction(abs(costs.get(c, 0)), -v), c) for c, v in tableau.rows[row].items() if v < 0 and c < tableau.plain]
+            if not ratios or self.pivot(row, min(ratios)[1]):
+                return False
+        return True
+
+
 class Reading:
     """The numbers at the last basis."""
 

@@ -49,6 +49,13 @@ pub record HasParts (q : tab.Program) (a : LpAnswer) : Type 0 where
   pub ray : a.status ≡ status.Unbounded → length a.ray ≡ length q.columns
   pub notes : length a.rows ≡ length q.rows
 
+-- the program is a reduced program of the problem, by rules that accept it, at a setting that fits
+pub record IsReducedAt (p : Problem) (s : Setting) (q : Program Frac) : Type 0 where
+  pub rules : Rules
+  pub accepted : IsTrue (accepted_by rules (convex_problem p))
+  pub fits : Fits p s
+  pub reduction : IsReductionAt rules p s (linear_program (rows_of q))
+
 -- the program is a reduced program of the problem at a setting that fits, and the answer is right for its integer rows
 pub record IsAnswered (p : Problem) (s : Setting) (q : Program Frac) (a : LpAnswer) : Type 0 where
   pub rules : Rules
