@@ -1,9 +1,9 @@
 -- What the steps show of the problem: what is found, and what stops.
 use Rattle.std.proofs.Common.{◌≡◌, ◌≢◌, ◌↔◌, ℕ, zero, suc, ◌+◌, ◌<◌, ◌≤◌, arith, Bool, true, IsTrue, List, [], ◌∷◌, All, length, take, replicate, inl, inr, refl, sym, ap, ◌∙◌, subst, ⊎_elim, pos, Some}
-use Rattle.std.specs.Prelude.{nat_eq, not, ◌||◌}
+use Rattle.std.specs.Prelude.{◌^◌, nat_eq, not, ◌||◌, map, sum_by}
 use Rattle.std.specs.List.{AllZip}
 use Rattle.std.proofs.lemmas.Bool.{cases_lt, and_from, or_right, eq-eqb, ne_eqb}
-use Rattle.std.proofs.lemmas.List.{take_all}
+use Rattle.std.proofs.lemmas.List.{take_all, length-map, length-append}
 use Rattle.std.proofs.lemmas.List.Elements.{All-nil, All-cons, All-weaker}
 use Rattle.dcx_math.specs.Rational.{whole}
 use Rattle.dcx_frac.specs.declared.fraction.Frac.{Frac}
@@ -14,30 +14,35 @@ use Rattle.dcx_point.specs.Pairs.{Pairs}
 use Rattle.dcx_convex.specs.Nodes.{Setting}
 use Rattle.dcx_tree.specs.declared.constraint.Constraint.{Constraint}
 use Rattle.dcx_tree.specs.declared.problem.Problem.{Problem}
-use Rattle.dcx_tree.specs.Meaning.{IsInfeasible}
+use Rattle.dcx_tree.specs.Meaning.{convex_constraint, IsInfeasible}
 use Rattle.dcx_linear.specs.Forms.{is_constant}
 use Rattle.dcx_lp_answer.specs.declared.answer.LpStatus.{LpStatus}
 use Rattle.dcx_lp_answer.specs.declared.answer.LpStatus.TheVariants as status
 use Rattle.dcx_lp_answer.specs.declared.answer.LpAnswer.{LpAnswer}
 use Rattle.dcx_lp_answer.specs.Multipliers.{passing_from}
 use Rattle.dcx_std.specs.GivenRows.{given}
+use Rattle.dcx_std.specs.Solutions.{row_at}
+use Rattle.dcx_unknowns.specs.Layout.{constraint_rows}
+use Rattle.dcx_mapping.specs.Programs.{gap_rows, bound_row}
 use Rattle.dcx_postsolve.specs.Duals.{all_multipliers, AreDuals, multipliers_in}
 use Rattle.dcx_solved.specs.Solved.{IsSolved}
 use Rattle.dcx_graph.specs.Program.{Program}
 use Rattle.dcx_iis.specs.declared.stop.FilterStop.{FilterStop}
 use Rattle.dcx_iis.specs.declared.stop.FilterStop.TheVariants as filter
+use Rattle.dcx_iis.specs.declared.filtered.Filtered.{Filtered}
+use Rattle.dcx_iis.specs.declared.filtered.Filtered.TheVariants as filtered
 use Rattle.dcx_iis.specs.declared.trying.Tried.TheVariants as tried
 use Rattle.dcx_iis.specs.declared.left.Left.{Left}
 use Rattle.dcx_iis.specs.Sets.{ConstraintSet, every_constraint, set_of, flagged, IsImpossible, left_beside, IsFilterSet}
 use Rattle.dcx_iis.specs.Steps.{kept_of, program_of_set, HasAnswer, IsReadIn, IsReadAt, IsLastImpossible, in_step, at_multiplier, StopsFilter}
-use Rattle.dcx_iis.specs.Found.{IsReducedAt, IsFeasiblePoint, KeepsOthers, IsIrreducible, AreFound}
+use Rattle.dcx_iis.specs.Found.{IsReducedAt, IsFeasiblePoint, KeepsOthers, IsIrreducible, IsRight, AreFound, IsFound}
 use Rattle.dcx_iis.specs.Multipliers.{HasShapeOf, AreSpread}
-use Rattle.dcx_iis.specs.Runs.{IsStep, IsTried, IsShownImpossible, IsDecided, numbers_from, IsLeft, StopsTrying, StopsRun}
+use Rattle.dcx_iis.specs.Runs.{IsStep, IsTried, IsShownImpossible, IsDecided, numbers_from, IsLeft, IsEnd, StopsTrying, StopsRun}
 use Rattle.dcx_iis.proofs.Sets.{beside_same, within_beside}
-use Rattle.dcx_iis.proofs.Kept.{kept_same, rows_same}
-use Rattle.dcx_iis.proofs.Shown.{zip_length, not_impossible, point_domain, point_keeps, shown_impossible, duals_show}
+use Rattle.dcx_iis.proofs.Kept.{kept_same, rows_same, gaps_length}
+use Rattle.dcx_iis.proofs.Shown.{zip_length, not_impossible, point_domain, point_keeps, shown_impossible, rows_noted, duals_show, rows_few}
 use Rattle.dcx_iis.proofs.Flags.{flagged_all, numbers_below, numbers_rise, among_is, zip_weaker}
-use Rattle.dcx_iis.proofs.Trying.{decided_same, read_same}
+use Rattle.dcx_iis.proofs.Going.{decided_same, read_same}
 
 -- each of some numbers is in their set
 all_among : (ms : List ℕ) → All (λ m. IsTrue (set_of ms m)) ms
@@ -78,7 +83,7 @@ module _ (p : Problem) (q : Program Frac) (limit : ℕ) where
 
     -- ---- stops
     pub tells_stop : (e : FilterStop) → StopsRun p q limit e → StopsFilter p s q limit e
-    tells_stop (filter.Step step stop) (inl h) = in_step record {
+    tells_stop (filter.Step step stop) (inl h) = in_step (record {
       set = h.set;
       within = h.within;
       impossible = λ b. impossible_of every_constraint (h.first b);
@@ -88,10 +93,10 @@ module _ (p : Problem) (q : Program Frac) (limit : ℕ) where
       some = h.some;
       stops = h.stops;
       told = h.told;
-    }
+    })
     tells_stop (filter.Step step stop) (inr h) =
         let (solved, is_step, none, same) = h.shown in
-        at_multiplier record {
+        at_multiplier (record {
           set = h.set;
           filter = record { impossible = impossible_of every_constraint h.first; stay = λ k l. stays_of h.set k (h.decided k l) };
           answers = answers_before h.set (length p.constraints) h.first h.decided;
@@ -102,7 +107,7 @@ module _ (p : Problem) (q : Program Frac) (limit : ℕ) where
           passes = h.passes;
           first = subst (λ (a : LpAnswer). passing_from 0 (all_multipliers status.Infeasible (kept_of h.set p.constraints) a.rows) ≡ Some (h.row, h.passes)) same h.passing;
           told = h.told;
-        }
+        })
     tells_stop filter.Memory h = tt
 
     -- ---- a feasible point
@@ -208,3 +213,38 @@ module _ (p : Problem) (q : Program Frac) (limit : ℕ) where
                   (subst (λ (a : LpAnswer). AreDuals a.status (kept_of kept p.constraints) a.rows made.0) same made.1)));
               read = zip_weaker (λ k. k < length p.constraints) (IsReadAt p q limit kept) (IsReadAt p q limit (set_of members)) (λ k point b r. read_same p q limit kept (set_of members) k point (beside k (omega (arith, b))) r) members l.points.items within points_read;
             }
+
+      -- the notes of the rows of what is left are there, and are few
+      pub left_noted : sum_by constraint_rows (kept_of kept p.constraints) ≤ length l.answer.rows
+      left_noted =
+          let (solved, step, none, same) = left.shown in
+          subst (λ (a : LpAnswer). sum_by constraint_rows (kept_of kept p.constraints) ≤ length a.rows) (sym same) (rows_noted p q limit kept solved step s is)
+
+      pub left_few : length l.answer.rows < 2 ^ 32
+      left_few =
+          let (solved, step, none, same) = left.shown in
+          subst (λ (a : LpAnswer). length a.rows < 2 ^ 32) (sym same) (rows_few p q limit kept solved step)
+
+      -- what is told is right, and is how it was found
+      pub end_right : (f : Filtered) → IsEnd p l f → IsRight p s f
+      end_right (filtered.Feasible point) h = absurd h
+      end_right (filtered.Infeasible ms duals gap points) (same, made, gap_is, points_are) =
+          subst (λ (xs : List ℕ). IsIrreducible p s xs duals gap points) (sym same)
+          (subst (λ (x : Frac). IsIrreducible p s members duals x points) (sym gap_is)
+          (subst (λ (xs : List Pairs). IsIrreducible p s members duals l.answer.number xs) (sym points_are) (irreducible duals made)))
+
+      pub end_found : (f : Filtered) → IsEnd p l f → IsFound p q limit f
+      end_found (filtered.Feasible point) h = absurd h
+      end_found (filtered.Infeasible ms duals gap points) (same, made, gap_is, points_are) =
+          subst (λ (xs : List ℕ). AreFound p q limit (set_of xs) xs duals gap points) (sym same)
+          (subst (λ (x : Frac). AreFound p q limit (set_of members) members duals x points) (sym gap_is)
+          (subst (λ (xs : List Pairs). AreFound p q limit (set_of members) members duals l.answer.number xs) (sym points_are) (are_found duals made)))
+
+-- a reduced program has the rows of all constraints
+pub rows_of_reduced : (p : Problem) (s : Setting) (q : Program Frac) → IsReducedAt p s q → sum_by constraint_rows p.constraints ≤ length q.rows
+rows_of_reduced p s q is =
+    let gaps = gap_rows is.reduction.reduced.forms (map convex_constraint p.constraints) in
+    let bounds = map bound_row is.reduction.reduced.rows in
+    let all : length q.rows ≡ sum_by constraint_rows p.constraints + length bounds =
+    sym (length-map q.rows row_at) ∙ ap length is.reduction.program.rows ∙ length-append gaps bounds ∙ ap (λ n. n + length bounds) (gaps_length is.reduction.reduced.forms p.constraints) in
+    omega (arith, all)

@@ -5,6 +5,8 @@ pub mod Telling
 pub mod Spread
 pub mod Shown
 pub mod Flags
-pub mod Trying
+pub mod Going
 pub mod Finding
+pub mod Loops
+pub mod Given
 pub mod Ends

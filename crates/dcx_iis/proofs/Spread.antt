@@ -62,21 +62,18 @@ module _ (set : ConstraintSet) where
   zero_multiplies AtMost = ≤ℚ_refl (whole (pos 0))
   zero_multiplies Equal = tt
 
-  AreSigned : List Constraint → Multipliers → Type 0
+  abbrev AreSigned : List Constraint → Multipliers → Type 0
   AreSigned cs m = (k : ℕ) (c : convex.Constraint) → slice_get (map convex_constraint cs) k ≡ Some c → (j : ℕ) → j < c.size → MayMultiply c.relation (m k j)
 
   head_signed : (b : Bool) (c : Constraint) (cs : List Constraint) (m : Multipliers) → AreSigned (one_if b c cs) m → (j : ℕ) → j < constraint_rows c → MayMultiply (convex_constraint c).relation (head_if b m j)
-  unfolding AreSigned
   head_signed true c cs m h j l = h 0 (convex_constraint c) refl j l
   head_signed false c cs m h j l = zero_multiplies (convex_constraint c).relation
 
   rest_signed : (b : Bool) (c : Constraint) (cs : List Constraint) (m : Multipliers) → AreSigned (one_if b c cs) m → AreSigned cs (rest_if b m)
-  unfolding AreSigned
   rest_signed true c cs m h = λ k d at. h (suc k) d at
   rest_signed false c cs m h = h
 
   spread_signed : (i : ℕ) (cs : List Constraint) (n m : Multipliers) → Spreads set i cs n m → AreSigned (kept_from set i cs) m → AreSigned cs n
-  unfolding AreSigned
   spread_signed i [] n m h signed k c e = absurd (none-some c e)
   spread_signed i (d ∷ cs) n m h signed zero c e =
       subst (λ (x : convex.Constraint). (j : ℕ) → j < x.size → MayMultiply x.relation (n 0 j)) (same_Some (convex_constraint d) c e)
@@ -86,7 +83,7 @@ module _ (set : ConstraintSet) where
 
   -- ---- lists of arrays
   -- arrays for all constraints, zeros outside the set, and the multipliers that are theirs in the set
-  Agree : ℕ → List Constraint → List Array → Multipliers → Type 0
+  abbrev Agree : ℕ → List Constraint → List Array → Multipliers → Type 0
   Agree i cs ys m = (k : ℕ) (c : Constraint) → slice_get (kept_from set i cs) k ≡ Some c → (j : ℕ) → j < constraint_rows c → m k j ≡ multipliers_in (kept_from set i ys) k j
 
   head_agrees : (b : Bool) (c : Constraint) (cs : List Constraint) (y : Array) (ys : List Array) (m : Multipliers) →
@@ -106,7 +103,6 @@ module _ (set : ConstraintSet) where
 
   arrays_spread : (i : ℕ) (cs : List Constraint) (ys : List Array) (m : Multipliers) → length ys ≡ length cs → Agree i cs ys m →
       ((k : ℕ) → ¬ IsTrue (set (i + k)) → (j : ℕ) → multipliers_in ys k j ≡ whole (pos 0)) → Spreads set i cs (multipliers_in ys) m
-  unfolding Agree
   arrays_spread i [] ys m n h z = tt
   arrays_spread i (c ∷ cs) [] m n h z = absurd (omega (arith, n))
   arrays_spread i (c ∷ cs) (y ∷ ys) m n h z = (
@@ -121,7 +117,6 @@ module _ (set : ConstraintSet) where
 pub spread_infeasible : (p : Problem) (s : Setting) (set : ConstraintSet) (ys : List Array) (m : Multipliers) (gap : ℚ) → length ys ≡ length p.constraints →
     ((k : ℕ) (c : Constraint) → slice_get (kept_of set p.constraints) k ≡ Some c → (j : ℕ) → j < constraint_rows c → m k j ≡ multipliers_in (kept_of set ys) k j) →
     ((k : ℕ) → ¬ IsTrue (set k) → (j : ℕ) → multipliers_in ys k j ≡ whole (pos 0)) → answers.IsInfeasible (only p set) s m gap → IsInfeasible p s (multipliers_in ys) gap
-unfolding Agree AreSigned
 spread_infeasible p s set ys m gap count agree zeros h =
     let spreads = arrays_spread set 0 p.constraints ys m count agree (λ k t. let q : 0 + k ≡ k = omega arith in zeros k (λ u. t (ap set q ∙ u))) in
     record {

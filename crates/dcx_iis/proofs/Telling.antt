@@ -11,7 +11,7 @@ use Rattle.dcx_convex.specs.Rules.{Rules, judgement_at}
 use Rattle.dcx_convex.specs.Problems as convex
 use Rattle.dcx_convex.specs.Problems.{accepted_by, may_be_objective, may_be_sides, objective_of}
 use Rattle.dcx_convex.specs.Answers as answers
-use Rattle.dcx_convex.specs.Reductions.{Unknowns, Reduced, IsReduction, IsWellFormed, Solves}
+use Rattle.dcx_convex.specs.Reductions.{Unknowns, IsReduction, IsWellFormed, Solves}
 use Rattle.dcx_convex.proofs.LawsHold.{reductions_map_back}
 use Rattle.dcx_convex.proofs.MapBack.{Projects, projects}
 use Rattle.dcx_convex.proofs.OneAnswer.{none_feasible}
@@ -81,13 +81,10 @@ all_kept {A} test f set i (x ∷ xs) h =
     by false rest t k = t
 
 module _ (p : Problem) (s : Setting) (q : Program Frac) (is : IsReducedAt p s q) (set : ConstraintSet) where
-  r : Reduced
-  r = is.reduction.reduced
-
   abbrev rules : Rules
   rules = is.rules
 
-  sides_taken : convex.Constraint → Bool
+  abbrev sides_taken : convex.Constraint → Bool
   sides_taken c = may_be_sides c.relation (judgement_at rules (convex_problem p).nodes c.left) (judgement_at rules (convex_problem p).nodes c.right)
 
   only_accepted : IsTrue (accepted_by rules (only p set))

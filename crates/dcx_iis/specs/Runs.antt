@@ -8,7 +8,8 @@ use Rattle.dcx_lp_answer.specs.declared.answer.LpStatus.TheVariants as status
 use Rattle.dcx_lp_answer.specs.declared.answer.LpAnswer.{LpAnswer}
 use Rattle.dcx_lp_answer.specs.Multipliers.{passing_from}
 use Rattle.dcx_std.specs.Solutions.{HasKinds}
-use Rattle.dcx_postsolve.specs.Duals.{all_multipliers}
+use Rattle.dcx_atom.specs.declared.array.Array.{Array}
+use Rattle.dcx_postsolve.specs.Duals.{all_multipliers, AreDuals}
 use Rattle.dcx_answer.specs.declared.stop.Stop.{Stop}
 use Rattle.dcx_answer.specs.declared.stop.Stop.TheVariants as stops
 use Rattle.dcx_answer.specs.declared.site.Site.TheVariants as sites
@@ -20,10 +21,13 @@ use Rattle.dcx_graph.specs.Program.{Program}
 use Rattle.dcx_graph.specs.Answers.{IsPointRead}
 use Rattle.dcx_iis.specs.declared.stop.FilterStop.{FilterStop}
 use Rattle.dcx_iis.specs.declared.stop.FilterStop.TheVariants as filter
+use Rattle.dcx_iis.specs.declared.filtered.Filtered.{Filtered}
+use Rattle.dcx_iis.specs.declared.filtered.Filtered.TheVariants as filtered
 use Rattle.dcx_iis.specs.declared.trying.Tried.{Tried}
 use Rattle.dcx_iis.specs.declared.trying.Tried.TheVariants as tried
 use Rattle.dcx_iis.specs.declared.left.Left.{Left}
 use Rattle.dcx_iis.specs.Sets.{ConstraintSet, every_constraint, flagged, left_beside}
+use Rattle.dcx_iis.specs.Multipliers.{AreSpread}
 use Rattle.dcx_iis.specs.Steps.{kept_of, program_of_set, step_set, IsReadAt, solve_stop, IsLastImpossible}
 
 -- ---- one step
@@ -77,6 +81,17 @@ pub record IsLeft (p : Problem) (q : Program Frac) (limit n : ℕ) (l : Left) : 
   pub shown : IsShownImpossible p q limit (flagged l.kept.items) l.answer
   pub last : IsLastImpossible n (flagged l.kept.items) l.step
   pub points : AllZip (IsReadAt p q limit (flagged l.kept.items)) (numbers_from 0 (take n l.kept.items)) l.points.items
+
+-- ---- the end
+-- the constraints that are kept have the multipliers of the last answer, and the others zeros
+abbrev pub AreDualsOf : Problem → Left → List Array → Type 0
+AreDualsOf p l duals =
+    (formed : List Array) × AreDuals l.answer.status (kept_of (flagged l.kept.items) p.constraints) l.answer.rows formed × AreSpread (flagged l.kept.items) p.constraints formed duals
+
+-- what is told of what is left
+abbrev pub IsEnd : Problem → Left → Filtered → Type 0
+IsEnd p l (filtered.Feasible point) = ⊥
+IsEnd p l (filtered.Infeasible members duals gap points) = (members ≡ numbers_from 0 l.kept.items) × AreDualsOf p l duals × (gap ≡ l.answer.number) × (points ≡ l.points.items)
 
 -- ---- stops
 -- the program of this step isn't solved, and those before it are

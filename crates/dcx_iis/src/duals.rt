@@ -54,12 +54,12 @@ fn next_dual(
     alloc: Global,
     constraint: &Constraint,
     kept: bool,
-    formed: &mut IntoIter<Array>,
+    rest: &mut IntoIter<Array>,
 ) -> Result<Array, AllocError>
-    ensures { IfOk result (TakesNext kept constraint.now (into_iter_items formed.old) (into_iter_items formed.new)) }
+    ensures { IfOk result (TakesNext kept constraint.now (into_iter_items rest.old) (into_iter_items rest.new)) }
 {
     if kept {
-        if let Some(array) = formed.next() {
+        if let Some(array) = rest.next() {
             return Ok(array);
         }
     }
@@ -71,16 +71,16 @@ fn spread(
     alloc: Global,
     constraints: &[Constraint],
     kept: &[bool],
-    formed: Duals,
+    arrays: Duals,
 ) -> Result<Duals, AllocError>
     requires flags { length kept.now ≡ length constraints.now }
-    requires shaped { AllZip HasShapeOf (kept_of (flagged kept.now) constraints.now) formed }
-    ensures { IfOk result (AreSpread (flagged kept.now) constraints.now formed) }
+    requires shaped { AllZip HasShapeOf (kept_of (flagged kept.now) constraints.now) arrays }
+    ensures { IfOk result (AreSpread (flagged kept.now) constraints.now arrays) }
 {
-    let mut formed = formed.into_vec().into_iter();
+    let mut rest = arrays.into_vec().into_iter();
     let mut duals = Vec::with_capacity(alloc, constraints.len())?;
     'constraints: for (index, constraint) in constraints.iter().enumerate() {
-        let array = next_dual(alloc, constraint, kept[index], &mut formed)?;
+        let array = next_dual(alloc, constraint, kept[index], &mut rest)?;
         duals.push(array)?;
     }
     Ok(Duals::from_vec(duals))

@@ -1,10 +1,12 @@
 //! Constraints that no point keeps together, though some point keeps all but any one of them.
-ghost use Rattle.std.specs.Prelude.{◌≡◌, ◌<◌, ◌≤◌, ◌^◌, length, sum_by, IfOk, IfErr};
+ghost use Rattle.std.specs.Prelude.{◌≡◌, ◌<◌, ◌≤◌, ◌^◌, ℕ, length, sum_by, IfOk, IfErr, OnOk};
 ghost use Rattle.dcx_unknowns.specs.Layout.{constraint_rows};
 ghost use Rattle.dcx_tree.specs.Meaning.{setting_of};
-ghost use Rattle.dcx_iis.specs.Steps.{StopsFilter};
+ghost use Rattle.dcx_graph.specs.Program.{Program};
+ghost use Rattle.dcx_iis.specs.Sets.{flagged};
+ghost use Rattle.dcx_iis.specs.Steps.{kept_of, StopsFilter};
 ghost use Rattle.dcx_iis.specs.Found.{IsReducedAt, IsRight, IsFound};
-ghost use Rattle.dcx_iis.specs.Runs.{numbers_from, IsLeft, IsEnd, StopsRun};
+ghost use Rattle.dcx_iis.specs.Runs.{numbers_from, AreDualsOf, IsLeft, IsEnd, StopsRun};
 
 use crate::duals::duals_kept;
 use crate::filtered::{Filtered, Members, Points};
@@ -33,8 +35,14 @@ fn members_of(alloc: Global, kept: &[bool]) -> Result<Members, AllocError>
     Ok(Members::from_vec(members))
 }
 
-/// The multipliers of all constraints, of which only members have others than 0.
-fn duals_left(alloc: Global, problem: &Problem, left: &Left) -> Result<Duals, FilterStop> {
+/// The multipliers of all constraints; those of constraints that are left out are 0.
+fn duals_left(alloc: Global, problem: &Problem, left: &Left) -> Result<Duals, FilterStop>
+    requires flags { length left.now.kept.items ≡ length problem.now.constraints }
+    requires rows { sum_by constraint_rows (kept_of (flagged left.now.kept.items) problem.now.constraints) ≤ length left.now.answer.rows }
+    requires few { length left.now.answer.rows < 2 ^ 32 }
+    ensures made { IfOk result (AreDualsOf problem.now left.now) }
+    ensures stops { (q : Program Frac) (limit : ℕ) → IsLeft problem.now q limit (length problem.now.constraints) left.now → IfErr result (StopsRun problem.now q limit) }
+{
     match duals_kept(alloc, problem.constraints.as_slice(), &left.kept, &left.answer) {
         Ok(duals) => Ok(duals),
         Err(MultiplierStop::Wide { row, passes }) => Err(FilterStop::Step {
@@ -46,7 +54,13 @@ fn duals_left(alloc: Global, problem: &Problem, left: &Left) -> Result<Duals, Fi
 }
 
 /// What is found once all constraints are tried.
-fn found(alloc: Global, problem: &Problem, left: Left) -> Result<Filtered, FilterStop> {
+fn found(alloc: Global, problem: &Problem, left: Left) -> Result<Filtered, FilterStop>
+    requires flags { length left.kept.items ≡ length problem.now.constraints }
+    requires rows { sum_by constraint_rows (kept_of (flagged left.kept.items) problem.now.constraints) ≤ length left.answer.rows }
+    requires few { length left.answer.rows < 2 ^ 32 }
+    ensures end { IfOk result (IsEnd problem.now left) }
+    ensures stops { (q : Program Frac) (limit : ℕ) → IsLeft problem.now q limit (length problem.now.constraints) left → IfErr result (StopsRun problem.now q limit) }
+{
     let duals = duals_left(alloc, problem, &left)?;
     let members = members_of(alloc, &left.kept)?;
     Ok(Filtered::Infeasible {
@@ -64,7 +78,12 @@ fn try_each(
     reduced: &Reduced<Frac>,
     limit: u64,
     left: &mut Left,
-) -> Result<(), FilterStop> {
+) -> Result<(), FilterStop>
+    requires rows { sum_by constraint_rows problem.now.constraints ≤ length reduced.now.program.rows }
+    requires left { IsLeft problem.now reduced.now.program limit 0 left.old }
+    ensures left { OnOk result (IsLeft problem.now reduced.now.program limit (length problem.now.constraints) left.new) }
+    ensures stops { IfErr result (StopsRun problem.now reduced.now.program limit) }
+{
     let count = problem.constraints.as_slice().len() as u32;
     'constraints: for constraint in 0..count {
         left.try_without(alloc, problem, reduced, limit, constraint)?;

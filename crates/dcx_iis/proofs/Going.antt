@@ -78,7 +78,7 @@ module _ (p : Problem) (q : Program Frac) (limit : ℕ) where
     try_stops (filter.Step step stop) (number, inner, some, stops, told) =
         let same : step_set (flagged l.kept.items) step ≡ flagged (set l.kept.items i false) =
         ap (step_set (flagged l.kept.items)) (let e : step ≡ suc i = omega (arith, number) in e) ∙ sym cleared in
-        inl record {
+        inl (record {
           set = flagged l.kept.items;
           within = omega (arith, number, there);
           first = λ b. is.first;
@@ -87,7 +87,7 @@ module _ (p : Problem) (q : Program Frac) (limit : ℕ) where
           some = some;
           stops = subst (λ set. Stops limit (program_of_set p q set) inner) (sym same) stops;
           told = told;
-        }
+        })
     try_stops filter.Memory h = tt
 
     -- ---- the constraint stays
