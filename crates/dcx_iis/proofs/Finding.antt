@@ -186,7 +186,7 @@ module _ (p : Problem) (q : Program Frac) (limit : ℕ) where
           shown = shows;
           shaped = made.2.shaped;
           outside = λ k t j. ⊎_elim (λ b. made.2.zeros k (λ u. t (agree k b ∙ u)) j) (λ b. let n = duals_count in past_duals duals k j (omega (arith, n, b))) (cases_lt k (length p.constraints));
-          points = zip_weaker (λ k. (k < length p.constraints) × IsTrue (set_of members k)) (IsReadAt p q limit kept) (KeepsOthers p s members) (λ k point b r. keeps_others k point b.0 b.1 r) members l.points.items each points_read;
+          others_kept = zip_weaker (λ k. (k < length p.constraints) × IsTrue (set_of members k)) (IsReadAt p q limit kept) (KeepsOthers p s members) (λ k point b r. keeps_others k point b.0 b.1 r) members l.points.items each points_read;
         }
 
         pub are_found : AreFound p q limit (set_of members) members duals l.answer.number l.points.items

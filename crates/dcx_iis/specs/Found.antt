@@ -55,7 +55,7 @@ pub record IsIrreducible (p : Problem) (s : Setting) (members : List ℕ) (duals
   pub shown : IsInfeasible p s (multipliers_in duals) (value gap)
   pub shaped : AllZip HasShapeOf p.constraints duals
   pub outside : (k : ℕ) → ¬ IsTrue (set_of members k) → (j : ℕ) → multipliers_in duals k j ≡ whole (pos 0)
-  pub points : AllZip (KeepsOthers p s members) members points
+  pub others_kept : AllZip (KeepsOthers p s members) members points
 
 abbrev pub IsRight : Problem → Setting → Filtered → Type 0
 IsRight p s (filtered.Feasible point) = IsFeasiblePoint p s point
