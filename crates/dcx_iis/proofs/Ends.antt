@@ -1,5 +1,5 @@
 -- The laws: the filter's set is minimal and one, programs tell of their sets, and the filter has one end.
-use Rattle.std.proofs.Common.{◌≡◌, ◌≢◌, ◌⊎◌, ℕ, zero, suc, ◌+◌, ◌<◌, ◌≤◌, arith, Bool, true, IsTrue, List, length, Option, Some, None, inl, inr, refl, sym, ap, ◌∙◌, subst, ⊎_elim}
+use Rattle.std.proofs.Common.{◌≡◌, ◌≢◌, ◌⊎◌, ℕ, zero, suc, ◌<◌, ◌≤◌, arith, List, length, inl, inr, refl, sym, ap, ◌∙◌, subst}
 use Rattle.std.proofs.lemmas.Bool.{cases_order}
 use Rattle.std.proofs.lemmas.Option.{none-some, same_Some}
 use Rattle.dcx_frac.specs.declared.fraction.Frac.{Frac}
@@ -25,14 +25,13 @@ use Rattle.dcx_solved.specs.Solved.{IsSolved, Stops}
 use Rattle.dcx_solved.proofs.OneSolution as one
 use Rattle.dcx_graph.specs.Program.{Program}
 use Rattle.dcx_iis.specs.declared.filtered.Filtered.TheVariants as filtered
-use Rattle.dcx_iis.specs.Sets.{ConstraintSet, every_constraint, set_of, KeepsSet, IsImpossible, StayBelow, IsFilterSet}
+use Rattle.dcx_iis.specs.Sets.{ConstraintSet, every_constraint, set_of, KeepsSet, StayBelow, IsFilterSet}
 use Rattle.dcx_iis.specs.Steps.{kept_of, program_of_set, step_set, solve_stop, HasAnswer, IsReadIn, IsLastImpossible, StopsInStep, StopsAtMultiplier, StopsAt, in_step, at_multiplier}
 use Rattle.dcx_iis.specs.Found.{IsFeasiblePoint, AreFound}
 use Rattle.dcx_iis.specs.Laws.{FilterSetsAreMinimal, FilterSetsAreOne, ProgramsTell, FoundOrStopped, StopsAreOne}
 use Rattle.dcx_iis.proofs.Sets.{beside_same, filter_set_is_minimal, one_filter_set, same_below}
 use Rattle.dcx_iis.proofs.Kept.{kept_same}
-use Rattle.dcx_iis.proofs.Telling.{only, solution_keeps, infeasible_only, only_impossible}
-use Rattle.dcx_iis.proofs.Finding.{program_same}
+use Rattle.dcx_iis.proofs.Telling.{only, solution_keeps, infeasible_only, only_impossible, program_same}
 use Rattle.dcx_mapping.specs.Programs.{multipliers_of}
 
 pub filter_sets_are_minimal : FilterSetsAreMinimal
@@ -123,8 +122,7 @@ module _ (p : Problem) (s : Setting) (q : Program Frac) (limit : ℕ) where
       let sets = one_filter_set p s h.set k.set h.filter k.filter in
       let answers = one_answer h.set k.set h.solved k.solved sets h.is_solved k.is_solved in
       let cs = kept_same h.set k.set 0 p.constraints (λ m a b. sets m (omega (arith, b))) in
-      let first = sym h.first ∙ ap (λ (xs : List Constraint). passing_from 0 (all_multipliers status.Infeasible xs h.solved.answer.rows)) cs ∙ ap (λ (a : LpAnswer). passing_from 0 (all_multipliers status.Infeasible (kept_of k.set p.constraints) a.rows)) answers ∙ k.first in
-      (
+      let first = sym h.first ∙ ap (λ (xs : List Constraint). passing_from 0 (all_multipliers status.Infeasible xs h.solved.answer.rows)) cs ∙ ap (λ (a : LpAnswer). passing_from 0 (all_multipliers status.Infeasible (kept_of k.set p.constraints) a.rows)) answers ∙ k.first in (
         last_same (length p.constraints) h.set k.set i j sets h.last k.last,
         h.told ∙ ap (λ (x : ℕ × Passes). stops.Wide (sites.Answer x.0 x.1)) (same_Some (h.row, h.passes) (k.row, k.passes) first) ∙ sym k.told,
       )

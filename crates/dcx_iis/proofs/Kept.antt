@@ -1,5 +1,5 @@
 -- Lists of the items of a set, and the rows of its constraints.
-use Rattle.std.proofs.Common.{◌≡◌, ◌⊎◌, ℕ, zero, suc, ◌+◌, ◌<◌, ◌≤◌, arith, Bool, true, false, if◌then◌else◌, IsTrue, List, [], ◌∷◌, ◌++◌, length, map, take, drop, get_or, Some, slice_get, inl, inr, refl, sym, ap, ap₂, ◌∙◌, subst, add-zero, append_assoc, append-nil, length-append}
+use Rattle.std.proofs.Common.{◌≡◌, ◌⊎◌, ℕ, zero, suc, ◌+◌, ◌<◌, ◌≤◌, arith, Bool, true, false, if◌then◌else◌, IsTrue, List, [], ◌∷◌, ◌++◌, length, map, take, drop, Some, slice_get, inl, inr, refl, sym, ap, ap₂, ◌∙◌, add-zero, append_assoc, length-append}
 use Rattle.std.specs.Prelude.{sum_by}
 use Rattle.std.proofs.lemmas.List.{map-append, take_at, drop_at}
 use Rattle.std.proofs.lemmas.List.Sums.{sum_by-cons}
@@ -11,7 +11,7 @@ use Rattle.dcx_convex.specs.Reductions.{Unknowns}
 use Rattle.dcx_tree.specs.declared.constraint.Constraint.{Constraint}
 use Rattle.dcx_tree.specs.Meaning.{convex_constraint}
 use Rattle.dcx_linear.specs.declared.row.Row.{Row}
-use Rattle.dcx_linear.specs.Widths.{form_width, rows_width}
+use Rattle.dcx_linear.specs.Widths.{rows_width}
 use Rattle.dcx_linear.specs.Rows.{RowAt}
 use Rattle.dcx_unknowns.specs.Layout.{constraint_rows}
 use Rattle.dcx_mapping.specs.Programs.{gap_row, gap_rows}

@@ -2,11 +2,4 @@
 pub mod Sets
 pub mod Kept
 pub mod Telling
-pub mod Spread
-pub mod Shown
-pub mod Flags
-pub mod Going
-pub mod Finding
-pub mod Loops
-pub mod Given
 pub mod Ends

@@ -1,6 +1,6 @@
 -- Sets of constraints: what is left beside a constraint, and the filter's set.
-use Rattle.std.proofs.Common.{◌≡◌, ◌↔◌, ◌⊎◌, ℕ, zero, suc, ◌<◌, ◌≤◌, arith, Bool, true, false, if◌then◌else◌, IsTrue, List, length, map, Some, slice_get, inl, inr, refl, sym, ap, ◌∙◌, subst, ⊎_elim}
-use Rattle.std.specs.Prelude.{nat_lt, nat_eq, not, ◌&&◌}
+use Rattle.std.proofs.Common.{◌≡◌, ◌↔◌, ◌⊎◌, ℕ, zero, suc, ◌<◌, ◌≤◌, arith, Bool, true, false, if◌then◌else◌, IsTrue, length, map, inl, inr, refl, sym, ap, ◌∙◌, subst, ⊎_elim}
+use Rattle.std.specs.Prelude.{nat_lt, nat_eq, not}
 use Rattle.std.proofs.Math.Path.{fun_ext}
 use Rattle.std.proofs.lemmas.Bool.{lt-ltb, le-ltb, cases_lt, cases_order, cases_Bool, and_parts, false≢true, eq-eqb}
 use Rattle.std.proofs.lemmas.List.{length-map}
@@ -128,5 +128,6 @@ module _ (p : Problem) (s : Setting) where
   same_below a b (suc n) h g k l =
       let before = same_below a b n (λ i m. h i (omega (arith, m))) (λ i m. g i (omega (arith, m))) in
       ⊎_elim (λ m. before k m) (λ m. subst (λ i. a i ≡ b i) (let e : n ≡ k = omega (arith, l, m) in e) (same_at a b n (h n (omega arith)) (g n (omega arith)) before)) (cases_lt k n)
+
   pub one_filter_set : (a b : ConstraintSet) → IsFilterSet p s a → IsFilterSet p s b → (k : ℕ) → k < length p.constraints → a k ≡ b k
   one_filter_set a b f g = same_below a b (length p.constraints) f.stay g.stay

@@ -1,6 +1,6 @@
 -- What the program of a set of constraints tells: solutions are points that keep the set, and multipliers that show that there is none
 -- are multipliers of the constraints.
-use Rattle.std.proofs.Common.{◌≡◌, ℕ, suc, ◌<◌, Bool, true, false, IsTrue, List, [], ◌∷◌, ◌++◌, length, map, Some, option_map, slice_get, refl, sym, ap, ◌∙◌, subst, zero-add}
+use Rattle.std.proofs.Common.{◌≡◌, ℕ, suc, ◌<◌, Bool, true, false, IsTrue, List, [], ◌∷◌, ◌++◌, length, map, Some, option_map, slice_get, refl, sym, ap, ◌∙◌, subst, zero-add, arith}
 use Rattle.std.specs.List.{list_all}
 use Rattle.std.proofs.lemmas.Bool.{and_parts, and_from}
 use Rattle.std.proofs.lemmas.Option.{slice_get-map}
@@ -13,24 +13,26 @@ use Rattle.dcx_convex.specs.Problems.{accepted_by, may_be_objective, may_be_side
 use Rattle.dcx_convex.specs.Answers as answers
 use Rattle.dcx_convex.specs.Reductions.{Unknowns, IsReduction, IsWellFormed, Solves}
 use Rattle.dcx_convex.proofs.LawsHold.{reductions_map_back}
-use Rattle.dcx_convex.proofs.MapBack.{Projects, projects}
+use Rattle.dcx_convex.proofs.MapBack.{projects}
 use Rattle.dcx_convex.proofs.OneAnswer.{none_feasible}
-use Rattle.dcx_tree.specs.declared.constraint.Constraint.{Constraint}
 use Rattle.dcx_tree.specs.declared.problem.Problem.{Problem}
 use Rattle.dcx_tree.specs.Meaning.{names_in, convex_problem, convex_constraint}
 use Rattle.dcx_tree.proofs.Lawful.{mapped, tree_lawful}
-use Rattle.dcx_linear.specs.Rows.{RowAt, LinearProgram, StandsTo, IsSolution, IsInfeasible}
+use Rattle.dcx_linear.specs.Rows.{LinearProgram, StandsTo, IsSolution, IsInfeasible}
 use Rattle.dcx_unknowns.specs.Unknowns.{point_at}
 use Rattle.dcx_mapping.specs.Programs.{gap_rows, bound_row, IsProgramOf, multipliers_of}
 use Rattle.dcx_mapping.proofs.Rows.{AllFrom, all_left, all_right, gaps_hold}
 use Rattle.dcx_mapping.proofs.LawsHold as program
+use Rattle.dcx_linear.specs.Forms.{is_constant}
+use Rattle.dcx_atom.specs.Formed.{zero_frac}
+use Rattle.dcx_std.specs.GivenRows.{given}
 use Rattle.dcx_std.specs.Solutions.{row_at, linear_program}
 use Rattle.dcx_graph.specs.Program.{Program}
 use Rattle.dcx_graph.proofs.Backward.{well_formed}
 use Rattle.dcx_iis.specs.Sets.{ConstraintSet, KeepsSet, IsImpossible}
 use Rattle.dcx_iis.specs.Steps.{kept_of, kept_from, rows_from, program_of_set}
 use Rattle.dcx_iis.specs.Found.{IsReducedAt}
-use Rattle.dcx_iis.proofs.Kept.{one_if, kept_at, kept_is, map-rows, rows_gaps}
+use Rattle.dcx_iis.proofs.Kept.{one_if, kept_at, kept_is, map-rows, rows_gaps, rows_same}
 
 -- the problem with the constraints of the set alone
 abbrev pub only : Problem → ConstraintSet → convex.Problem
@@ -147,3 +149,8 @@ module _ (p : Problem) (s : Setting) (q : Program Frac) (is : IsReducedAt p s q)
 
   pub only_impossible : (m : answers.Multipliers) (gap : ℚ) → answers.IsInfeasible (only p set) s m gap → IsImpossible p s set
   only_impossible m gap h x keeps = none_feasible (only p set) s m gap x h (keeps_feasible p set s x keeps)
+
+-- ---- one program
+-- sets that have the same constraints have one program
+pub program_same : (p : Problem) (q : Program Frac) (a b : ConstraintSet) → ((k : ℕ) → k < length p.constraints → a k ≡ b k) → program_of_set p q a ≡ program_of_set p q b
+program_same p q a b h = ap (λ rows. given q.kinds rows (is_constant zero_frac)) (rows_same a b 0 p.constraints q.rows (λ k l m. h k (omega (arith, m))))

@@ -1,5 +1,5 @@
 -- What holds of all sets of constraints, and of all ends of the filter.
-use Rattle.std.specs.Prelude.{◌≡◌, ◌≢◌, ◌&&◌, not, ℕ, ◌<◌, IsTrue, nat_eq, length}
+use Rattle.std.specs.Prelude.{◌≡◌, ◌&&◌, not, ℕ, ◌<◌, IsTrue, nat_eq, length}
 use Rattle.dcx_math.specs.Rational.{ℚ}
 use Rattle.dcx_frac.specs.declared.fraction.Frac.{Frac}
 use Rattle.dcx_convex.specs.Nodes.{Setting}

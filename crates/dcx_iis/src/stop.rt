@@ -1,9 +1,5 @@
 //! Why the filter has no answer.
-ghost use Rattle.std.specs.Prelude.{◌≡◌};
-ghost use Rattle.dcx_iis.specs.Steps.{solve_stop};
-
 use dcx_answer::Stop;
-use dcx_solved::SolveStop;
 use std::alloc::{AllocError, AllocFailed};
 
 /// Why the filter has no answer.
