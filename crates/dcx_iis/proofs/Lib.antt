@@ -1,0 +1,5 @@
+-- The lemmas.
+pub mod Sets
+pub mod Kept
+pub mod Telling
+pub mod Ends

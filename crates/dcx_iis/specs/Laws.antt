@@ -1,0 +1,51 @@
+-- What holds of all sets of constraints, and of all ends of the filter.
+use Rattle.std.specs.Prelude.{◌≡◌, ◌&&◌, not, ℕ, ◌<◌, IsTrue, nat_eq, length}
+use Rattle.dcx_math.specs.Rational.{ℚ}
+use Rattle.dcx_frac.specs.declared.fraction.Frac.{Frac}
+use Rattle.dcx_convex.specs.Nodes.{Setting}
+use Rattle.dcx_tree.specs.declared.problem.Problem.{Problem}
+use Rattle.dcx_linear.specs.FormTerms.{Unknowns}
+use Rattle.dcx_linear.specs.Rows.{IsSolution, IsInfeasible}
+use Rattle.dcx_unknowns.specs.Unknowns.{point_at}
+use Rattle.dcx_std.specs.Solutions.{linear_program}
+use Rattle.dcx_answer.specs.declared.stop.Stop.{Stop}
+use Rattle.dcx_graph.specs.Program.{Program}
+use Rattle.dcx_iis.specs.declared.filtered.Filtered.{Filtered}
+use Rattle.dcx_iis.specs.Sets.{ConstraintSet, KeepsSet, IsImpossible, IsFilterSet}
+use Rattle.dcx_iis.specs.Steps.{program_of_set, StopsAt}
+use Rattle.dcx_iis.specs.Found.{IsReducedAt, IsRight, IsFound}
+
+-- ---- sets
+-- the set without constraint k
+abbrev pub without : ConstraintSet → ℕ → ConstraintSet
+without set k i = set i && not (nat_eq i k)
+
+-- the filter's set is impossible, and is not without any one of its constraints
+pub record IsMinimal (p : Problem) (s : Setting) (set : ConstraintSet) : Type 0 where
+  pub impossible : IsImpossible p s set
+  pub needed : (k : ℕ) → k < length p.constraints → IsTrue (set k) → ¬ IsImpossible p s (without set k)
+
+abbrev pub FilterSetsAreMinimal : Type 0
+FilterSetsAreMinimal = (p : Problem) (s : Setting) (set : ConstraintSet) → IsFilterSet p s set → IsMinimal p s set
+
+-- a problem has one filter's set at a setting
+abbrev pub FilterSetsAreOne : Type 0
+FilterSetsAreOne = (p : Problem) (s : Setting) (a b : ConstraintSet) → IsFilterSet p s a → IsFilterSet p s b → (k : ℕ) → k < length p.constraints → a k ≡ b k
+
+-- ---- programs
+-- solutions of the program of a set are points that keep it, and multipliers that show that it has none show that the set is impossible
+pub record ProgramTells (p : Problem) (s : Setting) (q : Program Frac) (set : ConstraintSet) : Type 0 where
+  pub kept : (x : Unknowns) → IsSolution (linear_program (program_of_set p q set)) x → KeepsSet p s set (point_at p.variables x)
+  pub impossible : (gap : ℚ) (m : ℕ → ℚ) → IsInfeasible (linear_program (program_of_set p q set)) gap m → IsImpossible p s set
+
+abbrev pub ProgramsTell : Type 0
+ProgramsTell = (p : Problem) (s : Setting) (q : Program Frac) (set : ConstraintSet) → IsReducedAt p s q → ProgramTells p s q set
+
+-- ---- ends
+-- where something is found, no step stops and no multiplier passes
+abbrev pub FoundOrStopped : Type 0
+FoundOrStopped = (p : Problem) (s : Setting) (q : Program Frac) (limit step : ℕ) (found : Filtered) (stop : Stop) → IsRight p s found → IsFound p q limit found → ¬ StopsAt p s q limit step stop
+
+-- one step stops, with one stop
+abbrev pub StopsAreOne : Type 0
+StopsAreOne = (p : Problem) (s : Setting) (q : Program Frac) (limit step other : ℕ) (stop also : Stop) → StopsAt p s q limit step stop → StopsAt p s q limit other also → (step ≡ other) × (stop ≡ also)
