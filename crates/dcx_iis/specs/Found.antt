@@ -8,32 +8,19 @@ use Rattle.dcx_frac.specs.Frac.{value}
 use Rattle.dcx_atom.specs.declared.array.Array.{Array}
 use Rattle.dcx_point.specs.Pairs.{Pairs}
 use Rattle.dcx_convex.specs.Nodes.{Setting}
-use Rattle.dcx_convex.specs.Rules.{Rules}
-use Rattle.dcx_convex.specs.Problems.{accepted_by}
 use Rattle.dcx_tree.specs.declared.problem.Problem.{Problem}
-use Rattle.dcx_tree.specs.Meaning.{convex_problem, point_of, Fits, IsFeasible, IsInfeasible, IsDomainPoint}
+use Rattle.dcx_tree.specs.Meaning.{point_of, IsFeasible, IsInfeasible, IsDomainPoint}
 use Rattle.dcx_linear.specs.Terms.{IsRising}
-use Rattle.dcx_std.specs.Solutions.{linear_program}
 use Rattle.dcx_postsolve.specs.Duals.{AreDuals, multipliers_in}
 use Rattle.dcx_lp_answer.specs.declared.answer.LpStatus.TheVariants as status
 use Rattle.dcx_solved.specs.declared.solving.Solved.{Solved}
 use Rattle.dcx_solved.specs.Solved.{IsSolved}
 use Rattle.dcx_graph.specs.Program.{Program}
-use Rattle.dcx_graph.specs.AsLinear.{IsReductionAt}
-use Rattle.dcx_graph.specs.Answers.{rows_of}
 use Rattle.dcx_iis.specs.declared.filtered.Filtered.{Filtered}
 use Rattle.dcx_iis.specs.declared.filtered.Filtered.TheVariants as filtered
 use Rattle.dcx_iis.specs.Sets.{ConstraintSet, every_constraint, set_of, Keeps, IsFilterSet}
 use Rattle.dcx_iis.specs.Multipliers.{HasShapeOf}
 use Rattle.dcx_iis.specs.Steps.{kept_of, program_of_set, HasAnswer, IsReadIn, IsReadAt, IsLastImpossible}
-
--- ---- what is asked for
--- the rules accept the problem, the setting fits, and the program is a reduced program of the problem there
-pub record IsReducedAt (p : Problem) (s : Setting) (q : Program Frac) : Type 0 where
-  pub rules : Rules
-  pub accepted : IsTrue (accepted_by rules (convex_problem p))
-  pub fits : Fits p s
-  pub reduction : IsReductionAt rules p s (linear_program (rows_of q))
 
 -- ---- in words of the problem
 -- the point has an array for each variable, is in the domain, and is feasible
