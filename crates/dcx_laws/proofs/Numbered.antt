@@ -1,6 +1,6 @@
 -- A difference has the numbers of the sum with the negative.
-use Rattle.std.proofs.Common.{◌≡◌, ℕ, zero, suc, ◌<◌, nat_lt, Bool, true, false, true≢false, if◌then◌else◌, List, [], ◌∷◌, length, Option, Some, None, Result, Ok, Err, pos, ◌||◌, get_or, refl, sym, ap, ap₂, subst, ◌∙◌}
-use Rattle.std.specs.List.{list_all}
+use Rattle.std.proofs.Common.{◌≡◌, ℕ, zero, suc, ◌<◌, nat_lt, Bool, true, false, true≢false, if◌then◌else◌, List, [], ◌∷◌, length, Option, Some, None, Result, Ok, Err, pos, get_or, refl, sym, ap, ap₂, subst, ◌∙◌}
+use Rattle.std.specs.List.{list_all, list_any}
 use Rattle.std.proofs.lemmas.Option.{same_Some}
 use Rattle.dcx_math.specs.Rational.{ℚ, whole, neg_ℚ}
 use Rattle.dcx_frac.specs.declared.fraction.Frac.{Frac}
@@ -57,7 +57,7 @@ module _ (setting point : Given) where
   -- ---- operands that are there
   standing-in_list : (vs : List Value) (i : ℕ) → list_reading vs ≡ operand (standing i) → ⊥
   standing-in_list [] i e = cc
-  standing-in_list (v ∷ vs) i e = by (list_all is_number (v ∷ vs)) (list_all (λ u. is_number u || is_list u) (v ∷ vs)) (vector_of (v ∷ vs)) e
+  standing-in_list (v ∷ vs) i e = by (list_all is_number (v ∷ vs)) (list_any is_list (v ∷ vs)) (vector_of (v ∷ vs)) e
     where
       by : (b c : Bool) (o : Option Array) → (if b then or_unfit o else (if c then nested else unfit)) ≡ operand (standing i) → ⊥
       by true c (Some a) f = cc
