@@ -1,11 +1,11 @@
 -- Of each atom that certificates show, a program that is laid out has as many rows as are shown.
-use Rattle.std.proofs.Common.{◌≡◌, ℕ, zero, suc, ◌+◌, ◌<◌, ◌≤◌, Bool, true, false, List, [], ◌∷◌, ◌++◌, length, map, Option, Some, None, Ok, refl, sym, ap, ap₂, ◌∙◌, subst, arith, zero-add}
+use Rattle.std.proofs.Common.{◌≡◌, ℕ, zero, suc, ◌+◌, ◌<◌, ◌≤◌, Bool, true, false, List, [], ◌∷◌, ◌++◌, length, map, Option, Some, None, Ok, refl, sym, ap, ap₂, ◌∙◌, subst, arith}
 use Rattle.std.specs.Prelude.{slice_get, if◌then◌else◌, Result}
 use Rattle.std.specs.List.{All, flat_map, range_with_len, zip, filter_map}
-use Rattle.std.proofs.lemmas.List.{map-id, append-nil, length-map}
-use Rattle.std.proofs.lemmas.List.FromFn.{map-range_with_len_more}
+use Rattle.std.proofs.lemmas.List.{append-nil, length-map}
 use Rattle.std.proofs.lemmas.List.Elements.{All-nil, All-cons, All-head, All-tail, All-append}
 use Rattle.std.proofs.lemmas.Grind.{flat_map-append}
+use Rattle.dcx_outline.proofs.Rows.{range_more}
 use Rattle.dcx_frac.specs.declared.fraction.Frac.{Frac}
 use Rattle.dcx_frac.specs.declared.fraction.Passes.{Passes}
 use Rattle.dcx_shape.specs.Sides.{entries_of}
@@ -30,9 +30,6 @@ use Rattle.dcx_build.specs.Origins.{entry_count, node_rows, graph_origins}
 use Rattle.dcx_build.specs.Weights.{graph_multiplier, note_of, formed_weights, atom_multipliers, AreWeights}
 use Rattle.dcx_build.proofs.Counts.{rows_in, notes_counted, joined, none_of, atom_rows, others_in, one_of_all}
 use Rattle.dcx_build.proofs.Fixed.{unfixed_is_reduced}
-
-range_more : (k : ℕ) → range_with_len 0 (k + 1) ≡ range_with_len 0 k ++ k ∷ []
-range_more k = sym (map-id (range_with_len 0 (k + 1))) ∙ map-range_with_len_more (λ (x : ℕ). x) 0 k k (zero-add k) ∙ ap (λ xs. xs ++ k ∷ []) (map-id (range_with_len 0 k))
 
 -- a node with how many there are
 abbrev long : ℕ × List (Result Frac Passes) → ℕ × ℕ

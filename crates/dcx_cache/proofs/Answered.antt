@@ -1,29 +1,30 @@
 -- What is read from an answer of the session's rows is right for the problem.
-use Rattle.std.proofs.Common.{ℕ, IsTrue, [], Ok, sym, ◌∙◌}
+use Rattle.std.proofs.Common.{ℕ, [], Result, Ok, Err, IfOk, OnOk, sym, ◌∙◌}
 use Rattle.dcx_frac.specs.declared.fraction.Frac.{Frac}
 use Rattle.dcx_point.specs.Pairs.{Pairs}
-use Rattle.dcx_convex.specs.Rules.{Rules, Plain, Parametrized}
-use Rattle.dcx_convex.specs.Problems.{accepted_by}
+use Rattle.dcx_convex.specs.Rules.{Plain, Parametrized}
 use Rattle.dcx_tree.specs.declared.problem.Problem.{Problem}
-use Rattle.dcx_tree.specs.Meaning.{convex_problem, IsAccepted, IsFitting, setting_of}
+use Rattle.dcx_tree.specs.Meaning.{IsAccepted, IsFitting, setting_of}
+use Rattle.dcx_answer.specs.declared.stop.Stop.{Stop}
 use Rattle.dcx_fit.specs.Fit.{FitsParameters}
 use Rattle.dcx_quotients.proofs.LawsHold.{formed_are_fitting}
 use Rattle.dcx_tab.specs.declared.program.Program as tab
 use Rattle.dcx_tab.specs.Table.{Table}
 use Rattle.dcx_lp_answer.specs.declared.answer.LpAnswer.{LpAnswer}
+use Rattle.dcx_lp_answer.specs.Right.{IsRight}
 use Rattle.dcx_simplex.specs.declared.run.LpEnd.{LpEnd}
 use Rattle.dcx_simplex.specs.declared.run.LpEnd.TheVariants as ends
 use Rattle.dcx_simplex.specs.Reading.{IsRead as IsReadAt}
-use Rattle.dcx_std.specs.Solutions.{linear_program}
+use Rattle.dcx_std.specs.IntegerRows.{IsMade}
 use Rattle.dcx_solved.specs.declared.solving.Solved.{Solved}
 use Rattle.dcx_solved.specs.Solved.{IsSolved}
 use Rattle.dcx_graph.specs.Program.{Program}
-use Rattle.dcx_graph.specs.AsLinear.{IsReductionAt}
+use Rattle.dcx_graph.specs.Reduced.{Reduction}
 use Rattle.dcx_graph.specs.Answers.{rows_of, HasParts, IsAnswered}
 use Rattle.dcx_graph.proofs.Correct.{numbers_are_reductions, affine_are_reductions, affine_are_known}
 use Rattle.dcx_graph.proofs.AtSetting.{fixed_are_reductions}
 use Rattle.dcx_graph.proofs.Mapped.{read_right}
-use Rattle.dcx_cache.specs.Programs.{SessionGives, mapped, anew}
+use Rattle.dcx_cache.specs.Programs.{SessionGives, mapped, anew, IsReducedAt}
 use Rattle.dcx_cache.specs.Laws.{AnswersAreRight}
 use Rattle.dcx_cache.proofs.Arrays.{have_arrays}
 
@@ -36,15 +37,9 @@ parts_of q t (ends.Wide n r c) a h = absurd h
 parts_of q t (ends.PivotLimit n) a h = absurd h
 
 -- ---- a program of the session
--- by some rules the problem is accepted, the setting fits it, and the program is a reduced program there
-record IsSound (p : Problem) (setting : Pairs) (q : Program Frac) : Type 0 where
-  rules : Rules
-  accepted : IsTrue (accepted_by rules (convex_problem p))
-  fitting : IsFitting p setting
-  reduction : IsReductionAt rules p (setting_of p setting) (linear_program (rows_of q))
-
 module _ (p : Problem) (setting : Pairs) (ok : IsAccepted p) (fits : FitsParameters p.parameters setting) where
-  sound : (q : Program Frac) → SessionGives p setting (Ok q) → IsSound p setting q
+  -- it is a reduced program there
+  pub sound : (q : Program Frac) → SessionGives p setting (Ok q) → IsReducedAt p setting q
   sound q (mapped map m f) = record {
     rules = Parametrized;
     accepted = m.dpp.1;
@@ -59,22 +54,31 @@ module _ (p : Problem) (setting : Pairs) (ok : IsAccepted p) (fits : FitsParamet
     reduction = numbers_are_reductions p setting q (setting_of p setting) ok h;
   }
 
-  -- the answer of its rows can be read
-  pub is_answered : (limit : ℕ) (q : Program Frac) (s : Solved) → SessionGives p setting (Ok q) → IsSolved limit (rows_of q) s → IsAnswered p (setting_of p setting) q s.answer
-  is_answered limit q s g h = let w = sound q g in record {
+  -- an answer of its rows can be read that has the parts and is right
+  pub answered_by : (q : Program Frac) (i : tab.Program) (a : LpAnswer) → SessionGives p setting (Ok q) → IsMade (rows_of q) i → HasParts i a → IsRight i a → IsAnswered p (setting_of p setting) q a
+  answered_by q i a g made parts right = let w = sound q g in record {
     rules = w.rules;
     accepted = w.accepted;
     fits = w.fitting.fits;
     reduction = w.reduction;
-    integer = s.program;
-    made = h.made;
-    parts = parts_of s.program _ h.solved.end s.answer h.solved.read;
-    right = h.solved.right;
+    integer = i;
+    made = made;
+    parts = parts;
+    right = right;
   }
+
+  -- so can the answer of the run
+  pub is_answered : (limit : ℕ) (q : Program Frac) (s : Solved) → SessionGives p setting (Ok q) → IsSolved limit (rows_of q) s → IsAnswered p (setting_of p setting) q s.answer
+  is_answered limit q s g h = answered_by q s.program s.answer g h.made (parts_of s.program _ h.solved.end s.answer h.solved.read) h.solved.right
 
   -- and the setting fits
   pub is_fitting : (q : Program Frac) → SessionGives p setting (Ok q) → IsFitting p setting
   is_fitting q g = (sound q g).fitting
+
+pub reduced_at : (p : Problem) (setting : Pairs) (r : Result (Reduction Frac) Stop) → IsAccepted p → OnOk r (FitsParameters p.parameters setting) → IfOk r (λ x. SessionGives p setting (Ok x.program)) →
+    IfOk r (λ x. IsReducedAt p setting x.program)
+reduced_at p setting (Ok x) ok fits g = sound p setting ok fits x.program g
+reduced_at p setting (Err e) ok fits g = tt
 
 pub answers_are_right : AnswersAreRight
 answers_are_right p setting limit a ok (q, s, h) =

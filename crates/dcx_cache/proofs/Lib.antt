@@ -7,3 +7,5 @@ pub mod Given
 pub mod Stopped
 pub mod OneEnd
 pub mod Agreeing
+pub mod Basics
+pub mod WarmRuns

@@ -89,13 +89,13 @@ read_or_stopped p q a x (reads.Wide s) n h k = (readings_are_one p q.kinds a).ne
 read_or_stopped p q a x reads.Memory n h k = n refl
 
 module _ (p : Problem) (setting : Pairs) (limit : ℕ) where
-  apart : (q : Program Frac) (e : ReduceStop) → SessionGives p setting (Ok q) → SessionGives p setting (Err e) → ⊥
-  apart q e g h = never_both q e (one_program p setting (Ok q) (Err e) g h)
+  pub program_apart : (q : Program Frac) (e : ReduceStop) → SessionGives p setting (Ok q) → SessionGives p setting (Err e) → ⊥
+  program_apart q e g h = never_both q e (one_program p setting (Ok q) (Err e) g h)
 
-  same_program : (q r : Program Frac) → SessionGives p setting (Ok q) → SessionGives p setting (Ok r) → q ≡ r
+  pub same_program : (q r : Program Frac) → SessionGives p setting (Ok q) → SessionGives p setting (Ok r) → q ≡ r
   same_program q r g h = same_ok q r (one_program p setting (Ok q) (Ok r) g h)
 
-  solved_by : (q r : Program Frac) (s : Solved) → q ≡ r → IsSolved limit (rows_of r) s → IsSolved limit (rows_of q) s
+  pub solved_by : (q r : Program Frac) (s : Solved) → q ≡ r → IsSolved limit (rows_of r) s → IsSolved limit (rows_of q) s
   solved_by q r s e h = subst (λ (z : Program Frac). IsSolved limit (rows_of z) s) (sym e) h
 
   one_answer_of : (q r : Program Frac) (s t : Solved) → SessionGives p setting (Ok q) → SessionGives p setting (Ok r) → IsSolved limit (rows_of q) s → IsSolved limit (rows_of r) t → s.answer ≡ t.answer
@@ -103,27 +103,27 @@ module _ (p : Problem) (setting : Pairs) (limit : ℕ) where
 
   same_stop : (e f : Stop) → StopsAt p setting limit e → StopsAt p setting limit f → e ≡ f
   same_stop e f (at_program a g is) (at_program b h also) = is ∙ ap program_stop (same_err a b (one_program p setting (Err a) (Err b) g h)) ∙ sym also
-  same_stop e f (at_program a g is) (at_run q h b n k also) = absurd (apart q a h g)
-  same_stop e f (at_program a g is) (at_reading q h s k b n l also) = absurd (apart q a h g)
-  same_stop e f (at_run q h b n k also) (at_program a g is) = absurd (apart q a h g)
+  same_stop e f (at_program a g is) (at_run q h b n k also) = absurd (program_apart q a h g)
+  same_stop e f (at_program a g is) (at_reading q h s k b n l also) = absurd (program_apart q a h g)
+  same_stop e f (at_run q h b n k also) (at_program a g is) = absurd (program_apart q a h g)
   same_stop e f (at_run q g a n h is) (at_run r k b m l also) =
       let same = same_program q r g k in
       is ∙ ap run_stop (stops_are_one limit (rows_of q) a b h (subst (λ (z : Program Frac). RowsStop limit (rows_of z) b) (sym same) l) n m) ∙ sym also
   same_stop e f (at_run q g a n h is) (at_reading r k s l b m o also) = absurd (n (solved_or_stopped limit (rows_of q) s a (solved_by q r s (same_program q r g k) l) h))
-  same_stop e f (at_reading q h s k b n l also) (at_program a g is) = absurd (apart q a h g)
+  same_stop e f (at_reading q h s k b n l also) (at_program a g is) = absurd (program_apart q a h g)
   same_stop e f (at_reading r k s l b m o also) (at_run q g a n h is) = absurd (n (solved_or_stopped limit (rows_of q) s a (solved_by q r s (same_program q r g k) l) h))
   same_stop e f (at_reading q g s h a n k is) (at_reading r l t o b m x also) =
       is ∙ ap reading_stop (one_reading_stop p q s.answer a b n m k (subst (λ (z : LpAnswer). StopsReading p z b) (sym (one_answer_of q r s t g l h o)) x)) ∙ sym also
 
   -- where there is an answer, no part of the way stops
   answered_or_stopped : (a : Answer) (e : Stop) (q : Program Frac) (s : Solved) → IsAnswerOf p setting limit q s a → StopsAt p setting limit e → ⊥
-  answered_or_stopped a e q s x (at_program b g is) = apart q b x.program g
+  answered_or_stopped a e q s x (at_program b g is) = program_apart q b x.program g
   answered_or_stopped a e q s x (at_run r g b n h is) = n (solved_or_stopped limit (rows_of r) s b (solved_by r q s (same_program r q g x.program) x.is_solved) h)
   answered_or_stopped a e q s x (at_reading r g t h b n k is) =
       read_or_stopped p q s.answer a b n x.read (subst (λ (z : LpAnswer). StopsReading p z b) (sym (one_answer_of q r s t x.program g x.is_solved h)) k)
 
   -- one answer
-  same_answer : (a b : Answer) (q r : Program Frac) (s t : Solved) → IsAnswerOf p setting limit q s a → IsAnswerOf p setting limit r t b → IsSameAnswer p a b
+  pub same_answer : (a b : Answer) (q r : Program Frac) (s t : Solved) → IsAnswerOf p setting limit q s a → IsAnswerOf p setting limit r t b → IsSameAnswer p a b
   same_answer a b q r s t x y =
       let kinds = ap (λ (z : Program Frac). z.kinds) (same_program q r x.program y.program) in
       let answer = one_answer_of q r s t x.program y.program x.is_solved y.is_solved in
@@ -142,7 +142,7 @@ module _ (p : Problem) (setting : Pairs) (limit : ℕ) where
   parted (why.PivotLimit count) n h = inr h
   parted why.Memory n h = absurd (n refl)
 
-  unfit : (e : Stop) → IsFirstMisfit p.parameters setting e → FitsParameters p.parameters setting → ⊥
+  pub unfit : (e : Stop) → IsFirstMisfit p.parameters setting e → FitsParameters p.parameters setting → ⊥
   unfit e m f = stops_hold.unfit p.parameters setting e m f
 
   one_stop : (e f : Stop) → e ≢ why.Memory → f ≢ why.Memory → IsFirstMisfit p.parameters setting e ⊎ IsStopped p setting limit e → IsFirstMisfit p.parameters setting f ⊎ IsStopped p setting limit f → e ≡ f
@@ -155,7 +155,7 @@ module _ (p : Problem) (setting : Pairs) (limit : ℕ) where
   no_stop a e q s x (inl h) = unfit e h x.fits
   no_stop a e q s x (inr h) = answered_or_stopped a e q s x h.stops
 
-memory_or : (e : Stop) → (e ≡ why.Memory) ⊎ (e ≢ why.Memory)
+pub memory_or : (e : Stop) → (e ≡ why.Memory) ⊎ (e ≢ why.Memory)
 memory_or (why.UnknownParam name) = inr (λ d. cc)
 memory_or (why.MissingParam name) = inr (λ d. cc)
 memory_or (why.ParamShape name declared given) = inr (λ d. cc)

@@ -18,13 +18,14 @@ use Rattle.dcx_graph.specs.Program.{Program}
 use Rattle.dcx_graph.specs.Reduced.{Reduction}
 use Rattle.dcx_graph.specs.Reducing.{OrMemory}
 use Rattle.dcx_graph.specs.Answers.{rows_of, StopsReading}
-use Rattle.dcx_cache.specs.Programs.{SessionGives}
+use Rattle.dcx_cache.specs.Programs.{SessionGives, ProgramStops}
 use Rattle.dcx_cache.specs.Answers.{at_program, at_run, at_reading, Stops}
 use Rattle.dcx_cache.specs.Stops.{program_stop, run_stop, reading_stop}
 
-module _ (p : Problem) (setting : Pairs) (limit : ℕ) where
-  -- the first misfit
-  pub misfit_stops : (e : Stop) → IsFirstMisfit p.parameters setting e → Stops p setting limit e
+-- ---- the program
+module _ (p : Problem) (setting : Pairs) where
+  -- the first misfit stops it
+  pub misfit_stops : (e : Stop) → IsFirstMisfit p.parameters setting e → ProgramStops p setting e
   misfit_stops (why.UnknownParam name) h = h
   misfit_stops (why.MissingParam name) h = h
   misfit_stops (why.ParamShape name declared given) h = h
@@ -35,13 +36,27 @@ module _ (p : Problem) (setting : Pairs) (limit : ℕ) where
   misfit_stops (why.PivotLimit count) h = absurd h
   misfit_stops why.Memory h = tt
 
-  module _ (fits : FitsParameters p.parameters setting) where
-    pub program_stops : (e : ReduceStop) → OrMemory {A = Reduction Frac} (Err e) (λ x. x.program) (SessionGives p setting) → Stops p setting limit (program_stop e)
-    program_stops (reduces.TooLarge rows columns) h = record { fits = fits; stops = at_program (reduces.TooLarge rows columns) h refl }
-    program_stops (reduces.ZeroDivisor node entry) h = record { fits = fits; stops = at_program (reduces.ZeroDivisor node entry) h refl }
-    program_stops (reduces.Wide site) h = record { fits = fits; stops = at_program (reduces.Wide site) h refl }
-    program_stops reduces.Memory h = tt
+  pub program_stops : FitsParameters p.parameters setting → (e : ReduceStop) → OrMemory {A = Reduction Frac} (Err e) (λ x. x.program) (SessionGives p setting) → ProgramStops p setting (program_stop e)
+  program_stops fits (reduces.TooLarge rows columns) h = record { fits = fits; stops = h }
+  program_stops fits (reduces.ZeroDivisor node entry) h = record { fits = fits; stops = h }
+  program_stops fits (reduces.Wide site) h = record { fits = fits; stops = h }
+  program_stops fits reduces.Memory h = tt
 
+-- ---- the setting
+module _ (p : Problem) (setting : Pairs) (limit : ℕ) where
+  -- what stops the program
+  pub setting_stops : (e : Stop) → ProgramStops p setting e → Stops p setting limit e
+  setting_stops (why.UnknownParam name) h = h
+  setting_stops (why.MissingParam name) h = h
+  setting_stops (why.ParamShape name declared given) h = h
+  setting_stops (why.ParamSign name entry value) h = h
+  setting_stops (why.TooLarge rows columns) h = record { fits = h.fits; stops = at_program (reduces.TooLarge rows columns) h.stops refl }
+  setting_stops (why.ZeroDivisor node entry) h = record { fits = h.fits; stops = at_program (reduces.ZeroDivisor node entry) h.stops refl }
+  setting_stops (why.Wide site) h = record { fits = h.fits; stops = at_program (reduces.Wide site) h.stops refl }
+  setting_stops (why.PivotLimit count) h = absurd h
+  setting_stops why.Memory h = tt
+
+  module _ (fits : FitsParameters p.parameters setting) where
     module _ (q : Program Frac) (g : SessionGives p setting (Ok q)) where
       pub run_stops : (e : SolveStop) → RowsStop limit (rows_of q) e → Stops p setting limit (run_stop e)
       run_stops (solves.TooLarge rows columns) h = record { fits = fits; stops = at_run q g (solves.TooLarge rows columns) (λ d. cc) h refl }

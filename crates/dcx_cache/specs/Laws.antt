@@ -1,5 +1,5 @@
 -- What holds of all answers of sessions.
-use Rattle.std.specs.Prelude.{◌≡◌, ◌≢◌, ⊤, ℕ, ◌+◌, ◌^◌, ◌<◌, length, Result, Ok, Err}
+use Rattle.std.specs.Prelude.{◌≡◌, ◌≢◌, ⊤, ℕ, ◌+◌, ◌^◌, ◌<◌, List, [], ◌∷◌, length, Option, Result, Ok, Err}
 use Rattle.dcx_frac.specs.Frac.{value}
 use Rattle.dcx_point.specs.Pairs.{Pairs}
 use Rattle.dcx_tree.specs.declared.problem.Problem.{Problem}
@@ -14,8 +14,10 @@ use Rattle.dcx_tab.specs.declared.program.Program as tab
 use Rattle.dcx_std.specs.IntegerRows.{IsMade}
 use Rattle.dcx_graph.specs.Program.{Program}
 use Rattle.dcx_graph.specs.Answers.{rows_of, IsRightFor, IsSameAnswer}
+use Rattle.dcx_cache.specs.declared.rewarming.Warmed.{Warmed}
 use Rattle.dcx_cache.specs.Programs.{SessionGives}
 use Rattle.dcx_cache.specs.Answers.{Answers}
+use Rattle.dcx_cache.specs.Warm.{WarmAnswers, WarmAnswersAll}
 
 -- where a setting is answered, it fits, and the answer is right for the problem there
 abbrev pub AnswersAreRight : Type 0
@@ -58,3 +60,52 @@ Agree _ _ = ⊥
 -- however they were found, as from a map and from a fresh reduction
 abbrev pub RightAnswersAgree : Type 0
 RightAnswersAgree = (p : Problem) (s : Setting) (a b : Answer) → IsRightFor p s a → IsRightFor p s b → Agree a b
+
+-- ---- from the columns of an earlier answer
+-- where a setting is answered from what is kept, it fits, and the answer is right for the problem there
+abbrev pub WarmAnswersAreRight : Type 0
+WarmAnswersAreRight = (p : Problem) (setting : Pairs) (limit : ℕ) (before : Option (List ℕ)) (w : Warmed) (after : Option (List ℕ)) → IsAccepted p → WarmAnswers p setting limit before (Ok w) after →
+    IsFitting p setting × IsRightFor p (setting_of p setting) w.answer
+
+-- and it is of one kind with what a fresh solve answers, with one value, whatever limits both have
+abbrev pub WarmAnswersAgree : Type 0
+WarmAnswersAgree = (p : Problem) (setting : Pairs) (limit other : ℕ) (before : Option (List ℕ)) (w : Warmed) (after : Option (List ℕ)) (a : Answer) → IsAccepted p →
+    WarmAnswers p setting limit before (Ok w) after → Answers p setting other (Ok a) → Agree w.answer a
+
+-- a setting that is answered without the columns is answered with them, or memory runs out
+abbrev pub AnsweredStaysAnswered : Type 0
+AnsweredStaysAnswered = (p : Problem) (setting : Pairs) (limit : ℕ) (before : Option (List ℕ)) (stop : Stop) (after : Option (List ℕ)) (a : Answer) → IsAccepted p →
+    WarmAnswers p setting limit before (Err stop) after → Answers p setting limit (Ok a) → stop ≡ why.Memory
+
+-- two ends of a setting from what is kept are one: the same answer, warm or not, or the same stop; want of memory is free
+abbrev pub AreOneWarmEnd : Problem → Result Warmed Stop → Result Warmed Stop → Type 0
+AreOneWarmEnd p (Ok v) (Ok w) = (v.kept ≡ w.kept) × IsSameAnswer p v.answer w.answer
+AreOneWarmEnd p (Err stop) (Err other) = stop ≢ why.Memory → other ≢ why.Memory → stop ≡ other
+AreOneWarmEnd p (Ok v) (Err stop) = stop ≡ why.Memory
+AreOneWarmEnd p (Err stop) (Ok w) = stop ≡ why.Memory
+
+-- so is what is kept after both, where there was memory
+abbrev pub EndsWithMemory : Result Warmed Stop → Type 0
+EndsWithMemory (Ok w) = ⊤
+EndsWithMemory (Err stop) = stop ≢ why.Memory
+
+pub record IsOneStep (p : Problem) (r s : Result Warmed Stop) (after later : Option (List ℕ)) : Type 0 where
+  pub ends : AreOneWarmEnd p r s
+  pub columns : EndsWithMemory r → EndsWithMemory s → after ≡ later
+
+-- a setting has one end from what is kept, and one of what is kept then
+abbrev pub HasOneWarmEnd : Type 0
+HasOneWarmEnd = (p : Problem) (setting : Pairs) (limit : ℕ) (before : Option (List ℕ)) (r s : Result Warmed Stop) (after later : Option (List ℕ)) → IsAccepted p →
+    WarmAnswers p setting limit before r after → WarmAnswers p setting limit before s later → IsOneStep p r s after later
+
+-- the ends are one, one after the other, until memory runs out at a setting
+abbrev pub AreOneWarmEnds : Problem → List (Result Warmed Stop) → List (Result Warmed Stop) → Type 0
+AreOneWarmEnds p [] [] = ⊤
+AreOneWarmEnds p (r ∷ rs) (s ∷ ss) = AreOneWarmEnd p r s × (EndsWithMemory r → EndsWithMemory s → AreOneWarmEnds p rs ss)
+AreOneWarmEnds p [] (s ∷ ss) = ⊥
+AreOneWarmEnds p (r ∷ rs) [] = ⊥
+
+-- settings have one list of ends from what is kept at first
+abbrev pub HaveOneWarmEnds : Type 0
+HaveOneWarmEnds = (p : Problem) (limit : ℕ) (before : Option (List ℕ)) (settings : List Pairs) (rs ss : List (Result Warmed Stop)) → IsAccepted p →
+    WarmAnswersAll p limit before settings rs → WarmAnswersAll p limit before settings ss → AreOneWarmEnds p rs ss

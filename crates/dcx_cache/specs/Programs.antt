@@ -1,14 +1,22 @@
 -- Which program a session solves at a setting, and what stops it.
-use Rattle.std.specs.Prelude.{[], Result, Ok, Err}
+use Rattle.std.specs.Prelude.{⊤, IsTrue, [], Result, Ok, Err}
 use Rattle.dcx_frac.specs.declared.fraction.Frac.{Frac}
 use Rattle.dcx_point.specs.Pairs.{Pairs}
 use Rattle.dcx_tree.specs.declared.problem.Problem.{Problem}
-use Rattle.dcx_tree.specs.Meaning.{IsDpp}
+use Rattle.dcx_convex.specs.Rules.{Rules}
+use Rattle.dcx_convex.specs.Problems.{accepted_by}
+use Rattle.dcx_tree.specs.Meaning.{convex_problem, IsDpp, IsFitting, setting_of}
+use Rattle.dcx_fit.specs.Fit.{FitsParameters, IsFirstMisfit}
+use Rattle.dcx_answer.specs.declared.stop.Stop.{Stop}
+use Rattle.dcx_answer.specs.declared.stop.Stop.TheVariants as why
 use Rattle.dcx_answer.specs.declared.site.Site.TheVariants as sites
 use Rattle.dcx_linear.specs.declared.param_form.ParamForm.{ParamForm}
 use Rattle.dcx_graph.specs.declared.stop.ReduceStop.{ReduceStop}
 use Rattle.dcx_graph.specs.declared.stop.ReduceStop.TheVariants as stops
 use Rattle.dcx_graph.specs.Program.{Program}
+use Rattle.dcx_std.specs.Solutions.{linear_program}
+use Rattle.dcx_graph.specs.AsLinear.{IsReductionAt}
+use Rattle.dcx_graph.specs.Answers.{rows_of}
 use Rattle.dcx_graph.specs.Fixing.{FixGives}
 use Rattle.dcx_graph.specs.Correct.{ReducesNumbers, ReducesAffine}
 
@@ -39,3 +47,29 @@ Fixes setting q (Err stops.Memory) = ⊥
 pub data SessionGives (p : Problem) (setting : Pairs) (r : Result (Program Frac) ReduceStop) : Type 0 where
   mapped : (q : Program ParamForm) → IsMapOf p q → Fixes setting q r → SessionGives p setting r
   anew : ¬ HasMap p → ReducesNumbers p setting r → SessionGives p setting r
+
+-- ---- what it is for the problem
+-- the setting fits, and by rules that accept the problem the program is one of its reduced programs there
+pub record IsReducedAt (p : Problem) (setting : Pairs) (q : Program Frac) : Type 0 where
+  pub rules : Rules
+  pub accepted : IsTrue (accepted_by rules (convex_problem p))
+  pub fitting : IsFitting p setting
+  pub reduction : IsReductionAt rules p (setting_of p setting) (linear_program (rows_of q))
+
+-- ---- what stops it
+-- the setting fits the parameters, and there this stops the program
+pub record IsUnformed (p : Problem) (setting : Pairs) (stop : ReduceStop) : Type 0 where
+  pub fits : FitsParameters p.parameters setting
+  pub stops : SessionGives p setting (Err stop)
+
+-- what stops the program at a setting: the first misfit, or else the first thing that stops it; want of memory is free
+abbrev pub ProgramStops : Problem → Pairs → Stop → Type 0
+ProgramStops p setting (why.UnknownParam name) = IsFirstMisfit p.parameters setting (why.UnknownParam name)
+ProgramStops p setting (why.MissingParam name) = IsFirstMisfit p.parameters setting (why.MissingParam name)
+ProgramStops p setting (why.ParamShape name declared given) = IsFirstMisfit p.parameters setting (why.ParamShape name declared given)
+ProgramStops p setting (why.ParamSign name entry value) = IsFirstMisfit p.parameters setting (why.ParamSign name entry value)
+ProgramStops p setting (why.TooLarge rows columns) = IsUnformed p setting (stops.TooLarge rows columns)
+ProgramStops p setting (why.ZeroDivisor node entry) = IsUnformed p setting (stops.ZeroDivisor node entry)
+ProgramStops p setting (why.Wide site) = IsUnformed p setting (stops.Wide site)
+ProgramStops p setting (why.PivotLimit count) = ⊥
+ProgramStops p setting why.Memory = ⊤

@@ -1,5 +1,5 @@
 -- A session as contracts see it.
-use Rattle.std.specs.Prelude.{◌≡◌, ℕ, Bool, Option, Some, None}
+use Rattle.std.specs.Prelude.{◌≡◌, ℕ, Bool, List, Option, Some, None}
 use Rattle.dcx_point.specs.Pairs.{Pairs}
 use Rattle.dcx_tree.specs.declared.problem.Problem.{Problem}
 use Rattle.dcx_tree.specs.Meaning.{IsAccepted}
@@ -10,12 +10,15 @@ use Rattle.dcx_graph.specs.Reduced.{Reduction}
 use Rattle.dcx_cache.specs.declared.session.Last.{Last}
 use Rattle.dcx_cache.specs.Programs.{IsMapOf, HasMap}
 use Rattle.dcx_cache.specs.Answers.{IsAnswerOf}
+use Rattle.dcx_cache.specs.Columns.{HoldsApart}
 
--- the problem, whether the program with affine coefficients is kept, and how the last answer was found, where there is one
+-- the problem, whether the program with affine coefficients is kept, how the last answer was found, where there is one, and the
+-- basic columns of the last optimal answer, where there was one
 pub record State : Type 0 where
   pub problem : Problem
   pub cached : Bool
   pub last : Option Last
+  pub columns : Option (List ℕ)
 
 -- ---- what is always so
 -- the program with affine coefficients is kept exactly where the problem has one
@@ -23,11 +26,12 @@ abbrev pub KeepsMap : Problem → Option (Reduction ParamForm) → Type 0
 KeepsMap p (Some map) = IsMapOf p map.program
 KeepsMap p None = ¬ HasMap p
 
--- the rules accept the problem, and this is its verdict
-pub record IsKept (p : Problem) (v : Findings) (map : Option (Reduction ParamForm)) : Type 0 where
+-- the rules accept the problem, this is its verdict, and no column is kept twice
+pub record IsKept (p : Problem) (v : Findings) (map : Option (Reduction ParamForm)) (columns : Option (List ℕ)) : Type 0 where
   pub accepted : IsAccepted p
   pub verdict : IsVerdictOf p v
   pub maps : KeepsMap p map
+  pub apart : HoldsApart columns
 
 -- ---- the last answer
 -- the answer was found so, and the program is the kept one at the setting exactly where one is kept

@@ -1,5 +1,5 @@
 //! What holds of all answers of sessions. There is no code: each clause is a statement about all problems and settings.
-ghost use Rattle.dcx_cache.specs.Laws.{AnswersAreRight, HasOneEnd, LimitsAreSmall, RightAnswersAgree};
+ghost use Rattle.dcx_cache.specs.Laws.{AnswersAreRight, HasOneEnd, LimitsAreSmall, RightAnswersAgree, WarmAnswersAreRight, WarmAnswersAgree, AnsweredStaysAnswered, HasOneWarmEnd, HaveOneWarmEnds};
 
 /// Where a setting of an accepted problem is answered, it fits, and the answer is right for the problem there.
 pub fn answers_are_right()
@@ -20,4 +20,29 @@ pub fn limits_are_small()
 /// a fresh solve whenever both answer.
 pub fn answers_agree()
     ensures { RightAnswersAgree }
+{}
+
+/// Where a setting is answered from the columns of an earlier answer, it fits, and the answer is right for the problem there.
+pub fn warm_answers_are_right()
+    ensures { WarmAnswersAreRight }
+{}
+
+/// A warm answer has the status and the value of a fresh one, whatever limits both have.
+pub fn warm_answers_agree()
+    ensures { WarmAnswersAgree }
+{}
+
+/// A setting that a fresh solve answers is answered from columns that are kept too, unless memory runs out.
+pub fn answered_stays_answered()
+    ensures { AnsweredStaysAnswered }
+{}
+
+/// From the same columns a setting has one answer, warm or not, or one stop, and one list of columns after it; want of memory is free.
+pub fn one_warm_answer()
+    ensures { HasOneWarmEnd }
+{}
+
+/// Settings one after another have one list of answers and stops, from the same columns, until memory runs out.
+pub fn one_warm_list()
+    ensures { HaveOneWarmEnds }
 {}

@@ -3,7 +3,8 @@
 //! A setting is asked first whether it fits the parameters. Then the session's program is put at the setting: where the rules
 //! accept the problem also with parameters affine, and the program with affine coefficients can be built, that one is kept from
 //! the start and only its coefficients are put at the setting; else the problem is reduced anew. The rows are solved by Bland's
-//! rule over the linked tableau, and the answer is read back to the problem.
+//! rule over the linked tableau, and the answer is read back to the problem. A session
+//! can also start from the basic columns of its last optimal answer, and go on by the dual simplex.
 //!
 //! | what must hold | where |
 //! |---|---|
@@ -17,12 +18,22 @@
 //! | the program, the answer of the rows and the tableau of the last answer are shown, and none after a stop | `Session::last`, `Session::tableau`, `Session::solve` |
 //! | a stop leaves nothing behind for the next setting | `Session::solve`: `same` |
 //! | a session with a map counts no step at a setting, another one at most one for each node | `Session::solve` |
+//! | the basic columns of the last optimal answer are kept, and no other answer and no stop changes them | `Session::solve`, `Session::solve_warm`, `specs/Columns.antt`: `Keeps` |
+//! | a setting is answered by the warm run from these columns exactly where that is told, and else as without them | `Session::solve_warm`, `specs/Warm.antt`: `WarmAnswers` |
+//! | a warm answer is right, and has the status and value of a fresh one | `laws::warm_answers_are_right`, `laws::warm_answers_agree` |
+//! | a warm re-solve stops only where a fresh one does, and so | `Session::solve_warm`: `answers`, `laws::answered_stays_answered` |
+//! | settings one after another have one list of answers, warm or not, and of stops | `laws::one_warm_answer`, `laws::one_warm_list` |
+//! | the program at a setting is given, or the first thing that stops it | `Session::program`, `specs/Programs.antt`: `ProgramStops`, `IsReducedAt` |
+//! | the program with affine coefficients is lent where it is kept | `Session::map` |
 #![tactic(auto)]
 
 mod answering;
+mod columns;
 pub mod laws;
 mod program;
+mod rewarming;
 mod session;
 mod stops;
 
+pub use rewarming::Warmed;
 pub use session::Session;

@@ -1,13 +1,16 @@
 //! The program that is kept, and the program at a setting.
-ghost use Rattle.std.specs.Prelude.{◌≡◌, ◌+◌, ◌≤◌, false, length, Some, is_some, option_copied, IfOk, OnOk};
+ghost use Rattle.std.specs.Prelude.{◌≡◌, ◌+◌, ◌≤◌, false, length, Ok, Some, is_some, option_copied, IfOk, IfErr, OnOk};
 ghost use Rattle.dcx_fit.specs.Fit.{FitsParameters};
 ghost use Rattle.dcx_rules.specs.Verdicts.{IsVerdictOf};
 ghost use Rattle.dcx_tree.specs.Meaning.{IsAccepted};
 ghost use Rattle.dcx_graph.specs.Reducing.{OrMemory};
 ghost use Rattle.dcx_graph.specs.Correct.{ReducesNumbers, ReducesAffine};
-ghost use Rattle.dcx_cache.specs.Programs.{IsMapOf, HasMap, SessionGives};
+ghost use Rattle.dcx_cache.specs.Programs.{IsMapOf, HasMap, SessionGives, ProgramStops};
 ghost use Rattle.dcx_cache.specs.Sessions.{KeepsMap};
 
+use crate::stops::program_stop;
+use dcx_answer::Stop;
+use dcx_fit::fit;
 use dcx_frac::Frac;
 use dcx_graph::{ReduceStop, Reduced, fix, reduce};
 use dcx_linear::ParamForm;
@@ -94,5 +97,30 @@ pub(crate) fn program_at<L: Ledger>(
     match map {
         Some(map) => fix(alloc, map, setting),
         None => numbers(alloc, problem, verdict, setting, steps),
+    }
+}
+
+/// The program of a session at a setting, or the first thing that stops it.
+pub(crate) fn formed<L: Ledger>(
+    alloc: Global,
+    problem: &Problem,
+    verdict: &Verdict,
+    map: Option<&Reduced<ParamForm>>,
+    setting: &Setting,
+    steps: &mut Steps<L>,
+) -> Result<Reduced<Frac>, Stop>
+    requires verdict { IsVerdictOf problem.now verdict.now }
+    requires kept { KeepsMap problem.now (option_copied map) }
+    ensures fits { OnOk result (FitsParameters problem.now.parameters setting.now) }
+    ensures gives { IfOk result (λ r. SessionGives problem.now setting.now (Ok r.program)) }
+    ensures from_map { IfOk result (λ r. r.from_map ≡ is_some map.entry) }
+    ensures stops { IfErr result (ProgramStops problem.now setting.now) }
+    ensures counted { HasMap problem.now → steps.new ≡ steps.old }
+    ensures few { steps.new ≤ steps.old + length problem.now.tree }
+{
+    fit(alloc, problem, setting)?;
+    match program_at(alloc, problem, verdict, map, setting, steps) {
+        Ok(reduced) => Ok(reduced),
+        Err(stop) => Err(program_stop(stop)),
     }
 }

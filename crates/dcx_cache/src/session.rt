@@ -1,20 +1,22 @@
 //! A problem that is solved at setting after setting.
-ghost use Rattle.std.specs.Prelude.{◌≡◌, ◌↔◌, ◌+◌, ◌≤◌, ℕ, length, IsTrue, None, Some, IfOk, IfErr, OnErr, MatchOption};
+ghost use Rattle.std.specs.Prelude.{◌≡◌, ◌↔◌, ◌+◌, ◌≤◌, length, true, false, IsTrue, Ok, None, Some, IfOk, IfErr, OnOk, OnErr, MatchOption};
 ghost use Rattle.dcx_fit.specs.Fit.{FitsParameters};
 ghost use Rattle.dcx_rules.specs.Verdicts.{IsVerdictOf};
 ghost use Rattle.dcx_tree.specs.Meaning.{IsAccepted, IsFitting, setting_of};
 ghost use Rattle.dcx_graph.specs.Answers.{IsRightFor};
 ghost use Rattle.dcx_cache.specs.declared.session.Last.{Last as Found};
-ghost use Rattle.dcx_cache.specs.Programs.{HasMap};
-ghost use Rattle.dcx_cache.specs.Answers.{IsAnswerOf, Stops, Answers};
+ghost use Rattle.dcx_cache.specs.Programs.{IsMapOf, HasMap, SessionGives, IsReducedAt, ProgramStops};
+ghost use Rattle.dcx_cache.specs.Answers.{Answers};
+ghost use Rattle.dcx_cache.specs.Columns.{Keeps};
 ghost use Rattle.dcx_cache.specs.Sessions.{Shows};
+ghost use Rattle.dcx_cache.specs.Warm.{WarmAnswers, ShowsWarm};
 
-use crate::answering::answered;
-use crate::program::{map_of, program_at};
-use crate::stops::program_stop;
+use crate::answering::solved;
+use crate::columns::keep;
+use crate::program::{formed, map_of};
+use crate::rewarming::{Warmed, resolved};
 use dcx_answer::{Answer, Stop};
 use dcx_chained::Chained;
-use dcx_fit::fit;
 use dcx_frac::Frac;
 use dcx_graph::Reduced;
 use dcx_linear::ParamForm;
@@ -24,6 +26,7 @@ use dcx_rules::Verdict;
 use dcx_solved::Solved;
 use dcx_steps::Steps;
 use dcx_tree::Problem;
+use dcx_warm::Columns;
 use std::alloc::Global;
 use std::marker::Model;
 use std::sync::ledger::Ledger;
@@ -44,6 +47,7 @@ pub struct Session {
     verdict: Verdict,
     map: Option<Reduced<ParamForm>>,
     last: Option<Last>,
+    columns: Option<Columns>,
 }
 
 impl Model for Session {
@@ -55,9 +59,9 @@ impl Model for Session {
 
     ghost coded = { state_code };
 
-    ghost view = { λ s. record { problem = s.problem; cached = is_some s.map; last = s.last } };
+    ghost view = { λ s. record { problem = s.problem; cached = is_some s.map; last = s.last; columns = s.columns } };
 
-    ghost invariant = { λ s. IsKept s.problem s.verdict s.map };
+    ghost invariant = { λ s. IsKept s.problem s.verdict s.map s.columns };
 }
 
 impl Session {
@@ -78,6 +82,7 @@ impl Session {
         ensures problem { IfOk result (λ s. s.problem ≡ problem) }
         ensures cached { IfOk result (λ s. IsTrue s.cached ↔ HasMap problem) }
         ensures none { IfOk result (λ s. s.last ≡ None) }
+        ensures columns { IfOk result (λ s. s.columns ≡ None) }
         ensures back { IfErr result (λ e. e ≡ (problem, verdict)) }
         ensures counted { IfOk result (λ s. IsTrue s.cached → steps.new ≡ steps.old + length problem.tree) }
         ensures few { steps.new ≤ steps.old + length problem.tree }
@@ -88,6 +93,7 @@ impl Session {
                 verdict,
                 map,
                 last: None,
+                columns: None,
             }),
             Err(_) => Err((problem, verdict)),
         }
@@ -131,26 +137,12 @@ impl Session {
         }
     }
 
-    /// The answer at a setting, and how it was found.
-    fn solved<L: Ledger>(
-        &self,
-        alloc: Global,
-        setting: &Setting,
-        limit: u64,
-        steps: &mut Steps<L>,
-    ) -> Result<(Answer, Last), Stop>
-        ensures answer { IfOk result (λ r. IsAnswerOf self.now.problem setting.now limit r.1.reduced.program r.1.solved r.0) }
-        ensures from_map { IfOk result (λ r. r.1.reduced.from_map ≡ self.now.cached) }
-        ensures stops { IfErr result (Stops self.now.problem setting.now limit) }
-        ensures counted { HasMap self.now.problem → steps.new ≡ steps.old }
-        ensures few { steps.new ≤ steps.old + length self.now.problem.tree }
+    /// The program with affine coefficients, where it is kept: exactly where the problem has one. Takes no memory.
+    pub fn map(&self) -> Option<&Reduced<ParamForm>>
+        ensures map { MatchOption result (¬ (HasMap self.now.problem)) (λ m. IsMapOf self.now.problem m.now.program) }
+        ensures cached { MatchOption result (self.now.cached ≡ false) (λ m. self.now.cached ≡ true) }
     {
-        fit(alloc, &self.problem, setting)?;
-        let map = self.map.as_ref();
-        match program_at(alloc, &self.problem, &self.verdict, map, setting, steps) {
-            Ok(reduced) => answered(alloc, &self.problem, setting, reduced, limit),
-            Err(stop) => Err(program_stop(stop)),
-        }
+        self.map.as_ref()
     }
 
     /// The answer to the problem at a setting, found with at most `limit` pivots. It is right for the problem there.
@@ -171,13 +163,104 @@ impl Session {
         ensures right { IfOk result (λ a. IsFitting self.old.problem setting.now × IsRightFor self.old.problem (setting_of self.old.problem setting.now) a) }
         ensures shows { IfOk result (λ a. Shows self.old.problem setting.now limit self.old.cached a self.new.last) }
         ensures none { OnErr result (self.new.last ≡ None) }
+        ensures columns { Keeps self.old.columns result self.new.last self.new.columns }
+        ensures same { (self.new.problem ≡ self.old.problem) × (self.new.cached ≡ self.old.cached) }
+        ensures counted { HasMap self.old.problem → steps.new ≡ steps.old }
+        ensures few { steps.new ≤ steps.old + length self.old.problem.tree }
+    {
+        self.last = None; // a stop leaves nothing to show
+        let map = self.map.as_ref();
+        let (answer, found) = solved(
+            alloc,
+            &self.problem,
+            &self.verdict,
+            map,
+            setting,
+            limit,
+            steps,
+        )?;
+        match keep(alloc, &answer, found, &mut self.last, &mut self.columns) {
+            Ok(()) => {}
+            Err(_) => return Err(Stop::Memory),
+        }
+        Ok(answer)
+    }
+
+    /// The answer to the problem at a setting, from the basic columns of the last optimal answer of this session where that can be:
+    /// `kept` tells it. It can exactly where the map is kept, these columns are there and none is an artificial of the program at
+    /// this setting, the warm run from them with at most `limit` pivots ends optimal, and no multiplier passes 128 bits. Else the
+    /// answer is that of `solve`. It is right for the problem at the setting, so it has the status and the value of `solve`'s.
+    ///
+    /// An `Err` is that of `solve` at this setting, or `Memory`. After it the session answers as if this setting had not been asked.
+    pub fn solve_warm<L: Ledger>(
+        &mut self,
+        alloc: Global,
+        setting: &Setting,
+        limit: u64,
+        steps: &mut Steps<L>,
+    ) -> Result<Warmed, Stop>
+        ensures answers { WarmAnswers self.old.problem setting.now limit self.old.columns result self.new.columns }
+        ensures right { IfOk result (λ w. IsFitting self.old.problem setting.now × IsRightFor self.old.problem (setting_of self.old.problem setting.now) w.answer) }
+        ensures shows { IfOk result (λ w. ShowsWarm self.old.problem setting.now limit self.old.columns self.old.cached w self.new.columns self.new.last) }
+        ensures none { OnErr result (self.new.last ≡ None) }
         ensures same { (self.new.problem ≡ self.old.problem) × (self.new.cached ≡ self.old.cached) }
         ensures counted { HasMap self.old.problem → steps.new ≡ steps.old }
         ensures few { steps.new ≤ steps.old + length self.old.problem.tree }
     {
         self.last = None;
-        let (answer, last) = self.solved(alloc, setting, limit, steps)?;
-        self.last = Some(last);
-        Ok(answer)
+        let map = self.map.as_ref();
+        let columns = self.columns.as_ref();
+        let (warm, found) = match resolved(
+            alloc,
+            &self.problem,
+            &self.verdict,
+            map,
+            columns,
+            setting,
+            limit,
+            steps,
+        ) {
+            Ok(pair) => pair,
+            Err(stop) => return Err(stop),
+        };
+        match keep(
+            alloc,
+            &warm.answer,
+            found,
+            &mut self.last,
+            &mut self.columns,
+        ) {
+            Ok(()) => {}
+            Err(_) => return Err(Stop::Memory),
+        }
+        Ok(warm)
+    }
+
+    /// The program that is solved at a setting. It is a reduced program of the problem there.
+    ///
+    /// An `Err` is the first of: a misfit of the setting (`UnknownParam`, `MissingParam`, `ParamShape`, `ParamSign`); over 600 rows
+    /// or 2,400 columns (`TooLarge`); the first divisor that is 0 (`ZeroDivisor`), or operation that passes 128 bits (`Wide`), while
+    /// the program is formed. `Memory` where there is none. There is no last answer then, and the columns of the last optimal
+    /// answer stay.
+    pub fn program<L: Ledger>(
+        &mut self,
+        alloc: Global,
+        setting: &Setting,
+        steps: &mut Steps<L>,
+    ) -> Result<Reduced<Frac>, Stop>
+        ensures fits { OnOk result (FitsParameters self.old.problem.parameters setting.now) }
+        ensures gives { IfOk result (λ r. SessionGives self.old.problem setting.now (Ok r.program)) }
+        ensures from_map { IfOk result (λ r. r.from_map ≡ self.old.cached) }
+        ensures reduced { IfOk result (λ r. IsReducedAt self.old.problem setting.now r.program) }
+        ensures stops { IfErr result (ProgramStops self.old.problem setting.now) }
+        ensures none { self.new.last ≡ None }
+        ensures columns { self.new.columns ≡ self.old.columns }
+        ensures same { (self.new.problem ≡ self.old.problem) × (self.new.cached ≡ self.old.cached) }
+        ensures counted { HasMap self.old.problem → steps.new ≡ steps.old }
+        ensures few { steps.new ≤ steps.old + length self.old.problem.tree }
+    {
+        self.last = None;
+        let map = self.map.as_ref();
+        formed(alloc, &self.problem, &self.verdict, map, setting, steps)
     }
 }

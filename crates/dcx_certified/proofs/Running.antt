@@ -1,48 +1,22 @@
 -- The running maximum: the slopes of its rows, and the conditions that their weights meet.
-use Rattle.std.proofs.Common.{◌≡◌, ℕ, zero, suc, ◌<◌, arith, Bool, true, false, if◌then◌else◌, [], ◌∷◌, refl, sym, ap, ◌∙◌, subst, pos, negsuc}
-use Rattle.std.specs.Prelude.{nat_lt}
-use Rattle.std.proofs.lemmas.Bool.{lt-ltb, ltb-true}
+use Rattle.std.proofs.Common.{◌≡◌, ℕ, zero, suc, ◌<◌, arith, if◌then◌else◌, [], ◌∷◌, refl, sym, ap, ◌∙◌, subst, pos, negsuc}
 use Rattle.std.proofs.lemmas.List.Elements.{All-cons, All-nil}
 use Rattle.dcx_math.specs.Rational.{ℚ, whole, neg_ℚ, ◌+ℚ◌, ◌-ℚ◌, ◌*ℚ◌, ◌≤ℚ◌}
 use Rattle.dcx_math.specs.Sums.{IsNonnegative, rat_sum, rat_sum_below}
 use Rattle.dcx_math.proofs.Ring.{ring, reads}
-use Rattle.dcx_math.proofs.Orders.{≤ℚ_antisym, +ℚ_idr, linear}
+use Rattle.dcx_math.proofs.Orders.{≤ℚ_antisym, linear}
 use Rattle.dcx_shape.specs.declared.shape.Sides.TheVariants.{Scalar, Vector, Matrix}
 use Rattle.dcx_shape.specs.Sides.{entries_of}
 use Rattle.dcx_atom.specs.Rows.{Filling, form_at, weighted}
 use Rattle.dcx_atom.specs.Meaning.{IsMet}
 use Rattle.dcx_atom.specs.Bounding.{unknown_form, free_kinds}
 use Rattle.dcx_atom.proofs.Duality.{no_entries}
-use Rattle.dcx_fold.specs.Running.{running_rows, own_weights, next_weights, running_condition, running_meaning}
-use Rattle.dcx_fold.specs.RunningLaws.{row_slopes}
+use Rattle.dcx_fold.specs.Running.{running_rows, own_weights, running_condition, running_meaning}
+use Rattle.dcx_fold.specs.RunningLaws.{row_slopes, carry, carry_on, carry_none, left_of}
 use Rattle.dcx_certified.specs.Demanded.{AreDemanded, HasDualGraph}
 use Rattle.dcx_certified.proofs.Units.{only_at, at_itself, at_other, one_left}
 
 -- ---- what the unknowns leave
--- the weight that is carried on from entry j
-carry : ℕ → (ℕ → ℕ → ℚ) → ℕ → ℚ
-carry n w j = rat_sum (next_weights n w j)
-
-carry_on : (n j : ℕ) (w : ℕ → ℕ → ℚ) → suc j < n → carry n w j ≡ w (suc j) 1
-unfolding carry
-carry_on n j w h = by (nat_lt (suc j) n) (lt-ltb (suc j) n h)
-  where
-    by : (b : Bool) → b ≡ true → rat_sum (if b then w (suc j) 1 ∷ [] else []) ≡ w (suc j) 1
-    by true e = +ℚ_idr (w (suc j) 1)
-    by false e = cc
-
-carry_none : (j : ℕ) (w : ℕ → ℕ → ℚ) → carry (suc j) w j ≡ whole (pos 0)
-unfolding carry
-carry_none j w = by (nat_lt (suc j) (suc j)) refl
-  where
-    by : (b : Bool) → nat_lt (suc j) (suc j) ≡ b → rat_sum (if b then w (suc j) 1 ∷ [] else []) ≡ whole (pos 0)
-    by true e = let below = ltb-true (suc j) (suc j) e in absurd (omega (arith, below))
-    by false e = refl
-
--- coefficient times result with the weighted rows, of the unknowns alone
-left_of : (c : ℕ → ℚ) (w : ℕ → ℕ → ℚ) (t : Filling) (j : ℕ) → ℚ
-left_of c w t j = c j *ℚ form_at (unknown_form j) t +ℚ weighted (running_rows j) (w j) no_entries t
-
 -- what unknown j leaves in all
 own_part : ℕ → (ℕ → ℚ) → (ℕ → ℕ → ℚ) → Filling → ℕ → ℚ
 own_part n c w t j = ((c j +ℚ carry n w j) -ℚ rat_sum (own_weights j (w j))) *ℚ t j

@@ -1,19 +1,17 @@
 -- The steepness of a node along a ray of the domain has the node's sign.
 use Rattle.std.proofs.Common.{◌≡◌, ℕ, zero, suc, ◌<◌, arith, Bool, true, false, IsTrue, IsFalse, if◌then◌else◌, List, [], ◌∷◌, length, map, All, Option, Some, None, slice_get, refl, sym, ap, ◌∙◌, subst, pos}
-use Rattle.std.proofs.lemmas.Bool.{false≢true}
 use Rattle.std.proofs.lemmas.List.Elements.{All-head, All-tail}
 use Rattle.dcx_math.specs.Rational.{whole}
 use Rattle.dcx_math.proofs.Orders.{≤ℚ_refl}
 use Rattle.dcx_shape.specs.declared.shape.Sides.{Sides}
 use Rattle.dcx_shape.specs.Sides.{entries_of}
-use Rattle.dcx_atom.specs.declared.flags.Sign.{Sign}
 use Rattle.dcx_atom.specs.Signs.{HasSign, HaveSigns, unknown_sign}
-use Rattle.dcx_convex.specs.Nodes.{Attribute, Free, Nonneg, Nonpos, Symmetric, Diag, Head, Variable, Parameter, Constant, Apply, Node, Numbers, Point, Setting, told, told_within, IsOrdered, zeros, first_of, arguments, Keeps, VariableKeeps, ParameterKeeps, EachNode, IsInDomain, IsLawfulHead, AreLawful}
+use Rattle.dcx_convex.specs.Nodes.{Attribute, Free, Nonneg, Nonpos, Symmetric, Diag, Head, Variable, Parameter, Constant, Apply, Node, Numbers, Point, Setting, told, told_within, IsOrdered, zeros, arguments, Keeps, VariableKeeps, ParameterKeeps, EachNode, IsInDomain, IsLawfulHead, AreLawful}
 use Rattle.dcx_convex.specs.Rules.{Plain, Judgement, attribute_sign, no_argument, argument, sign_by, judgement_by, judgement_at}
 use Rattle.dcx_convex.specs.Certificates.{is_fixed, given_at}
 use Rattle.dcx_convex.proofs.Told.{judgement_tells}
-use Rattle.dcx_convex.proofs.Arguments.{zero_signed, unknown_signed, args_signed, count_of}
-use Rattle.dcx_convex.proofs.Signs.{at_test, value_signed}
+use Rattle.dcx_convex.proofs.Arguments.{zero_signed, args_signed, count_of}
+use Rattle.dcx_convex.proofs.Signs.{value_signed, first_signed, keeps_signed}
 use Rattle.dcx_recession.specs.Steepness.{taken_at, steep_by, steep_at}
 use Rattle.dcx_recession.proofs.Told.{level, steep_tells}
 use Rattle.dcx_certified.proofs.Taken.{taken_signed}
@@ -36,16 +34,6 @@ pub zeros_domain : (nodes : List Node) → IsInDomain nodes (λ number. zeros)
 zeros_domain nodes i n at = head_zeros n.head
 
 -- ---- one node
-first_signed : (s : Sign) (n : ℕ) (f : Numbers) → ((j : ℕ) → j < n → HasSign s (f j)) → (j : ℕ) → HasSign s (first_of n f j)
-first_signed s n f h j = at_test n j (λ b. HasSign s (if b then f j else whole (pos 0))) (h j) (zero_signed s)
-
-keeps_signed : (a : Attribute) (sides : Sides) (x : Numbers) → Keeps a sides x → (j : ℕ) → j < entries_of sides → HasSign (attribute_sign a) (x j)
-keeps_signed Free sides x h j b = unknown_signed (x j)
-keeps_signed Nonneg sides x h j b = record { nonneg = λ _. h j b; nonpos = λ t. absurd (false≢true t) }
-keeps_signed Nonpos sides x h j b = record { nonneg = λ t. absurd (false≢true t); nonpos = λ _. h j b }
-keeps_signed Symmetric sides x h j b = unknown_signed (x j)
-keeps_signed Diag sides x h j b = unknown_signed (x j)
-
 module _ (nodes : List Node) (ordered : IsOrdered nodes) (law : AreLawful nodes) (s : Setting) (fit : EachNode nodes (λ n. ParameterKeeps s n.head)) (d : Point) (dd : IsInDomain nodes d) where
   abbrev judged : ℕ → Judgement
   judged = judgement_at Plain nodes

@@ -1,8 +1,7 @@
 -- The weights of a certificate that is built are the multipliers of the rows of the graphs.
-use Rattle.std.proofs.Common.{◌≡◌, ℕ, zero, suc, ◌+◌, ◌<◌, arith, Bool, true, false, if◌then◌else◌, List, [], ◌∷◌, ◌++◌, length, map, Option, Some, None, option_map, Result, Ok, slice_get, refl, sym, ap, ap₂, ◌∙◌, subst, zero-add}
+use Rattle.std.proofs.Common.{◌≡◌, ℕ, zero, suc, ◌+◌, ◌<◌, arith, Bool, true, false, if◌then◌else◌, List, [], ◌∷◌, ◌++◌, length, map, Option, Some, None, option_map, Result, Ok, slice_get, refl, sym, ap, ap₂, ◌∙◌, subst}
 use Rattle.std.specs.List.{flat_map, range_with_len, filter_map, zip}
-use Rattle.std.proofs.lemmas.List.{length-append, length-map, map-id, append-nil}
-use Rattle.std.proofs.lemmas.List.FromFn.{map-range_with_len_more}
+use Rattle.std.proofs.lemmas.List.{length-append, length-map, append-nil}
 use Rattle.std.proofs.lemmas.Grind.{flat_map-append}
 use Rattle.std.proofs.lemmas.Option.{slice_get-map, slice_get_within}
 use Rattle.dcx_math.specs.Rational.{ℚ}
@@ -24,6 +23,7 @@ use Rattle.dcx_convex.specs.Reductions.{Unknowns}
 use Rattle.dcx_tree.specs.declared.problem.Problem.{Problem}
 use Rattle.dcx_tree.specs.Nodes.{Node, arg_sides}
 use Rattle.dcx_tree.specs.Meaning.{convex_problem, setting_of}
+use Rattle.dcx_outline.proofs.Rows.{range_more}
 use Rattle.dcx_linear.specs.declared.row.RowKind.TheVariants.{AtMost}
 use Rattle.dcx_linear.specs.Rows.{HaveSigns}
 use Rattle.dcx_unknowns.specs.Layout.{is_reduced, call_rows, rows_if, rows_at}
@@ -66,9 +66,6 @@ joined_length (suc n) f g h = length-append (joined_below n f) (f n) ∙ ap₂ �
 joined_none : {A : Type 0} (n : ℕ) (f : ℕ → List A) → ((j : ℕ) → length (f j) ≡ 0) → length (joined_below n f) ≡ 0
 joined_none zero f h = refl
 joined_none (suc n) f h = let a = length-append (joined_below n f) (f n) in let b = joined_none n f h in let c = h n in omega (arith, a, b, c)
-
-range_more : (k : ℕ) → range_with_len 0 (k + 1) ≡ range_with_len 0 k ++ k ∷ []
-range_more k = sym (map-id (range_with_len 0 (k + 1))) ∙ map-range_with_len_more (λ (x : ℕ). x) 0 k k (zero-add k) ∙ ap (λ xs. xs ++ k ∷ []) (map-id (range_with_len 0 k))
 
 joined_flat : {A B : Type 0} (f : ℕ → List A) (g : ℕ → List B) → ((j : ℕ) → length (f j) ≡ length (g j)) → (n : ℕ) → length (joined_below n f) ≡ length (flat_map g (range_with_len 0 n))
 joined_flat f g h zero = refl

@@ -23,11 +23,11 @@ at_test n j P f g = by (nat_lt j n) refl
     by true e = f (ltb-true j n e)
     by false e = g
 
-first_signed : (s : Sign) (n : ℕ) (f : Numbers) → ((j : ℕ) → j < n → HasSign s (f j)) → (j : ℕ) → HasSign s (first_of n f j)
+pub first_signed : (s : Sign) (n : ℕ) (f : Numbers) → ((j : ℕ) → j < n → HasSign s (f j)) → (j : ℕ) → HasSign s (first_of n f j)
 first_signed s n f h j = at_test n j (λ b. HasSign s (if b then f j else whole (pos 0))) (h j) (zero_signed s)
 
 -- ---- the sign of each kind of node
-keeps_signed : (a : Attribute) (sides : Sides) (x : Numbers) → Keeps a sides x → (j : ℕ) → j < entries_of sides → HasSign (attribute_sign a) (x j)
+pub keeps_signed : (a : Attribute) (sides : Sides) (x : Numbers) → Keeps a sides x → (j : ℕ) → j < entries_of sides → HasSign (attribute_sign a) (x j)
 keeps_signed Free sides x h j b = unknown_signed (x j)
 keeps_signed Nonneg sides x h j b = record { nonneg = λ _. h j b; nonpos = λ t. absurd (false≢true t) }
 keeps_signed Nonpos sides x h j b = record { nonneg = λ t. absurd (false≢true t); nonpos = λ _. h j b }

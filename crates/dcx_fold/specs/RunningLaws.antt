@@ -122,7 +122,7 @@ row_slopes (s ∷ r ∷ rs) sides is w a = cc
 
 -- ---- what weights balance
 -- the weight that is carried on from entry j
-pub carry : ℕ → (ℕ → ℕ → ℚ) → ℕ → ℚ
+unfoldable pub carry : ℕ → (ℕ → ℕ → ℚ) → ℕ → ℚ
 carry n w j = rat_sum (next_weights n w j)
 
 pub carry_on : (n j : ℕ) (w : ℕ → ℕ → ℚ) → suc j < n → carry n w j ≡ w (suc j) 1
@@ -142,7 +142,7 @@ carry_none j w = by (nat_lt (suc j) (suc j)) refl
     by false e = refl
 
 -- coefficient times result with the weighted rows, of the unknowns alone
-pub left_of : (c : ℕ → ℚ) (w : ℕ → ℕ → ℚ) (t : Filling) (j : ℕ) → ℚ
+unfoldable pub left_of : (c : ℕ → ℚ) (w : ℕ → ℕ → ℚ) (t : Filling) (j : ℕ) → ℚ
 left_of c w t j = c j *ℚ form_at (unknown_form j) t +ℚ weighted (running_rows j) (w j) no_entries t
 
 first_left : (c w v t : ℚ) → w +ℚ whole (pos 0) ≡ c +ℚ v →

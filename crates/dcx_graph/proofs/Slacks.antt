@@ -35,7 +35,7 @@ use Rattle.dcx_postsolve.specs.Laws.{HaveSlacks}
 
 -- ---- the rows of constraints
 module _ (forms : Unknowns → ℕ → Numbers) where
-  gaps_length : (cs : List Constraint) → length (gap_rows forms (map convex_constraint cs)) ≡ sum_by constraint_rows cs
+  pub gaps_length : (cs : List Constraint) → length (gap_rows forms (map convex_constraint cs)) ≡ sum_by constraint_rows cs
   gaps_length [] = refl
   gaps_length (c ∷ cs) =
       length-append (list_below (constraint_rows c) (gap_row forms (convex_constraint c))) (gap_rows forms (map convex_constraint cs))

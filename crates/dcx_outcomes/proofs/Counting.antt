@@ -1,13 +1,17 @@
--- How many steps are counted for all settings.
+-- How many steps are counted for all settings, and what a result holds.
 use Rattle.std.proofs.Common.{◌≡◌, ℕ, ◌+◌, ◌*◌, ◌≤◌, Bool, length, Result, Ok, Err, sym, ◌∙◌, subst, arith}
-use Rattle.std.specs.Prelude.{◌↔◌, IsTrue, OnOk}
+use Rattle.std.specs.Prelude.{◌↔◌, IsTrue, IfOk, OnOk}
 use Rattle.dcx_tree.specs.declared.problem.Problem.{Problem}
 use Rattle.dcx_cache.specs.Programs.{HasMap}
 use Rattle.dcx_outcomes.specs.Outcomes.{Counts}
 
-pub on_ok : {A E : Type 0} (r : Result A E) (P Q R : Type 0) → (P → Q → R) → OnOk r P → OnOk r Q → OnOk r R
-on_ok (Ok x) P Q R f h k = f h k
-on_ok (Err e) P Q R f h k = tt
+pub ok_weaker : {A E : Type 0} (r : Result A E) (P Q : A → Type 0) → ((x : A) → P x → Q x) → IfOk r P → IfOk r Q
+ok_weaker (Ok x) P Q f h = f x h
+ok_weaker (Err e) P Q f h = tt
+
+pub on_ok : {A E : Type 0} (r : Result A E) (P : Type 0) → P → OnOk r P
+on_ok (Ok x) P h = h
+on_ok (Err e) P h = tt
 
 -- those of the beginning, and those of the settings
 pub counts : (p q : Problem) (cached : Bool) (n old begun new : ℕ) → q ≡ p → (IsTrue cached → begun ≡ old + length p.tree) → (IsTrue cached ↔ HasMap p) → begun ≤ old + length p.tree → (HasMap q → new ≡ begun) →

@@ -4,4 +4,5 @@ pub mod Placed
 pub mod Right
 pub mod OneOutcome
 pub mod More
+pub mod Warm
 pub mod Counting

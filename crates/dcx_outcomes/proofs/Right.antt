@@ -30,7 +30,7 @@ shaped status [] notes (x ∷ xs) h = absurd h
 shaped status (c ∷ cs) notes [] h = absurd h
 shaped status (c ∷ cs) notes (x ∷ xs) (is, h) = ap₂ ◌∷◌ is.shape (shaped status cs (drop (constraint_rows c) notes) xs h)
 
-speaks : (p : Problem) (kinds : List UnknownKind) (a : LpAnswer) (x : Answer) → IsRead p kinds a x → SpeaksOf p x
+pub speaks : (p : Problem) (kinds : List UnknownKind) (a : LpAnswer) (x : Answer) → IsRead p kinds a x → SpeaksOf p x
 speaks p kinds a (Optimal value point duals) (e, n, at, are) = (at.of_variables.names, shaped a.status p.constraints a.rows duals are)
 speaks p kinds a (Infeasible duals gap) (e, n, are) = shaped a.status p.constraints a.rows duals are
 speaks p kinds a (Unbounded point ray bound slope) (e, b, s, at, along) = (at.of_variables.names, along.of_variables.names)

@@ -1,4 +1,5 @@
 -- What contracts cite.
 pub mod Outcomes
+pub mod Warm
 pub mod Right
 pub mod Laws

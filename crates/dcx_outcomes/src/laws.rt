@@ -1,5 +1,5 @@
 //! What holds of all outcomes. There is no code: each clause is a statement about all of them.
-ghost use Rattle.dcx_outcomes.specs.Laws.{OutcomesAreRight, OutcomesAreOne};
+ghost use Rattle.dcx_outcomes.specs.Laws.{OutcomesAreRight, OutcomesAreOne, WarmOutcomesAreRight, WarmOutcomesAgree, WarmOutcomesAreOne};
 
 /// Each answer among the outcomes of an accepted problem is right at its setting, which fits.
 pub fn outcomes_are_right()
@@ -9,4 +9,21 @@ pub fn outcomes_are_right()
 /// Settings of an accepted problem have one list of outcomes; want of memory is free.
 pub fn outcomes_are_one()
     ensures { OutcomesAreOne }
+{}
+
+/// Each answer among the warm outcomes of an accepted problem is right at its setting, which fits.
+pub fn warm_outcomes_are_right()
+    ensures { WarmOutcomesAreRight }
+{}
+
+/// Each warm outcome of an accepted problem has the status and the value of the fresh one whenever both answer, and it is a stop only
+/// where the fresh one is that stop; want of memory is free.
+pub fn warm_outcomes_agree()
+    ensures { WarmOutcomesAgree }
+{}
+
+/// Settings of an accepted problem have one list of warm outcomes, so many of which are answered from kept columns, until memory runs
+/// out at a setting.
+pub fn warm_outcomes_are_one()
+    ensures { WarmOutcomesAreOne }
 {}

@@ -1,20 +1,17 @@
-//! The outcomes of a problem at settings.
-ghost use Rattle.std.specs.Prelude.{◌≡◌, ◌+◌, ◌*◌, ◌≤◌, length, IfOk, OnOk, IsTrue};
-ghost use Rattle.dcx_rules.specs.Verdicts.{IsVerdictOf};
-ghost use Rattle.dcx_tree.specs.Meaning.{IsAccepted};
+//! How one setting ends, and the outcome that tells it.
+ghost use Rattle.std.specs.Prelude.{◌≡◌, ◌+◌, ◌≤◌, length, IfErr};
 ghost use Rattle.dcx_cache.specs.Programs.{HasMap};
-ghost use Rattle.dcx_cache.specs.Answers.{Stops};
-ghost use Rattle.dcx_outcomes.specs.Outcomes.{site_place, stop_place, IsOutcome, AreOutcomes, Counts, NamesNodes, IsNodeSite};
+ghost use Rattle.dcx_outcomes.specs.Outcomes.{site_place, stop_place, NamesNodes, IsNodeSite};
+ghost use Rattle.dcx_outcomes.specs.Warm.{is_kept as is_kept_of, Tells, EndsFrom, IsToldFrom};
 
 use dcx_answer::{Site, Stop};
-use dcx_cache::Session;
+use dcx_cache::{Session, Warmed};
 use dcx_point::Setting;
-use dcx_report::{Outcome, OutcomeEnd, Outcomes};
-use dcx_rules::Verdict;
+use dcx_report::{Outcome, OutcomeEnd};
 use dcx_shape::Place;
 use dcx_steps::Steps;
 use dcx_tree::Problem;
-use std::alloc::{AllocError, Global};
+use std::alloc::Global;
 use std::sync::ledger::Ledger;
 
 /// Where the node stands in the script at which an operation passes, if it is one.
@@ -53,68 +50,68 @@ fn stopped(problem: &Problem, stop: Stop) -> Outcome
     }
 }
 
-/// The outcome of a setting.
-fn outcome<S: Ledger>(
+/// The outcome that tells how a setting ends.
+fn told(problem: &Problem, end: Result<Warmed, Stop>) -> Outcome
+    requires { IfErr end (NamesNodes problem.now) }
+    ensures { Tells problem.now end result }
+{
+    match end {
+        Ok(warmed) => Outcome {
+            end: OutcomeEnd::Answer(warmed.answer),
+            place: None,
+        },
+        Err(stop) => stopped(problem, stop),
+    }
+}
+
+/// Whether a setting is answered from the columns that were kept.
+fn is_kept(end: &Result<Warmed, Stop>) -> bool
+    ensures { result ≡ is_kept_of end.now }
+{
+    matches!(end, Ok(Warmed { kept: true, .. }))
+}
+
+/// How a session ends at a setting: from the columns that it keeps, if that is wanted.
+fn session_end<S: Ledger>(
     alloc: Global,
     session: &mut Session,
     setting: &Setting,
     limit: u64,
+    warm: bool,
     steps: &mut Steps<S>,
-) -> Outcome
-    ensures outcome { IsOutcome session.old.problem limit setting.now result }
+) -> Result<Warmed, Stop>
+    ensures ends { EndsFrom warm session.old.problem limit setting.now session.old.columns result session.new.columns }
     ensures same { session.new.problem ≡ session.old.problem }
     ensures counted { HasMap session.old.problem → steps.new ≡ steps.old }
     ensures few { steps.new ≤ steps.old + length session.old.problem.tree }
 {
+    if warm {
+        return session.solve_warm(alloc, setting, limit, steps);
+    }
     match session.solve(alloc, setting, limit, steps) {
-        Ok(answer) => Outcome {
-            end: OutcomeEnd::Answer(answer),
-            place: None,
-        },
-        Err(stop) => stopped(session.problem(), stop),
+        Ok(answer) => Ok(Warmed {
+            answer,
+            kept: false,
+        }),
+        Err(stop) => Err(stop),
     }
 }
 
-/// The outcomes of settings, in order.
-fn all<S: Ledger>(
+/// The outcome of a setting, and whether it is answered from the columns that were kept.
+pub(crate) fn outcome<S: Ledger>(
     alloc: Global,
     session: &mut Session,
-    settings: &[Setting],
+    setting: &Setting,
     limit: u64,
+    warm: bool,
     steps: &mut Steps<S>,
-) -> Result<Outcomes, AllocError>
-    ensures outcomes { IfOk result (AreOutcomes session.old.problem limit settings.now) }
-    ensures counted { OnOk result (HasMap session.old.problem → steps.new ≡ steps.old) }
-    ensures few { OnOk result (steps.new ≤ steps.old + length settings.now * length session.old.problem.tree) }
+) -> (Outcome, bool)
+    ensures outcome { IsToldFrom warm session.old.problem limit setting.now session.old.columns result.0 result.1 session.new.columns }
+    ensures same { session.new.problem ≡ session.old.problem }
+    ensures counted { HasMap session.old.problem → steps.new ≡ steps.old }
+    ensures few { steps.new ≤ steps.old + length session.old.problem.tree }
 {
-    let mut outcomes = Vec::with_capacity(alloc, settings.len())?;
-    for setting in settings {
-        outcomes.push(outcome(alloc, session, setting, limit, steps))?;
-    }
-    Ok(Outcomes::from_vec(outcomes))
-}
-
-/// The outcome of an accepted problem at each setting, in order, with at most `limit` pivots each: what one session answers there,
-/// with the place in the script of the node that a stop names. `AllocError` where there is no memory for the session or for the
-/// list; want of it at a setting is that setting's stop.
-pub fn outcomes<S: Ledger>(
-    alloc: Global,
-    problem: Problem,
-    verdict: Verdict,
-    settings: &[Setting],
-    limit: u64,
-    steps: &mut Steps<S>,
-) -> Result<Outcomes, AllocError>
-    requires accepted { IsAccepted problem }
-    requires verdict { IsVerdictOf problem verdict }
-    ensures outcomes { IfOk result (AreOutcomes problem limit settings.now) }
-    ensures counted { OnOk result (Counts problem (length settings.now) steps.old steps.new) }
-{
-    match Session::begin(alloc, problem, verdict, steps) {
-        Ok(session) => {
-            let mut session = session;
-            all(alloc, &mut session, settings, limit, steps)
-        }
-        Err(_) => Err(AllocError),
-    }
+    let end = session_end(alloc, session, setting, limit, warm, steps);
+    let kept = is_kept(&end);
+    (told(session.problem(), end), kept)
 }

@@ -73,7 +73,7 @@ node_none nodes i h = by (slice_get nodes i) refl
     by (Some n) t = call_none nodes i n n.call (h n t)
 
 -- ---- node after node
-range_more : (k : ℕ) → range_with_len 0 (k + 1) ≡ range_with_len 0 k ++ k ∷ []
+pub range_more : (k : ℕ) → range_with_len 0 (k + 1) ≡ range_with_len 0 k ++ k ∷ []
 range_more k = sym (map-id (range_with_len 0 (k + 1))) ∙ map-range_with_len_more (λ (x : ℕ). x) 0 k k (zero-add k) ∙ ap (λ xs. xs ++ k ∷ []) (map-id (range_with_len 0 k))
 
 pub atoms_more : (p : Problem) (i : ℕ) (old new : List (ℕ × ℕ)) → old ≡ flat_map (atoms_at p) (range_with_len 0 i) → new ≡ old ++ atoms_at p i → new ≡ flat_map (atoms_at p) (range_with_len 0 (i + 1))

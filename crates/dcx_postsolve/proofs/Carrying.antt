@@ -105,16 +105,16 @@ weighed_same gap (c ∷ cs) m n same =
 
 -- ---- answers
 module _ (p : Problem) (s : Setting) where
-  domain_alike : (x y : Point) → AreAlike p.variables x y → IsInDomain p x → IsInDomain p y
+  pub domain_alike : (x y : Point) → AreAlike p.variables x y → IsInDomain p x → IsInDomain p y
   domain_alike x y alike dom =
       to_domain p y (λ k v at.
       let here : IsSquareFor (demanded v) (sides_in v) = subst (λ (w : Variable). IsSquareFor (demanded w) (sides_in w)) (get_or_from_slice_get p.variables k v v at) (p.squares k v (slice_get_within p.variables k v at)) in
       keeps_alike (variable_attribute v.whole v.attribute) (sides_in v) (x k) (y k) (square_as v.whole v.attribute (sides_in v) here) (alike k v at) (to_variables p x dom k v at))
 
-  objective_alike : (x y : Point) → AreAlike p.variables x y → objective_at p s x ≡ objective_at p s y
+  pub objective_alike : (x y : Point) → AreAlike p.variables x y → objective_at p s x ≡ objective_at p s y
   objective_alike x y alike = ap (problems.minimized (sense_of p.sense)) (alike_value p s x y alike p.objective.0 0)
 
-  feasible_alike : (x y : Point) → AreAlike p.variables x y → IsFeasible p s x → IsFeasible p s y
+  pub feasible_alike : (x y : Point) → AreAlike p.variables x y → IsFeasible p s x → IsFeasible p s y
   feasible_alike x y alike feasible = record {
     domain = domain_alike x y alike feasible.domain;
     holds = λ k c at j l. subst (problems.Holds c.relation) (ap₂ (λ a b. a -ℚ b) (alike_value p s x y alike c.left j) (alike_value p s x y alike c.right j)) (feasible.holds k c at j l);
@@ -126,10 +126,10 @@ module _ (p : Problem) (s : Setting) where
         let (d, there, is) = mapped convex_constraint p.constraints k c at in
         same k d there j (subst (λ (b : problems.Constraint). j < b.size) (sym is) l)
 
-    multipliers_same : answers.AreMultipliers (convex_problem p) m → answers.AreMultipliers (convex_problem p) n
+    pub multipliers_same : answers.AreMultipliers (convex_problem p) m → answers.AreMultipliers (convex_problem p) n
     multipliers_same h = λ k c at j l. subst (MayMultiply c.relation) (row_same k c at j l) (h k c at j l)
 
-    penalty_same : (x : Point) → answers.penalty (convex_problem p) s x m ≡ answers.penalty (convex_problem p) s x n
+    pub penalty_same : (x : Point) → answers.penalty (convex_problem p) s x m ≡ answers.penalty (convex_problem p) s x n
     penalty_same x = weighed_same (problems.gap_of (convex.value_at (convex_problem p).nodes s x)) (convex_problem p).constraints m n row_same
 
     infeasible_stays : (gap : ℚ) → IsInfeasible p s m gap → IsInfeasible p s n gap

@@ -17,7 +17,7 @@ use Rattle.dcx_report.specs.declared.run.Word.{Word}
 use Rattle.dcx_report.specs.declared.run.Word.TheVariants.{Solve, Setting}
 use Rattle.dcx_report.specs.AnswerText.{answer_text}
 use Rattle.dcx_report.specs.StopText.{stop_name, stop_details, stopped_text}
-use Rattle.dcx_report.specs.OutcomeText.{word_text, end_text, outcome_text, outcome_lines, count_line}
+use Rattle.dcx_report.specs.OutcomeText.{word_text, end_text, outcome_text, outcome_lines, count_line, warm_line}
 use Rattle.dcx_report.specs.ReportText.{text_of}
 use Rattle.dcx_report.specs.SameText.{Layout, IsEndOf, answer_of, answers_of, SameTextSameAnswers}
 use Rattle.dcx_lines.specs.Reading.{BeginsWithout}
@@ -84,9 +84,17 @@ count_begins : (outcomes : List Outcome) → count_line outcomes ≡ 97 ∷ drop
 unfolding count_line
 count_begins outcomes = refl
 
+-- the outcomes, and what stands behind their lines
+lines_split : (word : Word) (sense : Sense) (outcomes : List Outcome) (warm : Option ℕ) →
+    (outcome_lines word sense outcomes ++ count_line outcomes) ++ warm_line warm ≡ flat_map (outcome_text word sense) (enumerate_from 1 outcomes) ++ 97 ∷ (drop 1 (count_line outcomes) ++ warm_line warm)
+unfolding outcome_lines
+lines_split word sense outcomes warm =
+    append_assoc (flat_map (outcome_text word sense) (enumerate_from 1 outcomes)) (count_line outcomes) (warm_line warm)
+    ∙ ap (λ l. flat_map (outcome_text word sense) (enumerate_from 1 outcomes) ++ (l ++ warm_line warm)) (count_begins outcomes)
+
 pub same_text_same_answers : SameTextSameAnswers
-unfolding text_of outcome_lines
-same_text_same_answers layout word sense xs ys h k e =
-    outcomes_read layout word sense 1 xs ys (drop 1 (count_line xs)) (drop 1 (count_line ys))
+unfolding text_of
+same_text_same_answers layout word sense xs ys m n h k e =
+    outcomes_read layout word sense 1 xs ys (drop 1 (count_line xs) ++ warm_line m) (drop 1 (count_line ys) ++ warm_line n)
     (recursion_from_All (λ o. IsEndOf layout o.end) xs h) (recursion_from_All (λ o. IsEndOf layout o.end) ys k)
-    (ap (λ l. flat_map (outcome_text word sense) (enumerate_from 1 xs) ++ l) (sym (count_begins xs)) ∙ e ∙ ap (λ l. flat_map (outcome_text word sense) (enumerate_from 1 ys) ++ l) (count_begins ys))
+    (sym (lines_split word sense xs m) ∙ e ∙ lines_split word sense ys n)

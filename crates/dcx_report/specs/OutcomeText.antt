@@ -1,5 +1,5 @@
 -- The lines of the outcomes of a run.
-use Rattle.std.specs.Prelude.{ℕ, Bool, true, false, not, List, ◌++◌, codes, decimal, count_by}
+use Rattle.std.specs.Prelude.{ℕ, Bool, true, false, not, List, [], ◌++◌, Some, None, codes, decimal, count_by}
 use Rattle.std.specs.List.{flat_map, enumerate_from}
 use Rattle.std.specs.declared.option.Option.{Option}
 use Rattle.dcx_shape.specs.declared.place.Place.{Place}
@@ -48,3 +48,8 @@ count_of_stops outcomes = count_by (λ o. not (is_answer o.end)) outcomes
 unfoldable pub count_line : List Outcome → List ℕ
 count_line outcomes =
     codes "answered " ++ decimal (count_of_answers outcomes) ++ codes " stopped " ++ decimal (count_of_stops outcomes) ++ codes "\n"
+
+-- how many outcomes are warm, where they are counted
+unfoldable pub warm_line : Option ℕ → List ℕ
+warm_line (Some count) = codes "warm " ++ decimal count ++ codes "\n"
+warm_line None = []

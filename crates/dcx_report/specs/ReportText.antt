@@ -4,7 +4,7 @@ use Rattle.dcx_report.specs.declared.run.Run.{Run}
 use Rattle.dcx_report.specs.declared.run.Run.TheVariants.{Usage, Refused, Checked, Solved, Certificates, Certified, CertRefused, Trial, ReadFault, Memory}
 use Rattle.dcx_report.specs.CertifiedText.{certified_text, cert_refused_text}
 use Rattle.dcx_report.specs.CheckText.{checked_text}
-use Rattle.dcx_report.specs.OutcomeText.{outcome_lines, count_line}
+use Rattle.dcx_report.specs.OutcomeText.{outcome_lines, count_line, warm_line}
 use Rattle.dcx_report.specs.RefusalText.{refusal_text}
 use Rattle.dcx_report.specs.TrialText.{trial_lines}
 
@@ -18,7 +18,7 @@ unfoldable pub text_of : Run → List ℕ
 text_of Usage = usage_text
 text_of (Refused refusal) = refusal_text refusal
 text_of (Checked checked) = checked_text checked
-text_of (Solved word sense outcomes) = outcome_lines word sense outcomes ++ count_line outcomes
+text_of (Solved word sense outcomes warm) = outcome_lines word sense outcomes ++ count_line outcomes ++ warm_line warm
 text_of (Certificates text stopped) = text
 text_of (Certified sections) = certified_text sections
 text_of (CertRefused section fault) = cert_refused_text section fault

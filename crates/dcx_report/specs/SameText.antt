@@ -57,6 +57,6 @@ answers_of outcomes = map (λ o. answer_of o.end) outcomes
 -- two runs over one problem with the same report have the same answers
 abbrev pub SameTextSameAnswers : Type 0
 SameTextSameAnswers =
-    (layout : Layout) (word : Word) (sense : Sense) (xs ys : List Outcome)
+    (layout : Layout) (word : Word) (sense : Sense) (xs ys : List Outcome) (m n : Option ℕ)
     → All (λ o. IsEndOf layout o.end) xs → All (λ o. IsEndOf layout o.end) ys
-    → text_of (Solved word sense xs) ≡ text_of (Solved word sense ys) → answers_of xs ≡ answers_of ys
+    → text_of (Solved word sense xs m) ≡ text_of (Solved word sense ys n) → answers_of xs ≡ answers_of ys

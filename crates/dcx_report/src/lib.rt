@@ -6,7 +6,8 @@
 //! | a value and a bound are told of the user's objective: negated back where it is maximized | `user_number` of `specs/AnswerText.antt` |
 //! | a trial tells of each setting how it ends, on one line, an optimal value with it | `trial_lines` of `specs/TrialText.antt` |
 //! | a refused certificate is told with its section, the check that fails there, and what that carries | `cert_refused_text` of `specs/CertifiedText.antt` |
-//! | the last line counts the settings that are answered and those that are stopped | `count_line` of `specs/OutcomeText.antt` |
+//! | a line behind the outcomes counts the settings that are answered and those that are stopped | `count_line` of `specs/OutcomeText.antt` |
+//! | a last line counts the outcomes that were found warm, where that was wanted | `warm_line` of `specs/OutcomeText.antt` |
 //! | an outcome has a place exactly where its stop names a node | `Outcome`, `names_node` of `specs/NodeStops.antt` |
 //! | two runs over one problem with the same report have the same answers | `laws::same_text_same_answers` |
 #![tactic(auto)]

@@ -1,6 +1,6 @@
 //! The bytes of the report of a run.
 ghost use Rattle.std.specs.Prelude.{◌≡◌, ◌++◌, IfOk, OnOk};
-ghost use Rattle.dcx_report.specs.OutcomeText.{word_text, end_text, outcome_text, outcome_lines, is_answer, count_of_answers, count_of_stops, count_line};
+ghost use Rattle.dcx_report.specs.OutcomeText.{word_text, end_text, outcome_text, outcome_lines, is_answer, count_of_answers, count_of_stops, count_line, warm_line};
 ghost use Rattle.dcx_report.specs.ReportText.{text_of};
 
 use crate::answer_lines::put_answer;
@@ -112,6 +112,21 @@ fn put_counts(out: &mut Vec<u8>, outcomes: &[Outcome]) -> Result<(), AllocError>
     put_bytes(out, b"\n")
 }
 
+/// Appends the line that counts the warm outcomes, where they are counted.
+#[tactic(auto, unfolding(crate::specs::OutcomeText::warm_line))]
+fn put_warm(out: &mut Vec<u8>, warm: Option<u32>) -> Result<(), AllocError>
+    ensures { OnOk result (out.new.items ≡ out.old.items ++ warm_line warm) }
+{
+    match warm {
+        Some(count) => {
+            put_bytes(out, b"warm ")?;
+            put_number(out, u64::from(count))?;
+            put_bytes(out, b"\n")
+        }
+        None => Ok(()),
+    }
+}
+
 /// The commands, with their operands.
 const USAGE: &[u8] =
     b"usage: dcx check SCRIPT | solve SCRIPT | resolve SCRIPT SETTINGS | certificate SCRIPT SETTINGS | certify SCRIPT SETTINGS CERT | trial N | migrate SCRIPT SETTINGS CERT\n";
@@ -129,9 +144,11 @@ fn put_run(out: &mut Vec<u8>, run: &Run) -> Result<(), AllocError>
             word,
             sense,
             outcomes,
+            warm,
         } => {
             put_outcomes(out, *word, *sense, outcomes.as_slice())?;
-            put_counts(out, outcomes.as_slice())
+            put_counts(out, outcomes.as_slice())?;
+            put_warm(out, *warm)
         }
         Run::Certificates { text, .. } => put_bytes(out, text.as_slice()),
         Run::Certified { sections } => put_certified(out, *sections),

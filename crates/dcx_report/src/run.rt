@@ -31,6 +31,8 @@ pub enum Run {
         sense: Sense,
         /// The outcomes, in order.
         outcomes: Outcomes,
+        /// How many of them were found from the columns of an earlier answer, where that was wanted.
+        warm: Option<u32>,
     },
     /// The text of a certificate: of the answers at each setting, or of sections that were read and hold.
     Certificates {

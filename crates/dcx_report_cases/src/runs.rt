@@ -8,7 +8,7 @@ use dcx_report::{Outcome, OutcomeEnd, Outcomes, Run, Sense, Word, report_text};
 use dcx_shape::Bytes;
 use std::alloc::Global;
 
-/// `usage`, `fault`, `memory`, `refused REFUSAL`, `WORD SENSE | OUTCOME | ..`, `trial SIZE | OUTCOME | ..`,
+/// `usage`, `fault`, `memory`, `refused REFUSAL`, `WORD SENSE | OUTCOME | ..`, `warm COUNT SENSE | OUTCOME | ..`, `trial SIZE | OUTCOME | ..`,
 /// `certificates | LINE | ..`, `certified SECTIONS` or `section SECTION FAULT`, and the report, in which each line ends with ` /`.
 pub(crate) struct Reports;
 
@@ -30,8 +30,9 @@ fn told(alloc: Global, words: &[&str], rest: &[&str], out: &mut String) -> Resul
         ["fault"] => put_report(alloc, &Run::ReadFault, out),
         ["memory"] => put_report(alloc, &Run::Memory, out),
         ["refused", ref words @ ..] => put_report(alloc, &Run::Refused(refusal(words)?), out),
-        ["solve", sense] => solved_told(alloc, Word::Solve, sense, rest, out),
-        ["setting", sense] => solved_told(alloc, Word::Setting, sense, rest, out),
+        ["solve", sense] => solved_told(alloc, Word::Solve, sense, rest, None, out),
+        ["setting", sense] => solved_told(alloc, Word::Setting, sense, rest, None, out),
+        ["warm", found, sense] => warm_told(alloc, found, sense, rest, out),
         ["certificates"] => certificates_told(alloc, rest, out),
         ["certified", sections] => certified_told(alloc, sections, out),
         ["section", section, ref words @ ..] => fault_told(alloc, section, words, out),
@@ -101,6 +102,7 @@ fn solved_told(
     word: Word,
     sense: &str,
     texts: &[&str],
+    warm: Option<u32>,
     out: &mut String,
 ) -> Result<(), CaseFault> {
     let sense = match sense {
@@ -115,9 +117,21 @@ fn solved_told(
             word,
             sense,
             outcomes,
+            warm,
         },
         out,
     )
+}
+
+fn warm_told(
+    alloc: Global,
+    found: &str,
+    sense: &str,
+    texts: &[&str],
+    out: &mut String,
+) -> Result<(), CaseFault> {
+    let found = count(found)?;
+    solved_told(alloc, Word::Setting, sense, texts, Some(found), out)
 }
 
 /// The bytes of lines.

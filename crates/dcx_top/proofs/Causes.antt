@@ -2,7 +2,6 @@
 use Rattle.std.proofs.Common.{◌≡◌, ◌↔◌, ◌⊎◌, ◌∙◌, ◌≤◌, ◌+◌, ◌*◌, length, count_by, None, inl, inr, ℕ, Bool, false, IsTrue, List, Option, Some, Ok, Err, refl, sym, ap, subst}
 use Rattle.std.proofs.lemmas.Option.{none-some}
 use Rattle.dcx_point.specs.Pairs.{Pairs}
-use Rattle.dcx_tree.specs.declared.constraint.Sense.{Sense}
 use Rattle.dcx_tree.specs.declared.problem.Problem.{Problem}
 use Rattle.dcx_elab.specs.declared.work.Work.{Work}
 use Rattle.dcx_sections.specs.declared.fault.CertFault.{CertFault}
@@ -12,6 +11,7 @@ use Rattle.dcx_sections.specs.declared.section.Section.{Section}
 use Rattle.dcx_cert_lines.specs.CertText.{cert_text}
 use Rattle.dcx_cache.specs.Programs.{HasMap}
 use Rattle.dcx_outcomes.specs.Outcomes.{Counts}
+use Rattle.dcx_outcomes.specs.Warm.{AreFound}
 use Rattle.dcx_certificates.specs.Sections.{StopsSomewhere, IsCertificateAt}
 use Rattle.dcx_certificates.specs.Checking.{is_cert, ArePassed, IsFirstRefused}
 use Rattle.dcx_certificates.specs.Migrating.{IsMigrated}
@@ -30,12 +30,15 @@ use Rattle.dcx_report.specs.declared.run.Run.{Run}
 use Rattle.dcx_report.specs.declared.run.Run.TheVariants as run
 use Rattle.dcx_report.specs.declared.run.Word.TheVariants as word
 use Rattle.dcx_words.specs.Commands.{Command, check, solve, resolve, certificate, certify, migrate, trial, command_of}
+use Rattle.dcx_words.specs.Laws.{is_warm_command}
 use Rattle.dcx_trial.specs.Trial.{trial_text}
 use Rattle.dcx_top.specs.Commands.{IsScriptOf, script_name, settings_name, certificate_name, AreOfFile, AreSettingsOf, limit_of, TellsOutcomes}
 use Rattle.dcx_top.specs.Files.{run_of, RefusesScript, RefusesSettings, EndsAt, refused_at, HasTextOf, ReadsCertificate}
 use Rattle.dcx_top.proofs.Reading.{told_fault}
 use Rattle.dcx_top.specs.Whole.{HasNoWhole, IsRefusedForWhole, IsSolving}
-use Rattle.dcx_top.specs.Runs.{GivesProblem, OrWhole, SolvesAt, TriesAt, CertifiesAt, ResolvesFrom, CertifiesFrom, GivesSettings, GivesSections, EndsFiles, at_script, at_whole, at_settings, at_certificate, at_memory, HasCertificate, ReadsSections, HasPassed, misread, failed, long_script, bad_script, for_whole, bad_settings, long_certificate, no_script, no_settings, no_certificate, Causes}
+use Rattle.dcx_top.specs.declared.solving.Task.{Task}
+use Rattle.dcx_top.specs.declared.solving.Task.TheVariants as tasks
+use Rattle.dcx_top.specs.Runs.{GivesProblem, IsSolvedRun, OrWhole, SolvesAt, TriesAt, CertifiesAt, DoesAt, DoesFrom, command_for, GivesSettings, GivesSections, EndsFiles, at_script, at_whole, at_settings, at_certificate, at_memory, HasCertificate, ReadsSections, HasPassed, misread, failed, long_script, bad_script, for_whole, bad_settings, long_certificate, no_script, no_settings, no_certificate, Causes}
 
 pub judged_of : (bytes : List ℕ) (a : Accepted) → Gives bytes (Ok a) → IsJudged a.work.problem a.verdict
 judged_of bytes a g = (acceptance bytes a g).judged
@@ -50,7 +53,7 @@ module _ (words : List (List ℕ)) (told : Option Files) (risen : Type 0) (comma
   script_ends name n run.Memory is of h = tt
   script_ends name n run.Usage is of h = absurd h
   script_ends name n (run.Checked c) is of h = absurd h
-  script_ends name n (run.Solved word sense outcomes) is of h = absurd h
+  script_ends name n (run.Solved word sense outcomes warm) is of h = absurd h
   script_ends name n (run.Certificates text stopped) is of h = absurd h
   script_ends name n (run.Certified sections) is of h = absurd h
   script_ends name n (run.CertRefused section fault) is of h = absurd h
@@ -74,50 +77,36 @@ module _ (words : List (List ℕ)) (told : Option Files) (risen : Type 0) (comma
     settings_end continuous name n run.Memory is h = tt
     settings_end continuous name n run.Usage is h = absurd h
     settings_end continuous name n (run.Checked c) is h = absurd h
-    settings_end continuous name n (run.Solved word sense outcomes) is h = absurd h
+    settings_end continuous name n (run.Solved word sense outcomes warm) is h = absurd h
     settings_end continuous name n (run.Certificates text stopped) is h = absurd h
     settings_end continuous name n (run.Certified sections) is h = absurd h
     settings_end continuous name n (run.CertRefused section fault) is h = absurd h
     settings_end continuous name n (run.Trial size outcomes) is h = absurd h
 
     -- ---- the problem is solved
-    module _ (settings : List Pairs) (asked : AreSettingsOf told command a.work settings) (tells : List Outcome → Run)
-        (continuous : HasNoWhole a.work.problem.tree) (told_so : (outcomes : List Outcome) → TellsOutcomes command a.work.problem.sense outcomes (tells outcomes)) where
-      solved_full : (word : _) (sense : Sense) → ((outcomes : List Outcome) → tells outcomes ≡ run.Solved word sense outcomes) → (old new : ℕ) (r : Run) → SolvesAt a.work.problem (limit_of command) settings tells old new r →
-          Causes words told risen old new r
-      solved_full word sense is old new r (inl e) = subst (Causes words told risen old new) (sym e) tt
-      solved_full word sense is old new r (inr (outcomes, are, steps, e)) =
-          subst (Causes words told risen old new) (sym e) (subst (Causes words told risen old new) (sym (is outcomes)) (record {
-            command = command;
-            form = form;
-            accepted = a;
-            problem = gives;
-            continuous = continuous;
-            settings = settings;
-            asked = asked;
-            outcomes = outcomes;
-            are = are;
-            tells = subst (TellsOutcomes command a.work.problem.sense outcomes) (is outcomes) (told_so outcomes);
-            steps = steps;
-          }))
+    module _ (settings : List Pairs) (asked : AreSettingsOf told command a.work settings) (tells : List Outcome → Option ℕ → Run)
+        (continuous : HasNoWhole a.work.problem.tree) (told_so : (outcomes : List Outcome) (count : Option ℕ) → TellsOutcomes command a.work.problem.sense outcomes count (tells outcomes count)) where
+      abbrev solved_run : (old new : ℕ) (outcomes : List Outcome) (count : Option ℕ) → AreFound (is_warm_command command) a.work.problem (limit_of command) settings outcomes count → Counts a.work.problem (length settings) old new →
+          IsSolvedRun words told old new (tells outcomes count)
+      solved_run old new outcomes count are steps = record {
+        command = command;
+        form = form;
+        accepted = a;
+        problem = gives;
+        continuous = continuous;
+        settings = settings;
+        asked = asked;
+        outcomes = outcomes;
+        warm = count;
+        are = are;
+        tells = told_so outcomes count;
+        steps = steps;
+      }
 
-      solved_short : (size : ℕ) → ((outcomes : List Outcome) → tells outcomes ≡ run.Trial size outcomes) → (old new : ℕ) (r : Run) → SolvesAt a.work.problem (limit_of command) settings tells old new r →
-          Causes words told risen old new r
-      solved_short size is old new r (inl e) = subst (Causes words told risen old new) (sym e) tt
-      solved_short size is old new r (inr (outcomes, are, steps, e)) =
-          subst (Causes words told risen old new) (sym e) (subst (Causes words told risen old new) (sym (is outcomes)) (record {
-            command = command;
-            form = form;
-            accepted = a;
-            problem = gives;
-            continuous = continuous;
-            settings = settings;
-            asked = asked;
-            outcomes = outcomes;
-            are = are;
-            tells = subst (TellsOutcomes command a.work.problem.sense outcomes) (is outcomes) (told_so outcomes);
-            steps = steps;
-          }))
+      pub solved_so : (old new : ℕ) (r : Run) → ((outcomes : List Outcome) (count : Option ℕ) → IsSolvedRun words told old new (tells outcomes count) → Causes words told risen old new (tells outcomes count)) →
+          SolvesAt (is_warm_command command) a.work.problem (limit_of command) settings tells old new r → Causes words told risen old new r
+      solved_so old new r caused (inl e) = subst (Causes words told risen old new) (sym e) tt
+      solved_so old new r caused (inr (outcomes, count, are, steps, e)) = subst (Causes words told risen old new) (sym e) (caused outcomes count (solved_run old new outcomes count are steps))
 
 -- ---- a certificate that is read
 module _ (words : List (List ℕ)) (told : Option Files) (risen : Type 0) (command : Command) (form : command_of words ≡ Some command) (script name file : List ℕ)
@@ -143,7 +132,7 @@ module _ (words : List (List ℕ)) (told : Option Files) (risen : Type 0) (comma
   certificate_ends a settings n run.Memory g h = tt
   certificate_ends a settings n run.Usage g h = absurd h
   certificate_ends a settings n (run.Checked c) g h = absurd h
-  certificate_ends a settings n (run.Solved word sense outcomes) g h = absurd h
+  certificate_ends a settings n (run.Solved word sense outcomes warm) g h = absurd h
   certificate_ends a settings n (run.Certificates text stopped) g h = absurd h
   certificate_ends a settings n (run.Certified sections) g h = absurd h
   certificate_ends a settings n (run.Trial size outcomes) g h = absurd h
@@ -195,38 +184,59 @@ told_at : (p : Problem) (limit : ℕ) (settings : List Pairs) (c : Sections) (st
 told_at p limit settings c stopped old new r is flag steps (inl e) = inl e
 told_at p limit settings c stopped old new r is flag steps (inr e) = inr (c, stopped, is, flag, steps, e)
 
-pub certificate_at : (p : Problem) (limit : ℕ) (settings slice : List Pairs) (c : Sections) (stopped : Bool) (old new : ℕ) (r : Run) → slice ≡ settings → IsCertificateAt p limit slice c → (IsTrue stopped ↔ StopsSomewhere p limit slice) →
-    (HasMap p → new ≡ old + length p.tree) → new ≤ old + length p.tree + length slice * length p.tree → (r ≡ run.Memory) ⊎ (r ≡ run.Certificates (cert_text c) stopped) → CertifiesAt p limit settings old new r
-certificate_at p limit settings slice c stopped old new r same is flag mapped anew h =
-    subst (λ s. CertifiesAt p limit s old new r) same (told_at p limit slice c stopped old new r is flag (record { mapped = mapped; anew = anew }) h)
+pub certificate_at : (p : Problem) (limit : ℕ) (settings : List Pairs) (c : Sections) (stopped : Bool) (old new : ℕ) (r : Run) → IsCertificateAt p limit settings c → (IsTrue stopped ↔ StopsSomewhere p limit settings) →
+    (HasMap p → new ≡ old + length p.tree) → new ≤ old + length p.tree + length settings * length p.tree → (r ≡ run.Memory) ⊎ (r ≡ run.Certificates (cert_text c) stopped) → CertifiesAt p limit settings old new r
+certificate_at p limit settings c stopped old new r is flag mapped anew h = told_at p limit settings c stopped old new r is flag (record { mapped = mapped; anew = anew }) h
+
+-- ---- what is asked is done
+-- at the settings that the slice holds
+pub task_resolved : (work : Work) (limit : ℕ) (settings slice : List Pairs) (task : Task) (warm : Bool) (old new : ℕ) (r : Run) → task ≡ tasks.Resolve warm → slice ≡ settings →
+    SolvesAt warm work.problem limit slice (λ os count. run.Solved word.Setting work.problem.sense os count) old new r → DoesAt task work limit settings old new r
+task_resolved work limit settings slice task warm old new r is same h =
+    subst (λ (t : Task). DoesAt t work limit settings old new r) (sym is) (subst (λ (s : List Pairs). DoesAt (tasks.Resolve warm) work limit s old new r) same h)
+
+pub task_certified : (work : Work) (limit : ℕ) (settings slice : List Pairs) (task : Task) (old new : ℕ) (r : Run) → task ≡ tasks.Certificate → slice ≡ settings → CertifiesAt work.problem limit slice old new r → DoesAt task work limit settings old new r
+task_certified work limit settings slice task old new r is same h =
+    subst (λ (t : Task). DoesAt t work limit settings old new r) (sym is) (subst (λ (s : List Pairs). DoesAt tasks.Certificate work limit s old new r) same h)
 
 -- ---- command by command
+-- what is asked at the settings of a file
+pub task_script : (task : Task) (script name : List ℕ) (limit : ℕ) (told : Option Files) (bytes : List ℕ) → IsTold told script bytes → IsScriptOf told (command_for task script name limit) bytes
+task_script (tasks.Resolve warm) script name limit told bytes h = h
+task_script tasks.Certificate script name limit told bytes h = h
+
+pub task_script_name : (task : Task) (script name : List ℕ) (limit : ℕ) → script_name (command_for task script name limit) ≡ Some script
+task_script_name (tasks.Resolve warm) script name limit = refl
+task_script_name tasks.Certificate script name limit = refl
+
+task_settings : (task : Task) (script name : List ℕ) (limit : ℕ) → settings_name (command_for task script name limit) ≡ Some name
+task_settings (tasks.Resolve warm) script name limit = refl
+task_settings tasks.Certificate script name limit = refl
+
+task_solves : (task : Task) (script name : List ℕ) (limit : ℕ) → IsSolving (command_for task script name limit)
+task_solves (tasks.Resolve warm) script name limit = tt
+task_solves tasks.Certificate script name limit = tt
+
 module _ (words : List (List ℕ)) (told : Option Files) (risen : Type 0) where
   pub checked : (script bytes : List ℕ) (a : Accepted) (c : Checked) (n : ℕ) → command_of words ≡ Some (check script) → IsTold told script bytes → Gives bytes (Ok a) → IsFoundOf a.work.problem c → Causes words told risen n n (run.Checked c)
   checked script bytes a c n form there gives found =
       (record { script = script; form = form; accepted = a; problem = record { bytes = bytes; are_of = there; gives = gives }; found = found }, refl)
 
   pub solved : (script bytes : List ℕ) (limit : ℕ) (a : Accepted) (old new : ℕ) (r : Run) → command_of words ≡ Some (solve script limit) → IsTold told script bytes → Gives bytes (Ok a) →
-      OrWhole a.work.problem (SolvesAt a.work.problem limit a.work.events (λ os. run.Solved word.Solve a.work.problem.sense os) old new) old new r → Causes words told risen old new r
+      OrWhole a.work.problem (SolvesAt false a.work.problem limit a.work.events (λ os count. run.Solved word.Solve a.work.problem.sense os count) old new) old new r → Causes words told risen old new r
   solved script bytes limit a old new r form there gives (inl (continuous, h)) =
-      solved_full words told risen (solve script limit) form a (record { bytes = bytes; are_of = there; gives = gives }) a.work.events refl (λ os. run.Solved word.Solve a.work.problem.sense os) continuous (λ os. refl)
-      word.Solve a.work.problem.sense (λ os. refl) old new r h
+      solved_so words told risen (solve script limit) form a (record { bytes = bytes; are_of = there; gives = gives }) a.work.events refl (λ os count. run.Solved word.Solve a.work.problem.sense os count) continuous (λ os count. refl)
+      old new r (λ os count k. k) h
   solved script bytes limit a old new r form there gives (inr h) = whole_ends words told risen (solve script limit) form a (record { bytes = bytes; are_of = there; gives = gives }) old new r tt h
 
-  pub resolved : (script name bytes : List ℕ) (limit : ℕ) (a : Accepted) (old new : ℕ) (r : Run) → command_of words ≡ Some (resolve script name limit) → IsTold told script bytes → Gives bytes (Ok a) →
-      OrWhole a.work.problem (ResolvesFrom told risen a.work name limit old new) old new r → Causes words told risen old new r
-  resolved script name bytes limit a old new r form there gives (inl (continuous, inl (settings, are, h))) =
-      solved_full words told risen (resolve script name limit) form a (record { bytes = bytes; are_of = there; gives = gives }) settings are (λ os. run.Solved word.Setting a.work.problem.sense os) continuous (λ os. refl)
-      word.Setting a.work.problem.sense (λ os. refl) old new r h
-  resolved script name bytes limit a old new r form there gives (inl (continuous, inr (h, same))) =
-      subst (λ n. Causes words told risen old n r) (sym same)
-      (settings_end words told risen (resolve script name limit) form a (record { bytes = bytes; are_of = there; gives = gives }) continuous name old r refl h)
-  resolved script name bytes limit a old new r form there gives (inr h) = whole_ends words told risen (resolve script name limit) form a (record { bytes = bytes; are_of = there; gives = gives }) old new r tt h
-
-  pub certificate_told : (script name bytes : List ℕ) (limit : ℕ) (a : Accepted) (old new : ℕ) (r : Run) → command_of words ≡ Some (certificate script name limit) → IsTold told script bytes → Gives bytes (Ok a) →
-      OrWhole a.work.problem (CertifiesFrom told risen a.work name limit old new) old new r → Causes words told risen old new r
-  certificate_told script name bytes limit a old new r form there gives (inl (continuous, inl (settings, are, inl e))) = subst (Causes words told risen old new) (sym e) tt
-  certificate_told script name bytes limit a old new r form there gives (inl (continuous, inl (settings, are, inr (c, stopped, is, flag, steps, e)))) =
+  -- ---- what is asked at the settings of a file
+  does_at : (task : Task) (script name bytes : List ℕ) (limit : ℕ) (a : Accepted) (settings : List Pairs) (old new : ℕ) (r : Run) → command_of words ≡ Some (command_for task script name limit) → IsTold told script bytes → Gives bytes (Ok a) →
+      HasNoWhole a.work.problem.tree → AreOfFile told name a.work.last settings → DoesAt task a.work limit settings old new r → Causes words told risen old new r
+  does_at (tasks.Resolve warm) script name bytes limit a settings old new r form there gives continuous are h =
+      solved_so words told risen (resolve script name limit warm) form a (record { bytes = bytes; are_of = there; gives = gives }) settings are (λ os count. run.Solved word.Setting a.work.problem.sense os count) continuous (λ os count. refl)
+      old new r (λ os count k. k) h
+  does_at tasks.Certificate script name bytes limit a settings old new r form there gives continuous are (inl e) = subst (Causes words told risen old new) (sym e) tt
+  does_at tasks.Certificate script name bytes limit a settings old new r form there gives continuous are (inr (c, stopped, is, flag, steps, e)) =
       subst (Causes words told risen old new) (sym e) (inl (record {
         script = script;
         name = name;
@@ -243,10 +253,20 @@ module _ (words : List (List ℕ)) (told : Option Files) (risen : Type 0) where
         text = refl;
         steps = steps;
       }))
-  certificate_told script name bytes limit a old new r form there gives (inl (continuous, inr (h, same))) =
-      subst (λ n. Causes words told risen old n r) (sym same)
-      (settings_end words told risen (certificate script name limit) form a (record { bytes = bytes; are_of = there; gives = gives }) continuous name old r refl h)
-  certificate_told script name bytes limit a old new r form there gives (inr h) = whole_ends words told risen (certificate script name limit) form a (record { bytes = bytes; are_of = there; gives = gives }) old new r tt h
+
+  pub done : (task : Task) (script name bytes : List ℕ) (limit : ℕ) (a : Accepted) (old new : ℕ) (r : Run) → command_of words ≡ Some (command_for task script name limit) → IsTold told script bytes → Gives bytes (Ok a) →
+      OrWhole a.work.problem (DoesFrom told risen task a.work name limit old new) old new r → Causes words told risen old new r
+  done task script name bytes limit a old new r form there gives h = by h
+    where
+      problem : GivesProblem told (command_for task script name limit) a
+      problem = record { bytes = bytes; are_of = task_script task script name limit told bytes there; gives = gives }
+
+      by : OrWhole a.work.problem (DoesFrom told risen task a.work name limit old new) old new r → Causes words told risen old new r
+      by (inl (continuous, inl (settings, are, k))) = does_at task script name bytes limit a settings old new r form there gives continuous are k
+      by (inl (continuous, inr (k, same))) =
+          subst (λ n. Causes words told risen old n r) (sym same)
+          (settings_end words told risen (command_for task script name limit) form a problem continuous name old r (task_settings task script name limit) k)
+      by (inr k) = whole_ends words told risen (command_for task script name limit) form a problem old new r (task_solves task script name limit) k
 
   pub certified : (script name file : List ℕ) (p : Problem) (settings : List Pairs) (sections : Sections) (list : List Section) (n certs : ℕ) → command_of words ≡ Some (certify script name file) →
       GivesSections told script name file p settings sections → list ≡ sections.list → ArePassed p settings list → certs ≡ count_by is_cert list → Causes words told risen n n (run.Certified certs)
@@ -286,8 +306,8 @@ module _ (words : List (List ℕ)) (told : Option Files) (risen : Type 0) where
       OrWhole a.work.problem (TriesAt a.work size limit old new) old new r → Causes words told risen old new r
   tried size limit a old new r form gives (inl (continuous, inl e)) = subst (Causes words told risen old new) (sym e) tt
   tried size limit a old new r form gives (inl (continuous, inr (settings, are, h))) =
-      solved_short words told risen (trial size limit) form a (record { bytes = trial_text size; are_of = refl; gives = gives }) settings are (λ os. run.Trial size os) continuous (λ os. refl)
-      size (λ os. refl) old new r h
+      solved_so words told risen (trial size limit) form a (record { bytes = trial_text size; are_of = refl; gives = gives }) settings are (λ os count. run.Trial size os) continuous (λ os count. refl)
+      old new r (λ os count k. k) h
   tried size limit a old new r form gives (inr h) = whole_ends words told risen (trial size limit) form a (record { bytes = trial_text size; are_of = refl; gives = gives }) old new r tt h
 
 -- ---- words

@@ -28,7 +28,7 @@ ends_before told risen source name Refuses (run.Refused r) (inr (bytes, there, h
 ends_before told risen source name Refuses run.Memory h = tt
 ends_before told risen source name Refuses run.Usage h = absurd h
 ends_before told risen source name Refuses (run.Checked c) h = absurd h
-ends_before told risen source name Refuses (run.Solved word sense outcomes) h = absurd h
+ends_before told risen source name Refuses (run.Solved word sense outcomes warm) h = absurd h
 ends_before told risen source name Refuses (run.Certificates text stopped) h = absurd h
 ends_before told risen source name Refuses (run.Certified n) h = absurd h
 ends_before told risen source name Refuses (run.CertRefused section fault) h = absurd h
@@ -76,7 +76,7 @@ ends_rising told risen rose source name Refuses (run.Refused r) more h = h
 ends_rising told risen rose source name Refuses run.Memory more h = tt
 ends_rising told risen rose source name Refuses run.Usage more h = absurd h
 ends_rising told risen rose source name Refuses (run.Checked c) more h = absurd h
-ends_rising told risen rose source name Refuses (run.Solved word sense outcomes) more h = absurd h
+ends_rising told risen rose source name Refuses (run.Solved word sense outcomes warm) more h = absurd h
 ends_rising told risen rose source name Refuses (run.Certificates text stopped) more h = absurd h
 ends_rising told risen rose source name Refuses (run.Certified n) more h = absurd h
 ends_rising told risen rose source name Refuses (run.CertRefused section fault) more h = absurd h

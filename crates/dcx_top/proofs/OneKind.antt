@@ -1,5 +1,5 @@
 -- Runs of different kinds are of different commands.
-use Rattle.std.proofs.Common.{◌≡◌, ℕ, Bool, List, Some, refl, sym, ap, ◌∙◌}
+use Rattle.std.proofs.Common.{◌≡◌, ℕ, Bool, List, Option, Some, refl, sym, ap, ◌∙◌}
 use Rattle.std.proofs.lemmas.Option.{none-some}
 use Rattle.dcx_tree.specs.declared.constraint.Sense.{Sense}
 use Rattle.dcx_host.specs.Files.{Files}
@@ -23,7 +23,7 @@ pub data Kind : Type 0 where
 abbrev pub kind_of : Command → Kind
 kind_of (check script) = checks
 kind_of (solve script limit) = solves
-kind_of (resolve script name limit) = solves
+kind_of (resolve script name limit warm) = solves
 kind_of (certificate script name limit) = writes
 kind_of (certify script name cert) = certifies
 kind_of (migrate script name cert) = migrates
@@ -34,19 +34,19 @@ pub data Reads (k : Kind) : Type 0 where
   to_certify : k ≡ certifies → Reads k
   to_migrate : k ≡ migrates → Reads k
 
-kind_told : (c : Command) (sense : Sense) (os : List Outcome) (r : Run) → TellsOutcomes c sense os r → kind_of c ≡ solves
-kind_told (check script) sense os r h = absurd h
-kind_told (solve script limit) sense os r h = refl
-kind_told (resolve script name limit) sense os r h = refl
-kind_told (certificate script name limit) sense os r h = absurd h
-kind_told (certify script name cert) sense os r h = absurd h
-kind_told (migrate script name cert) sense os r h = absurd h
-kind_told (trial size limit) sense os r h = refl
+kind_told : (c : Command) (sense : Sense) (os : List Outcome) (count : Option ℕ) (r : Run) → TellsOutcomes c sense os count r → kind_of c ≡ solves
+kind_told (check script) sense os count r h = absurd h
+kind_told (solve script limit) sense os count r h = refl
+kind_told (resolve script name limit warm) sense os count r h = refl
+kind_told (certificate script name limit) sense os count r h = absurd h
+kind_told (certify script name cert) sense os count r h = absurd h
+kind_told (migrate script name cert) sense os count r h = absurd h
+kind_told (trial size limit) sense os count r h = refl
 
 kind_read : (c : Command) (name : List ℕ) → certificate_name c ≡ Some name → Reads (kind_of c)
 kind_read (check script) name h = absurd (none-some name h)
 kind_read (solve script limit) name h = absurd (none-some name h)
-kind_read (resolve script file limit) name h = absurd (none-some name h)
+kind_read (resolve script file limit warm) name h = absurd (none-some name h)
 kind_read (certificate script file limit) name h = absurd (none-some name h)
 kind_read (certify script file cert) name h = to_certify refl
 kind_read (migrate script file cert) name h = to_migrate refl
@@ -110,7 +110,7 @@ module _ (words : List (List ℕ)) (files : Files) where
   ask_checks c h = record { command = check h.script; form = h.form; kind = refl }
 
   pub ask_solves : (old new : ℕ) (r : Run) → IsSolvedRun words (Some files) old new r → Asks words solves
-  ask_solves old new r h = record { command = h.command; form = h.form; kind = kind_told h.command h.accepted.work.problem.sense h.outcomes r h.tells }
+  ask_solves old new r h = record { command = h.command; form = h.form; kind = kind_told h.command h.accepted.work.problem.sense h.outcomes h.warm r h.tells }
 
   pub ask_writes : (old new : ℕ) (bytes : List ℕ) (stopped : Bool) → IsCertificateRun words (Some files) old new bytes stopped → Asks words writes
   ask_writes old new bytes stopped h = record { command = certificate h.script h.name h.limit; form = h.form; kind = refl }

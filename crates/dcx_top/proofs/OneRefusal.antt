@@ -1,5 +1,5 @@
 -- A run that refuses a file is one, and no run that goes on.
-use Rattle.std.proofs.Common.{◌≡◌, ℕ, ◌≤◌, Bool, List, length, Some, None, refl, sym, ap, subst, ◌∙◌}
+use Rattle.std.proofs.Common.{◌≡◌, ℕ, ◌≤◌, Bool, List, length, Option, Some, None, refl, sym, ap, subst, ◌∙◌}
 use Rattle.std.proofs.lemmas.Option.{none-some, same_Some}
 use Rattle.dcx_tree.specs.declared.constraint.Sense.{Sense}
 use Rattle.dcx_host.specs.Files.{Files}
@@ -16,14 +16,15 @@ use Rattle.dcx_top.specs.Files.{most_bytes}
 use Rattle.dcx_top.specs.Runs.{IsChecked, IsSolvedRun, IsCertificateRun, HasCertificate, ReadsSections, IsMigrateRun, IsCertifiedRun, IsCertRefusedRun, misread, failed, IsRefusedRun, long_script, bad_script, for_whole, bad_settings, long_certificate}
 use Rattle.dcx_top.proofs.Refusals.{refuses, one_refused, IsShort, never_refused, never_refused_check}
 
-tells_none : (command : Command) (sense : Sense) (os : List Outcome) (r : Run) → TellsOutcomes command sense os r → certificate_name command ≡ None
-tells_none (check script) sense os r h = absurd h
-tells_none (solve script limit) sense os r h = refl
-tells_none (resolve script name limit) sense os r h = refl
-tells_none (certificate script name limit) sense os r h = absurd h
-tells_none (certify script name cert) sense os r h = absurd h
-tells_none (migrate script name cert) sense os r h = absurd h
-tells_none (trial size limit) sense os r h = refl
+-- a command whose outcomes are told has no certificate
+pub tells_none : (command : Command) (sense : Sense) (os : List Outcome) (count : Option ℕ) (r : Run) → TellsOutcomes command sense os count r → certificate_name command ≡ None
+tells_none (check script) sense os count r h = absurd h
+tells_none (solve script limit) sense os count r h = refl
+tells_none (resolve script name limit warm) sense os count r h = refl
+tells_none (certificate script name limit) sense os count r h = absurd h
+tells_none (certify script name cert) sense os count r h = absurd h
+tells_none (migrate script name cert) sense os count r h = absurd h
+tells_none (trial size limit) sense os count r h = refl
 
 module _ (words : List (List ℕ)) (files : Files) where
   short_of_none : (command : Command) → certificate_name command ≡ None → IsShort files command
@@ -51,7 +52,7 @@ module _ (words : List (List ℕ)) (files : Files) where
 
   pub refused_or_solved : (r : Refusal) (old new : ℕ) (s : Run) → IsRefusedRun words (Some files) r → IsSolvedRun words (Some files) old new s → ⊥
   refused_or_solved r old new s h k =
-      never_refused files k.command k.accepted k.settings r k.problem k.continuous k.asked (short_of_none k.command (tells_none k.command k.accepted.work.problem.sense k.outcomes s k.tells)) (refuses words files k.command k.form r h)
+      never_refused files k.command k.accepted k.settings r k.problem k.continuous k.asked (short_of_none k.command (tells_none k.command k.accepted.work.problem.sense k.outcomes k.warm s k.tells)) (refuses words files k.command k.form r h)
 
   pub refused_or_written : (r : Refusal) (old new : ℕ) (bytes : List ℕ) (stopped : Bool) → IsRefusedRun words (Some files) r → IsCertificateRun words (Some files) old new bytes stopped → ⊥
   refused_or_written r old new bytes stopped h k =

@@ -128,7 +128,7 @@ module _ (words : List (List ℕ)) (files : Files) where
     of_usage run.Usage h k j = refl
     of_usage (run.Refused t) h k j = absurd (none_refused t h k.0)
     of_usage (run.Checked d) h k j = absurd (not_asked checks h (ask_checks words files d k.0))
-    of_usage (run.Solved w s os) h k j = absurd (not_asked solves h (ask_solves words files was now (run.Solved w s os) k))
+    of_usage (run.Solved w s os u) h k j = absurd (not_asked solves h (ask_solves words files was now (run.Solved w s os u) k))
     of_usage (run.Certificates b s) h k j = absurd (none_written was now b s h k)
     of_usage (run.Certified n) h k j = absurd (not_asked certifies h (ask_certifies words files n k.0))
     of_usage (run.CertRefused m f) h k j = absurd (none_cert_refused m f h k.0)
@@ -140,7 +140,7 @@ module _ (words : List (List ℕ)) (files : Files) where
     of_refused r run.Usage h k j = absurd (none_refused r k.0 h)
     of_refused r (run.Refused t) h k j = ap run.Refused (refused_once words files r t h k.0)
     of_refused r (run.Checked d) h k j = absurd (refused_or_checked words files r d h k.0)
-    of_refused r (run.Solved w s os) h k j = absurd (refused_or_solved words files r was now (run.Solved w s os) h k)
+    of_refused r (run.Solved w s os u) h k j = absurd (refused_or_solved words files r was now (run.Solved w s os u) h k)
     of_refused r (run.Certificates b s) h k j = absurd (bytes_or_refused was now b s r k h)
     of_refused r (run.Certified n) h k j = absurd (refused_or_certified words files r n h k.0)
     of_refused r (run.CertRefused m f) h k j = absurd (refused_or_cert_refused words files r m f h k.0)
@@ -152,7 +152,7 @@ module _ (words : List (List ℕ)) (files : Files) where
     of_checked c run.Usage h k j = absurd (not_asked checks k.0 (ask_checks words files c h))
     of_checked c (run.Refused t) h k j = absurd (refused_or_checked words files t c k.0 h)
     of_checked c (run.Checked d) h k j = ap run.Checked (checked_once c d h k.0)
-    of_checked c (run.Solved w s os) h k j = absurd (checked_or_solved c was now (run.Solved w s os) h k)
+    of_checked c (run.Solved w s os u) h k j = absurd (checked_or_solved c was now (run.Solved w s os u) h k)
     of_checked c (run.Certificates b s) h k j = absurd (checked_or_bytes c was now b s h k)
     of_checked c (run.Certified n) h k j = absurd (checked_or_certified c n h k.0)
     of_checked c (run.CertRefused m f) h k j = absurd (checked_or_cert_refused c m f h k.0)
@@ -164,7 +164,7 @@ module _ (words : List (List ℕ)) (files : Files) where
     of_solved old new r run.Usage h k j = absurd (not_asked solves k.0 (ask_solves words files old new r h))
     of_solved old new r (run.Refused t) h k j = absurd (refused_or_solved words files t old new r k.0 h)
     of_solved old new r (run.Checked d) h k j = absurd (checked_or_solved d old new r k.0 h)
-    of_solved old new r (run.Solved w s os) h k j = solved_once words files old new was now r (run.Solved w s os) h k
+    of_solved old new r (run.Solved w s os u) h k j = solved_once words files old new was now r (run.Solved w s os u) h k
     of_solved old new r (run.Certificates b s) h k j = absurd (solved_or_bytes old new r h was now b s k)
     of_solved old new r (run.Certified n) h k j = absurd (solved_or_certified old new r h n k.0)
     of_solved old new r (run.CertRefused m f) h k j = absurd (solved_or_cert_refused old new r h m f k.0)
@@ -176,7 +176,7 @@ module _ (words : List (List ℕ)) (files : Files) where
     of_bytes old new b s run.Usage h k j = absurd (none_written old new b s k.0 h)
     of_bytes old new b s (run.Refused t) h k j = absurd (bytes_or_refused old new b s t h k.0)
     of_bytes old new b s (run.Checked d) h k j = absurd (checked_or_bytes d old new b s k.0 h)
-    of_bytes old new b s (run.Solved w z os) h k j = absurd (solved_or_bytes was now (run.Solved w z os) k old new b s h)
+    of_bytes old new b s (run.Solved w z os u) h k j = absurd (solved_or_bytes was now (run.Solved w z os u) k old new b s h)
     of_bytes old new b s (run.Certificates c t) h k j = bytes_once old new was now b c s t h k
     of_bytes old new b s (run.Certified n) h k j = absurd (bytes_or_certified old new b s n h k.0)
     of_bytes old new b s (run.CertRefused m f) h k j = absurd (bytes_or_cert_refused old new b s m f h k.0)
@@ -188,7 +188,7 @@ module _ (words : List (List ℕ)) (files : Files) where
     of_certified n run.Usage h k j = absurd (not_asked certifies k.0 (ask_certifies words files n h))
     of_certified n (run.Refused t) h k j = absurd (refused_or_certified words files t n k.0 h)
     of_certified n (run.Checked d) h k j = absurd (checked_or_certified d n k.0 h)
-    of_certified n (run.Solved w s os) h k j = absurd (solved_or_certified was now (run.Solved w s os) k n h)
+    of_certified n (run.Solved w s os u) h k j = absurd (solved_or_certified was now (run.Solved w s os u) k n h)
     of_certified n (run.Certificates b s) h k j = absurd (bytes_or_certified was now b s n k h)
     of_certified n (run.Certified m) h k j = ap run.Certified (certified_once words files n m h k.0)
     of_certified n (run.CertRefused m f) h k j = absurd (certified_or_refused words files n m f h k.0)
@@ -200,7 +200,7 @@ module _ (words : List (List ℕ)) (files : Files) where
     of_cert_refused m f run.Usage h k j = absurd (none_cert_refused m f k.0 h)
     of_cert_refused m f (run.Refused t) h k j = absurd (refused_or_cert_refused words files t m f k.0 h)
     of_cert_refused m f (run.Checked d) h k j = absurd (checked_or_cert_refused d m f k.0 h)
-    of_cert_refused m f (run.Solved w s os) h k j = absurd (solved_or_cert_refused was now (run.Solved w s os) k m f h)
+    of_cert_refused m f (run.Solved w s os u) h k j = absurd (solved_or_cert_refused was now (run.Solved w s os u) k m f h)
     of_cert_refused m f (run.Certificates b s) h k j = absurd (bytes_or_cert_refused was now b s m f k h)
     of_cert_refused m f (run.Certified n) h k j = absurd (certified_or_refused words files n m f k.0 h)
     of_cert_refused m f (run.CertRefused n g) h k j = cert_refused_once words files m n f g h k.0
@@ -212,7 +212,7 @@ module _ (words : List (List ℕ)) (files : Files) where
     one risen old new run.Usage s h k i j = of_usage s h.0 k j
     one risen old new (run.Refused r) s h k i j = of_refused r s h.0 k j
     one risen old new (run.Checked c) s h k i j = of_checked c s h.0 k j
-    one risen old new (run.Solved w z os) s h k i j = of_solved old new (run.Solved w z os) s h k j
+    one risen old new (run.Solved w z os u) s h k i j = of_solved old new (run.Solved w z os u) s h k j
     one risen old new (run.Certificates b z) s h k i j = of_bytes old new b z s h k j
     one risen old new (run.Certified n) s h k i j = of_certified n s h.0 k j
     one risen old new (run.CertRefused m f) s h k i j = of_cert_refused m f s h.0 k j

@@ -21,7 +21,7 @@ module _ (files : Files) where
   pub one_settings : (command : Command) (work : Work) (ss ts : List Pairs) → AreSettingsOf (Some files) command work ss → AreSettingsOf (Some files) command work ts → ss ≡ ts
   one_settings (check script) work ss ts h k = absurd h
   one_settings (solve script limit) work ss ts h k = h ∙ sym k
-  one_settings (resolve script name limit) work ss ts h k = one_of_file name work.last ss ts h k
+  one_settings (resolve script name limit warm) work ss ts h k = one_of_file name work.last ss ts h k
   one_settings (certificate script name limit) work ss ts h k = one_of_file name work.last ss ts h k
   one_settings (certify script name cert) work ss ts h k = one_of_file name work.last ss ts h k
   one_settings (migrate script name cert) work ss ts h k = one_of_file name work.last ss ts h k

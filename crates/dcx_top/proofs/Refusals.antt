@@ -52,7 +52,7 @@ module _ (files : Files) where
   pub one_script : (command : Command) (b c : List ℕ) → IsScriptOf (Some files) command b → IsScriptOf (Some files) command c → b ≡ c
   one_script (check script) b c h k = told_once script b c h k
   one_script (solve script limit) b c h k = told_once script b c h k
-  one_script (resolve script settings limit) b c h k = told_once script b c h k
+  one_script (resolve script settings limit warm) b c h k = told_once script b c h k
   one_script (certificate script settings limit) b c h k = told_once script b c h k
   one_script (certify script settings cert) b c h k = told_once script b c h k
   one_script (migrate script settings cert) b c h k = told_once script b c h k
@@ -61,7 +61,7 @@ module _ (files : Files) where
   script_is : (command : Command) (name bytes : List ℕ) → script_name command ≡ Some name → files name ≡ Some bytes → IsScriptOf (Some files) command bytes
   script_is (check script) name bytes e h = subst (λ n. files n ≡ Some bytes) (sym (same_Some script name e)) h
   script_is (solve script limit) name bytes e h = subst (λ n. files n ≡ Some bytes) (sym (same_Some script name e)) h
-  script_is (resolve script settings limit) name bytes e h = subst (λ n. files n ≡ Some bytes) (sym (same_Some script name e)) h
+  script_is (resolve script settings limit warm) name bytes e h = subst (λ n. files n ≡ Some bytes) (sym (same_Some script name e)) h
   script_is (certificate script settings limit) name bytes e h = subst (λ n. files n ≡ Some bytes) (sym (same_Some script name e)) h
   script_is (certify script settings cert) name bytes e h = subst (λ n. files n ≡ Some bytes) (sym (same_Some script name e)) h
   script_is (migrate script settings cert) name bytes e h = subst (λ n. files n ≡ Some bytes) (sym (same_Some script name e)) h
@@ -84,7 +84,7 @@ module _ (files : Files) where
       (lines : List (List SettingItem)) × SpellSettings bytes lines
   spelled_by (check script) work settings name bytes are e h = absurd (none-some name e)
   spelled_by (solve script limit) work settings name bytes are e h = absurd (none-some name e)
-  spelled_by (resolve script file limit) work settings name bytes are e h = spelled_in file work settings name bytes are e h
+  spelled_by (resolve script file limit warm) work settings name bytes are e h = spelled_in file work settings name bytes are e h
   spelled_by (certificate script file limit) work settings name bytes are e h = spelled_in file work settings name bytes are e h
   spelled_by (certify script file cert) work settings name bytes are e h = spelled_in file work settings name bytes are e h
   spelled_by (migrate script file cert) work settings name bytes are e h = spelled_in file work settings name bytes are e h

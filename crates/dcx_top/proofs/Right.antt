@@ -6,7 +6,8 @@ use Rattle.dcx_front.proofs.OneVerdict.{acceptance}
 use Rattle.dcx_report.specs.declared.run.Run.{Run}
 use Rattle.dcx_report.specs.declared.run.Run.TheVariants as run
 use Rattle.dcx_words.specs.Commands.{Command, check, certificate, certify, migrate, command_of}
-use Rattle.dcx_outcomes.proofs.Right.{outcomes_are_right}
+use Rattle.dcx_words.specs.Laws.{is_warm_command}
+use Rattle.dcx_outcomes.proofs.Warm.{found_are_right}
 use Rattle.dcx_sections.specs.declared.section.Section.{Section}
 use Rattle.dcx_sections.specs.declared.section.Sections.{Sections}
 use Rattle.dcx_certificates.specs.Checking.{AreShown}
@@ -36,8 +37,9 @@ solved_right words told old new r h = let w = accepted_work words told h.command
   settings = h.settings;
   asked = h.asked;
   outcomes = h.outcomes;
+  warm = h.warm;
   tells = h.tells;
-  right = outcomes_are_right h.accepted.work.problem (limit_of h.command) h.settings h.outcomes w.accepted h.are;
+  right = found_are_right (is_warm_command h.command) h.accepted.work.problem (limit_of h.command) h.settings h.outcomes h.warm w.accepted h.are;
 }
 
 -- ---- certificates
@@ -78,7 +80,7 @@ migrate_right words told text h =
 pub caused_are_right : (words : List (List ℕ)) (told : Option Files) (risen : Type 0) (old new : ℕ) (r : Run) → Causes words told risen old new r → IsRightRun words told r
 caused_are_right words told risen old new (run.Checked c) (h, same) =
     record { command = check h.script; work = h.accepted.work; accepted = accepted_work words told (check h.script) h.accepted h.form h.problem; found = h.found }
-caused_are_right words told risen old new (run.Solved word sense outcomes) h = solved_right words told old new (run.Solved word sense outcomes) h
+caused_are_right words told risen old new (run.Solved word sense outcomes warm) h = solved_right words told old new (run.Solved word sense outcomes warm) h
 caused_are_right words told risen old new (run.Trial size outcomes) h = solved_right words told old new (run.Trial size outcomes) h
 caused_are_right words told risen old new (run.Certificates text stopped) (inl h) = (h.sections, h.text, certificate_right words told old new text stopped h)
 caused_are_right words told risen old new (run.Certificates text stopped) (inr (h, off, same)) = (h.migrated, h.text, migrate_right words told text h)

@@ -20,12 +20,10 @@ use Rattle.dcx_front.proofs.OneAnswer.{one_work}
 use Rattle.dcx_front.proofs.OneVerdict.{apart, refused_for, acceptance}
 use Rattle.dcx_report.specs.declared.run.Run.{Run}
 use Rattle.dcx_report.specs.declared.run.Run.TheVariants as run
-use Rattle.dcx_report.specs.declared.outcome.Outcome.{Outcome}
-use Rattle.dcx_tree.specs.declared.constraint.Sense.{Sense}
 use Rattle.dcx_point.specs.Pairs.{Pairs}
 use Rattle.dcx_sections.specs.declared.section.Sections.{Sections}
-use Rattle.dcx_words.specs.Commands.{Command, check, solve, resolve, certificate as certificate_command, certify, migrate, trial, command_of}
-use Rattle.dcx_top.specs.Commands.{settings_name, certificate_name, AreSettingsOf, TellsOutcomes}
+use Rattle.dcx_words.specs.Commands.{Command, check, certificate as certificate_command, certify, migrate, command_of}
+use Rattle.dcx_top.specs.Commands.{settings_name, certificate_name, AreSettingsOf}
 use Rattle.dcx_top.specs.Files.{most_bytes, RefusesScript}
 use Rattle.dcx_front.specs.declared.refusal.RefusalSource.TheVariants.{Certificate}
 use Rattle.dcx_top.specs.Runs.{GivesProblem, IsChecked, IsSolvedRun, IsCertificateRun, HasCertificate, ReadsSections, misread, failed, Causes}
@@ -33,6 +31,7 @@ use Rattle.dcx_top.specs.Whole.{IsWholeAt, HasNoWhole, IsSolving}
 use Rattle.dcx_top.specs.OneRun.{IsAnswered}
 use Rattle.dcx_top.specs.Verdicts.{IsRefusal, IsAcceptance, Has, AreFaultless, AreAtFault, bad_script, has_whole, bad_settings, long_certificate, AreWithoutFault, IsVerdictOn, IsRightVerdict}
 use Rattle.dcx_top.proofs.Refusals.{one_script, spelled_by, same_command, Refuses, in_script, in_problem, in_settings, in_length, IsShort, refuses}
+use Rattle.dcx_top.proofs.OneRefusal.{tells_none}
 
 -- bytes spell one script
 one_view : (bytes : List ℕ) (script other : Script) → IsReading bytes (Ok script) → IsReading bytes (Ok other) → script_view script ≡ script_view other
@@ -45,16 +44,6 @@ one_view bytes script other h k =
 abbrev without_fault : (bytes : List ℕ) (a : Accepted) → Gives bytes (Ok a) → IsWithoutFault bytes
 without_fault bytes a g = let h = acceptance bytes a g in
     record { script = h.script; spelled = h.spelled; work = a.work; stands_for = h.stands_for; accepted = h.judged.accepted }
-
--- a command whose outcomes are told has no certificate
-told_without : (c : Command) (sense : Sense) (outcomes : List Outcome) (r : Run) → TellsOutcomes c sense outcomes r → certificate_name c ≡ None
-told_without (check script) sense outcomes r h = absurd h
-told_without (solve script limit) sense outcomes r h = refl
-told_without (resolve script settings limit) sense outcomes r h = refl
-told_without (certificate_command script settings limit) sense outcomes r h = absurd h
-told_without (certify script settings cert) sense outcomes r h = absurd h
-told_without (migrate script settings cert) sense outcomes r h = absurd h
-told_without (trial size limit) sense outcomes r h = refl
 
 module _ (files : Files) (command : Command) (script settings certificate : List ℕ) (has : Has files command script settings certificate) where
   no_faults : AreWithoutFault command script settings certificate → AreAtFault command script settings certificate → ⊥
@@ -103,7 +92,7 @@ module _ (files : Files) (command : Command) (script settings certificate : List
     solved : (r : Run) → IsAcceptance r → (IsRefusal r → ⊥) → IsSolvedRun words (Some files) old new r → IsVerdictOn command script settings certificate r
     solved r i n h =
         let same = same_command words files command form h.command h.form in
-        goes_on r i n h.command same h.accepted h.settings h.problem h.continuous h.asked (short_without h.command same (told_without h.command h.accepted.work.problem.sense h.outcomes r h.tells))
+        goes_on r i n h.command same h.accepted h.settings h.problem h.continuous h.asked (short_without h.command same (tells_none h.command h.accepted.work.problem.sense h.outcomes h.warm r h.tells))
 
     checked : (c : Checked) → IsChecked words (Some files) c → IsVerdictOn command script settings certificate (run.Checked c)
     checked c h =
@@ -137,7 +126,7 @@ module _ (files : Files) (command : Command) (script settings certificate : List
     verdict_on run.Usage h i = absurd (none-some command (sym h.0 ∙ form))
     verdict_on (run.Refused r) h i = refuses_so r (at_fault r (refuses words files command form r h.0))
     verdict_on (run.Checked c) h i = checked c h.0
-    verdict_on (run.Solved w s os) h i = solved (run.Solved w s os) tt (λ t. t) h
+    verdict_on (run.Solved w s os u) h i = solved (run.Solved w s os u) tt (λ t. t) h
     verdict_on (run.Certificates text stopped) (inl h) i = certificate_written text stopped h
     verdict_on (run.Certificates text stopped) (inr (h, off, same)) i = sections_read (run.Certificates text stopped) tt (λ t. t) (migrate h.script h.settings h.name) h.sections h.passed.reads
     verdict_on (run.Certified n) (h, same) i = sections_read (run.Certified n) tt (λ t. t) (certify h.script h.settings h.name) h.sections h.passed.reads

@@ -19,7 +19,7 @@ use Rattle.dcx_overlay.specs.Settings.{AreLaidOver, AreTrialSettings}
 abbrev pub IsScriptOf : Option Files → Command → List ℕ → Type 0
 IsScriptOf told (check script) bytes = IsTold told script bytes
 IsScriptOf told (solve script limit) bytes = IsTold told script bytes
-IsScriptOf told (resolve script settings limit) bytes = IsTold told script bytes
+IsScriptOf told (resolve script settings limit warm) bytes = IsTold told script bytes
 IsScriptOf told (certificate script settings limit) bytes = IsTold told script bytes
 IsScriptOf told (certify script settings cert) bytes = IsTold told script bytes
 IsScriptOf told (migrate script settings cert) bytes = IsTold told script bytes
@@ -29,7 +29,7 @@ IsScriptOf told (trial size limit) bytes = bytes ≡ trial_text size
 abbrev pub script_name : Command → Option (List ℕ)
 script_name (check script) = Some script
 script_name (solve script limit) = Some script
-script_name (resolve script settings limit) = Some script
+script_name (resolve script settings limit warm) = Some script
 script_name (certificate script settings limit) = Some script
 script_name (certify script settings cert) = Some script
 script_name (migrate script settings cert) = Some script
@@ -39,7 +39,7 @@ script_name (trial size limit) = None
 abbrev pub settings_name : Command → Option (List ℕ)
 settings_name (check script) = None
 settings_name (solve script limit) = None
-settings_name (resolve script settings limit) = Some settings
+settings_name (resolve script settings limit warm) = Some settings
 settings_name (certificate script settings limit) = Some settings
 settings_name (certify script settings cert) = Some settings
 settings_name (migrate script settings cert) = Some settings
@@ -49,7 +49,7 @@ settings_name (trial size limit) = None
 abbrev pub certificate_name : Command → Option (List ℕ)
 certificate_name (check script) = None
 certificate_name (solve script limit) = None
-certificate_name (resolve script settings limit) = None
+certificate_name (resolve script settings limit warm) = None
 certificate_name (certificate script settings limit) = None
 certificate_name (certify script settings cert) = Some cert
 certificate_name (migrate script settings cert) = Some cert
@@ -68,7 +68,7 @@ pub record AreOfFile (told : Option Files) (name : List ℕ) (last : Pairs) (set
 abbrev pub AreSettingsOf : Option Files → Command → Work → List Pairs → Type 0
 AreSettingsOf told (check script) work settings = ⊥
 AreSettingsOf told (solve script limit) work settings = settings ≡ work.events
-AreSettingsOf told (resolve script name limit) work settings = AreOfFile told name work.last settings
+AreSettingsOf told (resolve script name limit warm) work settings = AreOfFile told name work.last settings
 AreSettingsOf told (certificate script name limit) work settings = AreOfFile told name work.last settings
 AreSettingsOf told (certify script name cert) work settings = AreOfFile told name work.last settings
 AreSettingsOf told (migrate script name cert) work settings = AreOfFile told name work.last settings
@@ -78,19 +78,19 @@ AreSettingsOf told (trial size limit) work settings = AreTrialSettings work.last
 abbrev pub limit_of : Command → ℕ
 limit_of (check script) = 0
 limit_of (solve script limit) = limit
-limit_of (resolve script settings limit) = limit
+limit_of (resolve script settings limit warm) = limit
 limit_of (certificate script settings limit) = limit
 limit_of (certify script settings cert) = 0
 limit_of (migrate script settings cert) = 0
 limit_of (trial size limit) = limit
 
 -- ---- the run
--- the run tells these outcomes
-abbrev pub TellsOutcomes : Command → Sense → List Outcome → Run → Type 0
-TellsOutcomes (check script) sense outcomes r = ⊥
-TellsOutcomes (solve script limit) sense outcomes r = r ≡ run.Solved word.Solve sense outcomes
-TellsOutcomes (resolve script settings limit) sense outcomes r = r ≡ run.Solved word.Setting sense outcomes
-TellsOutcomes (certificate script settings limit) sense outcomes r = ⊥
-TellsOutcomes (certify script settings cert) sense outcomes r = ⊥
-TellsOutcomes (migrate script settings cert) sense outcomes r = ⊥
-TellsOutcomes (trial size limit) sense outcomes r = r ≡ run.Trial size outcomes
+-- the run tells these outcomes, with the count of the warm ones, if they are counted
+abbrev pub TellsOutcomes : Command → Sense → List Outcome → Option ℕ → Run → Type 0
+TellsOutcomes (check script) sense outcomes count r = ⊥
+TellsOutcomes (solve script limit) sense outcomes count r = r ≡ run.Solved word.Solve sense outcomes count
+TellsOutcomes (resolve script settings limit warm) sense outcomes count r = r ≡ run.Solved word.Setting sense outcomes count
+TellsOutcomes (certificate script settings limit) sense outcomes count r = ⊥
+TellsOutcomes (certify script settings cert) sense outcomes count r = ⊥
+TellsOutcomes (migrate script settings cert) sense outcomes count r = ⊥
+TellsOutcomes (trial size limit) sense outcomes count r = r ≡ run.Trial size outcomes

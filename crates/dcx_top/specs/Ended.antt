@@ -31,7 +31,7 @@ abbrev pub status_of : Run → ℕ
 status_of Usage = 2
 status_of (Refused refusal) = 1
 status_of (Checked checked) = 0
-status_of (Solved word sense outcomes) = outcomes_status outcomes
+status_of (Solved word sense outcomes warm) = outcomes_status outcomes
 status_of (Certificates text stopped) = if stopped then 6 else 0
 status_of (Certified sections) = 0
 status_of (CertRefused section fault) = 7

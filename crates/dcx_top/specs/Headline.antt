@@ -49,7 +49,8 @@ pub record IsRightlySolved (words : List (List ℕ)) (told : Option Files) (r : 
   pub settings : List Pairs
   pub asked : AreSettingsOf told command work settings
   pub outcomes : List Outcome
-  pub tells : TellsOutcomes command work.problem.sense outcomes r
+  pub warm : Option ℕ
+  pub tells : TellsOutcomes command work.problem.sense outcomes warm r
   pub right : AreRight work.problem settings outcomes
 
 -- Each section of the certificate is empty or shows the answer of the accepted problem at its setting.
@@ -74,7 +75,7 @@ IsRightRun words told (run.Certificates text stopped) = AreRightBytes words told
 IsRightRun words told (run.Certified n) = IsRightCount words told n
 IsRightRun words told (run.CertRefused section fault) = ⊤
 IsRightRun words told (run.Checked c) = IsRightlyFound words told c
-IsRightRun words told (run.Solved word sense outcomes) = IsRightlySolved words told (run.Solved word sense outcomes)
+IsRightRun words told (run.Solved word sense outcomes warm) = IsRightlySolved words told (run.Solved word sense outcomes warm)
 IsRightRun words told (run.Trial size outcomes) = IsRightlySolved words told (run.Trial size outcomes)
 IsRightRun words told run.Usage = ⊤
 IsRightRun words told (run.Refused r) = ⊤

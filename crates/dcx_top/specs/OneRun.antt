@@ -7,7 +7,7 @@ use Rattle.dcx_report.specs.declared.run.Run.{Run}
 use Rattle.dcx_report.specs.declared.run.Run.TheVariants as run
 use Rattle.dcx_front.specs.declared.accepted.Accepted.{Accepted}
 use Rattle.dcx_words.specs.Commands.{Command, check, solve, resolve, certificate, certify, migrate, trial, command_of}
-use Rattle.dcx_outcomes.specs.Laws.{AreAlike}
+use Rattle.dcx_outcomes.specs.Laws.{AreOneFound}
 use Rattle.dcx_sections.specs.declared.section.Sections.{Sections}
 use Rattle.dcx_cert_lines.specs.CertText.{cert_text}
 use Rattle.dcx_certificates.specs.Laws.{AreAlike as AreAlikeSections}
@@ -20,16 +20,17 @@ IsAnswered run.Memory = ⊥
 IsAnswered run.Usage = ⊤
 IsAnswered (run.Refused r) = ⊤
 IsAnswered (run.Checked c) = ⊤
-IsAnswered (run.Solved word sense outcomes) = ⊤
+IsAnswered (run.Solved word sense outcomes warm) = ⊤
 IsAnswered (run.Certificates text stopped) = ⊤
 IsAnswered (run.Certified n) = ⊤
 IsAnswered (run.CertRefused section fault) = ⊤
 IsAnswered (run.Trial size outcomes) = ⊤
 
 -- of the problem that a command's script gives, the outcomes are alike: the same answers, but for what their arrays hold past their
--- ends, and the same stops; want of memory at a setting is free
-abbrev pub AreAlikeOver : List (List ℕ) → Files → List Outcome → List Outcome → Type 0
-AreAlikeOver words files os qs = (command : Command) (a : Accepted) → command_of words ≡ Some command → GivesProblem (Some files) command a → AreAlike a.work.problem os qs
+-- ends, and the same stops; want of memory at a setting is free. Warm ones are alike until memory runs out at a setting, and where it
+-- never does, as many of them are counted.
+abbrev pub AreAlikeOver : List (List ℕ) → Files → List Outcome → Option ℕ → List Outcome → Option ℕ → Type 0
+AreAlikeOver words files os m qs n = (command : Command) (a : Accepted) → command_of words ≡ Some command → GivesProblem (Some files) command a → AreOneFound a.work.problem os m qs n
 
 -- texts of certificates of the answers to the problem that a command's script gives: of sections that are alike
 abbrev pub AreAlikeTexts : Files → Command → List ℕ → List ℕ → Type 0
@@ -41,14 +42,14 @@ AreOneText files (certificate script settings limit) a b = AreAlikeTexts files (
 AreOneText files (migrate script settings cert) a b = a ≡ b
 AreOneText files (check script) a b = ⊥
 AreOneText files (solve script limit) a b = ⊥
-AreOneText files (resolve script settings limit) a b = ⊥
+AreOneText files (resolve script settings limit warm) a b = ⊥
 AreOneText files (certify script settings cert) a b = ⊥
 AreOneText files (trial size limit) a b = ⊥
 
 -- two runs that tell the same
 abbrev pub AreOneRun : List (List ℕ) → Files → Run → Run → Type 0
-AreOneRun words files (run.Solved word sense os) (run.Solved other way qs) = (word ≡ other) × (sense ≡ way) × AreAlikeOver words files os qs
-AreOneRun words files (run.Trial size os) (run.Trial other qs) = (size ≡ other) × AreAlikeOver words files os qs
+AreOneRun words files (run.Solved word sense os m) (run.Solved other way qs n) = (word ≡ other) × (sense ≡ way) × AreAlikeOver words files os m qs n
+AreOneRun words files (run.Trial size os) (run.Trial other qs) = (size ≡ other) × AreAlikeOver words files os None qs None
 AreOneRun words files (run.Certificates a stopped) (run.Certificates b halted) = (stopped ≡ halted) × ((command : Command) × (command_of words ≡ Some command) × AreOneText files command a b)
 AreOneRun words files r s = r ≡ s
 

@@ -14,9 +14,11 @@ use Rattle.dcx_report.specs.declared.outcome.Outcome.{Outcome}
 use Rattle.dcx_report.specs.declared.run.Run.{Run}
 use Rattle.dcx_report.specs.declared.run.Run.TheVariants as run
 use Rattle.dcx_report.specs.declared.run.Word.TheVariants as word
-use Rattle.dcx_words.specs.Commands.{Command, check, certificate, certify, migrate, command_of}
+use Rattle.dcx_words.specs.Commands.{Command, check, resolve, certificate, certify, migrate, command_of}
+use Rattle.dcx_words.specs.Laws.{is_warm_command}
 use Rattle.dcx_overlay.specs.Settings.{AreTrialSettings}
-use Rattle.dcx_outcomes.specs.Outcomes.{AreOutcomes, Counts}
+use Rattle.dcx_outcomes.specs.Outcomes.{Counts}
+use Rattle.dcx_outcomes.specs.Warm.{AreFound}
 use Rattle.dcx_sections.specs.declared.fault.CertFault.{CertFault}
 use Rattle.dcx_sections.specs.declared.section.Sections.{Sections}
 use Rattle.dcx_cert_lines.specs.CertText.{cert_text}
@@ -24,6 +26,8 @@ use Rattle.dcx_certificates.specs.Sections.{StopsSomewhere, IsCertificateAt}
 use Rattle.dcx_certificates.specs.Checking.{is_cert, ArePassed, IsFirstRefused}
 use Rattle.dcx_certificates.specs.Migrating.{IsMigrated}
 use Rattle.dcx_top.specs.Commands.{IsScriptOf, script_name, settings_name, certificate_name, AreOfFile, AreSettingsOf, limit_of, TellsOutcomes}
+use Rattle.dcx_top.specs.declared.solving.Task.{Task}
+use Rattle.dcx_top.specs.declared.solving.Task.TheVariants as tasks
 use Rattle.dcx_top.specs.Whole.{HasNoWhole, IsRefusedForWhole, IsSolving}
 use Rattle.dcx_top.specs.Files.{RefusesScript, RefusesSettings, IsLong, IsRefusedIn, IsNotHad, EndsAt, IsMisread, HasTextOf, ReadsCertificate}
 
@@ -43,7 +47,8 @@ pub record IsChecked (words : List (List ℕ)) (told : Option Files) (c : Checke
   pub problem : GivesProblem told (check script) accepted
   pub found : IsFoundOf accepted.work.problem c
 
--- a problem without variables that are to be whole is solved at the settings of a command: its outcomes are told, and so many steps were counted
+-- a problem without variables that are to be whole is solved at the settings of a command, where that says so warm: its outcomes are
+-- told, and so many steps were counted
 pub record IsSolvedRun (words : List (List ℕ)) (told : Option Files) (old new : ℕ) (r : Run) : Type 0 where
   pub command : Command
   pub form : command_of words ≡ Some command
@@ -53,8 +58,9 @@ pub record IsSolvedRun (words : List (List ℕ)) (told : Option Files) (old new 
   pub settings : List Pairs
   pub asked : AreSettingsOf told command accepted.work settings
   pub outcomes : List Outcome
-  pub are : AreOutcomes accepted.work.problem (limit_of command) settings outcomes
-  pub tells : TellsOutcomes command accepted.work.problem.sense outcomes r
+  pub warm : Option ℕ
+  pub are : AreFound (is_warm_command command) accepted.work.problem (limit_of command) settings outcomes warm
+  pub tells : TellsOutcomes command accepted.work.problem.sense outcomes warm r
   pub steps : Counts accepted.work.problem (length settings) old new
 
 -- ---- certificates
@@ -130,13 +136,14 @@ pub data IsCertRefusedRun (words : List (List ℕ)) (told : Option Files) (secti
 abbrev pub OrWhole : Problem → (Run → Type 0) → ℕ → ℕ → Run → Type 0
 OrWhole p Next old new r = (HasNoWhole p.tree × Next r) ⊎ ((t : Refusal) × IsRefusedForWhole p.tree t × (r ≡ run.Refused t) × (new ≡ old))
 
--- a problem is solved at settings, and its outcomes are told so; want of memory is free
-abbrev pub SolvesAt : Problem → ℕ → List Pairs → (List Outcome → Run) → ℕ → ℕ → Run → Type 0
-SolvesAt p limit settings tells old new r = (r ≡ run.Memory) ⊎ ((outcomes : List Outcome) × AreOutcomes p limit settings outcomes × Counts p (length settings) old new × (r ≡ tells outcomes))
+-- a problem is solved at settings, warm or not, and its outcomes are told so; want of memory is free
+abbrev pub SolvesAt : Bool → Problem → ℕ → List Pairs → (List Outcome → Option ℕ → Run) → ℕ → ℕ → Run → Type 0
+SolvesAt warm p limit settings tells old new r =
+    (r ≡ run.Memory) ⊎ ((outcomes : List Outcome) × (count : Option ℕ) × AreFound warm p limit settings outcomes count × Counts p (length settings) old new × (r ≡ tells outcomes count))
 
 -- the trial problem is solved at its two settings; want of memory is free
 abbrev pub TriesAt : Work → ℕ → ℕ → ℕ → ℕ → Run → Type 0
-TriesAt work size limit old new r = (r ≡ run.Memory) ⊎ ((settings : List Pairs) × AreTrialSettings work.last settings × SolvesAt work.problem limit settings (λ os. run.Trial size os) old new r)
+TriesAt work size limit old new r = (r ≡ run.Memory) ⊎ ((settings : List Pairs) × AreTrialSettings work.last settings × SolvesAt false work.problem limit settings (λ os count. run.Trial size os) old new r)
 
 -- the certificate of a problem at settings is told; want of memory is free
 abbrev pub CertifiesAt : Problem → ℕ → List Pairs → ℕ → ℕ → Run → Type 0
@@ -150,14 +157,17 @@ FromFile told risen work name At old new r =
     ((settings : List Pairs) × AreOfFile told name work.last settings × At settings old new r) ⊎ (EndsAt told risen Settings name RefusesSettings r × (new ≡ old))
 
 -- an accepted problem is solved at the settings of a file, or its certificate is told there
-abbrev pub ResolvesAt : Work → ℕ → List Pairs → ℕ → ℕ → Run → Type 0
-ResolvesAt work limit settings old new r = SolvesAt work.problem limit settings (λ os. run.Solved word.Setting work.problem.sense os) old new r
+abbrev pub DoesAt : Task → Work → ℕ → List Pairs → ℕ → ℕ → Run → Type 0
+DoesAt (tasks.Resolve warm) work limit settings old new r = SolvesAt warm work.problem limit settings (λ os count. run.Solved word.Setting work.problem.sense os count) old new r
+DoesAt tasks.Certificate work limit settings old new r = CertifiesAt work.problem limit settings old new r
 
-abbrev pub ResolvesFrom : Option Files → Type 0 → Work → List ℕ → ℕ → ℕ → ℕ → Run → Type 0
-ResolvesFrom told risen work name limit old new r = FromFile told risen work name (ResolvesAt work limit) old new r
+abbrev pub DoesFrom : Option Files → Type 0 → Task → Work → List ℕ → ℕ → ℕ → ℕ → Run → Type 0
+DoesFrom told risen task work name limit old new r = FromFile told risen work name (DoesAt task work limit) old new r
 
-abbrev pub CertifiesFrom : Option Files → Type 0 → Work → List ℕ → ℕ → ℕ → ℕ → Run → Type 0
-CertifiesFrom told risen work name limit old new r = FromFile told risen work name (CertifiesAt work.problem limit) old new r
+-- the command that asks for it
+abbrev pub command_for : Task → (script settings : List ℕ) → ℕ → Command
+command_for (tasks.Resolve warm) script settings limit = resolve script settings limit warm
+command_for tasks.Certificate script settings limit = certificate script settings limit
 
 -- ---- the files of a certificate that is read
 -- a script gives an accepted problem without variables that are to be whole, and a file these settings
@@ -207,7 +217,7 @@ abbrev pub Causes : List (List ℕ) → Option Files → Type 0 → ℕ → ℕ 
 Causes words told risen old new run.Usage = (command_of words ≡ None) × (new ≡ old)
 Causes words told risen old new (run.Refused r) = IsRefusedRun words told r × (new ≡ old)
 Causes words told risen old new (run.Checked c) = IsChecked words told c × (new ≡ old)
-Causes words told risen old new (run.Solved word sense outcomes) = IsSolvedRun words told old new (run.Solved word sense outcomes)
+Causes words told risen old new (run.Solved word sense outcomes warm) = IsSolvedRun words told old new (run.Solved word sense outcomes warm)
 Causes words told risen old new (run.Certificates text stopped) = AreBytesOf words told old new text stopped
 Causes words told risen old new (run.Certified n) = IsCertifiedRun words told n × (new ≡ old)
 Causes words told risen old new (run.CertRefused section fault) = IsCertRefusedRun words told section fault × (new ≡ old)

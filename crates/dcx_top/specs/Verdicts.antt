@@ -19,7 +19,7 @@ abbrev pub IsRefusal : Run → Type 0
 IsRefusal (run.Refused r) = ⊤
 IsRefusal run.Usage = ⊥
 IsRefusal (run.Checked c) = ⊥
-IsRefusal (run.Solved word sense outcomes) = ⊥
+IsRefusal (run.Solved word sense outcomes warm) = ⊥
 IsRefusal (run.Certificates text stopped) = ⊥
 IsRefusal (run.Certified n) = ⊥
 IsRefusal (run.CertRefused section fault) = ⊥
@@ -29,7 +29,7 @@ IsRefusal run.Memory = ⊥
 
 abbrev pub IsAcceptance : Run → Type 0
 IsAcceptance (run.Checked c) = ⊤
-IsAcceptance (run.Solved word sense outcomes) = ⊤
+IsAcceptance (run.Solved word sense outcomes warm) = ⊤
 IsAcceptance (run.Certificates text stopped) = ⊤
 IsAcceptance (run.Certified n) = ⊤
 IsAcceptance (run.CertRefused section fault) = ⊤

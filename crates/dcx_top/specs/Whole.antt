@@ -38,7 +38,7 @@ pub record IsRefusedForWhole (nodes : List Node) (r : Refusal) : Type 0 where
 abbrev pub IsSolving : Command → Type 0
 IsSolving (check script) = ⊥
 IsSolving (solve script limit) = ⊤
-IsSolving (resolve script settings limit) = ⊤
+IsSolving (resolve script settings limit warm) = ⊤
 IsSolving (certificate script settings limit) = ⊤
 IsSolving (certify script settings cert) = ⊤
 IsSolving (migrate script settings cert) = ⊤

@@ -8,6 +8,7 @@
 //! | files are refused exactly where they are at fault, and the problem checked or solved exactly where they are not | `verdict` |
 //! | the usage line comes exactly where the words are no plain form | `usage` |
 //! | the report's text or a front of it is written, with its status | `reports` |
+//! | a `resolve` with `--warm` answers each setting from the columns that the settings before it left, and counts these | `causes` |
 //! | no file changes | `same` |
 ghost use Rattle.std.specs.Prelude.{◌≡◌, ◌↔◌, map, string_bytes, None};
 ghost use Rattle.std.specs.List.{list_any};
@@ -22,7 +23,7 @@ ghost use Rattle.dcx_top.specs.Ended.{Reports, outcomes_status as outcomes_statu
 use crate::certifying::{certify, migrate};
 use crate::checking::check;
 use crate::ended::Ended;
-use crate::solving::{certificate_of, resolve, solve, trial};
+use crate::solving::{Task, resolve, solve, trial};
 use crate::write::write_all;
 use dcx_answer::Stop;
 use dcx_host::{Library, Sink, SinkFault};
@@ -53,12 +54,29 @@ fn answer<L: Library, S: Ledger>(
             script,
             settings,
             limit,
-        } => resolve(alloc, script, settings, limit, library, steps),
+            warm,
+        } => resolve(
+            alloc,
+            script,
+            settings,
+            Task::Resolve { warm },
+            limit,
+            library,
+            steps,
+        ),
         Form::Certificate {
             script,
             settings,
             limit,
-        } => certificate_of(alloc, script, settings, limit, library, steps),
+        } => resolve(
+            alloc,
+            script,
+            settings,
+            Task::Certificate,
+            limit,
+            library,
+            steps,
+        ),
         Form::Certify {
             script,
             settings,

@@ -1,15 +1,18 @@
-//! A problem is solved: at the settings of its script's solves, at those of a file, or at the two of the trial.
-ghost use Rattle.std.specs.Prelude.{◌≡◌, ◌⊎◌, ◌≤◌, ℕ, List, Some};
+//! A problem is solved: at the settings of its script's solves, at those of a file, or at the two of the trial; or its certificate is
+//! written at those of a file.
+ghost use Rattle.std.specs.Prelude.{◌≡◌, ◌⊎◌, ◌≤◌, false, ℕ, List, Some};
 ghost use Rattle.std.specs.declared.option.Option.{Option};
 ghost use Rattle.dcx_settings.specs.Grammar.{Every};
 ghost use Rattle.dcx_point.specs.Pairs.{Pairs};
 ghost use Rattle.dcx_settings.specs.Meaning.{IsFull};
 ghost use Rattle.dcx_host.specs.Faults.{Rose};
+ghost use Rattle.dcx_rules.specs.Verdicts.{IsVerdictOf};
+ghost use Rattle.dcx_tree.specs.Meaning.{IsAccepted};
 ghost use Rattle.dcx_front.specs.Accepts.{IsJudged};
-ghost use Rattle.dcx_words.specs.Commands.{solve as solves, resolve as resolves, certificate as certifies, trial as tries, command_of};
+ghost use Rattle.dcx_words.specs.Commands.{solve as solves, trial as tries, command_of};
 ghost use Rattle.dcx_overlay.specs.Settings.{AreLaidOver};
 ghost use Rattle.dcx_host.specs.Files.{Files};
-ghost use Rattle.dcx_top.specs.Runs.{OrWhole, SolvesAt, CertifiesAt, TriesAt, ResolvesFrom, CertifiesFrom, Causes};
+ghost use Rattle.dcx_top.specs.Runs.{OrWhole, SolvesAt, CertifiesAt, TriesAt, DoesAt, DoesFrom, command_for, Causes};
 
 use crate::certifying::written;
 use crate::files::{ended, read_script, read_settings};
@@ -19,12 +22,73 @@ use dcx_front::{Accepted, accept};
 use dcx_host::Library;
 use dcx_outcomes::outcomes;
 use dcx_overlay::{all_laid_over, trial_settings};
+use dcx_point::Setting;
 use dcx_report::{Run, Word};
+use dcx_rules::Verdict;
 use dcx_settings::Settings;
 use dcx_steps::Steps;
+use dcx_tree::Problem;
 use dcx_trial::trial_script;
 use std::alloc::Global;
 use std::sync::ledger::Ledger;
+
+/// What is done with a problem at the settings of a file.
+#[derive(Clone, Copy)]
+pub enum Task {
+    /// It is solved, where `warm` says so from the columns that the settings before left.
+    Resolve {
+        /// Whether it does.
+        warm: bool,
+    },
+    /// The certificate of its answers is written.
+    Certificate,
+}
+
+/// An accepted problem is solved at settings.
+fn solved_at<S: Ledger>(
+    alloc: Global,
+    problem: Problem,
+    verdict: Verdict,
+    settings: &[Setting],
+    word: Word,
+    limit: u64,
+    warm: bool,
+    steps: &mut Steps<S>,
+) -> Run
+    requires accepted { IsAccepted problem }
+    requires verdict { IsVerdictOf problem verdict }
+    ensures { SolvesAt warm problem limit settings.now (λ os count. Run.Solved word problem.sense os count) steps.old steps.new result }
+{
+    let sense = problem.sense;
+    match outcomes(alloc, problem, verdict, settings, limit, warm, steps) {
+        Ok(found) => Run::Solved {
+            word,
+            sense,
+            outcomes: found.outcomes,
+            warm: found.warm,
+        },
+        Err(_) => Run::Memory,
+    }
+}
+
+/// The certificate of an accepted problem at settings.
+fn certified_at<S: Ledger>(
+    alloc: Global,
+    problem: Problem,
+    verdict: Verdict,
+    settings: &[Setting],
+    limit: u64,
+    steps: &mut Steps<S>,
+) -> Run
+    requires accepted { IsAccepted problem }
+    requires verdict { IsVerdictOf problem verdict }
+    ensures { CertifiesAt problem limit settings.now steps.old steps.new result }
+{
+    match certificate(alloc, problem, verdict, settings, limit, steps) {
+        Ok(found) => written(alloc, &found.certificate, found.stopped),
+        Err(_) => Run::Memory,
+    }
+}
 
 /// An accepted problem is solved at the settings of its script's solves.
 fn solve_events<S: Ledger>(
@@ -34,77 +98,55 @@ fn solve_events<S: Ledger>(
     steps: &mut Steps<S>,
 ) -> Run
     requires { IsJudged accepted.work.problem accepted.verdict }
-    ensures { OrWhole accepted.work.problem (SolvesAt accepted.work.problem limit accepted.work.events (λ os. Run.Solved Word.Solve accepted.work.problem.sense os) steps.old steps.new) steps.old steps.new result }
+    ensures { OrWhole accepted.work.problem (SolvesAt false accepted.work.problem limit accepted.work.events (λ os count. Run.Solved Word.Solve accepted.work.problem.sense os count) steps.old steps.new) steps.old steps.new result }
 {
     if let Some(refusal) = refuse_whole(&accepted.work.problem) {
         return Run::Refused(refusal);
     }
     let Accepted { work, verdict } = accepted;
-    let sense = work.problem.sense;
     let events = work.events;
-    match outcomes(
+    solved_at(
         alloc,
         work.problem,
         verdict,
         events.as_slice(),
+        Word::Solve,
         limit,
+        false,
         steps,
-    ) {
-        Ok(outcomes) => Run::Solved {
-            word: Word::Solve,
-            sense,
-            outcomes,
-        },
-        Err(_) => Run::Memory,
-    }
+    )
 }
 
-/// An accepted problem is solved at the lines of a settings file, each laid over the setting that its script ends with.
-fn solve_lines<S: Ledger>(
+/// What is asked of an accepted problem at the lines of a settings file, each laid over the setting that its script ends with.
+fn do_lines<S: Ledger>(
     alloc: Global,
     accepted: Accepted,
     lines: &Settings,
+    task: Task,
     limit: u64,
     steps: &mut Steps<S>,
 ) -> Run
     requires judged { IsJudged accepted.work.problem accepted.verdict }
     requires full { Every (Every IsFull) lines.now }
-    ensures { ((result ≡ Run.Memory) × (steps.new ≡ steps.old)) ⊎ ((settings : List Pairs) × AreLaidOver accepted.work.last lines.now settings × SolvesAt accepted.work.problem limit settings (λ os. Run.Solved Word.Setting accepted.work.problem.sense os) steps.old steps.new result) }
-{
-    let Accepted { work, verdict } = accepted;
-    let sense = work.problem.sense;
-    let Ok(settings) = all_laid_over(alloc, &work.last, lines.as_slice()) else {
-        return Run::Memory;
-    };
-    match outcomes(alloc, work.problem, verdict, &settings, limit, steps) {
-        Ok(outcomes) => Run::Solved {
-            word: Word::Setting,
-            sense,
-            outcomes,
-        },
-        Err(_) => Run::Memory,
-    }
-}
-
-/// The certificate of an accepted problem at the lines of a settings file, each laid over the setting that its script ends with.
-fn certify_lines<S: Ledger>(
-    alloc: Global,
-    accepted: Accepted,
-    lines: &Settings,
-    limit: u64,
-    steps: &mut Steps<S>,
-) -> Run
-    requires judged { IsJudged accepted.work.problem accepted.verdict }
-    requires full { Every (Every IsFull) lines.now }
-    ensures { ((result ≡ Run.Memory) × (steps.new ≡ steps.old)) ⊎ ((settings : List Pairs) × AreLaidOver accepted.work.last lines.now settings × CertifiesAt accepted.work.problem limit settings steps.old steps.new result) }
+    ensures { ((result ≡ Run.Memory) × (steps.new ≡ steps.old)) ⊎ ((settings : List Pairs) × AreLaidOver accepted.work.last lines.now settings × DoesAt task accepted.work limit settings steps.old steps.new result) }
 {
     let Accepted { work, verdict } = accepted;
     let Ok(settings) = all_laid_over(alloc, &work.last, lines.as_slice()) else {
         return Run::Memory;
     };
-    match certificate(alloc, work.problem, verdict, &settings, limit, steps) {
-        Ok(found) => written(alloc, &found.certificate, found.stopped),
-        Err(_) => Run::Memory,
+    let problem = work.problem;
+    match task {
+        Task::Resolve { warm } => solved_at(
+            alloc,
+            problem,
+            verdict,
+            &settings,
+            Word::Setting,
+            limit,
+            warm,
+            steps,
+        ),
+        Task::Certificate => certified_at(alloc, problem, verdict, &settings, limit, steps),
     }
 }
 
@@ -126,8 +168,11 @@ fn solve_trial<S: Ledger>(
     let Ok(settings) = trial_settings(alloc, &work.last) else {
         return Run::Memory;
     };
-    match outcomes(alloc, work.problem, verdict, &settings, limit, steps) {
-        Ok(outcomes) => Run::Trial { size, outcomes },
+    match outcomes(alloc, work.problem, verdict, &settings, limit, false, steps) {
+        Ok(found) => Run::Trial {
+            size,
+            outcomes: found.outcomes,
+        },
         Err(_) => Run::Memory,
     }
 }
@@ -149,17 +194,18 @@ pub(crate) fn solve<L: Library, S: Ledger>(
     }
 }
 
-/// What an accepted problem gives that is solved at the settings of a file.
-fn resolve_from<L: Library, S: Ledger>(
+/// What is asked of an accepted problem at the settings of a file.
+fn do_file<L: Library, S: Ledger>(
     alloc: Global,
     accepted: Accepted,
     settings: &str,
+    task: Task,
     limit: u64,
     library: &mut L,
     steps: &mut Steps<S>,
 ) -> Run
     requires { IsJudged accepted.work.problem accepted.verdict }
-    ensures run { OrWhole accepted.work.problem (ResolvesFrom (L.told library.old) (Rose (L.faults library.old) (L.faults library.new)) accepted.work settings.now limit steps.old steps.new) steps.old steps.new result }
+    ensures run { OrWhole accepted.work.problem (DoesFrom (L.told library.old) (Rose (L.faults library.old) (L.faults library.new)) task accepted.work settings.now limit steps.old steps.new) steps.old steps.new result }
     ensures same { L.told library.new ≡ L.told library.old }
     ensures never_falls { L.faults library.old ≤ L.faults library.new }
 {
@@ -167,25 +213,26 @@ fn resolve_from<L: Library, S: Ledger>(
         return Run::Refused(refusal);
     }
     match read_settings(alloc, settings, library) {
-        Ok(lines) => solve_lines(alloc, accepted, &lines, limit, steps),
+        Ok(lines) => do_lines(alloc, accepted, &lines, task, limit, steps),
         Err(run) => run,
     }
 }
 
-/// What a script gives whose problem is solved at the settings of a file.
+/// What a script gives whose problem is solved at the settings of a file, or whose certificate is wanted there.
 pub(crate) fn resolve<L: Library, S: Ledger>(
     alloc: Global,
     script: &str,
     settings: &str,
+    task: Task,
     limit: u64,
     library: &mut L,
     steps: &mut Steps<S>,
 ) -> Run
-    ensures causes { (words : List (List ℕ)) → command_of words ≡ Some (resolves script.now settings.now limit) → Causes words (L.told library.old) (Rose (L.faults library.old) (L.faults library.new)) steps.old steps.new result }
+    ensures causes { (words : List (List ℕ)) → command_of words ≡ Some (command_for task script.now settings.now limit) → Causes words (L.told library.old) (Rose (L.faults library.old) (L.faults library.new)) steps.old steps.new result }
     ensures same { L.told library.new ≡ L.told library.old }
 {
     match read_script(alloc, script, library) {
-        Ok(accepted) => resolve_from(alloc, accepted, settings, limit, library, steps),
+        Ok(accepted) => do_file(alloc, accepted, settings, task, limit, library, steps),
         Err(run) => run,
     }
 }
@@ -200,46 +247,5 @@ pub(crate) fn trial<S: Ledger>(alloc: Global, size: u32, limit: u64, steps: &mut
     match accept(alloc, bytes.as_slice()) {
         Ok(accepted) => solve_trial(alloc, accepted, size, limit, steps),
         Err(fault) => ended(fault),
-    }
-}
-
-/// The certificate of an accepted problem at the settings of a file.
-fn certify_from<L: Library, S: Ledger>(
-    alloc: Global,
-    accepted: Accepted,
-    settings: &str,
-    limit: u64,
-    library: &mut L,
-    steps: &mut Steps<S>,
-) -> Run
-    requires { IsJudged accepted.work.problem accepted.verdict }
-    ensures run { OrWhole accepted.work.problem (CertifiesFrom (L.told library.old) (Rose (L.faults library.old) (L.faults library.new)) accepted.work settings.now limit steps.old steps.new) steps.old steps.new result }
-    ensures same { L.told library.new ≡ L.told library.old }
-    ensures never_falls { L.faults library.old ≤ L.faults library.new }
-{
-    if let Some(refusal) = refuse_whole(&accepted.work.problem) {
-        return Run::Refused(refusal);
-    }
-    match read_settings(alloc, settings, library) {
-        Ok(lines) => certify_lines(alloc, accepted, &lines, limit, steps),
-        Err(run) => run,
-    }
-}
-
-/// What a script gives, the certificate of whose problem is wanted at the settings of a file.
-pub(crate) fn certificate_of<L: Library, S: Ledger>(
-    alloc: Global,
-    script: &str,
-    settings: &str,
-    limit: u64,
-    library: &mut L,
-    steps: &mut Steps<S>,
-) -> Run
-    ensures causes { (words : List (List ℕ)) → command_of words ≡ Some (certifies script.now settings.now limit) → Causes words (L.told library.old) (Rose (L.faults library.old) (L.faults library.new)) steps.old steps.new result }
-    ensures same { L.told library.new ≡ L.told library.old }
-{
-    match read_script(alloc, script, library) {
-        Ok(accepted) => certify_from(alloc, accepted, settings, limit, library, steps),
-        Err(run) => run,
     }
 }

@@ -1,18 +1,11 @@
 -- The option may stand anywhere among the operands.
-use Rattle.std.proofs.Common.{◌≡◌, ℕ, Bool, true, false, cond, ◌||◌, List, [], ◌∷◌, ◌++◌, Option, Some, None, option_map, option_and_then, refl, sym, ap, ◌∙◌}
+use Rattle.std.proofs.Common.{◌≡◌, ℕ, Bool, true, false, cond, List, [], ◌∷◌, ◌++◌, Option, Some, None, option_map, option_and_then, refl, sym, ap, ◌∙◌}
 use Rattle.std.specs.Prelude.{nat_eq, bytes_eq, codes}
 use Rattle.std.specs.List.{list_any, starts_with}
-use Rattle.dcx_words.specs.Commands.{Command, check, solve, resolve, certificate, certify, migrate, trial, Operands, limit_of, option_word, option_front, unlimited, put_before, limited, without_option, file_of, files_of, three_files_of, size_of, limited_command, command_of}
+use Rattle.dcx_words.specs.Commands.{Command, check, solve, resolve, certificate, certify, migrate, trial, Operands, limit_of, option_word, option_front, unlimited, put_before, limited, without_option, file_of, files_of, three_files_of, size_of, warm_files_of, limited_command, command_of}
 use Rattle.dcx_words.specs.Laws.{is_option, HasNoOption, with_limit, limited_by, OptionStandsAnywhere}
 use Rattle.dcx_words.proofs.Taking.{at_operand, put_twice}
-use Rattle.dcx_words.proofs.NoOption.{neither, file_operand, three_file_operands, none_with_option}
-
-none_in : (front back : List (List ℕ)) → HasNoOption (front ++ back) → HasNoOption front × HasNoOption back
-none_in [] back h = (refl, h)
-none_in (w ∷ ws) back h =
-    let p = neither (is_option w) (list_any is_option (ws ++ back)) h in
-    let q = none_in ws back p.1 in
-    (ap (λ b. b || list_any is_option ws) p.0 ∙ q.0, q.1)
+use Rattle.dcx_words.proofs.NoMinus.{option_of_minus, neither, none_in, file_operand, three_file_operands, none_with}
 
 put_none : (o : Option Operands) → o ≡ option_map (put_before []) o
 put_none None = refl
@@ -44,10 +37,10 @@ relimited name words m n command = by (bytes_eq name (codes "solve")) (bytes_eq 
     same form (Some x) h e = let d : form x m ≡ command = cc in h x ∙ ap (λ c. with_limit c n) d
 
     by : (a b c d : Bool)
-        → cond a (option_map (λ script. solve script m) (file_of words)) (cond b (option_map (λ files. resolve files.0 files.1 m) (files_of words)) (cond c (option_map (λ files. certificate files.0 files.1 m) (files_of words)) (cond d (option_map (λ size. trial size m) (size_of words)) None))) ≡ Some command
-        → cond a (option_map (λ script. solve script n) (file_of words)) (cond b (option_map (λ files. resolve files.0 files.1 n) (files_of words)) (cond c (option_map (λ files. certificate files.0 files.1 n) (files_of words)) (cond d (option_map (λ size. trial size n) (size_of words)) None))) ≡ with_limit command n
+        → cond a (option_map (λ script. solve script m) (file_of words)) (cond b (option_map (λ files. resolve files.0 files.1 m files.2) (warm_files_of words)) (cond c (option_map (λ files. certificate files.0 files.1 m) (files_of words)) (cond d (option_map (λ size. trial size m) (size_of words)) None))) ≡ Some command
+        → cond a (option_map (λ script. solve script n) (file_of words)) (cond b (option_map (λ files. resolve files.0 files.1 n files.2) (warm_files_of words)) (cond c (option_map (λ files. certificate files.0 files.1 n) (files_of words)) (cond d (option_map (λ size. trial size n) (size_of words)) None))) ≡ with_limit command n
     by true b c d e = same (λ script limit. solve script limit) (file_of words) (λ x. refl) e
-    by false true c d e = same (λ files limit. resolve files.0 files.1 limit) (files_of words) (λ x. refl) e
+    by false true c d e = same (λ files limit. resolve files.0 files.1 limit files.2) (warm_files_of words) (λ x. refl) e
     by false false true d e = same (λ files limit. certificate files.0 files.1 limit) (files_of words) (λ x. refl) e
     by false false false true e = same (λ size limit. trial size limit) (size_of words) (λ x. refl) e
     by false false false false e = cc
@@ -96,21 +89,21 @@ by_name : (name : List ℕ) (words rest : List (List ℕ)) (text : List ℕ) (co
 by_name name words rest text command h r = by (bytes_eq name (codes "check")) (bytes_eq name (codes "certify")) (bytes_eq name (codes "migrate"))
   where
     none : {X : Type 0} (f : List (List ℕ) → Option X) → ((words : List (List ℕ)) (x : X) → f words ≡ Some x → HasNoOption words) → f rest ≡ None
-    none f k = ap f r.is ∙ none_with_option f r.front r.back r.word k r.option
+    none f k = ap f r.is ∙ none_with is_option f r.front r.back r.word k r.option
 
     three : (form : List ℕ × List ℕ × List ℕ → Command) → ((x : List ℕ × List ℕ × List ℕ) (n : ℕ) → with_limit (form x) n ≡ None) → option_map form (three_files_of words) ≡ Some command → option_map form (three_files_of rest) ≡ limited_by text command
-    three form k e = ap (option_map form) (none three_files_of three_file_operands) ∙ unlimited_stays form (three_files_of words) text command k e
+    three form k e = ap (option_map form) (none three_files_of (three_file_operands is_option option_of_minus)) ∙ unlimited_stays form (three_files_of words) text command k e
 
     by : (a b c : Bool) → cond a (option_map check (file_of words)) (cond b (option_map (λ files. certify files.0 files.1 files.2) (three_files_of words)) (cond c (option_map (λ files. migrate files.0 files.1 files.2) (three_files_of words)) (option_and_then (limited_command name) (without_option words)))) ≡ Some command
         → cond a (option_map check (file_of rest)) (cond b (option_map (λ files. certify files.0 files.1 files.2) (three_files_of rest)) (cond c (option_map (λ files. migrate files.0 files.1 files.2) (three_files_of rest)) (option_and_then (limited_command name) (without_option rest)))) ≡ limited_by text command
-    by true b c e = ap (option_map check) (none file_of file_operand) ∙ unlimited_stays check (file_of words) text command (λ x n. refl) e
+    by true b c e = ap (option_map check) (none file_of (file_operand is_option option_of_minus)) ∙ unlimited_stays check (file_of words) text command (λ x n. refl) e
     by false true c e = three (λ files. certify files.0 files.1 files.2) (λ x n. refl) e
     by false false true e = three (λ files. migrate files.0 files.1 files.2) (λ x n. refl) e
     by false false false e = ap (option_and_then (limited_command name)) r.taken ∙ limited_same name words text command (ap (option_and_then (limited_command name)) (sym (no_option words h)) ∙ e)
 
 pub option_stands_anywhere : OptionStandsAnywhere
 option_stands_anywhere name front back text command h e =
-    let p = none_in front back h in
+    let p = none_in is_option front back h in
     record {
       in_two_words = by_name name (front ++ back) (front ++ option_word ∷ text ∷ back) text command h
           (record { front = front; word = option_word; back = text ∷ back; is = refl; option = refl; taken = both_sides front back (option_word ∷ text ∷ back) text p.0 refl }) e;

@@ -1,5 +1,5 @@
 -- Words that are a plain form, and words that are none.
-use Rattle.std.proofs.Common.{◌≡◌, [], ◌∷◌, refl, Some, None}
+use Rattle.std.proofs.Common.{◌≡◌, [], ◌∷◌, true, false, refl, Some, None}
 use Rattle.std.specs.Prelude.{codes}
 use Rattle.dcx_words.specs.Commands.{check, solve, resolve, certificate, certify, migrate, trial, command_of}
 
@@ -10,7 +10,7 @@ check_a_script = refl
 solve_with_the_usual_limit : command_of (codes "solve" ∷ codes "a.py" ∷ []) ≡ Some (solve (codes "a.py") 200000)
 solve_with_the_usual_limit = refl
 
-resolve_script_and_settings : command_of (codes "resolve" ∷ codes "a.py" ∷ codes "q.txt" ∷ []) ≡ Some (resolve (codes "a.py") (codes "q.txt") 200000)
+resolve_script_and_settings : command_of (codes "resolve" ∷ codes "a.py" ∷ codes "q.txt" ∷ []) ≡ Some (resolve (codes "a.py") (codes "q.txt") 200000 false)
 resolve_script_and_settings = refl
 
 certificate_with_the_usual_limit : command_of (codes "certificate" ∷ codes "a.py" ∷ codes "q.txt" ∷ []) ≡ Some (certificate (codes "a.py") (codes "q.txt") 200000)
@@ -31,11 +31,29 @@ trial_with_leading_zeros = refl
 option_before_the_operand : command_of (codes "solve" ∷ codes "--max-pivots" ∷ codes "0000000007" ∷ codes "a.py" ∷ []) ≡ Some (solve (codes "a.py") 7)
 option_before_the_operand = refl
 
-option_between_the_operands : command_of (codes "resolve" ∷ codes "a.py" ∷ codes "--max-pivots=1000000000" ∷ codes "q.txt" ∷ []) ≡ Some (resolve (codes "a.py") (codes "q.txt") 1000000000)
+option_between_the_operands : command_of (codes "resolve" ∷ codes "a.py" ∷ codes "--max-pivots=1000000000" ∷ codes "q.txt" ∷ []) ≡ Some (resolve (codes "a.py") (codes "q.txt") 1000000000 false)
 option_between_the_operands = refl
 
 option_behind_the_operand : command_of (codes "trial" ∷ codes "1000" ∷ codes "--max-pivots" ∷ codes "0" ∷ []) ≡ Some (trial 1000 0)
 option_behind_the_operand = refl
+
+warm_before_the_operands : command_of (codes "resolve" ∷ codes "--warm" ∷ codes "a.py" ∷ codes "q.txt" ∷ []) ≡ Some (resolve (codes "a.py") (codes "q.txt") 200000 true)
+warm_before_the_operands = refl
+
+warm_between_the_operands : command_of (codes "resolve" ∷ codes "a.py" ∷ codes "--warm" ∷ codes "q.txt" ∷ []) ≡ Some (resolve (codes "a.py") (codes "q.txt") 200000 true)
+warm_between_the_operands = refl
+
+warm_behind_the_operands : command_of (codes "resolve" ∷ codes "a.py" ∷ codes "q.txt" ∷ codes "--warm" ∷ []) ≡ Some (resolve (codes "a.py") (codes "q.txt") 200000 true)
+warm_behind_the_operands = refl
+
+warm_before_the_option : command_of (codes "resolve" ∷ codes "--warm" ∷ codes "--max-pivots" ∷ codes "7" ∷ codes "a.py" ∷ codes "q.txt" ∷ []) ≡ Some (resolve (codes "a.py") (codes "q.txt") 7 true)
+warm_before_the_option = refl
+
+warm_behind_the_option : command_of (codes "resolve" ∷ codes "a.py" ∷ codes "--max-pivots" ∷ codes "7" ∷ codes "--warm" ∷ codes "q.txt" ∷ []) ≡ Some (resolve (codes "a.py") (codes "q.txt") 7 true)
+warm_behind_the_option = refl
+
+warm_behind_the_option_in_one_word : command_of (codes "resolve" ∷ codes "--max-pivots=7" ∷ codes "a.py" ∷ codes "q.txt" ∷ codes "--warm" ∷ []) ≡ Some (resolve (codes "a.py") (codes "q.txt") 7 true)
+warm_behind_the_option_in_one_word = refl
 
 -- ---- none
 no_words : command_of [] ≡ None
@@ -94,3 +112,27 @@ size_zero = refl
 
 size_too_large : command_of (codes "trial" ∷ codes "1001" ∷ []) ≡ None
 size_too_large = refl
+
+warm_in_place_of_the_number : command_of (codes "resolve" ∷ codes "--max-pivots" ∷ codes "--warm" ∷ codes "7" ∷ codes "a.py" ∷ codes "q.txt" ∷ []) ≡ None
+warm_in_place_of_the_number = refl
+
+warm_twice : command_of (codes "resolve" ∷ codes "--warm" ∷ codes "a.py" ∷ codes "q.txt" ∷ codes "--warm" ∷ []) ≡ None
+warm_twice = refl
+
+warm_in_place_of_a_file : command_of (codes "resolve" ∷ codes "a.py" ∷ codes "--warm" ∷ []) ≡ None
+warm_in_place_of_a_file = refl
+
+warm_before_the_name : command_of (codes "--warm" ∷ codes "resolve" ∷ codes "a.py" ∷ codes "q.txt" ∷ []) ≡ None
+warm_before_the_name = refl
+
+warm_with_a_value : command_of (codes "resolve" ∷ codes "--warm=1" ∷ codes "a.py" ∷ codes "q.txt" ∷ []) ≡ None
+warm_with_a_value = refl
+
+warm_solve : command_of (codes "solve" ∷ codes "a.py" ∷ codes "--warm" ∷ []) ≡ None
+warm_solve = refl
+
+warm_certificate : command_of (codes "certificate" ∷ codes "--warm" ∷ codes "a.py" ∷ codes "q.txt" ∷ []) ≡ None
+warm_certificate = refl
+
+warm_check : command_of (codes "check" ∷ codes "a.py" ∷ codes "--warm" ∷ []) ≡ None
+warm_check = refl

@@ -1,5 +1,5 @@
 -- The words of a command line that are a plain form, and what they ask for.
-use Rattle.std.specs.Prelude.{ℕ, Bool, false, not, ◌==◌, ◌&&◌, nat_eq, nat_le, if◌then◌else◌, List, [], ◌∷◌, ◌++◌, length, drop, Option, None, Some, option_map, option_and_then, bytes_eq, codes}
+use Rattle.std.specs.Prelude.{ℕ, Bool, true, false, not, ◌==◌, ◌&&◌, nat_eq, nat_le, if◌then◌else◌, List, [], ◌∷◌, ◌++◌, length, drop, Option, None, Some, option_map, option_and_then, bytes_eq, codes}
 use Rattle.std.specs.List.{list_all, starts_with}
 use Rattle.std.specs.Char.{is_ascii_digit}
 use Rattle.std.specs.Str.Parse.{digits_value}
@@ -10,7 +10,7 @@ use Rattle.dcx_words.specs.declared.words.Form.TheVariants as forms
 pub data Command : Type 0 where
   check : (script : List ℕ) → Command
   solve : (script : List ℕ) (limit : ℕ) → Command
-  resolve : (script settings : List ℕ) (limit : ℕ) → Command
+  resolve : (script settings : List ℕ) (limit : ℕ) (warm : Bool) → Command
   certificate : (script settings : List ℕ) (limit : ℕ) → Command
   certify : (script settings cert : List ℕ) → Command
   migrate : (script settings cert : List ℕ) → Command
@@ -68,6 +68,16 @@ without_option (word ∷ words) =
     else (if starts_with nat_eq word option_front then limited (drop (length option_front) word) words
     else option_map (put_before (word ∷ [])) (without_option words))
 
+-- ---- the word of a warm `resolve`
+abbrev pub warm_word : List ℕ
+warm_word = codes "--warm"
+
+-- The first `--warm` is taken out of the words, beside which it is told whether there is one. A second one stays among them, where no
+-- operand begins with a minus.
+abbrev pub without_warm : List (List ℕ) → List (List ℕ) × Bool
+without_warm [] = ([], false)
+without_warm (word ∷ words) = if bytes_eq word warm_word then (words, true) else (word ∷ (without_warm words).0, (without_warm words).1)
+
 -- ---- operands
 -- a file operand isn't empty and doesn't begin with a minus
 abbrev pub is_file : List ℕ → Bool
@@ -89,6 +99,10 @@ abbrev pub three_files_of : List (List ℕ) → Option (List ℕ × List ℕ × 
 three_files_of (first ∷ second ∷ third ∷ []) = if is_file first && is_file second && is_file third then Some (first, second, third) else None
 three_files_of words = None
 
+-- two files, and whether `--warm` stands among them
+abbrev pub warm_files_of : List (List ℕ) → Option (List ℕ × List ℕ × Bool)
+warm_files_of words = option_map (λ files. (files.0, files.1, (without_warm words).1)) (files_of (without_warm words).0)
+
 -- one size
 abbrev pub size_of : List (List ℕ) → Option ℕ
 size_of (word ∷ []) = number_within 4 1 1000 word
@@ -99,7 +113,7 @@ size_of words = None
 abbrev pub limited_command : (name : List ℕ) → Operands → Option Command
 limited_command name o =
     if bytes_eq name (codes "solve") then option_map (λ script. solve script o.limit) (file_of o.words)
-    else (if bytes_eq name (codes "resolve") then option_map (λ files. resolve files.0 files.1 o.limit) (files_of o.words)
+    else (if bytes_eq name (codes "resolve") then option_map (λ files. resolve files.0 files.1 o.limit files.2) (warm_files_of o.words)
     else (if bytes_eq name (codes "certificate") then option_map (λ files. certificate files.0 files.1 o.limit) (files_of o.words)
     else (if bytes_eq name (codes "trial") then option_map (λ size. trial size o.limit) (size_of o.words)
     else None)))
@@ -117,7 +131,7 @@ command_of (name ∷ words) =
 abbrev pub command_in : Form → Command
 command_in (forms.Check script) = check script.now
 command_in (forms.Solve script limit) = solve script.now limit
-command_in (forms.Resolve script settings limit) = resolve script.now settings.now limit
+command_in (forms.Resolve script settings limit warm) = resolve script.now settings.now limit warm
 command_in (forms.Certificate script settings limit) = certificate script.now settings.now limit
 command_in (forms.Certify script settings cert) = certify script.now settings.now cert.now
 command_in (forms.Migrate script settings cert) = migrate script.now settings.now cert.now

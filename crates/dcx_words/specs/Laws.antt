@@ -1,7 +1,7 @@
--- What the rules of the option come to.
-use Rattle.std.specs.Prelude.{◌≡◌, ◌≤◌, ℕ, Bool, false, ◌||◌, nat_eq, List, ◌∷◌, ◌++◌, Option, None, Some, option_and_then, bytes_eq}
+-- What the rules of the option and of `--warm` come to.
+use Rattle.std.specs.Prelude.{◌≡◌, ◌≤◌, ℕ, Bool, true, false, ◌||◌, if◌then◌else◌, nat_eq, List, [], ◌∷◌, ◌++◌, Option, None, Some, option_and_then, bytes_eq}
 use Rattle.std.specs.List.{count_by, list_any, starts_with}
-use Rattle.dcx_words.specs.Commands.{Command, check, solve, resolve, certificate, certify, migrate, trial, limit_of, option_word, option_front, command_of}
+use Rattle.dcx_words.specs.Commands.{Command, check, solve, resolve, certificate, certify, migrate, trial, limit_of, option_word, option_front, warm_word, command_of}
 
 -- the word is the option, or begins with it and an equal sign
 abbrev pub is_option : List ℕ → Bool
@@ -14,7 +14,7 @@ HasNoOption words = list_any is_option words ≡ false
 abbrev pub with_limit : Command → ℕ → Option Command
 with_limit (check script) limit = None
 with_limit (solve script old) limit = Some (solve script limit)
-with_limit (resolve script settings old) limit = Some (resolve script settings limit)
+with_limit (resolve script settings old warm) limit = Some (resolve script settings limit warm)
 with_limit (certificate script settings old) limit = Some (certificate script settings limit)
 with_limit (certify script settings cert) limit = None
 with_limit (migrate script settings cert) limit = None
@@ -37,3 +37,46 @@ OptionStandsAnywhere = (name : List ℕ) (front back : List (List ℕ)) (text : 
 -- the words of a plain form have the option once at most
 abbrev pub OptionStandsOnce : Type 0
 OptionStandsOnce = (name : List ℕ) (words : List (List ℕ)) (command : Command) → command_of (name ∷ words) ≡ Some command → count_by is_option words ≤ 1
+
+-- ---- `--warm`
+abbrev pub is_warm : List ℕ → Bool
+is_warm word = bytes_eq word warm_word
+
+-- the same command, but warm; `resolve` alone can be, and only once
+abbrev pub warmed : Command → Option Command
+warmed (resolve script settings limit false) = Some (resolve script settings limit true)
+warmed (resolve script settings limit true) = None
+warmed (check script) = None
+warmed (solve script limit) = None
+warmed (certificate script settings limit) = None
+warmed (certify script settings cert) = None
+warmed (migrate script settings cert) = None
+warmed (trial size limit) = None
+
+-- the words end with the option, whose number is the next word
+abbrev pub EndInOption : List (List ℕ) → Type 0
+EndInOption words = (before : List (List ℕ)) × (words ≡ before ++ option_word ∷ [])
+
+-- `--warm` may stand at any place among the operands of a plain form, with the option or without it, but for the place between the
+-- option and its number, and makes the command warm
+abbrev pub WarmStandsAnywhere : Type 0
+WarmStandsAnywhere = (name : List ℕ) (front back : List (List ℕ)) (command : Command)
+    → ¬ EndInOption front → command_of (name ∷ (front ++ back)) ≡ Some command → command_of (name ∷ (front ++ warm_word ∷ back)) ≡ warmed command
+
+-- between the option and its number it is no plain form
+abbrev pub WarmStandsApart : Type 0
+WarmStandsApart = (name : List ℕ) (front back : List (List ℕ)) → EndInOption front → command_of (name ∷ (front ++ warm_word ∷ back)) ≡ None
+
+-- whether the command is a warm `resolve`
+abbrev pub is_warm_command : Command → Bool
+is_warm_command (resolve script settings limit warm) = warm
+is_warm_command (check script) = false
+is_warm_command (solve script limit) = false
+is_warm_command (certificate script settings limit) = false
+is_warm_command (certify script settings cert) = false
+is_warm_command (migrate script settings cert) = false
+is_warm_command (trial size limit) = false
+
+-- the words of a warm `resolve` have `--warm` once, and those of no other command have it
+abbrev pub WarmStandsOnce : Type 0
+WarmStandsOnce = (name : List ℕ) (words : List (List ℕ)) (command : Command) → command_of (name ∷ words) ≡ Some command → count_by is_warm words ≡ (if is_warm_command command then 1 else 0)

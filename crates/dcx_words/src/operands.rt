@@ -1,7 +1,7 @@
-//! The operands of a command, and the option that stands anywhere among them.
+//! The operands of a command, and the option and the word `--warm` that stand anywhere among them.
 ghost use Rattle.std.specs.Prelude.{◌≡◌, ◌<◌, [], ◌∷◌, slice_index_or, true, false, nat_eq, length, drop, map, string_bytes, None, Some, MatchOption, option_map};
 ghost use Rattle.std.specs.List.{starts_with};
-ghost use Rattle.dcx_words.specs.Commands.{unlimited as unlimited_of, limited as limited_of, limited_by_next as limited_by_next_of, put_before, option_front, without_option as without_option_of, is_file as is_file_of, file_of, files_of, three_files_of, size_of};
+ghost use Rattle.dcx_words.specs.Commands.{unlimited as unlimited_of, limited as limited_of, limited_by_next as limited_by_next_of, put_before, option_front, without_option as without_option_of, is_file as is_file_of, file_of, files_of, warm_files_of, three_files_of, size_of};
 ghost use Rattle.dcx_words.specs.Around.{words_around, operands_around, Gives};
 
 use crate::number::number_within;
@@ -88,6 +88,35 @@ fn file(word: &str) -> Option<&str>
     if is_file(word) { Some(word) } else { None }
 }
 
+/// The two words, where they are file operands.
+fn two_files<'a>(first: &'a str, second: &'a str) -> Option<(&'a str, &'a str)>
+    ensures { MatchOption result (files_of (first.now ∷ second.now ∷ []) ≡ None) (λ x. files_of (first.now ∷ second.now ∷ []) ≡ Some (x.0.now, x.1.now)) }
+{
+    let first = file(first)?;
+    let second = file(second)?;
+    Some((first, second))
+}
+
+/// The two words beside the first `--warm` of the three, where they are file operands.
+fn beside_warm<'a>(
+    first: &'a str,
+    second: &'a str,
+    third: &'a str,
+) -> Option<(&'a str, &'a str, bool)>
+    ensures { MatchOption result (warm_files_of (first.now ∷ second.now ∷ third.now ∷ []) ≡ None) (λ x. warm_files_of (first.now ∷ second.now ∷ third.now ∷ []) ≡ Some (x.0.now, x.1.now, x.2)) }
+{
+    let (script, settings) = if first == "--warm" {
+        two_files(second, third)?
+    } else if second == "--warm" {
+        two_files(first, third)?
+    } else if third == "--warm" {
+        two_files(first, second)?
+    } else {
+        return None;
+    };
+    Some((script, settings, true))
+}
+
 impl<'a> Around<'a> {
     /// How many operands there are.
     fn count(self) -> usize
@@ -124,12 +153,21 @@ impl<'a> Around<'a> {
         ensures { MatchOption result (files_of (words_around self.entry) ≡ None) (λ x. files_of (words_around self.entry) ≡ Some (x.0.now, x.1.now)) }
     {
         if self.count() == 2 {
-            let script = file(self.at(0))?;
-            let settings = file(self.at(1))?;
-            Some((script, settings))
+            two_files(self.at(0), self.at(1))
         } else {
             None
         }
+    }
+
+    /// The two operands that are files, beside `--warm`, and whether that is there.
+    pub fn warm_files(self) -> Option<(&'a str, &'a str, bool)>
+        ensures { MatchOption result (warm_files_of (words_around self.entry) ≡ None) (λ x. warm_files_of (words_around self.entry) ≡ Some (x.0.now, x.1.now, x.2)) }
+    {
+        if self.count() == 3 {
+            return beside_warm(self.at(0), self.at(1), self.at(2));
+        }
+        let (script, settings) = self.files()?;
+        Some((script, settings, false))
     }
 
     /// The three operands that are files.

@@ -1,6 +1,6 @@
 //! What the words of a command line ask for.
 ghost use Rattle.std.specs.Prelude.{◌∷◌, map, string_bytes, option_map, option_and_then};
-ghost use Rattle.dcx_words.specs.Commands.{check, solve, resolve, certificate, certify, migrate, trial, file_of, files_of, three_files_of, size_of, command_of, limited_command, without_option as without_option_of};
+ghost use Rattle.dcx_words.specs.Commands.{check, solve, resolve, certificate, certify, migrate, trial, file_of, files_of, warm_files_of, three_files_of, size_of, command_of, limited_command, without_option as without_option_of};
 ghost use Rattle.dcx_words.specs.Around.{words_around, operands_around};
 ghost use Rattle.dcx_words.specs.Asked.{Asks};
 
@@ -18,11 +18,13 @@ pub enum Form<'a> {
         script: &'a str,
         limit: u64,
     },
-    /// The problem of a script is solved at each of the settings, with so many pivots at most.
+    /// The problem of a script is solved at each of the settings, with so many pivots at most; where it is warm, from
+    /// what the settings before left.
     Resolve {
         script: &'a str,
         settings: &'a str,
         limit: u64,
+        warm: bool,
     },
     /// The answers of a script's problem at each of the settings are told with what shows them, with so many pivots at most.
     Certificate {
@@ -70,13 +72,14 @@ fn solve_form<'a>(around: Around<'a>) -> Option<Form<'a>>
 
 /// What a solve at settings asks for.
 fn resolve_form<'a>(around: Around<'a>) -> Option<Form<'a>>
-    ensures { Asks (option_map (λ files. resolve files.0 files.1 around.entry.limit) (files_of (words_around around.entry))) result }
+    ensures { Asks (option_map (λ files. resolve files.0 files.1 around.entry.limit files.2) (warm_files_of (words_around around.entry))) result }
 {
-    let (script, settings) = around.files()?;
+    let (script, settings, warm) = around.warm_files()?;
     Some(Form::Resolve {
         script,
         settings,
         limit: around.limit,
+        warm,
     })
 }
 
@@ -164,7 +167,7 @@ fn named_form<'a>(name: &str, words: &'a [String]) -> Option<Form<'a>>
 ///
 /// The words are those behind the program's name: the name of a command, then its operands in order. `solve`,
 /// `resolve`, `certificate` and `trial` may have the option `--max-pivots N`, or `--max-pivots=N`, once at any place
-/// behind the name.
+/// behind the name, and `resolve` the word `--warm` so.
 pub fn plain_form(words: &[String]) -> Option<Form<'_>>
     ensures { Asks (command_of (map string_bytes words.now)) result }
 {

@@ -5,16 +5,23 @@ use Rattle.dcx_cache.specs.Programs.{HasMap}
 use Rattle.dcx_cache.specs.Answers.{IsAnswerOf}
 use Rattle.dcx_cache.specs.Sessions.{State}
 use Rattle.dcx_cache.proofs.Answered.{answers_are_right}
+use Rattle.dcx_cache.proofs.Basics.{solved_readable}
 use Rattle.dcx_cache.proofs.session.Session.solve.Goals as goal
 
 pub returns-in_err-answer-clause-counted : goal.returns-in_err-answer-clause-counted
 returns-in_err-answer-clause-counted g c = λ m. c.solved.ensures.counted (subst (λ (p : Problem). HasMap p) (sym (ap (λ (s : State). s.problem) c.self.view_is)) m)
 
+pub keep-requires : goal.keep-requires
+keep-requires g c = solved_readable c.args.limit c.in_ok-answer.found.solved (c.in_ok-answer.ensures {u = tt}).answer.is_solved.solved
+
+pub returns-in-Err-clause-counted : goal.returns-in-Err-clause-counted
+returns-in-Err-clause-counted g c = λ m. c.solved.ensures.counted (subst (λ (p : Problem). HasMap p) (sym (ap (λ (s : State). s.problem) c.self.view_is)) m)
+
 pub returns-clause-answers : goal.returns-clause-answers
 returns-clause-answers g c = (
-  c.in_ok-answer.last.reduced.program,
-  c.in_ok-answer.last.solved,
-  subst (λ (p : Problem). IsAnswerOf p c.args.setting.now c.args.limit c.in_ok-answer.last.reduced.program c.in_ok-answer.last.solved c.in_ok-answer.answer) (ap (λ (s : State). s.problem) c.self.view_is)
+  c.in_ok-answer.found.reduced.program,
+  c.in_ok-answer.found.solved,
+  subst (λ (p : Problem). IsAnswerOf p c.args.setting.now c.args.limit c.in_ok-answer.found.reduced.program c.in_ok-answer.found.solved c.in_ok-answer.answer) (ap (λ (s : State). s.problem) c.self.view_is)
       (c.in_ok-answer.ensures {u = tt}).answer,
 )
 

@@ -1,0 +1,14 @@
+-- The outcomes of the settings so far, with their count and their steps.
+use Rattle.std.proofs.Common.{◌≡◌, ◌+◌, ◌*◌, ◌≤◌, length, take}
+use Rattle.dcx_cache.specs.Programs.{HasMap}
+use Rattle.dcx_outcomes.specs.Warm.{AreToldFrom}
+use Rattle.dcx_outcomes.proofs.finding.all.Given as goal
+
+abbrev pub invariant-loop-setting : goal.invariant-loop-setting
+invariant-loop-setting g l = record {
+  outcomes : AreToldFrom l.warm l.initial.session.problem l.limit (take l.setting-index l.settings) l.initial.session.columns l.outcomes.items l.kept l.session.columns;
+  within : l.kept ≤ l.setting-index;
+  same : l.session.problem ≡ l.initial.session.problem;
+  counted : HasMap l.initial.session.problem → l.steps ≡ l.initial.steps;
+  few : l.steps ≤ l.initial.steps + l.setting-index * length l.initial.session.problem.tree;
+}

@@ -1,0 +1,80 @@
+-- The outcomes of settings from what a session keeps: each from the columns that the settings before it left.
+use Rattle.std.specs.Prelude.{◌≡◌, ⊤, ℕ, Bool, true, false, List, [], ◌∷◌, Option, None, Some, Result, Ok, Err, count_by}
+use Rattle.dcx_point.specs.Pairs.{Pairs}
+use Rattle.dcx_tree.specs.declared.problem.Problem.{Problem}
+use Rattle.dcx_answer.specs.declared.answer.Answer.{Answer}
+use Rattle.dcx_answer.specs.declared.stop.Stop.{Stop}
+use Rattle.dcx_report.specs.declared.outcome.Outcome.{Outcome}
+use Rattle.dcx_cache.specs.declared.rewarming.Warmed.{Warmed}
+use Rattle.dcx_cache.specs.Answers.{Answers}
+use Rattle.dcx_cache.specs.Warm.{WarmAnswers, WarmAnswersAll}
+use Rattle.dcx_outcomes.specs.Outcomes.{end_of, end_place, AreOutcomes}
+
+-- ---- one setting
+-- the answer, or the stop
+abbrev pub end_in : Result Warmed Stop → Result Answer Stop
+end_in (Ok w) = Ok w.answer
+end_in (Err stop) = Err stop
+
+-- whether it is answered from the columns that were kept
+abbrev pub is_kept : Result Warmed Stop → Bool
+is_kept (Ok w) = w.kept
+is_kept (Err stop) = false
+
+-- the outcome tells how a setting ends, with the place of the node that a stop names
+pub record Tells (p : Problem) (r : Result Warmed Stop) (o : Outcome) : Type 0 where
+  pub end : end_of o.end ≡ end_in r
+  pub placed : o.place ≡ end_place p o.end
+
+-- ---- all settings
+-- one outcome for each end, in order
+abbrev pub AreTold : Problem → List (Result Warmed Stop) → List Outcome → Type 0
+AreTold p [] [] = ⊤
+AreTold p (r ∷ rs) (o ∷ os) = Tells p r o × AreTold p rs os
+AreTold p [] (o ∷ os) = ⊥
+AreTold p (r ∷ rs) [] = ⊥
+
+-- A session that has no columns yet is asked at the settings, one after the other: each ends as `solve_warm` answers there, from the
+-- columns that the settings before it left. The outcomes tell how they end, and so many settings are answered from kept columns.
+pub record AreWarmOutcomes (p : Problem) (limit : ℕ) (settings : List Pairs) (outcomes : List Outcome) (kept : ℕ) : Type 0 where
+  pub ends : List (Result Warmed Stop)
+  pub answers : WarmAnswersAll p limit None settings ends
+  pub told : AreTold p ends outcomes
+  pub count : kept ≡ count_by is_kept ends
+
+-- the outcomes of settings, warm or not; the warm ones are counted
+abbrev pub AreFound : Bool → Problem → ℕ → List Pairs → List Outcome → Option ℕ → Type 0
+AreFound false p limit settings outcomes warm = AreOutcomes p limit settings outcomes × (warm ≡ None)
+AreFound true p limit settings outcomes warm = (n : ℕ) × AreWarmOutcomes p limit settings outcomes n × (warm ≡ Some n)
+
+-- ---- parts of the way
+-- how a session ends at a setting, warm or not, from what it keeps before
+abbrev pub EndsFrom : Bool → Problem → ℕ → Pairs → Option (List ℕ) → Result Warmed Stop → Option (List ℕ) → Type 0
+EndsFrom false p limit setting before r after = Answers p setting limit (end_in r) × (is_kept r ≡ false)
+EndsFrom true p limit setting before r after = WarmAnswers p setting limit before r after
+
+-- the outcome of a setting, and whether it is answered from the columns that were kept
+pub record IsToldFrom (warm : Bool) (p : Problem) (limit : ℕ) (setting : Pairs) (before : Option (List ℕ)) (o : Outcome) (kept : Bool) (after : Option (List ℕ)) : Type 0 where
+  pub end : Result Warmed Stop
+  pub ends : EndsFrom warm p limit setting before end after
+  pub tells : Tells p end o
+  pub flag : kept ≡ is_kept end
+
+-- settings one after another
+abbrev pub EndFrom : Bool → Problem → ℕ → List Pairs → Option (List ℕ) → List (Result Warmed Stop) → Option (List ℕ) → Type 0
+EndFrom warm p limit [] before [] after = after ≡ before
+EndFrom warm p limit (s ∷ ss) before (r ∷ rs) after = (mid : Option (List ℕ)) × EndsFrom warm p limit s before r mid × EndFrom warm p limit ss mid rs after
+EndFrom warm p limit [] before (r ∷ rs) after = ⊥
+EndFrom warm p limit (s ∷ ss) before [] after = ⊥
+
+-- their outcomes, so many of which are answered from kept columns
+pub record AreToldFrom (warm : Bool) (p : Problem) (limit : ℕ) (settings : List Pairs) (before : Option (List ℕ)) (outcomes : List Outcome) (kept : ℕ) (after : Option (List ℕ)) : Type 0 where
+  pub ends : List (Result Warmed Stop)
+  pub end : EndFrom warm p limit settings before ends after
+  pub told : AreTold p ends outcomes
+  pub count : kept ≡ count_by is_kept ends
+
+-- the count, where it is wanted
+abbrev pub counted_where : Bool → ℕ → Option ℕ
+counted_where false n = None
+counted_where true n = Some n
