@@ -1,7 +1,7 @@
 -- Words that are a plain form, and words that are none.
 use Rattle.std.proofs.Common.{◌≡◌, [], ◌∷◌, true, false, refl, Some, None}
 use Rattle.std.specs.Prelude.{codes}
-use Rattle.dcx_words.specs.Commands.{check, solve, resolve, certificate, certify, migrate, trial, command_of}
+use Rattle.dcx_words.specs.Commands.{check, solve, resolve, certificate, certify, migrate, trial, iis, command_of}
 
 -- ---- plain forms
 check_a_script : command_of (codes "check" ∷ codes "a.py" ∷ []) ≡ Some (check (codes "a.py"))
@@ -27,6 +27,12 @@ migrate_three_files = refl
 
 trial_with_leading_zeros : command_of (codes "trial" ∷ codes "0012" ∷ []) ≡ Some (trial 12 200000)
 trial_with_leading_zeros = refl
+
+iis_with_the_usual_limit : command_of (codes "iis" ∷ codes "a.py" ∷ codes "q.txt" ∷ []) ≡ Some (iis (codes "a.py") (codes "q.txt") 200000)
+iis_with_the_usual_limit = refl
+
+iis_with_the_option : command_of (codes "iis" ∷ codes "a.py" ∷ codes "--max-pivots" ∷ codes "0" ∷ codes "q.txt" ∷ []) ≡ Some (iis (codes "a.py") (codes "q.txt") 0)
+iis_with_the_option = refl
 
 option_before_the_operand : command_of (codes "solve" ∷ codes "--max-pivots" ∷ codes "0000000007" ∷ codes "a.py" ∷ []) ≡ Some (solve (codes "a.py") 7)
 option_before_the_operand = refl
@@ -86,6 +92,9 @@ certify_without_its_certificate = refl
 certificate_of_three_files : command_of (codes "certificate" ∷ codes "a.py" ∷ codes "q.txt" ∷ codes "c.txt" ∷ []) ≡ None
 certificate_of_three_files = refl
 
+iis_without_its_settings : command_of (codes "iis" ∷ codes "a.py" ∷ []) ≡ None
+iis_without_its_settings = refl
+
 two_minus_before_the_operand : command_of (codes "solve" ∷ codes "--" ∷ codes "a.py" ∷ []) ≡ None
 two_minus_before_the_operand = refl
 
@@ -136,3 +145,6 @@ warm_certificate = refl
 
 warm_check : command_of (codes "check" ∷ codes "a.py" ∷ codes "--warm" ∷ []) ≡ None
 warm_check = refl
+
+warm_iis : command_of (codes "iis" ∷ codes "a.py" ∷ codes "q.txt" ∷ codes "--warm" ∷ []) ≡ None
+warm_iis = refl

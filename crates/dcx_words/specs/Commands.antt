@@ -15,6 +15,7 @@ pub data Command : Type 0 where
   certify : (script settings cert : List ℕ) → Command
   migrate : (script settings cert : List ℕ) → Command
   trial : (size limit : ℕ) → Command
+  iis : (script settings : List ℕ) (limit : ℕ) → Command
 
 -- ---- numbers
 -- one digit or more, and not too many
@@ -116,7 +117,8 @@ limited_command name o =
     else (if bytes_eq name (codes "resolve") then option_map (λ files. resolve files.0 files.1 o.limit files.2) (warm_files_of o.words)
     else (if bytes_eq name (codes "certificate") then option_map (λ files. certificate files.0 files.1 o.limit) (files_of o.words)
     else (if bytes_eq name (codes "trial") then option_map (λ size. trial size o.limit) (size_of o.words)
-    else None)))
+    else (if bytes_eq name (codes "iis") then option_map (λ files. iis files.0 files.1 o.limit) (files_of o.words)
+    else None))))
 
 -- what the words ask for, where they are a plain form
 abbrev pub command_of : List (List ℕ) → Option Command
@@ -136,3 +138,4 @@ command_in (forms.Certificate script settings limit) = certificate script.now se
 command_in (forms.Certify script settings cert) = certify script.now settings.now cert.now
 command_in (forms.Migrate script settings cert) = migrate script.now settings.now cert.now
 command_in (forms.Trial size limit) = trial size limit
+command_in (forms.Iis script settings limit) = iis script.now settings.now limit

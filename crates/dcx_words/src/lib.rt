@@ -2,8 +2,8 @@
 //!
 //! The name of a command comes first, then its operands in order: `check SCRIPT`, `solve SCRIPT`,
 //! `resolve SCRIPT SETTINGS`, `certificate SCRIPT SETTINGS`, `certify SCRIPT SETTINGS CERT`, `trial SIZE`,
-//! `migrate SCRIPT SETTINGS CERT`. `solve`, `resolve`, `certificate` and `trial` may have the option `--max-pivots N`, or
-//! `--max-pivots=N`, and `resolve` the word `--warm`.
+//! `migrate SCRIPT SETTINGS CERT`, `iis SCRIPT SETTINGS`. `solve`, `resolve`, `certificate`, `trial` and `iis` may have the option
+//! `--max-pivots N`, or `--max-pivots=N`, and `resolve` the word `--warm`.
 //!
 //! | what must hold | where |
 //! |---|---|

@@ -1,6 +1,6 @@
 //! What the words of a command line ask for.
 ghost use Rattle.std.specs.Prelude.{◌∷◌, map, string_bytes, option_map, option_and_then};
-ghost use Rattle.dcx_words.specs.Commands.{check, solve, resolve, certificate, certify, migrate, trial, file_of, files_of, warm_files_of, three_files_of, size_of, command_of, limited_command, without_option as without_option_of};
+ghost use Rattle.dcx_words.specs.Commands.{check, solve, resolve, certificate, certify, migrate, trial, iis, file_of, files_of, warm_files_of, three_files_of, size_of, command_of, limited_command, without_option as without_option_of};
 ghost use Rattle.dcx_words.specs.Around.{words_around, operands_around};
 ghost use Rattle.dcx_words.specs.Asked.{Asks};
 
@@ -47,6 +47,13 @@ pub enum Form<'a> {
     /// The made-up problem of this size is solved, with so many pivots at most.
     Trial {
         size: u32,
+        limit: u64,
+    },
+    /// Constraints of a script's problem that keep it from having a feasible point are told at each of the settings, with so many
+    /// pivots at most in each step.
+    Iis {
+        script: &'a str,
+        settings: &'a str,
         limit: u64,
     },
 }
@@ -130,6 +137,18 @@ fn trial_form<'a>(around: Around<'a>) -> Option<Form<'a>>
     })
 }
 
+/// What the telling of constraints that no point keeps together asks for.
+fn iis_form<'a>(around: Around<'a>) -> Option<Form<'a>>
+    ensures { Asks (option_map (λ files. iis files.0 files.1 around.entry.limit) (files_of (words_around around.entry))) result }
+{
+    let (script, settings) = around.files()?;
+    Some(Form::Iis {
+        script,
+        settings,
+        limit: around.limit,
+    })
+}
+
 /// The form of a command that takes the option.
 fn limited_form<'a>(name: &str, around: Around<'a>) -> Option<Form<'a>>
     ensures { Asks (limited_command name.now (operands_around around.entry)) result }
@@ -139,6 +158,7 @@ fn limited_form<'a>(name: &str, around: Around<'a>) -> Option<Form<'a>>
         "resolve" => resolve_form(around),
         "certificate" => certificate_form(around),
         "trial" => trial_form(around),
+        "iis" => iis_form(around),
         _ => None,
     }
 }
@@ -166,7 +186,7 @@ fn named_form<'a>(name: &str, words: &'a [String]) -> Option<Form<'a>>
 /// What the words ask for, where they are a plain form.
 ///
 /// The words are those behind the program's name: the name of a command, then its operands in order. `solve`,
-/// `resolve`, `certificate` and `trial` may have the option `--max-pivots N`, or `--max-pivots=N`, once at any place
+/// `resolve`, `certificate`, `trial` and `iis` may have the option `--max-pivots N`, or `--max-pivots=N`, once at any place
 /// behind the name, and `resolve` the word `--warm` so.
 pub fn plain_form(words: &[String]) -> Option<Form<'_>>
     ensures { Asks (command_of (map string_bytes words.now)) result }
