@@ -3,3 +3,4 @@ pub mod Sets
 pub mod Kept
 pub mod Telling
 pub mod Ends
+pub mod OneFound

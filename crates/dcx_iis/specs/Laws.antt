@@ -1,5 +1,6 @@
 -- What holds of all sets of constraints, and of all ends of the filter.
 use Rattle.std.specs.Prelude.{◌≡◌, ◌&&◌, not, ℕ, ◌<◌, IsTrue, nat_eq, length}
+use Rattle.std.specs.List.{AllZip}
 use Rattle.dcx_math.specs.Rational.{ℚ}
 use Rattle.dcx_frac.specs.declared.fraction.Frac.{Frac}
 use Rattle.dcx_convex.specs.Nodes.{Setting}
@@ -10,8 +11,10 @@ use Rattle.dcx_unknowns.specs.Unknowns.{point_at}
 use Rattle.dcx_std.specs.Solutions.{linear_program}
 use Rattle.dcx_answer.specs.declared.stop.Stop.{Stop}
 use Rattle.dcx_graph.specs.Program.{Program}
-use Rattle.dcx_graph.specs.Answers.{IsReducedAt}
+use Rattle.dcx_graph.specs.Answers.{IsReducedAt, IsSamePoint}
 use Rattle.dcx_answer.specs.declared.filtered.Filtered.{Filtered}
+use Rattle.dcx_answer.specs.declared.filtered.Filtered.TheVariants as filtered
+use Rattle.dcx_postsolve.specs.Duals.{multipliers_in}
 use Rattle.dcx_iis.specs.Sets.{ConstraintSet, KeepsSet, IsImpossible, IsFilterSet}
 use Rattle.dcx_iis.specs.Steps.{program_of_set, StopsAt}
 use Rattle.dcx_iis.specs.Found.{IsRight, IsFound}
@@ -50,3 +53,16 @@ FoundOrStopped = (p : Problem) (s : Setting) (q : Program Frac) (limit step : �
 -- one step stops, with one stop
 abbrev pub StopsAreOne : Type 0
 StopsAreOne = (p : Problem) (s : Setting) (q : Program Frac) (limit step other : ℕ) (stop also : Stop) → StopsAt p s q limit step stop → StopsAt p s q limit other also → (step ≡ other) × (stop ≡ also)
+
+-- ---- what is found
+-- the same members with the same multipliers and the same gap, and the same points
+abbrev pub IsSameFiltered : Problem → Filtered → Filtered → Type 0
+IsSameFiltered p (filtered.Feasible x) (filtered.Feasible y) = IsSamePoint p x y
+IsSameFiltered p (filtered.Feasible x) (filtered.Infeasible ns es h ys) = ⊥
+IsSameFiltered p (filtered.Infeasible ms ds g xs) (filtered.Feasible y) = ⊥
+IsSameFiltered p (filtered.Infeasible ms ds g xs) (filtered.Infeasible ns es h ys) =
+    (ms ≡ ns) × ((k j : ℕ) → multipliers_in ds k j ≡ multipliers_in es k j) × (g ≡ h) × AllZip (IsSamePoint p) xs ys
+
+-- the filter finds one thing
+abbrev pub FoundIsOne : Type 0
+FoundIsOne = (p : Problem) (s : Setting) (q : Program Frac) (limit : ℕ) (a b : Filtered) → IsRight p s a → IsRight p s b → IsFound p q limit a → IsFound p q limit b → IsSameFiltered p a b

@@ -1,6 +1,6 @@
 //! The laws above the definitions of `specs/`. There is no code: each clause is a statement about all problems, settings and sets
 //! of constraints.
-ghost use Rattle.dcx_iis.specs.Laws.{FilterSetsAreMinimal, FilterSetsAreOne, ProgramsTell, FoundOrStopped, StopsAreOne};
+ghost use Rattle.dcx_iis.specs.Laws.{FilterSetsAreMinimal, FilterSetsAreOne, ProgramsTell, FoundOrStopped, StopsAreOne, FoundIsOne};
 
 /// The filter's set is impossible, and is not without any one of its constraints.
 pub fn filter_sets_are_minimal()
@@ -26,4 +26,9 @@ pub fn found_or_stopped()
 /// The filter stops in one step, with one stop.
 pub fn stops_are_one()
     ensures { StopsAreOne }
+{}
+
+/// The filter finds one thing at a setting.
+pub fn found_is_one()
+    ensures { FoundIsOne }
 {}

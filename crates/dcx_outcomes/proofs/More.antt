@@ -17,7 +17,7 @@ use Rattle.dcx_outcomes.specs.Outcomes.{NamesNodes, IsOutcome, AreOutcomes}
 use Rattle.dcx_outcomes.specs.Warm.{is_kept, Tells, AreTold, AreFound, AreWarmOutcomes, EndsFrom, IsToldFrom, EndFrom, AreToldFrom, counted_where}
 use Rattle.dcx_outcomes.proofs.Named.{names_nodes}
 
-one_taken : {X : Type 0} (xs : List X) (i : ℕ) (x : X) → i < length xs → x ≡ get_or xs i x → take (i + 1) xs ≡ take i xs ++ x ∷ []
+pub one_taken : {X : Type 0} (xs : List X) (i : ℕ) (x : X) → i < length xs → x ≡ get_or xs i x → take (i + 1) xs ≡ take i xs ++ x ∷ []
 one_taken xs i x lt is = ap (λ n. take n xs) (add-one i) ∙ take-suc xs i x lt ∙ ap (λ y. take i xs ++ y ∷ []) (sym is)
 
 -- ---- one setting

@@ -25,7 +25,7 @@ use Rattle.dcx_outcomes.specs.Outcomes.{IsNodeSite, NamesNodes}
 
 module _ (p : Problem) (setting : Pairs) (limit : ℕ) where
   -- ---- stops of the program
-  in_program : (e : ReduceStop) → SessionGives p setting (Err e) → NamesNodes p (program_stop e)
+  pub in_program : (e : ReduceStop) → SessionGives p setting (Err e) → NamesNodes p (program_stop e)
   in_program (reduces.TooLarge rows columns) g = tt
   in_program (reduces.ZeroDivisor node entry) (mapped q m f) = absurd f
   in_program (reduces.ZeroDivisor node entry) (anew n h) = h.first.within

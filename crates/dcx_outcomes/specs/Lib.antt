@@ -3,3 +3,5 @@ pub mod Outcomes
 pub mod Warm
 pub mod Right
 pub mod Laws
+pub mod Filters
+pub mod FilterLaws

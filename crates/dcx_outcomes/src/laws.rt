@@ -1,4 +1,5 @@
 //! What holds of all outcomes. There is no code: each clause is a statement about all of them.
+ghost use Rattle.dcx_outcomes.specs.FilterLaws.{FiltersAreRight, FiltersAreOne};
 ghost use Rattle.dcx_outcomes.specs.Laws.{OutcomesAreRight, OutcomesAreOne, WarmOutcomesAreRight, WarmOutcomesAgree, WarmOutcomesAreOne};
 
 /// Each answer among the outcomes of an accepted problem is right at its setting, which fits.
@@ -26,4 +27,14 @@ pub fn warm_outcomes_agree()
 /// out at a setting.
 pub fn warm_outcomes_are_one()
     ensures { WarmOutcomesAreOne }
+{}
+
+/// Whatever the filter finds at settings is right at its setting, which fits.
+pub fn filters_are_right()
+    ensures { FiltersAreRight }
+{}
+
+/// Settings have one list of what the filter finds, or of its stops; want of memory is free.
+pub fn filters_are_one()
+    ensures { FiltersAreOne }
 {}

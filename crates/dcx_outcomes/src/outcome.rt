@@ -26,7 +26,7 @@ fn site_place(problem: &Problem, site: Site) -> Option<Place>
 }
 
 /// Where the node stands in the script that a stop names, if it names one.
-fn stop_place(problem: &Problem, stop: &Stop) -> Option<Place>
+pub(crate) fn stop_place(problem: &Problem, stop: &Stop) -> Option<Place>
     requires { NamesNodes problem.now stop.now }
     ensures { result ≡ stop_place problem.now stop.now }
 {

@@ -2,4 +2,5 @@ pub mod AnswerReading
 pub mod Negation
 pub mod Numbered
 pub mod OneLine
+pub mod Pairs
 pub mod SameReport

@@ -1,6 +1,7 @@
 pub mod AnswerText
 pub mod CertifiedText
 pub mod CheckText
+pub mod FilterText
 pub mod Negated
 pub mod NodeStops
 pub mod OutcomeText

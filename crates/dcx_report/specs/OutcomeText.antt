@@ -44,10 +44,12 @@ count_of_answers outcomes = count_by (λ o. is_answer o.end) outcomes
 abbrev pub count_of_stops : List Outcome → ℕ
 count_of_stops outcomes = count_by (λ o. not (is_answer o.end)) outcomes
 
--- how many settings are answered, and how many are stopped
+-- so many settings are answered, and so many are stopped
+abbrev pub counts_line : (answers stops : ℕ) → List ℕ
+counts_line answers stops = codes "answered " ++ decimal answers ++ codes " stopped " ++ decimal stops ++ codes "\n"
+
 unfoldable pub count_line : List Outcome → List ℕ
-count_line outcomes =
-    codes "answered " ++ decimal (count_of_answers outcomes) ++ codes " stopped " ++ decimal (count_of_stops outcomes) ++ codes "\n"
+count_line outcomes = counts_line (count_of_answers outcomes) (count_of_stops outcomes)
 
 -- how many outcomes are warm, where they are counted
 unfoldable pub warm_line : Option ℕ → List ℕ

@@ -57,7 +57,7 @@ fn put_named_lines(out: &mut Vec<u8>, word: &[u8], point: &Point) -> Result<(), 
 
 /// Appends a line of each variable's value.
 #[tactic(auto, unfolding(crate::specs::AnswerText::var_lines))]
-fn put_var_lines(out: &mut Vec<u8>, point: &Point) -> Result<(), AllocError>
+pub(crate) fn put_var_lines(out: &mut Vec<u8>, point: &Point) -> Result<(), AllocError>
     ensures { OnOk result (out.new.items ≡ out.old.items ++ var_lines point.now) }
 {
     put_named_lines(out, b"var", point)

@@ -7,14 +7,17 @@
 //! | a trial tells of each setting how it ends, on one line, an optimal value with it | `trial_lines` of `specs/TrialText.antt` |
 //! | a refused certificate is told with its section, the check that fails there, and what that carries | `cert_refused_text` of `specs/CertifiedText.antt` |
 //! | a line behind the outcomes counts the settings that are answered and those that are stopped | `count_line` of `specs/OutcomeText.antt` |
+//! | constraints that no point keeps together are told by their numbers, each with a point that keeps the others | `filter_lines` of `specs/FilterText.antt` |
 //! | a last line counts the outcomes that were found warm, where that was wanted | `warm_line` of `specs/OutcomeText.antt` |
-//! | an outcome has a place exactly where its stop names a node | `Outcome`, `names_node` of `specs/NodeStops.antt` |
+//! | an outcome has a place exactly where its stop names a node | `Outcome`, `FilterOutcome`, `names_node` of `specs/NodeStops.antt` |
 //! | two runs over one problem with the same report have the same answers | `laws::same_text_same_answers` |
 #![tactic(auto)]
 
 mod answer_lines;
 mod certified_lines;
 mod check_lines;
+mod filter_lines;
+mod filter_outcome;
 pub mod laws;
 mod outcome;
 mod outcomes;
@@ -25,10 +28,11 @@ mod run;
 mod stop_line;
 mod trial_lines;
 
-pub use dcx_answer::{Answer, Stop};
+pub use dcx_answer::{Answer, FilterStop, Filtered, Stop};
 pub use dcx_front::Refusal;
 pub use dcx_sections::CertFault;
 pub use dcx_tree::Sense;
+pub use filter_outcome::{FilterEnd, FilterOutcome, FilterOutcomes};
 pub use outcome::{Outcome, OutcomeEnd};
 pub use outcomes::Outcomes;
 pub use report::report_text;

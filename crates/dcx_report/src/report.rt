@@ -1,11 +1,12 @@
 //! The bytes of the report of a run.
 ghost use Rattle.std.specs.Prelude.{◌≡◌, ◌++◌, IfOk, OnOk};
-ghost use Rattle.dcx_report.specs.OutcomeText.{word_text, end_text, outcome_text, outcome_lines, is_answer, count_of_answers, count_of_stops, count_line, warm_line};
+ghost use Rattle.dcx_report.specs.OutcomeText.{word_text, end_text, outcome_text, outcome_lines, is_answer, count_of_answers, count_of_stops, counts_line, count_line, warm_line};
 ghost use Rattle.dcx_report.specs.ReportText.{text_of};
 
 use crate::answer_lines::put_answer;
 use crate::certified_lines::{put_cert_refused, put_certified};
 use crate::check_lines::put_checked;
+use crate::filter_lines::{put_filter_counts, put_filters};
 use crate::refusal_line::put_refusal;
 use crate::stop_line::put_stopped;
 use crate::trial_lines::put_trial;
@@ -100,16 +101,27 @@ fn stops(outcomes: &[Outcome]) -> usize
     outcomes.iter().filter(|o| !is_answered(o)).count()
 }
 
+/// Appends the line that counts settings: so many are answered, and so many are stopped.
+pub(crate) fn put_count_line(
+    out: &mut Vec<u8>,
+    answers: usize,
+    stops: usize,
+) -> Result<(), AllocError>
+    ensures { OnOk result (out.new.items ≡ out.old.items ++ counts_line answers stops) }
+{
+    put_bytes(out, b"answered ")?;
+    put_number(out, answers as u64)?;
+    put_bytes(out, b" stopped ")?;
+    put_number(out, stops as u64)?;
+    put_bytes(out, b"\n")
+}
+
 /// Appends the line that counts the outcomes.
 #[tactic(auto, unfolding(crate::specs::OutcomeText::count_line))]
 fn put_counts(out: &mut Vec<u8>, outcomes: &[Outcome]) -> Result<(), AllocError>
     ensures { OnOk result (out.new.items ≡ out.old.items ++ count_line outcomes.now) }
 {
-    put_bytes(out, b"answered ")?;
-    put_number(out, answers(outcomes) as u64)?;
-    put_bytes(out, b" stopped ")?;
-    put_number(out, stops(outcomes) as u64)?;
-    put_bytes(out, b"\n")
+    put_count_line(out, answers(outcomes), stops(outcomes))
 }
 
 /// Appends the line that counts the warm outcomes, where they are counted.
@@ -129,7 +141,7 @@ fn put_warm(out: &mut Vec<u8>, warm: Option<u32>) -> Result<(), AllocError>
 
 /// The commands, with their operands.
 const USAGE: &[u8] =
-    b"usage: dcx check SCRIPT | solve SCRIPT | resolve SCRIPT SETTINGS | certificate SCRIPT SETTINGS | certify SCRIPT SETTINGS CERT | trial N | migrate SCRIPT SETTINGS CERT\n";
+    b"usage: dcx check SCRIPT | solve SCRIPT | resolve SCRIPT SETTINGS | certificate SCRIPT SETTINGS | certify SCRIPT SETTINGS CERT | trial N | migrate SCRIPT SETTINGS CERT | iis SCRIPT SETTINGS\n";
 
 /// Appends the report of a run.
 #[tactic(auto, unfolding(crate::specs::ReportText::text_of))]
@@ -156,6 +168,10 @@ fn put_run(out: &mut Vec<u8>, run: &Run) -> Result<(), AllocError>
         Run::Trial { size, outcomes } => {
             put_trial(out, *size, outcomes.as_slice())?;
             put_counts(out, outcomes.as_slice())
+        }
+        Run::Filtered { outcomes } => {
+            put_filters(out, outcomes.as_slice())?;
+            put_filter_counts(out, outcomes.as_slice())
         }
         Run::ReadFault => put_bytes(out, b"fault read\n"),
         Run::Memory => put_bytes(out, b"want of memory\n"),

@@ -1,6 +1,6 @@
 //! How a run ends.
 
-use crate::{Outcomes, Refusal, Sense};
+use crate::{FilterOutcomes, Outcomes, Refusal, Sense};
 use dcx_front::Checked;
 use dcx_sections::CertFault;
 use dcx_shape::Bytes;
@@ -59,6 +59,11 @@ pub enum Run {
         size: u32,
         /// The outcomes, in order.
         outcomes: Outcomes,
+    },
+    /// The constraints of the problem were filtered, or stopped, at each setting.
+    Filtered {
+        /// The outcomes, in order.
+        outcomes: FilterOutcomes,
     },
     /// A file could not be had.
     ReadFault,

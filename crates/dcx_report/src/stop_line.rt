@@ -89,7 +89,11 @@ pub(crate) fn name_of_stop(stop: &Stop) -> &'static [u8]
 
 /// Appends what a stop carries, with the place of the node that it names.
 #[tactic(auto, unfolding(crate::specs::StopText::stop_details))]
-fn put_details(out: &mut Vec<u8>, place: Option<Place>, stop: &Stop) -> Result<(), AllocError>
+pub(crate) fn put_details(
+    out: &mut Vec<u8>,
+    place: Option<Place>,
+    stop: &Stop,
+) -> Result<(), AllocError>
     ensures { OnOk result (out.new.items ≡ out.old.items ++ stop_details place stop.now) }
 {
     match stop {

@@ -1,0 +1,5 @@
+use Rattle.dcx_outcomes.proofs.Filters as holds
+use Rattle.dcx_outcomes.proofs.laws.filters_are_one.Goals as goal
+
+pub returns : goal.returns
+returns c = holds.filters_are_one

@@ -1,0 +1,59 @@
+//! How each setting of a run ends at which it is asked which constraints no point keeps together.
+ghost use Rattle.std.specs.Prelude.{◌≡◌, is_some};
+ghost use Rattle.dcx_report.specs.NodeStops.{filter_names_node};
+
+use crate::{FilterStop, Filtered, Stop};
+use dcx_shape::Place;
+use std::marker::Model;
+
+/// A setting's constraints are filtered, or it is stopped.
+#[derive(Drop)]
+pub enum FilterEnd {
+    /// A feasible point, or constraints that no point keeps together.
+    Filtered(Filtered),
+    /// A step of the filter has no answer, for this reason.
+    Filter(FilterStop),
+    /// The setting has no program, for this reason.
+    Stop(Stop),
+}
+
+/// How a setting ends.
+#[derive(Drop)]
+pub struct FilterOutcome {
+    /// What is found, or why nothing is.
+    pub end: FilterEnd,
+    /// The place of the node that the setting's stop names, where it names one.
+    pub place: Option<Place>,
+    ghost placed: { is_some place ≡ filter_names_node end },
+}
+
+/// The outcome of each setting, in order.
+#[derive(Drop)]
+pub struct FilterOutcomes {
+    items: Vec<FilterOutcome>,
+}
+
+impl Model for FilterOutcomes {
+    ghost use Rattle.std.specs.Prelude.{List};
+    ghost use Rattle.dcx_report.specs.declared.filter_outcome.FilterOutcome.{FilterOutcome};
+
+    ghost Value = { List FilterOutcome };
+
+    ghost view = { λ o. o.items.items };
+}
+
+impl FilterOutcomes {
+    /// The list with these items. Takes no memory.
+    pub fn from_vec(items: Vec<FilterOutcome>) -> FilterOutcomes
+        ensures { result ≡ items.items }
+    {
+        FilterOutcomes { items }
+    }
+
+    /// The items of the list.
+    pub fn as_slice(&self) -> &[FilterOutcome]
+        ensures { result.now ≡ self.now }
+    {
+        self.items.as_slice()
+    }
+}
