@@ -32,7 +32,7 @@ ahead_of true y rest zero x e = inl (refl, same_Some y x e)
 ahead_of true y rest (suc n) x e = inr (n, e)
 ahead_of false y rest n x e = inr (n, e)
 
-map-one : {A B : Type 0} (f : A → B) (b : Bool) (x : A) (rest : List A) → map f (one_if b x rest) ≡ one_if b (f x) (map f rest)
+pub map-one : {A B : Type 0} (f : A → B) (b : Bool) (x : A) (rest : List A) → map f (one_if b x rest) ≡ one_if b (f x) (map f rest)
 map-one f true x rest = refl
 map-one f false x rest = refl
 

@@ -1,5 +1,5 @@
 -- The filter finds one thing: the same members, with the same numbers.
-use Rattle.std.proofs.Common.{◌≡◌, ◌⊎◌, ℕ, zero, suc, ◌+◌, ◌<◌, ◌≤◌, arith, Bool, true, false, ◌||◌, if◌then◌else◌, IsTrue, List, [], ◌∷◌, ◌++◌, length, map, All, slice_index_or, inl, inr, refl, sym, ap, ◌∙◌, subst, add-zero}
+use Rattle.std.proofs.Common.{◌≡◌, ◌⊎◌, ℕ, zero, suc, ◌+◌, ◌<◌, ◌≤◌, arith, Bool, true, false, ◌||◌, if◌then◌else◌, IsTrue, List, [], ◌∷◌, ◌++◌, length, map, All, slice_index_or, inl, inr, refl, sym, ap, ◌∙◌, subst, add-zero, zero-add}
 use Rattle.std.specs.Prelude.{nat_eq}
 use Rattle.std.specs.List.{list_any, AllZip}
 use Rattle.std.proofs.lemmas.Bool.{false≢true, eq-eqb, eqb-true, cases_lt}
@@ -18,6 +18,7 @@ use Rattle.dcx_postsolve.specs.Duals.{AreDuals, multipliers_in}
 use Rattle.dcx_postsolve.proofs.DualLaws.{are_one}
 use Rattle.dcx_lp_answer.specs.declared.answer.LpStatus.TheVariants as status
 use Rattle.dcx_lp_answer.specs.declared.answer.LpAnswer.{LpAnswer}
+use Rattle.dcx_solved.specs.OneSolution.{IsSameSolution}
 use Rattle.dcx_solved.proofs.OneSolution.{answers_are_one}
 use Rattle.dcx_graph.specs.Program.{Program}
 use Rattle.dcx_graph.specs.Answers.{IsPointRead, IsSamePoint}
@@ -36,20 +37,20 @@ use Rattle.dcx_iis.proofs.Kept.{one_if, map-one}
 -- a number below all others isn't among them
 not_among : (m : ℕ) (ms : List ℕ) → All (λ u. m < u) ms → set_of ms m ≡ false
 not_among m [] h = refl
-not_among m (u ∷ ms) h = by (nat_eq m u) refl
+not_among m (u ∷ ms) h = by (not_among m ms (All-tail (λ u. m < u) u ms h)) (nat_eq m u) refl
   where
-    by : (b : Bool) → nat_eq m u ≡ b → (b || list_any (nat_eq m) ms) ≡ false
-    by true e = let same : m ≡ u = eqb-true m u e in let below = All-head (λ u. m < u) u ms h in absurd (omega (arith, same, below))
-    by false e = not_among m ms (All-tail (λ u. m < u) u ms h)
+    by : set_of ms m ≡ false → (b : Bool) → nat_eq m u ≡ b → (b || list_any (nat_eq m) ms) ≡ false
+    by rest true e = let same : m ≡ u = eqb-true m u e in let below = All-head (λ u. m < u) u ms h in absurd (omega (arith, same, below))
+    by rest false e = rest
 
 -- a number among others that are all above a bound is above it
 above : (n m : ℕ) (ms : List ℕ) → All (λ u. n < u) ms → set_of ms m ≡ true → n < m
 above n m [] h t = absurd (false≢true t)
-above n m (u ∷ ms) h t = by (nat_eq m u) refl t
+above n m (u ∷ ms) h t = by (above n m ms (All-tail (λ u. n < u) u ms h)) (nat_eq m u) refl t
   where
-    by : (b : Bool) → nat_eq m u ≡ b → (b || list_any (nat_eq m) ms) ≡ true → n < m
-    by true e t = let same : m ≡ u = eqb-true m u e in let below = All-head (λ u. n < u) u ms h in omega (arith, same, below)
-    by false e t = above n m ms (All-tail (λ u. n < u) u ms h) t
+    by : (set_of ms m ≡ true → n < m) → (b : Bool) → nat_eq m u ≡ b → (b || list_any (nat_eq m) ms) ≡ true → n < m
+    by rest true e t = let same : m ≡ u = eqb-true m u e in let below = All-head (λ u. n < u) u ms h in omega (arith, same, below)
+    by rest false e t = rest t
 
 -- it is the first, or above it
 first_or_above : (n m : ℕ) (ns : List ℕ) → All (λ u. n < u) ns → set_of (n ∷ ns) m ≡ true → (m ≡ n) ⊎ (n < m)
@@ -91,11 +92,11 @@ same_members (m ∷ ms) (n ∷ ns) h g same =
 -- members are below a bound, so past it there is none
 none_past : (n m : ℕ) (ms : List ℕ) → All (λ k. k < n) ms → n ≤ m → set_of ms m ≡ false
 none_past n m [] h l = refl
-none_past n m (u ∷ ms) h l = by (nat_eq m u) refl
+none_past n m (u ∷ ms) h l = by (none_past n m ms (All-tail (λ k. k < n) u ms h) l) (nat_eq m u) refl
   where
-    by : (b : Bool) → nat_eq m u ≡ b → (b || list_any (nat_eq m) ms) ≡ false
-    by true e = let same : m ≡ u = eqb-true m u e in let below = All-head (λ k. k < n) u ms h in absurd (omega (arith, same, below, l))
-    by false e = none_past n m ms (All-tail (λ k. k < n) u ms h) l
+    by : set_of ms m ≡ false → (b : Bool) → nat_eq m u ≡ b → (b || list_any (nat_eq m) ms) ≡ false
+    by rest true e = let same : m ≡ u = eqb-true m u e in let below = All-head (λ k. k < n) u ms h in absurd (omega (arith, same, below, l))
+    by rest false e = rest
 
 -- ---- multipliers
 map-kept : {A B : Type 0} (set : ConstraintSet) (f : A → B) (i : ℕ) (xs : List A) → map f (kept_from set i xs) ≡ kept_from set i (map f xs)
@@ -148,7 +149,7 @@ module _ (p : Problem) (s : Setting) (q : Program Frac) (limit : ℕ) where
 
   module _ (ms : List ℕ) (ds es : List Array) (g h : Frac) (xs ys : List Pairs) (a : IsIrreducible p s ms ds g xs) (b : IsIrreducible p s ms es h ys)
       (f : AreFound p q limit (set_of ms) ms ds g xs) (k : AreFound p q limit (set_of ms) ms es h ys) where
-    abbrev same_solution : _
+    same_solution : IsSameSolution f.solved k.solved
     same_solution = answers_are_one limit (program_of_set p q (set_of ms)) f.solved k.solved f.is_solved k.is_solved
 
     same_gap : g ≡ h
@@ -171,7 +172,7 @@ module _ (p : Problem) (s : Setting) (q : Program Frac) (limit : ℕ) where
     same_multipliers i j = by (set_of ms i) refl
       where
         by : (c : Bool) → set_of ms i ≡ c → multipliers_in ds i j ≡ multipliers_in es i j
-        by true e = ap (λ (x : List Frac). number_at x j) (kept_places (set_of ms) 0 (map entries ds) (map entries es) [] same_length same_kept i e)
+        by true e = ap (λ (x : List Frac). number_at x j) (kept_places (set_of ms) 0 (map entries ds) (map entries es) [] same_length same_kept i (ap (set_of ms) (zero-add i) ∙ e))
         by false e = a.outside i (λ t. false≢true (sym e ∙ t)) j ∙ sym (b.outside i (λ t. false≢true (sym e ∙ t)) j)
 
   one_found : (a b : Filtered) → IsRight p s a → IsRight p s b → IsFound p q limit a → IsFound p q limit b → IsSameFiltered p a b
