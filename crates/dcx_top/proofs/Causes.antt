@@ -26,10 +26,11 @@ use Rattle.dcx_front.specs.Checks.{IsFoundOf}
 use Rattle.dcx_front.specs.Accepts.{Gives, IsJudged}
 use Rattle.dcx_front.proofs.OneVerdict.{acceptance}
 use Rattle.dcx_report.specs.declared.outcome.Outcome.{Outcome}
+use Rattle.dcx_report.specs.declared.filter_outcome.FilterOutcome.{FilterOutcome}
 use Rattle.dcx_report.specs.declared.run.Run.{Run}
 use Rattle.dcx_report.specs.declared.run.Run.TheVariants as run
 use Rattle.dcx_report.specs.declared.run.Word.TheVariants as word
-use Rattle.dcx_words.specs.Commands.{Command, check, solve, resolve, certificate, certify, migrate, trial, command_of}
+use Rattle.dcx_words.specs.Commands.{Command, check, solve, resolve, certificate, certify, migrate, trial, iis, command_of}
 use Rattle.dcx_words.specs.Laws.{is_warm_command}
 use Rattle.dcx_trial.specs.Trial.{trial_text}
 use Rattle.dcx_top.specs.Commands.{IsScriptOf, script_name, settings_name, certificate_name, AreOfFile, AreSettingsOf, limit_of, TellsOutcomes}
@@ -38,7 +39,7 @@ use Rattle.dcx_top.proofs.Reading.{told_fault}
 use Rattle.dcx_top.specs.Whole.{HasNoWhole, IsRefusedForWhole, IsSolving}
 use Rattle.dcx_top.specs.declared.solving.Task.{Task}
 use Rattle.dcx_top.specs.declared.solving.Task.TheVariants as tasks
-use Rattle.dcx_top.specs.Runs.{GivesProblem, IsSolvedRun, OrWhole, SolvesAt, TriesAt, CertifiesAt, DoesAt, DoesFrom, command_for, GivesSettings, GivesSections, EndsFiles, at_script, at_whole, at_settings, at_certificate, at_memory, HasCertificate, ReadsSections, HasPassed, misread, failed, long_script, bad_script, for_whole, bad_settings, long_certificate, no_script, no_settings, no_certificate, Causes}
+use Rattle.dcx_top.specs.Runs.{GivesProblem, IsSolvedRun, OrWhole, SolvesAt, TriesAt, CertifiesAt, FiltersAt, DoesAt, DoesFrom, command_for, GivesSettings, GivesSections, EndsFiles, at_script, at_whole, at_settings, at_certificate, at_memory, HasCertificate, ReadsSections, HasPassed, misread, failed, long_script, bad_script, for_whole, bad_settings, long_certificate, no_script, no_settings, no_certificate, Causes}
 
 pub judged_of : (bytes : List ℕ) (a : Accepted) → Gives bytes (Ok a) → IsJudged a.work.problem a.verdict
 judged_of bytes a g = (acceptance bytes a g).judged
@@ -58,6 +59,7 @@ module _ (words : List (List ℕ)) (told : Option Files) (risen : Type 0) (comma
   script_ends name n (run.Certified sections) is of h = absurd h
   script_ends name n (run.CertRefused section fault) is of h = absurd h
   script_ends name n (run.Trial size outcomes) is of h = absurd h
+  script_ends name n (run.Filtered outcomes) is of h = absurd h
 
   -- a script that is made, and not fetched
   pub made_ends : (bytes : List ℕ) (n : ℕ) (fault : FrontFault) → IsScriptOf told command bytes → Gives bytes (Err fault) → Causes words told risen n n (run_of fault)
@@ -82,6 +84,7 @@ module _ (words : List (List ℕ)) (told : Option Files) (risen : Type 0) (comma
     settings_end continuous name n (run.Certified sections) is h = absurd h
     settings_end continuous name n (run.CertRefused section fault) is h = absurd h
     settings_end continuous name n (run.Trial size outcomes) is h = absurd h
+    settings_end continuous name n (run.Filtered outcomes) is h = absurd h
 
     -- ---- the problem is solved
     module _ (settings : List Pairs) (asked : AreSettingsOf told command a.work settings) (tells : List Outcome → Option ℕ → Run)
@@ -136,6 +139,7 @@ module _ (words : List (List ℕ)) (told : Option Files) (risen : Type 0) (comma
   certificate_ends a settings n (run.Certificates text stopped) g h = absurd h
   certificate_ends a settings n (run.Certified sections) g h = absurd h
   certificate_ends a settings n (run.Trial size outcomes) g h = absurd h
+  certificate_ends a settings n (run.Filtered outcomes) g h = absurd h
 
   -- one of the files ends the run
   pub files_end : (n : ℕ) (r : Run) → EndsFiles told risen script name file r → Causes words told risen n n r
@@ -199,23 +203,31 @@ pub task_certified : (work : Work) (limit : ℕ) (settings slice : List Pairs) (
 task_certified work limit settings slice task old new r is same h =
     subst (λ (t : Task). DoesAt t work limit settings old new r) (sym is) (subst (λ (s : List Pairs). DoesAt tasks.Certificate work limit s old new r) same h)
 
+pub task_filtered : (work : Work) (limit : ℕ) (settings slice : List Pairs) (task : Task) (old new : ℕ) (r : Run) → task ≡ tasks.Filter → slice ≡ settings → FiltersAt work.problem limit slice old new r → DoesAt task work limit settings old new r
+task_filtered work limit settings slice task old new r is same h =
+    subst (λ (t : Task). DoesAt t work limit settings old new r) (sym is) (subst (λ (s : List Pairs). DoesAt tasks.Filter work limit s old new r) same h)
+
 -- ---- command by command
 -- what is asked at the settings of a file
 pub task_script : (task : Task) (script name : List ℕ) (limit : ℕ) (told : Option Files) (bytes : List ℕ) → IsTold told script bytes → IsScriptOf told (command_for task script name limit) bytes
 task_script (tasks.Resolve warm) script name limit told bytes h = h
 task_script tasks.Certificate script name limit told bytes h = h
+task_script tasks.Filter script name limit told bytes h = h
 
 pub task_script_name : (task : Task) (script name : List ℕ) (limit : ℕ) → script_name (command_for task script name limit) ≡ Some script
 task_script_name (tasks.Resolve warm) script name limit = refl
 task_script_name tasks.Certificate script name limit = refl
+task_script_name tasks.Filter script name limit = refl
 
 task_settings : (task : Task) (script name : List ℕ) (limit : ℕ) → settings_name (command_for task script name limit) ≡ Some name
 task_settings (tasks.Resolve warm) script name limit = refl
 task_settings tasks.Certificate script name limit = refl
+task_settings tasks.Filter script name limit = refl
 
 task_solves : (task : Task) (script name : List ℕ) (limit : ℕ) → IsSolving (command_for task script name limit)
 task_solves (tasks.Resolve warm) script name limit = tt
 task_solves tasks.Certificate script name limit = tt
+task_solves tasks.Filter script name limit = tt
 
 module _ (words : List (List ℕ)) (told : Option Files) (risen : Type 0) where
   pub checked : (script bytes : List ℕ) (a : Accepted) (c : Checked) (n : ℕ) → command_of words ≡ Some (check script) → IsTold told script bytes → Gives bytes (Ok a) → IsFoundOf a.work.problem c → Causes words told risen n n (run.Checked c)
@@ -253,6 +265,21 @@ module _ (words : List (List ℕ)) (told : Option Files) (risen : Type 0) where
         text = refl;
         steps = steps;
       }))
+  does_at tasks.Filter script name bytes limit a settings old new r form there gives continuous are (inl e) = subst (Causes words told risen old new) (sym e) tt
+  does_at tasks.Filter script name bytes limit a settings old new r form there gives continuous are (inr (outcomes, is, steps, e)) =
+      subst (Causes words told risen old new) (sym e) (record {
+        script = script;
+        name = name;
+        limit = limit;
+        form = form;
+        accepted = a;
+        problem = record { bytes = bytes; are_of = there; gives = gives };
+        continuous = continuous;
+        settings = settings;
+        asked = are;
+        are = is;
+        steps = steps;
+      })
 
   pub done : (task : Task) (script name bytes : List ℕ) (limit : ℕ) (a : Accepted) (old new : ℕ) (r : Run) → command_of words ≡ Some (command_for task script name limit) → IsTold told script bytes → Gives bytes (Ok a) →
       OrWhole a.work.problem (DoesFrom told risen task a.work name limit old new) old new r → Causes words told risen old new r

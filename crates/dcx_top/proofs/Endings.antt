@@ -33,6 +33,7 @@ ends_before told risen source name Refuses (run.Certificates text stopped) h = a
 ends_before told risen source name Refuses (run.Certified n) h = absurd h
 ends_before told risen source name Refuses (run.CertRefused section fault) h = absurd h
 ends_before told risen source name Refuses (run.Trial size outcomes) h = absurd h
+ends_before told risen source name Refuses (run.Filtered outcomes) h = absurd h
 
 -- a file whose bytes are had and refused ends it
 ends_behind : (told : Option Files) (risen : Type 0) (source : RefusalSource) (name bytes : List ℕ) (Refuses : List ℕ → Refusal → Type 0) (fault : FrontFault) → IsTold told name bytes → ((r : Refusal) → fault ≡ front.Refused r → Refuses bytes r) →
@@ -81,6 +82,7 @@ ends_rising told risen rose source name Refuses (run.Certificates text stopped) 
 ends_rising told risen rose source name Refuses (run.Certified n) more h = absurd h
 ends_rising told risen rose source name Refuses (run.CertRefused section fault) more h = absurd h
 ends_rising told risen rose source name Refuses (run.Trial size outcomes) more h = absurd h
+ends_rising told risen rose source name Refuses (run.Filtered outcomes) more h = absurd h
 
 module _ (work : Work) (name : List ℕ) (At : List Pairs → ℕ → ℕ → Run → Type 0) (old new : ℕ) (r : Run) where
   pub from_file_rising : (told : Option Files) (risen rose : Type 0) → (risen → rose) → OrWhole work.problem (FromFile told risen work name At old new) old new r → OrWhole work.problem (FromFile told rose work name At old new) old new r

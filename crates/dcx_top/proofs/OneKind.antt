@@ -6,10 +6,11 @@ use Rattle.dcx_host.specs.Files.{Files}
 use Rattle.dcx_front.specs.declared.checked.Checked.{Checked}
 use Rattle.dcx_sections.specs.declared.fault.CertFault.{CertFault}
 use Rattle.dcx_report.specs.declared.outcome.Outcome.{Outcome}
+use Rattle.dcx_report.specs.declared.filter_outcome.FilterOutcome.{FilterOutcome}
 use Rattle.dcx_report.specs.declared.run.Run.{Run}
-use Rattle.dcx_words.specs.Commands.{Command, check, solve, resolve, certificate, certify, migrate, trial, command_of}
+use Rattle.dcx_words.specs.Commands.{Command, check, solve, resolve, certificate, certify, migrate, trial, iis, command_of}
 use Rattle.dcx_top.specs.Commands.{certificate_name, TellsOutcomes}
-use Rattle.dcx_top.specs.Runs.{IsChecked, IsSolvedRun, IsCertificateRun, IsMigrateRun, IsCertifiedRun, IsCertRefusedRun, misread, failed}
+use Rattle.dcx_top.specs.Runs.{IsChecked, IsSolvedRun, IsFilteredRun, IsCertificateRun, IsMigrateRun, IsCertifiedRun, IsCertRefusedRun, misread, failed}
 use Rattle.dcx_top.proofs.Refusals.{same_command}
 
 -- what a command does with its problem
@@ -19,6 +20,7 @@ pub data Kind : Type 0 where
   writes : Kind
   certifies : Kind
   migrates : Kind
+  filters : Kind
 
 abbrev pub kind_of : Command → Kind
 kind_of (check script) = checks
@@ -28,6 +30,7 @@ kind_of (certificate script name limit) = writes
 kind_of (certify script name cert) = certifies
 kind_of (migrate script name cert) = migrates
 kind_of (trial size limit) = solves
+kind_of (iis script name limit) = filters
 
 -- it reads a certificate
 pub data Reads (k : Kind) : Type 0 where
@@ -42,6 +45,7 @@ kind_told (certificate script name limit) sense os count r h = absurd h
 kind_told (certify script name cert) sense os count r h = absurd h
 kind_told (migrate script name cert) sense os count r h = absurd h
 kind_told (trial size limit) sense os count r h = refl
+kind_told (iis script name limit) sense os count r h = absurd h
 
 kind_read : (c : Command) (name : List ℕ) → certificate_name c ≡ Some name → Reads (kind_of c)
 kind_read (check script) name h = absurd (none-some name h)
@@ -51,6 +55,7 @@ kind_read (certificate script file limit) name h = absurd (none-some name h)
 kind_read (certify script file cert) name h = to_certify refl
 kind_read (migrate script file cert) name h = to_migrate refl
 kind_read (trial size limit) name h = absurd (none-some name h)
+kind_read (iis script file limit) name h = absurd (none-some name h)
 
 -- kinds differ
 pub checks_solves : checks ≡ solves → ⊥
@@ -83,6 +88,21 @@ writes_migrates e = cc
 pub migrates_certifies : migrates ≡ certifies → ⊥
 migrates_certifies e = cc
 
+pub checks_filters : checks ≡ filters → ⊥
+checks_filters e = cc
+
+pub solves_filters : solves ≡ filters → ⊥
+solves_filters e = cc
+
+pub filters_writes : filters ≡ writes → ⊥
+filters_writes e = cc
+
+pub filters_certifies : filters ≡ certifies → ⊥
+filters_certifies e = cc
+
+pub filters_migrates : filters ≡ migrates → ⊥
+filters_migrates e = cc
+
 pub none_read : (k l : Kind) → k ≡ l → (l ≡ certifies → ⊥) → (l ≡ migrates → ⊥) → Reads k → ⊥
 none_read k l e f g (to_certify c) = f (sym e ∙ c)
 none_read k l e f g (to_migrate m) = g (sym e ∙ m)
@@ -111,6 +131,9 @@ module _ (words : List (List ℕ)) (files : Files) where
 
   pub ask_solves : (old new : ℕ) (r : Run) → IsSolvedRun words (Some files) old new r → Asks words solves
   ask_solves old new r h = record { command = h.command; form = h.form; kind = kind_told h.command h.accepted.work.problem.sense h.outcomes h.warm r h.tells }
+
+  pub ask_filters : (old new : ℕ) (os : List FilterOutcome) → IsFilteredRun words (Some files) old new os → Asks words filters
+  ask_filters old new os h = record { command = iis h.script h.name h.limit; form = h.form; kind = refl }
 
   pub ask_writes : (old new : ℕ) (bytes : List ℕ) (stopped : Bool) → IsCertificateRun words (Some files) old new bytes stopped → Asks words writes
   ask_writes old new bytes stopped h = record { command = certificate h.script h.name h.limit; form = h.form; kind = refl }

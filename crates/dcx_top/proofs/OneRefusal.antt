@@ -9,11 +9,12 @@ use Rattle.dcx_front.specs.declared.refusal.RefusalSource.TheVariants.{Certifica
 use Rattle.dcx_sections.specs.declared.fault.CertFault.{CertFault}
 use Rattle.dcx_sections.specs.declared.section.Sections.{Sections}
 use Rattle.dcx_report.specs.declared.outcome.Outcome.{Outcome}
+use Rattle.dcx_report.specs.declared.filter_outcome.FilterOutcome.{FilterOutcome}
 use Rattle.dcx_report.specs.declared.run.Run.{Run}
-use Rattle.dcx_words.specs.Commands.{Command, check, solve, resolve, certificate, certify, migrate, trial, command_of}
+use Rattle.dcx_words.specs.Commands.{Command, check, solve, resolve, certificate, certify, migrate, trial, iis, command_of}
 use Rattle.dcx_top.specs.Commands.{certificate_name, TellsOutcomes}
 use Rattle.dcx_top.specs.Files.{most_bytes}
-use Rattle.dcx_top.specs.Runs.{IsChecked, IsSolvedRun, IsCertificateRun, HasCertificate, ReadsSections, IsMigrateRun, IsCertifiedRun, IsCertRefusedRun, misread, failed, IsRefusedRun, long_script, bad_script, for_whole, bad_settings, long_certificate}
+use Rattle.dcx_top.specs.Runs.{IsChecked, IsSolvedRun, IsFilteredRun, IsCertificateRun, HasCertificate, ReadsSections, IsMigrateRun, IsCertifiedRun, IsCertRefusedRun, misread, failed, IsRefusedRun, long_script, bad_script, for_whole, bad_settings, long_certificate}
 use Rattle.dcx_top.proofs.Refusals.{refuses, one_refused, IsShort, never_refused, never_refused_check}
 
 -- a command whose outcomes are told has no certificate
@@ -25,6 +26,7 @@ tells_none (certificate script name limit) sense os count r h = absurd h
 tells_none (certify script name cert) sense os count r h = absurd h
 tells_none (migrate script name cert) sense os count r h = absurd h
 tells_none (trial size limit) sense os count r h = refl
+tells_none (iis script name limit) sense os count r h = absurd h
 
 module _ (words : List (List ℕ)) (files : Files) where
   short_of_none : (command : Command) → certificate_name command ≡ None → IsShort files command
@@ -57,6 +59,11 @@ module _ (words : List (List ℕ)) (files : Files) where
   pub refused_or_written : (r : Refusal) (old new : ℕ) (bytes : List ℕ) (stopped : Bool) → IsRefusedRun words (Some files) r → IsCertificateRun words (Some files) old new bytes stopped → ⊥
   refused_or_written r old new bytes stopped h k =
       let command = certificate k.script k.name k.limit in
+      never_refused files command k.accepted k.settings r k.problem k.continuous k.asked (short_of_none command refl) (refuses words files command k.form r h)
+
+  pub refused_or_filtered : (r : Refusal) (old new : ℕ) (os : List FilterOutcome) → IsRefusedRun words (Some files) r → IsFilteredRun words (Some files) old new os → ⊥
+  refused_or_filtered r old new os h k =
+      let command = iis k.script k.name k.limit in
       never_refused files command k.accepted k.settings r k.problem k.continuous k.asked (short_of_none command refl) (refuses words files command k.form r h)
 
   -- ---- runs that read a certificate

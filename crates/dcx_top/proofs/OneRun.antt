@@ -9,11 +9,13 @@ use Rattle.dcx_front.specs.declared.refusal.Refusal.{Refusal}
 use Rattle.dcx_front.specs.Checks.{IsFoundOf}
 use Rattle.dcx_front.proofs.OneCheck.{one_found}
 use Rattle.dcx_sections.specs.declared.fault.CertFault.{CertFault}
+use Rattle.dcx_report.specs.declared.filter_outcome.FilterOutcome.{FilterOutcome}
 use Rattle.dcx_report.specs.declared.run.Run.{Run}
 use Rattle.dcx_report.specs.declared.run.Run.TheVariants as run
-use Rattle.dcx_words.specs.Commands.{check, migrate, command_of}
-use Rattle.dcx_top.specs.Runs.{GivesProblem, IsChecked, IsSolvedRun, AreBytesOf, IsCertifiedRun, IsCertRefusedRun, IsRefusedRun, Causes}
+use Rattle.dcx_words.specs.Commands.{Command, check, migrate, iis, command_of}
+use Rattle.dcx_top.specs.Runs.{GivesProblem, IsChecked, IsSolvedRun, IsFilteredRun, AreBytesOf, IsCertifiedRun, IsCertRefusedRun, IsRefusedRun, Causes}
 use Rattle.dcx_top.specs.OneRun.{IsAnswered, AreOneRun, IsOnlyRun}
+use Rattle.dcx_top.proofs.OneFiltered.{filtered_once}
 use Rattle.dcx_top.proofs.Refusals.{one_problem, same_command}
 use Rattle.dcx_top.proofs.OneKind.{
   Kind,
@@ -22,6 +24,7 @@ use Rattle.dcx_top.proofs.OneKind.{
   writes,
   certifies,
   migrates,
+  filters,
   Asks,
   checks_solves,
   checks_writes,
@@ -33,17 +36,23 @@ use Rattle.dcx_top.proofs.OneKind.{
   writes_certifies,
   writes_migrates,
   migrates_certifies,
+  checks_filters,
+  solves_filters,
+  filters_writes,
+  filters_certifies,
+  filters_migrates,
   same_kind,
   not_reading,
   ask_checks,
   ask_solves,
+  ask_filters,
   ask_writes,
   ask_migrates,
   ask_certifies,
   ask_reading,
 }
 use Rattle.dcx_top.proofs.OneSolved.{solved_once}
-use Rattle.dcx_top.proofs.OneRefusal.{command_of_refused, refused_once, refused_or_checked, refused_or_solved, refused_or_written, refused_or_migrated, refused_or_certified, refused_or_cert_refused}
+use Rattle.dcx_top.proofs.OneRefusal.{command_of_refused, refused_once, refused_or_checked, refused_or_solved, refused_or_filtered, refused_or_written, refused_or_migrated, refused_or_certified, refused_or_cert_refused}
 use Rattle.dcx_top.proofs.OneCertificate.{written_once, migrated_once, certified_once, cert_refused_once, certified_or_refused, migrated_or_refused}
 
 module _ (words : List (List ℕ)) (files : Files) where
@@ -122,6 +131,26 @@ module _ (words : List (List ℕ)) (files : Files) where
     solved_or_cert_refused : (section : ℕ) (f : CertFault) → IsCertRefusedRun words (Some files) section f → ⊥
     solved_or_cert_refused section f k = not_reading words files solves solves_certifies solves_migrates asks (ask_reading words files section f k)
 
+  -- ---- filtered, beside runs of other kinds
+  module _ (was now : ℕ) (os : List FilterOutcome) (h : IsFilteredRun words (Some files) was now os) where
+    filter_asks : Asks words filters
+    filter_asks = ask_filters words files was now os h
+
+    filtered_or_checked : (c : Checked) → IsChecked words (Some files) c → ⊥
+    filtered_or_checked c k = checks_filters (same_kind words files checks filters (ask_checks words files c k) filter_asks)
+
+    filtered_or_solved : (old new : ℕ) (r : Run) → IsSolvedRun words (Some files) old new r → ⊥
+    filtered_or_solved old new r k = solves_filters (same_kind words files solves filters (ask_solves words files old new r k) filter_asks)
+
+    filtered_or_bytes : (old new : ℕ) (bytes : List ℕ) (stopped : Bool) → AreBytesOf words (Some files) old new bytes stopped → ⊥
+    filtered_or_bytes old new bytes stopped k = bytes_or_other old new bytes stopped filters filters_writes filters_migrates k filter_asks
+
+    filtered_or_certified : (n : ℕ) → IsCertifiedRun words (Some files) n → ⊥
+    filtered_or_certified n k = filters_certifies (same_kind words files filters certifies filter_asks (ask_certifies words files n k))
+
+    filtered_or_cert_refused : (section : ℕ) (f : CertFault) → IsCertRefusedRun words (Some files) section f → ⊥
+    filtered_or_cert_refused section f k = not_reading words files filters filters_certifies filters_migrates filter_asks (ask_reading words files section f k)
+
   -- ---- all runs
   module _ (rose : Type 0) (was now : ℕ) where
     of_usage : (s : Run) → command_of words ≡ None → Causes words (Some files) rose was now s → IsAnswered s → AreOneRun words files run.Usage s
@@ -133,6 +162,7 @@ module _ (words : List (List ℕ)) (files : Files) where
     of_usage (run.Certified n) h k j = absurd (not_asked certifies h (ask_certifies words files n k.0))
     of_usage (run.CertRefused m f) h k j = absurd (none_cert_refused m f h k.0)
     of_usage (run.Trial n os) h k j = absurd (not_asked solves h (ask_solves words files was now (run.Trial n os) k))
+    of_usage (run.Filtered os) h k j = absurd (not_asked filters h (ask_filters words files was now os k))
     of_usage run.ReadFault h k j = absurd j
     of_usage run.Memory h k j = absurd j
 
@@ -145,6 +175,7 @@ module _ (words : List (List ℕ)) (files : Files) where
     of_refused r (run.Certified n) h k j = absurd (refused_or_certified words files r n h k.0)
     of_refused r (run.CertRefused m f) h k j = absurd (refused_or_cert_refused words files r m f h k.0)
     of_refused r (run.Trial n os) h k j = absurd (refused_or_solved words files r was now (run.Trial n os) h k)
+    of_refused r (run.Filtered os) h k j = absurd (refused_or_filtered words files r was now os h k)
     of_refused r run.ReadFault h k j = absurd j
     of_refused r run.Memory h k j = absurd j
 
@@ -157,6 +188,7 @@ module _ (words : List (List ℕ)) (files : Files) where
     of_checked c (run.Certified n) h k j = absurd (checked_or_certified c n h k.0)
     of_checked c (run.CertRefused m f) h k j = absurd (checked_or_cert_refused c m f h k.0)
     of_checked c (run.Trial n os) h k j = absurd (checked_or_solved c was now (run.Trial n os) h k)
+    of_checked c (run.Filtered os) h k j = absurd (filtered_or_checked was now os k c h)
     of_checked c run.ReadFault h k j = absurd j
     of_checked c run.Memory h k j = absurd j
 
@@ -169,6 +201,7 @@ module _ (words : List (List ℕ)) (files : Files) where
     of_solved old new r (run.Certified n) h k j = absurd (solved_or_certified old new r h n k.0)
     of_solved old new r (run.CertRefused m f) h k j = absurd (solved_or_cert_refused old new r h m f k.0)
     of_solved old new r (run.Trial n os) h k j = solved_once words files old new was now r (run.Trial n os) h k
+    of_solved old new r (run.Filtered os) h k j = absurd (filtered_or_solved was now os k old new r h)
     of_solved old new r run.ReadFault h k j = absurd j
     of_solved old new r run.Memory h k j = absurd j
 
@@ -181,6 +214,7 @@ module _ (words : List (List ℕ)) (files : Files) where
     of_bytes old new b s (run.Certified n) h k j = absurd (bytes_or_certified old new b s n h k.0)
     of_bytes old new b s (run.CertRefused m f) h k j = absurd (bytes_or_cert_refused old new b s m f h k.0)
     of_bytes old new b s (run.Trial n os) h k j = absurd (solved_or_bytes was now (run.Trial n os) k old new b s h)
+    of_bytes old new b s (run.Filtered os) h k j = absurd (filtered_or_bytes was now os k old new b s h)
     of_bytes old new b s run.ReadFault h k j = absurd j
     of_bytes old new b s run.Memory h k j = absurd j
 
@@ -193,6 +227,7 @@ module _ (words : List (List ℕ)) (files : Files) where
     of_certified n (run.Certified m) h k j = ap run.Certified (certified_once words files n m h k.0)
     of_certified n (run.CertRefused m f) h k j = absurd (certified_or_refused words files n m f h k.0)
     of_certified n (run.Trial m os) h k j = absurd (solved_or_certified was now (run.Trial m os) k n h)
+    of_certified n (run.Filtered os) h k j = absurd (filtered_or_certified was now os k n h)
     of_certified n run.ReadFault h k j = absurd j
     of_certified n run.Memory h k j = absurd j
 
@@ -205,8 +240,22 @@ module _ (words : List (List ℕ)) (files : Files) where
     of_cert_refused m f (run.Certified n) h k j = absurd (certified_or_refused words files n m f k.0 h)
     of_cert_refused m f (run.CertRefused n g) h k j = cert_refused_once words files m n f g h k.0
     of_cert_refused m f (run.Trial n os) h k j = absurd (solved_or_cert_refused was now (run.Trial n os) k m f h)
+    of_cert_refused m f (run.Filtered os) h k j = absurd (filtered_or_cert_refused was now os k m f h)
     of_cert_refused m f run.ReadFault h k j = absurd j
     of_cert_refused m f run.Memory h k j = absurd j
+
+    of_filtered : (old new : ℕ) (os : List FilterOutcome) (s : Run) → IsFilteredRun words (Some files) old new os → Causes words (Some files) rose was now s → IsAnswered s → AreOneRun words files (run.Filtered os) s
+    of_filtered old new os run.Usage h k j = absurd (not_asked filters k.0 (ask_filters words files old new os h))
+    of_filtered old new os (run.Refused t) h k j = absurd (refused_or_filtered words files t old new os k.0 h)
+    of_filtered old new os (run.Checked d) h k j = absurd (filtered_or_checked old new os h d k.0)
+    of_filtered old new os (run.Solved w z qs u) h k j = absurd (filtered_or_solved old new os h was now (run.Solved w z qs u) k)
+    of_filtered old new os (run.Certificates b s) h k j = absurd (filtered_or_bytes old new os h was now b s k)
+    of_filtered old new os (run.Certified n) h k j = absurd (filtered_or_certified old new os h n k.0)
+    of_filtered old new os (run.CertRefused m f) h k j = absurd (filtered_or_cert_refused old new os h m f k.0)
+    of_filtered old new os (run.Trial n qs) h k j = absurd (filtered_or_solved old new os h was now (run.Trial n qs) k)
+    of_filtered old new os (run.Filtered qs) h k j = filtered_once words files old new was now os qs h k
+    of_filtered old new os run.ReadFault h k j = absurd j
+    of_filtered old new os run.Memory h k j = absurd j
 
     one : (risen : Type 0) (old new : ℕ) (r s : Run) → Causes words (Some files) risen old new r → Causes words (Some files) rose was now s → IsAnswered r → IsAnswered s → AreOneRun words files r s
     one risen old new run.Usage s h k i j = of_usage s h.0 k j
@@ -217,6 +266,7 @@ module _ (words : List (List ℕ)) (files : Files) where
     one risen old new (run.Certified n) s h k i j = of_certified n s h.0 k j
     one risen old new (run.CertRefused m f) s h k i j = of_cert_refused m f s h.0 k j
     one risen old new (run.Trial n os) s h k i j = of_solved old new (run.Trial n os) s h k j
+    one risen old new (run.Filtered os) s h k i j = of_filtered old new os s h k j
     one risen old new run.ReadFault s h k i j = absurd i
     one risen old new run.Memory s h k i j = absurd i
 

@@ -22,7 +22,7 @@ use Rattle.dcx_front.specs.Checks.{IsTooLong, IsRefusedAs}
 use Rattle.dcx_front.specs.Accepts.{Given, Gives, unread, Ending, refused, without_memory, IsRefusedBy, read_ending}
 use Rattle.dcx_front.proofs.OneAnswer.{one_answer}
 use Rattle.dcx_front.proofs.OneCheck.{one_refusal}
-use Rattle.dcx_words.specs.Commands.{Command, check, solve, resolve, certificate, certify, migrate, trial, command_of}
+use Rattle.dcx_words.specs.Commands.{Command, check, solve, resolve, certificate, certify, migrate, trial, iis, command_of}
 use Rattle.dcx_top.specs.Commands.{IsScriptOf, script_name, settings_name, certificate_name, AreOfFile, AreSettingsOf}
 use Rattle.dcx_top.specs.Files.{most_bytes, RefusesScript, RefusesSettings}
 use Rattle.dcx_top.specs.Runs.{GivesProblem, IsRefusedRun, long_script, bad_script, for_whole, bad_settings, long_certificate}
@@ -57,6 +57,7 @@ module _ (files : Files) where
   one_script (certify script settings cert) b c h k = told_once script b c h k
   one_script (migrate script settings cert) b c h k = told_once script b c h k
   one_script (trial size limit) b c h k = h ∙ sym k
+  one_script (iis script settings limit) b c h k = told_once script b c h k
 
   script_is : (command : Command) (name bytes : List ℕ) → script_name command ≡ Some name → files name ≡ Some bytes → IsScriptOf (Some files) command bytes
   script_is (check script) name bytes e h = subst (λ n. files n ≡ Some bytes) (sym (same_Some script name e)) h
@@ -66,6 +67,7 @@ module _ (files : Files) where
   script_is (certify script settings cert) name bytes e h = subst (λ n. files n ≡ Some bytes) (sym (same_Some script name e)) h
   script_is (migrate script settings cert) name bytes e h = subst (λ n. files n ≡ Some bytes) (sym (same_Some script name e)) h
   script_is (trial size limit) name bytes e h = absurd (none-some name e)
+  script_is (iis script settings limit) name bytes e h = subst (λ n. files n ≡ Some bytes) (sym (same_Some script name e)) h
 
   -- an accepted problem is one
   pub one_problem : (command : Command) (a b : Accepted) → GivesProblem (Some files) command a → GivesProblem (Some files) command b → a ≡ b
@@ -89,6 +91,7 @@ module _ (files : Files) where
   spelled_by (certify script file cert) work settings name bytes are e h = spelled_in file work settings name bytes are e h
   spelled_by (migrate script file cert) work settings name bytes are e h = spelled_in file work settings name bytes are e h
   spelled_by (trial size limit) work settings name bytes are e h = absurd (none-some name e)
+  spelled_by (iis script file limit) work settings name bytes are e h = spelled_in file work settings name bytes are e h
 
 -- ---- what is refused
 -- the script, for what stands in it or for a variable that is to be whole, or else the settings file, or else the certificate for its

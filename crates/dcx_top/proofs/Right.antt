@@ -3,18 +3,20 @@ use Rattle.std.proofs.Common.{◌≡◌, inl, inr, ℕ, Bool, List, Option, Some
 use Rattle.dcx_host.specs.Files.{Files}
 use Rattle.dcx_front.specs.declared.accepted.Accepted.{Accepted}
 use Rattle.dcx_front.proofs.OneVerdict.{acceptance}
+use Rattle.dcx_report.specs.declared.filter_outcome.FilterOutcome.{FilterOutcome}
 use Rattle.dcx_report.specs.declared.run.Run.{Run}
 use Rattle.dcx_report.specs.declared.run.Run.TheVariants as run
-use Rattle.dcx_words.specs.Commands.{Command, check, certificate, certify, migrate, command_of}
+use Rattle.dcx_words.specs.Commands.{Command, check, certificate, certify, migrate, iis, command_of}
 use Rattle.dcx_words.specs.Laws.{is_warm_command}
 use Rattle.dcx_outcomes.proofs.Warm.{found_are_right}
+use Rattle.dcx_outcomes.proofs.Filters.{filters_are_right}
 use Rattle.dcx_sections.specs.declared.section.Section.{Section}
 use Rattle.dcx_sections.specs.declared.section.Sections.{Sections}
 use Rattle.dcx_certificates.specs.Checking.{AreShown}
 use Rattle.dcx_certificates.proofs.Shown.{sections_are_shown}
 use Rattle.dcx_top.specs.Commands.{limit_of}
-use Rattle.dcx_top.specs.Runs.{GivesProblem, IsSolvedRun, IsCertificateRun, HasCertificate, HasPassed, IsMigrateRun, Causes}
-use Rattle.dcx_top.specs.Headline.{IsAcceptedWork, IsRightlySolved, IsRightlyShown, IsRightRun}
+use Rattle.dcx_top.specs.Runs.{GivesProblem, IsSolvedRun, IsFilteredRun, IsCertificateRun, HasCertificate, HasPassed, IsMigrateRun, Causes}
+use Rattle.dcx_top.specs.Headline.{IsAcceptedWork, IsRightlySolved, IsRightlyFiltered, IsRightlyShown, IsRightRun}
 use Rattle.dcx_top.proofs.Passed.{passed_shown, migrated_shown}
 
 accepted_work : (words : List (List ℕ)) (told : Option Files) (command : Command) (a : Accepted) → command_of words ≡ Some command → GivesProblem told command a → IsAcceptedWork words told command a.work
@@ -40,6 +42,16 @@ solved_right words told old new r h = let w = accepted_work words told h.command
   warm = h.warm;
   tells = h.tells;
   right = found_are_right (is_warm_command h.command) h.accepted.work.problem (limit_of h.command) h.settings h.outcomes h.warm w.accepted h.are;
+}
+
+filtered_right : (words : List (List ℕ)) (told : Option Files) (old new : ℕ) (os : List FilterOutcome) → IsFilteredRun words told old new os → IsRightlyFiltered words told os
+filtered_right words told old new os h = record {
+  command = iis h.script h.name h.limit;
+  work = h.accepted.work;
+  accepted = accepted_work words told (iis h.script h.name h.limit) h.accepted h.form h.problem;
+  settings = h.settings;
+  asked = h.asked;
+  right = filters_are_right h.accepted.work.problem h.limit h.settings os h.are;
 }
 
 -- ---- certificates
@@ -82,6 +94,7 @@ caused_are_right words told risen old new (run.Checked c) (h, same) =
     record { command = check h.script; work = h.accepted.work; accepted = accepted_work words told (check h.script) h.accepted h.form h.problem; found = h.found }
 caused_are_right words told risen old new (run.Solved word sense outcomes warm) h = solved_right words told old new (run.Solved word sense outcomes warm) h
 caused_are_right words told risen old new (run.Trial size outcomes) h = solved_right words told old new (run.Trial size outcomes) h
+caused_are_right words told risen old new (run.Filtered outcomes) h = filtered_right words told old new outcomes h
 caused_are_right words told risen old new (run.Certificates text stopped) (inl h) = (h.sections, h.text, certificate_right words told old new text stopped h)
 caused_are_right words told risen old new (run.Certificates text stopped) (inr (h, off, same)) = (h.migrated, h.text, migrate_right words told text h)
 caused_are_right words told risen old new (run.Certified n) (h, same) = (h.sections.list, h.count, passed_right words told (certify h.script h.settings h.name) h.sections h.passed)

@@ -18,15 +18,16 @@ use Rattle.dcx_front.specs.OneAnswer.{IsWithoutFault}
 use Rattle.dcx_elab.specs.declared.work.Work.{Work}
 use Rattle.dcx_front.proofs.OneAnswer.{one_work}
 use Rattle.dcx_front.proofs.OneVerdict.{apart, refused_for, acceptance}
+use Rattle.dcx_report.specs.declared.filter_outcome.FilterOutcome.{FilterOutcome}
 use Rattle.dcx_report.specs.declared.run.Run.{Run}
 use Rattle.dcx_report.specs.declared.run.Run.TheVariants as run
 use Rattle.dcx_point.specs.Pairs.{Pairs}
 use Rattle.dcx_sections.specs.declared.section.Sections.{Sections}
-use Rattle.dcx_words.specs.Commands.{Command, check, certificate as certificate_command, certify, migrate, command_of}
+use Rattle.dcx_words.specs.Commands.{Command, check, certificate as certificate_command, certify, migrate, iis, command_of}
 use Rattle.dcx_top.specs.Commands.{settings_name, certificate_name, AreSettingsOf}
 use Rattle.dcx_top.specs.Files.{most_bytes, RefusesScript}
 use Rattle.dcx_front.specs.declared.refusal.RefusalSource.TheVariants.{Certificate}
-use Rattle.dcx_top.specs.Runs.{GivesProblem, IsChecked, IsSolvedRun, IsCertificateRun, HasCertificate, ReadsSections, misread, failed, Causes}
+use Rattle.dcx_top.specs.Runs.{GivesProblem, IsChecked, IsSolvedRun, IsFilteredRun, IsCertificateRun, HasCertificate, ReadsSections, misread, failed, Causes}
 use Rattle.dcx_top.specs.Whole.{IsWholeAt, HasNoWhole, IsSolving}
 use Rattle.dcx_top.specs.OneRun.{IsAnswered}
 use Rattle.dcx_top.specs.Verdicts.{IsRefusal, IsAcceptance, Has, AreFaultless, AreAtFault, bad_script, has_whole, bad_settings, long_certificate, AreWithoutFault, IsVerdictOn, IsRightVerdict}
@@ -108,6 +109,12 @@ module _ (files : Files) (command : Command) (script settings certificate : List
         let same = same_command words files command form c h.form in
         goes_on (run.Certificates text stopped) tt (λ t. t) c same h.accepted h.settings h.problem h.continuous h.asked (short_without c same refl)
 
+    filtered : (os : List FilterOutcome) → IsFilteredRun words (Some files) old new os → IsVerdictOn command script settings certificate (run.Filtered os)
+    filtered os h =
+        let c = iis h.script h.name h.limit in
+        let same = same_command words files command form c h.form in
+        goes_on (run.Filtered os) tt (λ t. t) c same h.accepted h.settings h.problem h.continuous h.asked (short_without c same refl)
+
     -- a certificate that is read isn't too long
     certificate_read : (r : Run) → IsAcceptance r → (IsRefusal r → ⊥) → (c : Command) (f : HasCertificate words (Some files) c) (bytes : List ℕ) → files f.name ≡ Some bytes → length bytes ≤ most_bytes Certificate →
         IsVerdictOn command script settings certificate r
@@ -133,6 +140,7 @@ module _ (files : Files) (command : Command) (script settings certificate : List
     verdict_on (run.CertRefused section fault) (misread c f h, same) i = certificate_read (run.CertRefused section fault) tt (λ t. t) c f h.bytes h.are_told h.few
     verdict_on (run.CertRefused section fault) (failed c sections h first, same) i = sections_read (run.CertRefused section fault) tt (λ t. t) c sections h
     verdict_on (run.Trial n os) h i = solved (run.Trial n os) tt (λ t. t) h
+    verdict_on (run.Filtered os) h i = filtered os h
     verdict_on run.ReadFault h i = absurd i
     verdict_on run.Memory h i = absurd i
 

@@ -10,7 +10,7 @@ use Rattle.dcx_report.specs.declared.outcome.Outcome.{Outcome}
 use Rattle.dcx_report.specs.declared.run.Run.{Run}
 use Rattle.dcx_report.specs.declared.run.Run.TheVariants as run
 use Rattle.dcx_report.specs.declared.run.Word.TheVariants as word
-use Rattle.dcx_words.specs.Commands.{Command, check, solve, resolve, certificate, certify, migrate, trial}
+use Rattle.dcx_words.specs.Commands.{Command, check, solve, resolve, certificate, certify, migrate, trial, iis}
 use Rattle.dcx_trial.specs.Trial.{trial_text}
 use Rattle.dcx_overlay.specs.Settings.{AreLaidOver, AreTrialSettings}
 
@@ -24,6 +24,7 @@ IsScriptOf told (certificate script settings limit) bytes = IsTold told script b
 IsScriptOf told (certify script settings cert) bytes = IsTold told script bytes
 IsScriptOf told (migrate script settings cert) bytes = IsTold told script bytes
 IsScriptOf told (trial size limit) bytes = bytes ≡ trial_text size
+IsScriptOf told (iis script settings limit) bytes = IsTold told script bytes
 
 -- the file that the script is read from
 abbrev pub script_name : Command → Option (List ℕ)
@@ -34,6 +35,7 @@ script_name (certificate script settings limit) = Some script
 script_name (certify script settings cert) = Some script
 script_name (migrate script settings cert) = Some script
 script_name (trial size limit) = None
+script_name (iis script settings limit) = Some script
 
 -- the file that settings are read from
 abbrev pub settings_name : Command → Option (List ℕ)
@@ -44,6 +46,7 @@ settings_name (certificate script settings limit) = Some settings
 settings_name (certify script settings cert) = Some settings
 settings_name (migrate script settings cert) = Some settings
 settings_name (trial size limit) = None
+settings_name (iis script settings limit) = Some settings
 
 -- the file that a certificate is read from
 abbrev pub certificate_name : Command → Option (List ℕ)
@@ -54,6 +57,7 @@ certificate_name (certificate script settings limit) = None
 certificate_name (certify script settings cert) = Some cert
 certificate_name (migrate script settings cert) = Some cert
 certificate_name (trial size limit) = None
+certificate_name (iis script settings limit) = None
 
 -- ---- the settings
 -- each line of the file, laid over a setting
@@ -73,8 +77,9 @@ AreSettingsOf told (certificate script name limit) work settings = AreOfFile tol
 AreSettingsOf told (certify script name cert) work settings = AreOfFile told name work.last settings
 AreSettingsOf told (migrate script name cert) work settings = AreOfFile told name work.last settings
 AreSettingsOf told (trial size limit) work settings = AreTrialSettings work.last settings
+AreSettingsOf told (iis script name limit) work settings = AreOfFile told name work.last settings
 
--- the most pivots at a setting
+-- the most pivots at a setting, or in each step there
 abbrev pub limit_of : Command → ℕ
 limit_of (check script) = 0
 limit_of (solve script limit) = limit
@@ -83,6 +88,7 @@ limit_of (certificate script settings limit) = limit
 limit_of (certify script settings cert) = 0
 limit_of (migrate script settings cert) = 0
 limit_of (trial size limit) = limit
+limit_of (iis script settings limit) = limit
 
 -- ---- the run
 -- the run tells these outcomes, with the count of the warm ones, if they are counted
@@ -94,3 +100,4 @@ TellsOutcomes (certificate script settings limit) sense outcomes count r = ⊥
 TellsOutcomes (certify script settings cert) sense outcomes count r = ⊥
 TellsOutcomes (migrate script settings cert) sense outcomes count r = ⊥
 TellsOutcomes (trial size limit) sense outcomes count r = r ≡ run.Trial size outcomes
+TellsOutcomes (iis script settings limit) sense outcomes count r = ⊥

@@ -6,10 +6,14 @@ use Rattle.std.specs.Io.KnownBytes.{Appends}
 use Rattle.dcx_report.specs.ReportText.{text_of}
 use Rattle.dcx_answer.specs.declared.stop.Stop.TheVariants.{Memory as StopMemory}
 use Rattle.dcx_report.specs.declared.run.Run.{Run}
-use Rattle.dcx_report.specs.declared.run.Run.TheVariants.{Usage, Refused, Checked, Solved, Certificates, Certified, CertRefused, Trial, ReadFault, Memory}
+use Rattle.dcx_report.specs.declared.run.Run.TheVariants.{Usage, Refused, Checked, Solved, Certificates, Certified, CertRefused, Trial, Filtered, ReadFault, Memory}
 use Rattle.dcx_report.specs.declared.outcome.Outcome.{Outcome}
 use Rattle.dcx_report.specs.declared.outcome.OutcomeEnd.{OutcomeEnd}
 use Rattle.dcx_report.specs.declared.outcome.OutcomeEnd.TheVariants.{Answer, Stop}
+use Rattle.dcx_answer.specs.declared.filter_stop.FilterStop.TheVariants.{Memory as FilterMemory}
+use Rattle.dcx_report.specs.declared.filter_outcome.FilterEnd.{FilterEnd}
+use Rattle.dcx_report.specs.declared.filter_outcome.FilterEnd.TheVariants as filter
+use Rattle.dcx_report.specs.declared.filter_outcome.FilterOutcome.{FilterOutcome}
 use Rattle.dcx_top.specs.declared.ended.Ended.{Ended}
 
 -- the setting stopped
@@ -26,6 +30,20 @@ wants_memory _ = false
 abbrev pub outcomes_status : List Outcome → ℕ
 outcomes_status outcomes = if list_any (λ o. wants_memory o.end) outcomes then 5 else (if list_any (λ o. is_stop o.end) outcomes then 6 else 0)
 
+-- the same where constraints are filtered
+abbrev pub is_filter_stop : FilterEnd → Bool
+is_filter_stop (filter.Filtered found) = false
+is_filter_stop (filter.Filter stop) = true
+is_filter_stop (filter.Stop stop) = true
+
+abbrev pub filter_wants_memory : FilterEnd → Bool
+filter_wants_memory (filter.Filter FilterMemory) = true
+filter_wants_memory (filter.Stop StopMemory) = true
+filter_wants_memory _ = false
+
+abbrev pub filters_status : List FilterOutcome → ℕ
+filters_status outcomes = if list_any (λ o. filter_wants_memory o.end) outcomes then 5 else (if list_any (λ o. is_filter_stop o.end) outcomes then 6 else 0)
+
 -- the status where the whole report is written
 abbrev pub status_of : Run → ℕ
 status_of Usage = 2
@@ -36,6 +54,7 @@ status_of (Certificates text stopped) = if stopped then 6 else 0
 status_of (Certified sections) = 0
 status_of (CertRefused section fault) = 7
 status_of (Trial size outcomes) = outcomes_status outcomes
+status_of (Filtered outcomes) = filters_status outcomes
 status_of ReadFault = 3
 status_of Memory = 5
 

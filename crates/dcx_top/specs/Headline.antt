@@ -11,10 +11,12 @@ use Rattle.dcx_elab.specs.Meaning.{Elaborates}
 use Rattle.dcx_front.specs.declared.checked.Checked.{Checked}
 use Rattle.dcx_front.specs.Checks.{IsFoundOf}
 use Rattle.dcx_report.specs.declared.outcome.Outcome.{Outcome}
+use Rattle.dcx_report.specs.declared.filter_outcome.FilterOutcome.{FilterOutcome}
 use Rattle.dcx_report.specs.declared.run.Run.{Run}
 use Rattle.dcx_report.specs.declared.run.Run.TheVariants as run
 use Rattle.dcx_words.specs.Commands.{Command, command_of}
 use Rattle.dcx_outcomes.specs.Right.{AreRight}
+use Rattle.dcx_outcomes.specs.FilterLaws.{AreRightFilters}
 use Rattle.dcx_sections.specs.declared.section.Section.{Section}
 use Rattle.dcx_sections.specs.declared.section.Sections.{Sections}
 use Rattle.dcx_cert_lines.specs.CertText.{cert_text}
@@ -53,6 +55,16 @@ pub record IsRightlySolved (words : List (List ℕ)) (told : Option Files) (r : 
   pub tells : TellsOutcomes command work.problem.sense outcomes warm r
   pub right : AreRight work.problem settings outcomes
 
+-- Whatever is found of the constraints of the accepted problem is right at its setting: a feasible point; or constraints that no point of
+-- the domain keeps together, as multipliers show, each with a point that keeps all the others.
+pub record IsRightlyFiltered (words : List (List ℕ)) (told : Option Files) (outcomes : List FilterOutcome) : Type 0 where
+  pub command : Command
+  pub work : Work
+  pub accepted : IsAcceptedWork words told command work
+  pub settings : List Pairs
+  pub asked : AreSettingsOf told command work settings
+  pub right : AreRightFilters work.problem settings outcomes
+
 -- Each section of the certificate is empty or shows the answer of the accepted problem at its setting.
 pub record IsRightlyShown (words : List (List ℕ)) (told : Option Files) (list : List Section) : Type 0 where
   pub command : Command
@@ -77,6 +89,7 @@ IsRightRun words told (run.CertRefused section fault) = ⊤
 IsRightRun words told (run.Checked c) = IsRightlyFound words told c
 IsRightRun words told (run.Solved word sense outcomes warm) = IsRightlySolved words told (run.Solved word sense outcomes warm)
 IsRightRun words told (run.Trial size outcomes) = IsRightlySolved words told (run.Trial size outcomes)
+IsRightRun words told (run.Filtered outcomes) = IsRightlyFiltered words told outcomes
 IsRightRun words told run.Usage = ⊤
 IsRightRun words told (run.Refused r) = ⊤
 IsRightRun words told run.ReadFault = ⊤

@@ -3,11 +3,13 @@ use Rattle.std.specs.Prelude.{◌≡◌, ⊤, ℕ, List, Option, Some, None}
 use Rattle.dcx_host.specs.Faults.{Rose}
 use Rattle.dcx_host.specs.Files.{Files}
 use Rattle.dcx_report.specs.declared.outcome.Outcome.{Outcome}
+use Rattle.dcx_report.specs.declared.filter_outcome.FilterOutcome.{FilterOutcome}
 use Rattle.dcx_report.specs.declared.run.Run.{Run}
 use Rattle.dcx_report.specs.declared.run.Run.TheVariants as run
 use Rattle.dcx_front.specs.declared.accepted.Accepted.{Accepted}
-use Rattle.dcx_words.specs.Commands.{Command, check, solve, resolve, certificate, certify, migrate, trial, command_of}
+use Rattle.dcx_words.specs.Commands.{Command, check, solve, resolve, certificate, certify, migrate, trial, iis, command_of}
 use Rattle.dcx_outcomes.specs.Laws.{AreOneFound}
+use Rattle.dcx_outcomes.specs.FilterLaws.{AreAlikeFilters}
 use Rattle.dcx_sections.specs.declared.section.Sections.{Sections}
 use Rattle.dcx_cert_lines.specs.CertText.{cert_text}
 use Rattle.dcx_certificates.specs.Laws.{AreAlike as AreAlikeSections}
@@ -25,12 +27,17 @@ IsAnswered (run.Certificates text stopped) = ⊤
 IsAnswered (run.Certified n) = ⊤
 IsAnswered (run.CertRefused section fault) = ⊤
 IsAnswered (run.Trial size outcomes) = ⊤
+IsAnswered (run.Filtered outcomes) = ⊤
 
 -- of the problem that a command's script gives, the outcomes are alike: the same answers, but for what their arrays hold past their
 -- ends, and the same stops; want of memory at a setting is free. Warm ones are alike until memory runs out at a setting, and where it
 -- never does, as many of them are counted.
 abbrev pub AreAlikeOver : List (List ℕ) → Files → List Outcome → Option ℕ → List Outcome → Option ℕ → Type 0
 AreAlikeOver words files os m qs n = (command : Command) (a : Accepted) → command_of words ≡ Some command → GivesProblem (Some files) command a → AreOneFound a.work.problem os m qs n
+
+-- and so is what the filter finds of its constraints, or what stops it
+abbrev pub AreAlikeFiltersOver : List (List ℕ) → Files → List FilterOutcome → List FilterOutcome → Type 0
+AreAlikeFiltersOver words files os qs = (command : Command) (a : Accepted) → command_of words ≡ Some command → GivesProblem (Some files) command a → AreAlikeFilters a.work.problem os qs
 
 -- texts of certificates of the answers to the problem that a command's script gives: of sections that are alike
 abbrev pub AreAlikeTexts : Files → Command → List ℕ → List ℕ → Type 0
@@ -45,12 +52,14 @@ AreOneText files (solve script limit) a b = ⊥
 AreOneText files (resolve script settings limit warm) a b = ⊥
 AreOneText files (certify script settings cert) a b = ⊥
 AreOneText files (trial size limit) a b = ⊥
+AreOneText files (iis script settings limit) a b = ⊥
 
 -- two runs that tell the same
 abbrev pub AreOneRun : List (List ℕ) → Files → Run → Run → Type 0
 AreOneRun words files (run.Solved word sense os m) (run.Solved other way qs n) = (word ≡ other) × (sense ≡ way) × AreAlikeOver words files os m qs n
 AreOneRun words files (run.Trial size os) (run.Trial other qs) = (size ≡ other) × AreAlikeOver words files os None qs None
 AreOneRun words files (run.Certificates a stopped) (run.Certificates b halted) = (stopped ≡ halted) × ((command : Command) × (command_of words ≡ Some command) × AreOneText files command a b)
+AreOneRun words files (run.Filtered os) (run.Filtered qs) = AreAlikeFiltersOver words files os qs
 AreOneRun words files r s = r ≡ s
 
 -- where the run is answered and files are told, each run with a cause tells the same

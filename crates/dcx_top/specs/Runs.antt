@@ -11,14 +11,16 @@ use Rattle.dcx_front.specs.declared.refusal.RefusalSource.TheVariants.{Script, S
 use Rattle.dcx_front.specs.Checks.{IsFoundOf}
 use Rattle.dcx_front.specs.Accepts.{Gives}
 use Rattle.dcx_report.specs.declared.outcome.Outcome.{Outcome}
+use Rattle.dcx_report.specs.declared.filter_outcome.FilterOutcome.{FilterOutcome}
 use Rattle.dcx_report.specs.declared.run.Run.{Run}
 use Rattle.dcx_report.specs.declared.run.Run.TheVariants as run
 use Rattle.dcx_report.specs.declared.run.Word.TheVariants as word
-use Rattle.dcx_words.specs.Commands.{Command, check, resolve, certificate, certify, migrate, command_of}
+use Rattle.dcx_words.specs.Commands.{Command, check, resolve, certificate, certify, migrate, iis, command_of}
 use Rattle.dcx_words.specs.Laws.{is_warm_command}
 use Rattle.dcx_overlay.specs.Settings.{AreTrialSettings}
 use Rattle.dcx_outcomes.specs.Outcomes.{Counts}
 use Rattle.dcx_outcomes.specs.Warm.{AreFound}
+use Rattle.dcx_outcomes.specs.Filters.{AreFilterOutcomes}
 use Rattle.dcx_sections.specs.declared.fault.CertFault.{CertFault}
 use Rattle.dcx_sections.specs.declared.section.Sections.{Sections}
 use Rattle.dcx_cert_lines.specs.CertText.{cert_text}
@@ -61,6 +63,22 @@ pub record IsSolvedRun (words : List (List ℕ)) (told : Option Files) (old new 
   pub warm : Option ℕ
   pub are : AreFound (is_warm_command command) accepted.work.problem (limit_of command) settings outcomes warm
   pub tells : TellsOutcomes command accepted.work.problem.sense outcomes warm r
+  pub steps : Counts accepted.work.problem (length settings) old new
+
+-- ---- constraints that are filtered
+-- the constraints of a problem without variables that are to be whole are filtered at the settings of a file with these outcomes, and so
+-- many steps were counted
+pub record IsFilteredRun (words : List (List ℕ)) (told : Option Files) (old new : ℕ) (outcomes : List FilterOutcome) : Type 0 where
+  pub script : List ℕ
+  pub name : List ℕ
+  pub limit : ℕ
+  pub form : command_of words ≡ Some (iis script name limit)
+  pub accepted : Accepted
+  pub problem : GivesProblem told (iis script name limit) accepted
+  pub continuous : HasNoWhole accepted.work.problem.tree
+  pub settings : List Pairs
+  pub asked : AreOfFile told name accepted.work.last settings
+  pub are : AreFilterOutcomes accepted.work.problem limit settings outcomes
   pub steps : Counts accepted.work.problem (length settings) old new
 
 -- ---- certificates
@@ -151,15 +169,21 @@ CertifiesAt p limit settings old new r =
     (r ≡ run.Memory)
     ⊎ ((c : Sections) × (stopped : Bool) × IsCertificateAt p limit settings c × (IsTrue stopped ↔ StopsSomewhere p limit settings) × Counts p (length settings) old new × (r ≡ run.Certificates (cert_text c) stopped))
 
+-- the constraints of a problem are filtered at settings; want of memory is free
+abbrev pub FiltersAt : Problem → ℕ → List Pairs → ℕ → ℕ → Run → Type 0
+FiltersAt p limit settings old new r =
+    (r ≡ run.Memory) ⊎ ((outcomes : List FilterOutcome) × AreFilterOutcomes p limit settings outcomes × Counts p (length settings) old new × (r ≡ run.Filtered outcomes))
+
 -- the settings of a file give this run, or the file ends it, and no step is counted
 abbrev pub FromFile : Option Files → Type 0 → Work → List ℕ → (List Pairs → ℕ → ℕ → Run → Type 0) → ℕ → ℕ → Run → Type 0
 FromFile told risen work name At old new r =
     ((settings : List Pairs) × AreOfFile told name work.last settings × At settings old new r) ⊎ (EndsAt told risen Settings name RefusesSettings r × (new ≡ old))
 
--- an accepted problem is solved at the settings of a file, or its certificate is told there
+-- an accepted problem is solved at the settings of a file, its certificate is told there, or its constraints are filtered there
 abbrev pub DoesAt : Task → Work → ℕ → List Pairs → ℕ → ℕ → Run → Type 0
 DoesAt (tasks.Resolve warm) work limit settings old new r = SolvesAt warm work.problem limit settings (λ os count. run.Solved word.Setting work.problem.sense os count) old new r
 DoesAt tasks.Certificate work limit settings old new r = CertifiesAt work.problem limit settings old new r
+DoesAt tasks.Filter work limit settings old new r = FiltersAt work.problem limit settings old new r
 
 abbrev pub DoesFrom : Option Files → Type 0 → Task → Work → List ℕ → ℕ → ℕ → ℕ → Run → Type 0
 DoesFrom told risen task work name limit old new r = FromFile told risen work name (DoesAt task work limit) old new r
@@ -168,6 +192,7 @@ DoesFrom told risen task work name limit old new r = FromFile told risen work na
 abbrev pub command_for : Task → (script settings : List ℕ) → ℕ → Command
 command_for (tasks.Resolve warm) script settings limit = resolve script settings limit warm
 command_for tasks.Certificate script settings limit = certificate script settings limit
+command_for tasks.Filter script settings limit = iis script settings limit
 
 -- ---- the files of a certificate that is read
 -- a script gives an accepted problem without variables that are to be whole, and a file these settings
@@ -222,5 +247,6 @@ Causes words told risen old new (run.Certificates text stopped) = AreBytesOf wor
 Causes words told risen old new (run.Certified n) = IsCertifiedRun words told n × (new ≡ old)
 Causes words told risen old new (run.CertRefused section fault) = IsCertRefusedRun words told section fault × (new ≡ old)
 Causes words told risen old new (run.Trial size outcomes) = IsSolvedRun words told old new (run.Trial size outcomes)
+Causes words told risen old new (run.Filtered outcomes) = IsFilteredRun words told old new outcomes
 Causes words told risen old new run.ReadFault = IsReadFault words told risen × (new ≡ old)
 Causes words told risen old new run.Memory = ⊤

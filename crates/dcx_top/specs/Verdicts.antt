@@ -24,6 +24,7 @@ IsRefusal (run.Certificates text stopped) = ⊥
 IsRefusal (run.Certified n) = ⊥
 IsRefusal (run.CertRefused section fault) = ⊥
 IsRefusal (run.Trial size outcomes) = ⊥
+IsRefusal (run.Filtered outcomes) = ⊥
 IsRefusal run.ReadFault = ⊥
 IsRefusal run.Memory = ⊥
 
@@ -34,6 +35,7 @@ IsAcceptance (run.Certificates text stopped) = ⊤
 IsAcceptance (run.Certified n) = ⊤
 IsAcceptance (run.CertRefused section fault) = ⊤
 IsAcceptance (run.Trial size outcomes) = ⊤
+IsAcceptance (run.Filtered outcomes) = ⊤
 IsAcceptance run.Usage = ⊥
 IsAcceptance (run.Refused r) = ⊥
 IsAcceptance run.ReadFault = ⊥

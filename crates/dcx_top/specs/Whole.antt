@@ -10,7 +10,7 @@ use Rattle.dcx_front.specs.declared.refusal.Carried.TheVariants.{Nothing}
 use Rattle.dcx_front.specs.declared.refusal.Refusal.{Refusal}
 use Rattle.dcx_front.specs.declared.refusal.RefusalSource.TheVariants.{Script}
 use Rattle.dcx_front.specs.Checks.{IsRefusedAs}
-use Rattle.dcx_words.specs.Commands.{Command, check, solve, resolve, certificate, certify, migrate, trial}
+use Rattle.dcx_words.specs.Commands.{Command, check, solve, resolve, certificate, certify, migrate, trial, iis}
 
 -- node i is a variable whose entries are to be whole
 pub record IsWholeAt (nodes : List Node) (i : ℕ) : Type 0 where
@@ -34,7 +34,7 @@ pub record IsRefusedForWhole (nodes : List Node) (r : Refusal) : Type 0 where
   pub stands : place_at nodes node ≡ Some place
   pub refusal : IsRefusedAs Script 12 place Nothing r
 
--- the command solves the problem of its script, or checks what shows its answers
+-- the command solves the problem of its script, checks what shows its answers, or filters its constraints
 abbrev pub IsSolving : Command → Type 0
 IsSolving (check script) = ⊥
 IsSolving (solve script limit) = ⊤
@@ -43,3 +43,4 @@ IsSolving (certificate script settings limit) = ⊤
 IsSolving (certify script settings cert) = ⊤
 IsSolving (migrate script settings cert) = ⊤
 IsSolving (trial size limit) = ⊤
+IsSolving (iis script settings limit) = ⊤

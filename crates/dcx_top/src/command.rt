@@ -9,6 +9,7 @@
 //! | the usage line comes exactly where the words are no plain form | `usage` |
 //! | the report's text or a front of it is written, with its status | `reports` |
 //! | a `resolve` with `--warm` answers each setting from the columns that the settings before it left, and counts these | `causes` |
+//! | an `iis` tells of each setting a feasible point, or the filter's set with a point for each member that keeps the others | `headline`, `causes` |
 //! | no file changes | `same` |
 ghost use Rattle.std.specs.Prelude.{◌≡◌, ◌↔◌, map, string_bytes, None};
 ghost use Rattle.std.specs.List.{list_any};
@@ -18,7 +19,7 @@ ghost use Rattle.dcx_top.specs.Runs.{Causes};
 ghost use Rattle.dcx_top.specs.Headline.{IsRightRun};
 ghost use Rattle.dcx_top.specs.OneRun.{IsOnlyRun};
 ghost use Rattle.dcx_top.specs.Verdicts.{IsRightVerdict};
-ghost use Rattle.dcx_top.specs.Ended.{Reports, outcomes_status as outcomes_status_of, status_of, is_stop, wants_memory};
+ghost use Rattle.dcx_top.specs.Ended.{Reports, outcomes_status as outcomes_status_of, filters_status as filters_status_of, status_of, is_stop, wants_memory, is_filter_stop, filter_wants_memory};
 
 use crate::certifying::{certify, migrate};
 use crate::checking::check;
@@ -27,7 +28,9 @@ use crate::solving::{Task, resolve, solve, trial};
 use crate::write::write_all;
 use dcx_answer::Stop;
 use dcx_host::{Library, Sink, SinkFault};
-use dcx_report::{Outcome, OutcomeEnd, Run, report_text};
+use dcx_report::{
+    FilterEnd, FilterOutcome, FilterStop, Outcome, OutcomeEnd, Run, report_text,
+};
 use dcx_steps::Steps;
 use dcx_words::{Form, plain_form};
 use std::alloc::Global;
@@ -88,6 +91,19 @@ fn answer<L: Library, S: Ledger>(
             certificate,
         } => migrate(alloc, script, settings, certificate, library),
         Form::Trial { size, limit } => trial(alloc, size, limit, steps),
+        Form::Iis {
+            script,
+            settings,
+            limit,
+        } => resolve(
+            alloc,
+            script,
+            settings,
+            Task::Filter,
+            limit,
+            library,
+            steps,
+        ),
     }
 }
 
@@ -120,6 +136,40 @@ fn outcomes_status(outcomes: &[Outcome]) -> u8
     }
 }
 
+/// Whether a setting at which constraints are filtered stopped.
+fn has_filter_stop(outcomes: &[FilterOutcome]) -> bool
+    ensures { result ≡ list_any (λ o. is_filter_stop o.end) outcomes.now }
+{
+    outcomes
+        .iter()
+        .any(|outcome| matches!(&outcome.end, FilterEnd::Filter(_) | FilterEnd::Stop(_)))
+}
+
+/// Whether a setting at which constraints are filtered stopped for want of memory.
+fn has_filter_want(outcomes: &[FilterOutcome]) -> bool
+    ensures { result ≡ list_any (λ o. filter_wants_memory o.end) outcomes.now }
+{
+    outcomes.iter().any(|outcome| {
+        matches!(
+            &outcome.end,
+            FilterEnd::Filter(FilterStop::Memory) | FilterEnd::Stop(Stop::Memory)
+        )
+    })
+}
+
+/// The status of outcomes at which constraints are filtered.
+fn filters_status(outcomes: &[FilterOutcome]) -> u8
+    ensures { result ≡ filters_status_of outcomes.now }
+{
+    if has_filter_want(outcomes) {
+        5
+    } else if has_filter_stop(outcomes) {
+        6
+    } else {
+        0
+    }
+}
+
 /// The status of a run whose whole report is written.
 fn status(run: &Run) -> u8
     ensures { result ≡ status_of run.now }
@@ -134,6 +184,7 @@ fn status(run: &Run) -> u8
         Run::Certified { .. } => 0,
         Run::CertRefused { .. } => 7,
         Run::Trial { outcomes, .. } => outcomes_status(outcomes.as_slice()),
+        Run::Filtered { outcomes } => filters_status(outcomes.as_slice()),
         Run::ReadFault => 3,
         Run::Memory => 5,
     }

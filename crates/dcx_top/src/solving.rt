@@ -1,5 +1,5 @@
 //! A problem is solved: at the settings of its script's solves, at those of a file, or at the two of the trial; or its certificate is
-//! written at those of a file.
+//! written at those of a file, or its constraints are filtered there.
 ghost use Rattle.std.specs.Prelude.{◌≡◌, ◌⊎◌, ◌≤◌, false, ℕ, List, Some};
 ghost use Rattle.std.specs.declared.option.Option.{Option};
 ghost use Rattle.dcx_settings.specs.Grammar.{Every};
@@ -12,7 +12,7 @@ ghost use Rattle.dcx_front.specs.Accepts.{IsJudged};
 ghost use Rattle.dcx_words.specs.Commands.{solve as solves, trial as tries, command_of};
 ghost use Rattle.dcx_overlay.specs.Settings.{AreLaidOver};
 ghost use Rattle.dcx_host.specs.Files.{Files};
-ghost use Rattle.dcx_top.specs.Runs.{OrWhole, SolvesAt, CertifiesAt, TriesAt, DoesAt, DoesFrom, command_for, Causes};
+ghost use Rattle.dcx_top.specs.Runs.{OrWhole, SolvesAt, CertifiesAt, FiltersAt, TriesAt, DoesAt, DoesFrom, command_for, Causes};
 
 use crate::certifying::written;
 use crate::files::{ended, read_script, read_settings};
@@ -20,7 +20,7 @@ use crate::whole::refuse_whole;
 use dcx_certificates::certificate;
 use dcx_front::{Accepted, accept};
 use dcx_host::Library;
-use dcx_outcomes::outcomes;
+use dcx_outcomes::{filter_outcomes, outcomes};
 use dcx_overlay::{all_laid_over, trial_settings};
 use dcx_point::Setting;
 use dcx_report::{Run, Word};
@@ -42,6 +42,8 @@ pub enum Task {
     },
     /// The certificate of its answers is written.
     Certificate,
+    /// Its constraints are filtered.
+    Filter,
 }
 
 /// An accepted problem is solved at settings.
@@ -86,6 +88,25 @@ fn certified_at<S: Ledger>(
 {
     match certificate(alloc, problem, verdict, settings, limit, steps) {
         Ok(found) => written(alloc, &found.certificate, found.stopped),
+        Err(_) => Run::Memory,
+    }
+}
+
+/// The constraints of an accepted problem are filtered at settings.
+fn filtered_at<S: Ledger>(
+    alloc: Global,
+    problem: Problem,
+    verdict: Verdict,
+    settings: &[Setting],
+    limit: u64,
+    steps: &mut Steps<S>,
+) -> Run
+    requires accepted { IsAccepted problem }
+    requires verdict { IsVerdictOf problem verdict }
+    ensures { FiltersAt problem limit settings.now steps.old steps.new result }
+{
+    match filter_outcomes(alloc, problem, verdict, settings, limit, steps) {
+        Ok(outcomes) => Run::Filtered { outcomes },
         Err(_) => Run::Memory,
     }
 }
@@ -147,6 +168,7 @@ fn do_lines<S: Ledger>(
             steps,
         ),
         Task::Certificate => certified_at(alloc, problem, verdict, &settings, limit, steps),
+        Task::Filter => filtered_at(alloc, problem, verdict, &settings, limit, steps),
     }
 }
 
@@ -218,7 +240,8 @@ fn do_file<L: Library, S: Ledger>(
     }
 }
 
-/// What a script gives whose problem is solved at the settings of a file, or whose certificate is wanted there.
+/// What a script gives whose problem is solved at the settings of a file, whose certificate is wanted there, or whose constraints are
+/// filtered there.
 pub(crate) fn resolve<L: Library, S: Ledger>(
     alloc: Global,
     script: &str,

@@ -1,6 +1,6 @@
 use Rattle.std.proofs.Common.{inr, subst}
 use Rattle.dcx_overlay.specs.Settings.{AreLaidOver}
-use Rattle.dcx_top.proofs.Causes.{task_resolved, task_certified}
+use Rattle.dcx_top.proofs.Causes.{task_resolved, task_certified, task_filtered}
 use Rattle.dcx_top.proofs.solving.do_lines.Goals as goal
 
 pub returns-in-Resolve : goal.returns-in-Resolve
@@ -17,4 +17,12 @@ returns-in-Certificate g c =
       c.in-Ok.settings.items,
       subst (λ l. AreLaidOver c.args.accepted.work.last l c.in-Ok.settings.items) c.as_slice.ensures c.in-Ok.ensures,
       task_certified c.args.accepted.work c.args.limit c.in-Ok.settings.items c.deref.result.now c.args.task c.args.steps.now c.certified_at.new.steps c.certified_at.result c.in-Certificate.is c.deref.ensures.value c.certified_at.ensures,
+    )
+
+pub returns-in-Filter : goal.returns-in-Filter
+returns-in-Filter g c =
+    inr (
+      c.in-Ok.settings.items,
+      subst (λ l. AreLaidOver c.args.accepted.work.last l c.in-Ok.settings.items) c.as_slice.ensures c.in-Ok.ensures,
+      task_filtered c.args.accepted.work c.args.limit c.in-Ok.settings.items c.deref.result.now c.args.task c.args.steps.now c.filtered_at.new.steps c.filtered_at.result c.in-Filter.is c.deref.ensures.value c.filtered_at.ensures,
     )
