@@ -123,7 +123,7 @@ class Model:
         """Bounds of all variables, so that few problems are unbounded."""
         return [f"{name} {sign}= {bound}" for name, _ in self.variables for sign, bound in (("<", "10"), (">", "-10")) if random.random() < 0.7]
 
-    def script(self, least, most):
+    def script(self, least=0, most=3):
         rules = self.box() + [self.constraint() for _ in range(random.randint(least, most))]
         random.shuffle(rules)
         self.lines.append(f"prob = cp.Problem(cp.{pick('Minimize', 'Maximize')}({self.objective()}), [{', '.join(rules)}])")
@@ -151,7 +151,7 @@ def drawn(most, is_filtered):
     """A case: its words, files, status and report."""
     while True:
         model = Model()
-        script = model.script(2, 6) if is_filtered else model.script(0, 3)
+        script = model.script(2, 6) if is_filtered else model.script()
         files = {"model.py": IMPORTS + "\n".join(script).encode() + b"\n"}
         words = "solve model.py"
         settings = [model.setting() for _ in range(random.randint(1, 4))] if model.reached() else ["{}"] * is_filtered
