@@ -1,6 +1,7 @@
-"""Writes worked cases of scripts drawn at random, with what the reference answers: `random_cases.py SEED COUNT [LINES]`.
+"""Writes worked cases of scripts drawn at random, with what the reference answers: `random_cases.py SEED COUNT [LINES [iis]]`.
 
 A script that is refused is drawn anew, and so is one with no number but 0 to tell. About half of the cases have settings. LINES is how long a report may be.
+With `iis` they are cases of that word, with more constraints, and at some setting of each no point keeps them all.
 The reference shows of each answer that it is right; the program of `crates/dcx_cases`, given the file, tells where dcx differs.
 """
 import random
@@ -122,8 +123,8 @@ class Model:
         """Bounds of all variables, so that few problems are unbounded."""
         return [f"{name} {sign}= {bound}" for name, _ in self.variables for sign, bound in (("<", "10"), (">", "-10")) if random.random() < 0.7]
 
-    def script(self):
-        rules = self.box() + [self.constraint() for _ in range(random.randint(0, 3))]
+    def script(self, least=0, most=3):
+        rules = self.box() + [self.constraint() for _ in range(random.randint(least, most))]
         random.shuffle(rules)
         self.lines.append(f"prob = cp.Problem(cp.{pick('Minimize', 'Maximize')}({self.objective()}), [{', '.join(rules)}])")
         return self.lines
@@ -146,27 +147,29 @@ def tells_something(report):
     return re.search(r"^(var|dual|ray) .* = .*[1-9]", report, re.MULTILINE) is not None
 
 
-def drawn(most):
+def drawn(most, is_filtered):
     """A case: its words, files, status and report."""
     while True:
         model = Model()
-        script = model.script()
+        script = model.script(2, 6) if is_filtered else model.script()
         files = {"model.py": IMPORTS + "\n".join(script).encode() + b"\n"}
         words = "solve model.py"
-        settings = [model.setting() for _ in range(random.randint(1, 4))] if model.reached() else []
+        settings = [model.setting() for _ in range(random.randint(1, 4))] if model.reached() else ["{}"] * is_filtered
         if settings:
-            words = "resolve model.py settings.txt"
+            words = "iis model.py settings.txt" if is_filtered else "resolve model.py settings.txt"
             files["settings.txt"] = "\n".join(settings).encode() + b"\n"
         status, report = run(words.split(), files.__getitem__)
+        if is_filtered and "infeasible" not in report:
+            continue
         if status in (0, 6) and report.count("\n") <= most and tells_something(report):
             return words, script, settings, status, report
 
 
-def main(seed, count, most=40):
+def main(seed, count, most=40, word=None):
     random.seed(int(seed))
     print(f"# Scripts drawn at random from the seed {seed}, answered by bench/reference.py, which shows that each answer is right.")
     for _ in range(int(count)):
-        words, script, settings, status, report = drawn(int(most))
+        words, script, settings, status, report = drawn(int(most), word == "iis")
         print(f"\ncase {words}\nfile model.py\nimports", *(f"| {line}" for line in script), sep="\n")
         if settings:
             print("file settings.txt", *(f"| {line}" for line in settings), sep="\n")
@@ -174,6 +177,6 @@ def main(seed, count, most=40):
 
 
 if __name__ == "__main__":
-    if len(sys.argv) not in (3, 4):
+    if len(sys.argv) not in (3, 4, 5) or sys.argv[4:] not in ([], ["iis"]):
         raise SystemExit(__doc__)
     main(*sys.argv[1:])

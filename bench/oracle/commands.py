@@ -5,6 +5,7 @@ from . import report
 from .certifying import CertRefused, certificate, certify, migrate
 from .elaborate import elaborate
 from .faults import Refused, Stopped
+from .filtering import Filter
 from .grammar import parse
 from .rules import Verdict
 from .session import Session
@@ -13,7 +14,7 @@ from .tokens import text_of, tokens_of
 from .values import Array
 
 MOST_PIVOTS = 200_000
-OPERANDS = {"check": 1, "solve": 1, "resolve": 2, "certificate": 2, "certify": 3, "trial": 1, "migrate": 3}
+OPERANDS = {"check": 1, "solve": 1, "resolve": 2, "certificate": 2, "certify": 3, "trial": 1, "migrate": 3, "iis": 2}
 WITHOUT_LIMIT = ("check", "certify", "migrate")
 
 
@@ -107,6 +108,18 @@ def warm_ends_of(accepted, settings, limit):
     return ends, count
 
 
+def filtered_of(accepted, settings, limit):
+    """What filtering the constraints finds at each setting, or what stops it."""
+    session = Session(accepted.problem, accepted.verdict)
+    ends = []
+    for setting in settings:
+        try:
+            ends.append(Filter(session, setting, limit).found())
+        except Stopped as stop:
+            ends.append(stop)
+    return ends
+
+
 def laid_over(last, line):
     """A line of the settings file over the setting at the script's end."""
     setting = dict(last)
@@ -136,6 +149,9 @@ def run_command(command, operands, limit, warm, fetch):
     if command == "resolve":
         ends = ends_of(accepted, settings, limit)
         return status_of(ends), report.solved(accepted.problem, "setting", ends)
+    if command == "iis":
+        ends = filtered_of(accepted, settings, limit)
+        return status_of(ends), report.filtered(accepted.problem, ends)
     if command == "certificate":
         return certificate(accepted, settings, limit)
     return with_certificate({"certify": certify, "migrate": migrate}[command], accepted.problem, settings, fetch(operands[2]))

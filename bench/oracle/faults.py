@@ -7,7 +7,7 @@ REFUSALS = {
 }
 STOPS = {
     21: "UnknownParam", 22: "MissingParam", 23: "ParamShape", 24: "ParamSign", 25: "ZeroDivisor", 26: "Wide",
-    27: "PivotLimit", 28: "TooLarge",
+    27: "PivotLimit", 28: "TooLarge", 37: "Filter",
 }
 
 

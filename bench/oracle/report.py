@@ -5,7 +5,7 @@ from .numbers import number
 
 USAGE = (
     "usage: dcx check SCRIPT | solve SCRIPT | resolve SCRIPT SETTINGS | certificate SCRIPT SETTINGS | certify SCRIPT SETTINGS CERT | "
-    "trial N | migrate SCRIPT SETTINGS CERT\n"
+    "trial N | migrate SCRIPT SETTINGS CERT | iis SCRIPT SETTINGS\n"
 )
 SIGNS = {(True, True): "zero", (True, False): "nonneg", (False, True): "nonpos", (False, False): "unknown"}
 
@@ -69,6 +69,21 @@ def answered(ends):
 
 def solved(problem, word, ends):
     return "".join(outcome(problem, word, k, end) for k, end in enumerate(ends, 1)) + answered(ends)
+
+
+def filtered(problem, ends):
+    """The lines of what filtering finds at each setting, or what stops it."""
+    lines = []
+    for k, end in enumerate(ends, 1):
+        if isinstance(end, Stopped):
+            lines.append(outcome(problem, "setting", k, end))
+        elif end.point is not None:
+            lines.append(f"setting {k} feasible\n" + arrays(problem, "var", end.point))
+        else:
+            lines.append(f"setting {k} infeasible constraints {' '.join(str(c + 1) for c in end.members)}\n")
+            for c, point in zip(end.members, end.points):
+                lines.append(f"without {c + 1}\n" + arrays(problem, "var", point))
+    return "".join(lines) + answered(ends)
 
 
 def tried(problem, size, ends):

@@ -53,13 +53,26 @@ class Session:
             return fixed(self.problem, self.map, setting)
         return reduced(self.problem, setting)
 
-    def answer(self, tableau, limit):
+    def formed(self, setting):
+        """The program at a setting, or what stops it."""
+        self.fit(setting)
+        try:
+            return self.program(setting)
+        except FAULTS as fault:
+            raise stopped(self.problem, fault) from None
+
+    def ended(self, tableau, limit):
+        """The numbers at the last basis of a run that comes to an end."""
         end = Run(tableau, limit).end
         if end.kind == "limit":
             raise Stopped(27, f" {limit}")
         if end.kind == "wide":
             raise Stopped(26, f" pivot {end.pivots} row {end.row} column {end.column}")
-        return self.read(Reading(tableau, end), end)
+        return Reading(tableau, end)
+
+    def answer(self, tableau, limit):
+        reading = self.ended(tableau, limit)
+        return self.read(reading, reading.end)
 
     def read(self, reading, end):
         answer = Answer(end.kind, reading.number)

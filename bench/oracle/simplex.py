@@ -311,3 +311,11 @@ class Reading:
         except Passes as passes:
             raise Wide(("answer", r), passes) from None
         return -value if note.is_equal and note.is_negated else value
+
+    def exact_multiplier(self, r):
+        """The same, with numbers of any size."""
+        note = self.tableau.notes[r]
+        value = self.reduced_cost(note.artificial if note.is_equal else note.slack)
+        if note.is_equal and self.end.kind == "infeasible":
+            value -= 1
+        return note.factor * (-value if note.is_equal and note.is_negated else value)

@@ -87,8 +87,11 @@ def in_domain(problem, point):
             demand(fits, f"entry {k} of {name} is out of its domain")
 
 
-def feasible(problem, values, what):
+def feasible(problem, values, what, kept=None):
+    """Shows that each constraint holds, or each of those that are kept."""
     for c, constraint in enumerate(problem.constraints):
+        if kept is not None and c not in kept:
+            continue
         for left, right in zip(values.found[constraint.left], values.found[constraint.right]):
             demand(left == right if constraint.kind == "equal" else left <= right, f"constraint {c} breaks at {what}")
 
@@ -211,15 +214,31 @@ def test_variable(node, reach):
         demand(fits, f"the Lagrangian isn't bounded in {node.call[1]}")
 
 
+def verify_point(problem, setting, point):
+    """Shows that a point is feasible, and gives the values at it."""
+    return verify_others(problem, setting, None, point)
+
+
+def verify_others(problem, setting, kept, point):
+    """Shows that a point of the domain keeps these constraints."""
+    values = Values(problem, point, setting)
+    in_domain(problem, point)
+    feasible(problem, values, "the point", kept)
+    return values
+
+
+def verify_set(problem, setting, duals, weights, gap):
+    """Shows that no point keeps the constraints whose multipliers aren't 0."""
+    demand(gap > 0, "the gap isn't above 0")
+    demand(bounded(problem, setting, duals, weights, False) >= gap, "the multipliers don't show the gap")
+
+
 def verify(problem, setting, answer):
     """Raises Wrong where an answer isn't shown to be right."""
     if answer.kind == "infeasible":
-        demand(answer.number > 0, "the gap isn't above 0")
-        demand(bounded(problem, setting, answer.duals, answer.weights, False) >= answer.number, "the multipliers don't show the gap")
+        verify_set(problem, setting, answer.duals, answer.weights, answer.number)
         return
-    values = Values(problem, answer.point, setting)
-    in_domain(problem, answer.point)
-    feasible(problem, values, "the point")
+    values = verify_point(problem, setting, answer.point)
     if answer.kind == "optimal":
         demand(minimized(problem, values) == answer.number, "the value isn't that of the point")
         demand(bounded(problem, setting, answer.duals, answer.weights, True) >= answer.number, "the multipliers don't bound the value")
