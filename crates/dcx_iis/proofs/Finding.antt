@@ -27,10 +27,10 @@ use Rattle.dcx_mapping.specs.Programs.{gap_rows, bound_row}
 use Rattle.dcx_postsolve.specs.Duals.{all_multipliers, AreDuals, multipliers_in}
 use Rattle.dcx_solved.specs.Solved.{IsSolved}
 use Rattle.dcx_graph.specs.Program.{Program}
-use Rattle.dcx_iis.specs.declared.stop.FilterStop.{FilterStop}
-use Rattle.dcx_iis.specs.declared.stop.FilterStop.TheVariants as filter
-use Rattle.dcx_iis.specs.declared.filtered.Filtered.{Filtered}
-use Rattle.dcx_iis.specs.declared.filtered.Filtered.TheVariants as filtered
+use Rattle.dcx_answer.specs.declared.filter_stop.FilterStop.{FilterStop}
+use Rattle.dcx_answer.specs.declared.filter_stop.FilterStop.TheVariants as filter
+use Rattle.dcx_answer.specs.declared.filtered.Filtered.{Filtered}
+use Rattle.dcx_answer.specs.declared.filtered.Filtered.TheVariants as filtered
 use Rattle.dcx_iis.specs.declared.trying.Tried.TheVariants as tried
 use Rattle.dcx_iis.specs.declared.left.Left.{Left}
 use Rattle.dcx_iis.specs.Sets.{ConstraintSet, every_constraint, set_of, flagged, IsImpossible, left_beside, IsFilterSet}

@@ -19,10 +19,10 @@ use Rattle.dcx_solved.specs.declared.stop.SolveStop.TheVariants as solves
 use Rattle.dcx_solved.specs.Solved.{IsSolved, Stops}
 use Rattle.dcx_graph.specs.Program.{Program}
 use Rattle.dcx_graph.specs.Answers.{IsPointRead}
-use Rattle.dcx_iis.specs.declared.stop.FilterStop.{FilterStop}
-use Rattle.dcx_iis.specs.declared.stop.FilterStop.TheVariants as filter
-use Rattle.dcx_iis.specs.declared.filtered.Filtered.{Filtered}
-use Rattle.dcx_iis.specs.declared.filtered.Filtered.TheVariants as filtered
+use Rattle.dcx_answer.specs.declared.filter_stop.FilterStop.{FilterStop}
+use Rattle.dcx_answer.specs.declared.filter_stop.FilterStop.TheVariants as filter
+use Rattle.dcx_answer.specs.declared.filtered.Filtered.{Filtered}
+use Rattle.dcx_answer.specs.declared.filtered.Filtered.TheVariants as filtered
 use Rattle.dcx_iis.specs.declared.trying.Tried.{Tried}
 use Rattle.dcx_iis.specs.declared.trying.Tried.TheVariants as tried
 use Rattle.dcx_iis.specs.declared.left.Left.{Left}

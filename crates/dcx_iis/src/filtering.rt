@@ -10,9 +10,9 @@ ghost use Rattle.dcx_iis.specs.Found.{IsRight, IsFound};
 ghost use Rattle.dcx_iis.specs.Runs.{numbers_from, AreDualsOf, IsLeft, IsEnd, StopsRun};
 
 use crate::duals::duals_kept;
-use crate::filtered::{Filtered, Members, Points};
+use dcx_answer::{Filtered, Members, Points};
 use crate::left::Left;
-use crate::stop::FilterStop;
+use dcx_answer::FilterStop;
 use crate::trying::{Tried, try_kept};
 use dcx_answer::{Duals, Site, Stop};
 use dcx_frac::Frac;

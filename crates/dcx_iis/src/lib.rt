@@ -18,14 +18,12 @@
 #![tactic(auto)]
 
 mod duals;
-mod filtered;
+
 mod filtering;
 pub mod laws;
 mod left;
 mod program;
-mod stop;
+
 mod trying;
 
-pub use filtered::{Filtered, Members, Points};
 pub use filtering::filter;
-pub use stop::FilterStop;

@@ -1,7 +1,7 @@
 //! What filtering finds.
 ghost use Rattle.std.specs.Prelude.{◌≡◌};
 
-use dcx_answer::Duals;
+use crate::duals::Duals;
 use dcx_frac::Frac;
 use dcx_point::Point;
 use std::marker::Model;

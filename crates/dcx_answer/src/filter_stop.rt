@@ -1,5 +1,5 @@
 //! Why the filter has no answer.
-use dcx_answer::Stop;
+use crate::stop::Stop;
 use std::alloc::{AllocError, AllocFailed};
 
 /// Why the filter has no answer.
@@ -18,7 +18,7 @@ pub enum FilterStop {
 
 impl From<AllocError> for FilterStop {
     ghost use Rattle.std.specs.Prelude.{◌≡◌};
-    ghost use Rattle.dcx_iis.specs.declared.stop.FilterStop.TheVariants.{Memory};
+    ghost use Rattle.dcx_answer.specs.declared.filter_stop.FilterStop.TheVariants.{Memory};
 
     ghost from_gives = { λ _ e. e ≡ Memory };
 
@@ -29,7 +29,7 @@ impl From<AllocError> for FilterStop {
 
 impl<T: Drop> From<AllocFailed<T>> for FilterStop {
     ghost use Rattle.std.specs.Prelude.{◌≡◌};
-    ghost use Rattle.dcx_iis.specs.declared.stop.FilterStop.TheVariants.{Memory};
+    ghost use Rattle.dcx_answer.specs.declared.filter_stop.FilterStop.TheVariants.{Memory};
 
     ghost from_gives = { λ _ e. e ≡ Memory };
 
