@@ -1,8 +1,6 @@
 -- Lists of the items of a set, and the rows of its constraints.
-use Rattle.std.proofs.Common.{◌≡◌, ◌⊎◌, ℕ, zero, suc, ◌+◌, ◌<◌, ◌≤◌, arith, Bool, true, false, if◌then◌else◌, IsTrue, List, [], ◌∷◌, ◌++◌, length, map, take, drop, Some, slice_get, inl, inr, refl, sym, ap, ap₂, ◌∙◌, add-zero, append_assoc, length-append}
-use Rattle.std.specs.Prelude.{sum_by}
+use Rattle.std.proofs.Common.{◌≡◌, ◌⊎◌, ℕ, zero, suc, ◌+◌, ◌<◌, ◌≤◌, arith, Bool, true, false, if◌then◌else◌, IsTrue, List, [], ◌∷◌, ◌++◌, length, map, take, drop, Some, slice_get, inl, inr, refl, sym, ap, ap₂, ◌∙◌, add-zero, append_assoc}
 use Rattle.std.proofs.lemmas.List.{map-append, take_at, drop_at}
-use Rattle.std.proofs.lemmas.List.Sums.{sum_by-cons}
 use Rattle.std.proofs.lemmas.Option.{none-some, same_Some}
 use Rattle.dcx_atom.specs.Arrays.{list_below}
 use Rattle.dcx_atom.proofs.BoundRows.{length-list_below}
@@ -58,10 +56,6 @@ module _ {A : Type 0} (set : ConstraintSet) where
           let (k, at, t) = rest h.0 h.1 in
           let q : i + suc k ≡ suc i + k = omega arith in
           (suc k, at, ap set q ∙ t)
-
-  pub map-kept : {B : Type 0} (f : A → B) (i : ℕ) (xs : List A) → map f (kept_from set i xs) ≡ kept_from set i (map f xs)
-  map-kept f i [] = refl
-  map-kept f i (x ∷ xs) = map-one f (set i) x (kept_from set (suc i) xs) ∙ ap (one_if (set i) (f x)) (map-kept f (suc i) xs)
 
   pub kept_push : (i : ℕ) (xs : List A) (x : A) → kept_from set i (xs ++ x ∷ []) ≡ kept_from set i xs ++ one_if (set (i + length xs)) x []
   kept_push i [] x = ap (λ n. one_if (set n) x []) (sym (add-zero i))
@@ -126,13 +120,6 @@ rows_same a b i [] rows h = refl
 rows_same a b i (c ∷ cs) rows h =
     ap₂ (λ (t : Bool) rest. (if t then take (constraint_rows c) rows else []) ++ rest) (h i (omega arith) (omega arith))
     (rows_same a b (suc i) cs (drop (constraint_rows c) rows) (λ k l m. h k (omega (arith, l)) (omega (arith, m))))
-
-pub gaps_length : (forms : Unknowns → ℕ → Numbers) (cs : List Constraint) → length (gap_rows forms (map convex_constraint cs)) ≡ sum_by constraint_rows cs
-gaps_length forms [] = refl
-gaps_length forms (c ∷ cs) =
-    length-append (list_below (constraint_rows c) (gap_row forms (convex_constraint c))) (gap_rows forms (map convex_constraint cs))
-    ∙ ap₂ ◌+◌ (length-list_below (constraint_rows c) (gap_row forms (convex_constraint c))) (gaps_length forms cs)
-    ∙ sym (sum_by-cons constraint_rows c cs)
 
 -- ---- widths
 module _ {C : Type 0} (n : ℕ) where

@@ -4,3 +4,10 @@ pub mod Kept
 pub mod Telling
 pub mod Ends
 pub mod OneFound
+pub mod Spread
+pub mod Shown
+pub mod Flags
+pub mod Going
+pub mod Finding
+pub mod Loops
+pub mod Given

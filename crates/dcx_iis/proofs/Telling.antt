@@ -29,9 +29,9 @@ use Rattle.dcx_std.specs.GivenRows.{given}
 use Rattle.dcx_std.specs.Solutions.{row_at, linear_program}
 use Rattle.dcx_graph.specs.Program.{Program}
 use Rattle.dcx_graph.proofs.Backward.{well_formed}
-use Rattle.dcx_graph.specs.Answers.{IsReducedAt}
 use Rattle.dcx_iis.specs.Sets.{ConstraintSet, KeepsSet, IsImpossible}
 use Rattle.dcx_iis.specs.Steps.{kept_of, kept_from, rows_from, program_of_set}
+use Rattle.dcx_graph.specs.Answers.{IsReducedAt}
 use Rattle.dcx_iis.proofs.Kept.{one_if, kept_at, kept_is, map-rows, rows_gaps, rows_same}
 
 -- the problem with the constraints of the set alone

@@ -4,3 +4,4 @@ pub mod Steps
 pub mod Multipliers
 pub mod Found
 pub mod Laws
+pub mod Runs

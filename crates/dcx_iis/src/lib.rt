@@ -7,11 +7,21 @@
 //!
 //! | what must hold | where |
 //! |---|---|
-//! | the filter's set in words of points; it is one, it is impossible, and it is not without any one of its constraints | `specs/Sets.antt`: `IsFilterSet`; `laws::filter_sets_are_one`, `laws::filter_sets_are_minimal` |
-//! | what is found is a feasible point, or the filter's set with multipliers that show it, and a point for each member that keeps all others | `specs/Found.antt`: `IsRight` |
+//! | a point is found exactly where one is feasible, and it is one | `filter`, `specs/Found.antt`: `IsRight` |
+//! | the members are the filter's set, rising | `filter`, `specs/Sets.antt`: `IsFilterSet` |
+//! | the filter's set is one, it is impossible, and it is not without any one of its constraints | `laws::filter_sets_are_one`, `laws::filter_sets_are_minimal` |
+//! | the multipliers and the gap show that no point keeps the members together; they are 0 for all other constraints | `filter`, `specs/Found.antt`: `IsIrreducible` |
+//! | each member has a point that keeps all others | `filter`, `IsIrreducible` |
 //! | a set is impossible where its program can't be solved, and a solution is a point that keeps it | `laws::programs_tell` |
-//! | a step stops where its program is the first to stop, and then where a multiplier of the last step that was impossible passes 128 bits | `specs/Steps.antt`: `StopsFilter` |
+//! | a step stops exactly where its program is the first to stop, and then where a multiplier of the last step that was impossible passes 128 bits | `filter`, `specs/Steps.antt`: `StopsFilter` |
 //! | where something is found nothing stops, and there is one stop at most | `laws::found_or_stopped`, `laws::stops_are_one` |
 #![tactic(auto)]
 
+mod duals;
+mod filtering;
 pub mod laws;
+mod left;
+mod program;
+mod trying;
+
+pub use filtering::filter;

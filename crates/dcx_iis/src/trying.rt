@@ -1,0 +1,102 @@
+//! One step: whether some point keeps the constraints that are kept.
+ghost use Rattle.std.specs.Prelude.{◌≡◌, ◌≤◌, length, map, sum_by, IfOk, IfErr};
+ghost use Rattle.dcx_unknowns.specs.Layout.{constraint_rows};
+ghost use Rattle.dcx_graph.specs.Answers.{TellUnknowns, IsPointRead};
+ghost use Rattle.dcx_iis.specs.Sets.{flagged};
+ghost use Rattle.dcx_iis.specs.Runs.{IsShownBy, IsTried, StopsTry, step_stop};
+
+use crate::program::solve_kept;
+use dcx_answer::{FilterStop, Stop};
+use dcx_frac::Frac;
+use dcx_graph::Reduced;
+use dcx_linear::UnknownKind;
+use dcx_lp_answer::{LpAnswer, LpStatus};
+use dcx_point::Point;
+use dcx_postsolve::{point_of_unknowns, unknown_numbers};
+use dcx_solved::SolveStop;
+use dcx_tree::Problem;
+use std::alloc::{AllocError, Global};
+
+/// What a step shows.
+#[derive(Drop)]
+pub(crate) enum Tried {
+    /// A point keeps all the constraints of the step.
+    Possible {
+        /// The point.
+        point: Point,
+    },
+    /// No point does.
+    Impossible {
+        /// The answer of the step's program.
+        answer: LpAnswer,
+    },
+}
+
+/// The point of the unknowns whose columns have these numbers.
+fn point_read(
+    alloc: Global,
+    problem: &Problem,
+    kinds: &[UnknownKind],
+    columns: &[Frac],
+) -> Result<Point, AllocError>
+    requires told { TellUnknowns kinds.now columns.now }
+    ensures { IfOk result (λ x. IsPointRead problem.now kinds.now columns.now x) }
+{
+    let unknowns = unknown_numbers(alloc, kinds, columns)?;
+    point_of_unknowns(alloc, problem.variables.as_slice(), unknowns.as_slice())
+}
+
+/// What an answer shows.
+fn shown(
+    alloc: Global,
+    problem: &Problem,
+    reduced: &Reduced<Frac>,
+    answer: LpAnswer,
+) -> Result<Tried, AllocError>
+    requires told { TellUnknowns reduced.now.program.kinds answer.columns }
+    ensures { IfOk result (IsShownBy problem.now reduced.now.program answer) }
+{
+    match answer.status {
+        LpStatus::Infeasible => Ok(Tried::Impossible { answer }),
+        LpStatus::Optimal | LpStatus::Unbounded => {
+            let kinds = reduced.rows().kinds.as_slice();
+            let point = point_read(alloc, problem, kinds, answer.columns.as_slice())?;
+            Ok(Tried::Possible { point })
+        }
+    }
+}
+
+/// The stop of a step whose program isn't solved.
+fn step_stop(step: u32, stop: SolveStop) -> FilterStop
+    ensures { result ≡ step_stop step stop }
+{
+    let stop = match stop {
+        SolveStop::TooLarge { rows, columns } => Stop::TooLarge { rows, columns },
+        SolveStop::Wide(site) => Stop::Wide(site),
+        SolveStop::PivotLimit { count } => Stop::PivotLimit { count },
+        SolveStop::Memory => return FilterStop::Memory,
+    };
+    FilterStop::Step { step, stop }
+}
+
+/// Whether some point keeps the constraints that are kept, as the program of this step tells, solved with at most `limit` pivots.
+///
+/// `Step` with the number of this step exactly where its program isn't solved.
+pub(crate) fn try_kept(
+    alloc: Global,
+    problem: &Problem,
+    reduced: &Reduced<Frac>,
+    kept: &[bool],
+    limit: u64,
+    step: u32,
+) -> Result<Tried, FilterStop>
+    requires rows { sum_by constraint_rows problem.now.constraints ≤ length reduced.now.program.rows }
+    requires flags { length kept.now ≡ length problem.now.constraints }
+    ensures tried { IfOk result (IsTried problem.now reduced.now.program limit (flagged kept.now)) }
+    ensures stops { IfErr result (StopsTry problem.now reduced.now.program limit (flagged kept.now) step) }
+{
+    match solve_kept(alloc, problem, reduced, kept, limit) {
+        Ok(solved) => Ok(shown(alloc, problem, reduced, solved.answer)?),
+        Err(stop) => Err(step_stop(step, stop)),
+    }
+}
