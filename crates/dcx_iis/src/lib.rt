@@ -15,6 +15,7 @@
 //! | a set is impossible where its program can't be solved, and a solution is a point that keeps it | `laws::programs_tell` |
 //! | a step stops exactly where its program is the first to stop, and then where a multiplier of the last step that was impossible passes 128 bits | `filter`, `specs/Steps.antt`: `StopsFilter` |
 //! | where something is found nothing stops, and there is one stop at most | `laws::found_or_stopped`, `laws::stops_are_one` |
+//! | one thing is found, with all its numbers | `laws::found_is_one` |
 #![tactic(auto)]
 
 mod duals;
