@@ -1,13 +1,13 @@
 -- The refusals: their numbers, their names, and what each says beside its place.
-use Rattle.std.specs.Prelude.{ℕ, Bool, ◌&&◌, ◌==◌, nat_lt, nat_le, List, [], ◌∷◌, codes, unwrap_or}
+use Rattle.std.specs.Prelude.{ℕ, Bool, ◌&&◌, ◌||◌, ◌==◌, nat_lt, nat_le, List, [], ◌∷◌, codes, unwrap_or}
 use Rattle.std.specs.Map.{lookup}
 use Rattle.dcx_front.specs.declared.refusal.Carried.{Carried}
 use Rattle.dcx_front.specs.declared.refusal.Carried.TheVariants.{Nothing, Count, Rule, Passes}
 
 -- There is a refusal of this number that says this. 18 says what was counted, 19 the rule that is
--- broken, 20 the operation that passes, and the others nothing.
+-- broken, 20 the operation that passes, and the others, 34 among them, nothing.
 abbrev pub is_refusal : ℕ → Carried → Bool
-is_refusal number Nothing = nat_le 1 number && nat_lt number 18
+is_refusal number Nothing = (nat_le 1 number && nat_lt number 18) || (number == 34)
 is_refusal number (Count what count) = number == 18
 is_refusal number (Rule rule) = number == 19
 is_refusal number (Passes passes) = number == 20
@@ -35,6 +35,7 @@ refusal_names =
     ∷ (18, codes "TooMany")
     ∷ (19, codes "NotDcp")
     ∷ (20, codes "PlainWide")
+    ∷ (34, codes "WholeVariable")
     ∷ []
 
 -- the name of the refusal of this number

@@ -32,6 +32,7 @@ fn name_of(number: u8) -> &'static [u8]
         18 => b"TooMany",
         19 => b"NotDcp",
         20 => b"PlainWide",
+        34 => b"WholeVariable",
         _ => b"",
     }
 }

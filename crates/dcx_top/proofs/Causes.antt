@@ -1,5 +1,5 @@
 -- What each command gives has its cause.
-use Rattle.std.proofs.Common.{◌≡◌, ◌↔◌, ◌⊎◌, ◌∙◌, ◌≤◌, ◌+◌, ◌*◌, length, count_by, None, inl, inr, ℕ, Bool, false, IsTrue, List, Option, Some, Ok, Err, refl, sym, ap, subst}
+use Rattle.std.proofs.Common.{◌≡◌, ◌↔◌, ◌⊎◌, ◌∙◌, ◌≤◌, ◌+◌, ◌*◌, length, count_by, None, inl, inr, ℕ, Bool, true, false, IsTrue, List, Option, Some, Ok, Err, refl, sym, ap, subst}
 use Rattle.std.proofs.lemmas.Option.{none-some}
 use Rattle.dcx_point.specs.Pairs.{Pairs}
 use Rattle.dcx_tree.specs.declared.problem.Problem.{Problem}
@@ -20,7 +20,9 @@ use Rattle.dcx_front.specs.declared.accepted.Accepted.{Accepted}
 use Rattle.dcx_front.specs.declared.checked.Checked.{Checked}
 use Rattle.dcx_front.specs.declared.fault.FrontFault.{FrontFault}
 use Rattle.dcx_front.specs.declared.fault.FrontFault.TheVariants as front
+use Rattle.dcx_front.specs.declared.refusal.Carried.TheVariants.{Nothing}
 use Rattle.dcx_front.specs.declared.refusal.Refusal.{Refusal}
+use Rattle.dcx_front.specs.Refusals.{is_refusal}
 use Rattle.dcx_front.specs.declared.refusal.RefusalSource.TheVariants.{Script, Settings}
 use Rattle.dcx_front.specs.Checks.{IsFoundOf}
 use Rattle.dcx_front.specs.Accepts.{Gives, IsJudged}
@@ -36,10 +38,10 @@ use Rattle.dcx_trial.specs.Trial.{trial_text}
 use Rattle.dcx_top.specs.Commands.{IsScriptOf, script_name, settings_name, certificate_name, AreOfFile, AreSettingsOf, limit_of, TellsOutcomes}
 use Rattle.dcx_top.specs.Files.{run_of, RefusesScript, RefusesSettings, EndsAt, refused_at, HasTextOf, ReadsCertificate}
 use Rattle.dcx_top.proofs.Reading.{told_fault}
-use Rattle.dcx_top.specs.Whole.{HasNoWhole, IsRefusedForWhole, IsSolving}
+use Rattle.dcx_top.specs.Whole.{HasNoWhole, IsRefusedForWhole, IsSolving, whole_number}
 use Rattle.dcx_top.specs.declared.solving.Task.{Task}
 use Rattle.dcx_top.specs.declared.solving.Task.TheVariants as tasks
-use Rattle.dcx_top.specs.Runs.{GivesProblem, IsSolvedRun, OrWhole, SolvesAt, TriesAt, CertifiesAt, FiltersAt, DoesAt, DoesFrom, command_for, GivesSettings, GivesSections, EndsFiles, at_script, at_whole, at_settings, at_certificate, at_memory, HasCertificate, ReadsSections, HasPassed, misread, failed, long_script, bad_script, for_whole, bad_settings, long_certificate, no_script, no_settings, no_certificate, Causes}
+use Rattle.dcx_top.specs.Runs.{GivesProblem, IsSolvedRun, OrWhole, SolvesAt, TriesAt, CertifiesAt, FiltersAt, DoesAt, DoesFrom, task_number, command_for, GivesSettings, GivesSections, EndsFiles, at_script, at_whole, at_settings, at_certificate, at_memory, HasCertificate, ReadsSections, HasPassed, misread, failed, long_script, bad_script, for_whole, bad_settings, long_certificate, no_script, no_settings, no_certificate, Causes}
 
 pub judged_of : (bytes : List ℕ) (a : Accepted) → Gives bytes (Ok a) → IsJudged a.work.problem a.verdict
 judged_of bytes a g = (acceptance bytes a g).judged
@@ -68,7 +70,7 @@ module _ (words : List (List ℕ)) (told : Option Files) (risen : Type 0) (comma
 
   module _ (a : Accepted) (gives : GivesProblem told command a) where
     -- ---- a variable that is to be whole ends it
-    pub whole_ends : (old new : ℕ) (r : Run) → IsSolving command → (t : Refusal) × IsRefusedForWhole a.work.problem.tree t × (r ≡ run.Refused t) × (new ≡ old) → Causes words told risen old new r
+    pub whole_ends : (old new : ℕ) (r : Run) → IsSolving command → (t : Refusal) × IsRefusedForWhole (whole_number command) a.work.problem.tree t × (r ≡ run.Refused t) × (new ≡ old) → Causes words told risen old new r
     whole_ends old new r solving (t, h, e, same) =
         subst (Causes words told risen old new) (sym e) (for_whole command a form gives solving h, same)
 
@@ -142,12 +144,12 @@ module _ (words : List (List ℕ)) (told : Option Files) (risen : Type 0) (comma
   certificate_ends a settings n (run.Filtered outcomes) g h = absurd h
 
   -- one of the files ends the run
-  pub files_end : (n : ℕ) (r : Run) → EndsFiles told risen script name file r → Causes words told risen n n r
-  files_end n r (at_script h) = script_ends words told risen command form script n r scripted of h
-  files_end n r (at_whole a bytes t there gives h e) = whole_ends words told risen command form a (record { bytes = bytes; are_of = of bytes there; gives = gives }) n n r solving (t, h, e, refl)
-  files_end n r (at_settings a bytes there gives free h) = settings_end words told risen command form a (record { bytes = bytes; are_of = of bytes there; gives = gives }) free name n r set h
-  files_end n r (at_certificate a settings g h) = certificate_ends a settings n r g h
-  files_end n r (at_memory e) = subst (Causes words told risen n n) (sym e) tt
+  pub files_end : whole_number command ≡ 34 → (n : ℕ) (r : Run) → EndsFiles told risen script name file r → Causes words told risen n n r
+  files_end number n r (at_script h) = script_ends words told risen command form script n r scripted of h
+  files_end number n r (at_whole a bytes t there gives h e) = whole_ends words told risen command form a (record { bytes = bytes; are_of = of bytes there; gives = gives }) n n r solving (t, subst (λ k. IsRefusedForWhole k a.work.problem.tree t) (sym number) h, e, refl)
+  files_end number n r (at_settings a bytes there gives free h) = settings_end words told risen command form a (record { bytes = bytes; are_of = of bytes there; gives = gives }) free name n r set h
+  files_end number n r (at_certificate a settings g h) = certificate_ends a settings n r g h
+  files_end number n r (at_memory e) = subst (Causes words told risen n n) (sym e) tt
 
   -- the sections are read
   abbrev pub reads_sections : (p : Problem) (settings : List Pairs) (sections : Sections) (g : GivesSections told script name file p settings sections) → ReadsSections words told command sections
@@ -224,6 +226,19 @@ task_settings (tasks.Resolve warm) script name limit = refl
 task_settings tasks.Certificate script name limit = refl
 task_settings tasks.Filter script name limit = refl
 
+-- a script that has a variable that is to be whole is refused with the number of the command
+task_numbered : (task : Task) (script name : List ℕ) (limit : ℕ) → task_number task ≡ whole_number (command_for task script name limit)
+task_numbered (tasks.Resolve false) script name limit = refl
+task_numbered (tasks.Resolve true) script name limit = refl
+task_numbered tasks.Certificate script name limit = refl
+task_numbered tasks.Filter script name limit = refl
+
+pub task_refuses : (task : Task) → IsTrue (is_refusal (task_number task) Nothing)
+task_refuses (tasks.Resolve false) = refl
+task_refuses (tasks.Resolve true) = refl
+task_refuses tasks.Certificate = refl
+task_refuses tasks.Filter = refl
+
 task_solves : (task : Task) (script name : List ℕ) (limit : ℕ) → IsSolving (command_for task script name limit)
 task_solves (tasks.Resolve warm) script name limit = tt
 task_solves tasks.Certificate script name limit = tt
@@ -235,7 +250,7 @@ module _ (words : List (List ℕ)) (told : Option Files) (risen : Type 0) where
       (record { script = script; form = form; accepted = a; problem = record { bytes = bytes; are_of = there; gives = gives }; found = found }, refl)
 
   pub solved : (script bytes : List ℕ) (limit : ℕ) (a : Accepted) (old new : ℕ) (r : Run) → command_of words ≡ Some (solve script limit) → IsTold told script bytes → Gives bytes (Ok a) →
-      OrWhole a.work.problem (SolvesAt false a.work.problem limit a.work.events (λ os count. run.Solved word.Solve a.work.problem.sense os count) old new) old new r → Causes words told risen old new r
+      OrWhole 12 a.work.problem (SolvesAt false a.work.problem limit a.work.events (λ os count. run.Solved word.Solve a.work.problem.sense os count) old new) old new r → Causes words told risen old new r
   solved script bytes limit a old new r form there gives (inl (continuous, h)) =
       solved_so words told risen (solve script limit) form a (record { bytes = bytes; are_of = there; gives = gives }) a.work.events refl (λ os count. run.Solved word.Solve a.work.problem.sense os count) continuous (λ os count. refl)
       old new r (λ os count k. k) h
@@ -282,18 +297,20 @@ module _ (words : List (List ℕ)) (told : Option Files) (risen : Type 0) where
       })
 
   pub done : (task : Task) (script name bytes : List ℕ) (limit : ℕ) (a : Accepted) (old new : ℕ) (r : Run) → command_of words ≡ Some (command_for task script name limit) → IsTold told script bytes → Gives bytes (Ok a) →
-      OrWhole a.work.problem (DoesFrom told risen task a.work name limit old new) old new r → Causes words told risen old new r
+      OrWhole (task_number task) a.work.problem (DoesFrom told risen task a.work name limit old new) old new r → Causes words told risen old new r
   done task script name bytes limit a old new r form there gives h = by h
     where
       problem : GivesProblem told (command_for task script name limit) a
       problem = record { bytes = bytes; are_of = task_script task script name limit told bytes there; gives = gives }
 
-      by : OrWhole a.work.problem (DoesFrom told risen task a.work name limit old new) old new r → Causes words told risen old new r
+      by : OrWhole (task_number task) a.work.problem (DoesFrom told risen task a.work name limit old new) old new r → Causes words told risen old new r
       by (inl (continuous, inl (settings, are, k))) = does_at task script name bytes limit a settings old new r form there gives continuous are k
       by (inl (continuous, inr (k, same))) =
           subst (λ n. Causes words told risen old n r) (sym same)
           (settings_end words told risen (command_for task script name limit) form a problem continuous name old r (task_settings task script name limit) k)
-      by (inr k) = whole_ends words told risen (command_for task script name limit) form a problem old new r (task_solves task script name limit) k
+      by (inr (t, k, e, same)) =
+          whole_ends words told risen (command_for task script name limit) form a problem old new r (task_solves task script name limit)
+          (t, subst (λ n. IsRefusedForWhole n a.work.problem.tree t) (task_numbered task script name limit) k, e, same)
 
   pub certified : (script name file : List ℕ) (p : Problem) (settings : List Pairs) (sections : Sections) (list : List Section) (n certs : ℕ) → command_of words ≡ Some (certify script name file) →
       GivesSections told script name file p settings sections → list ≡ sections.list → ArePassed p settings list → certs ≡ count_by is_cert list → Causes words told risen n n (run.Certified certs)
@@ -330,7 +347,7 @@ module _ (words : List (List ℕ)) (told : Option Files) (risen : Type 0) where
       ))
 
   pub tried : (size limit : ℕ) (a : Accepted) (old new : ℕ) (r : Run) → command_of words ≡ Some (trial size limit) → Gives (trial_text size) (Ok a) →
-      OrWhole a.work.problem (TriesAt a.work size limit old new) old new r → Causes words told risen old new r
+      OrWhole 12 a.work.problem (TriesAt a.work size limit old new) old new r → Causes words told risen old new r
   tried size limit a old new r form gives (inl (continuous, inl e)) = subst (Causes words told risen old new) (sym e) tt
   tried size limit a old new r form gives (inl (continuous, inr (settings, are, h))) =
       solved_so words told risen (trial size limit) form a (record { bytes = trial_text size; are_of = refl; gives = gives }) settings are (λ os count. run.Trial size os) continuous (λ os count. refl)

@@ -84,21 +84,21 @@ ends_rising told risen rose source name Refuses (run.CertRefused section fault) 
 ends_rising told risen rose source name Refuses (run.Trial size outcomes) more h = absurd h
 ends_rising told risen rose source name Refuses (run.Filtered outcomes) more h = absurd h
 
-module _ (work : Work) (name : List ℕ) (At : List Pairs → ℕ → ℕ → Run → Type 0) (old new : ℕ) (r : Run) where
-  pub from_file_rising : (told : Option Files) (risen rose : Type 0) → (risen → rose) → OrWhole work.problem (FromFile told risen work name At old new) old new r → OrWhole work.problem (FromFile told rose work name At old new) old new r
+module _ (number : ℕ) (work : Work) (name : List ℕ) (At : List Pairs → ℕ → ℕ → Run → Type 0) (old new : ℕ) (r : Run) where
+  pub from_file_rising : (told : Option Files) (risen rose : Type 0) → (risen → rose) → OrWhole number work.problem (FromFile told risen work name At old new) old new r → OrWhole number work.problem (FromFile told rose work name At old new) old new r
   from_file_rising told risen rose more (inl (continuous, inl h)) = inl (continuous, inl h)
   from_file_rising told risen rose more (inl (continuous, inr (h, same))) = inl (continuous, inr (ends_rising told risen rose Settings name RefusesSettings r more h, same))
   from_file_rising told risen rose more (inr h) = inr h
 
   -- the files that are told are the same after a part
-  pub from_file_moved : (was told : Option Files) (risen rose : Type 0) → was ≡ told → (risen → rose) → OrWhole work.problem (FromFile was risen work name At old new) old new r → OrWhole work.problem (FromFile told rose work name At old new) old new r
+  pub from_file_moved : (was told : Option Files) (risen rose : Type 0) → was ≡ told → (risen → rose) → OrWhole number work.problem (FromFile was risen work name At old new) old new r → OrWhole number work.problem (FromFile told rose work name At old new) old new r
   from_file_moved was told risen rose same more h =
-      from_file_rising told risen rose more (subst (λ t. OrWhole work.problem (FromFile t risen work name At old new) old new r) same h)
+      from_file_rising told risen rose more (subst (λ t. OrWhole number work.problem (FromFile t risen work name At old new) old new r) same h)
 
   -- ---- settings that are read
   -- something is done with an accepted problem at the lines of a settings file
   pub lines_done : (told : Option Files) (risen : Type 0) (bytes : List ℕ) (lines : List (List SettingItem)) → HasNoWhole work.problem.tree → IsTold told name bytes → SpellSettings bytes lines →
-      ((r ≡ run.Memory) × (new ≡ old)) ⊎ ((settings : List Pairs) × AreLaidOver work.last lines settings × At settings old new r) → OrWhole work.problem (FromFile told risen work name At old new) old new r
+      ((r ≡ run.Memory) × (new ≡ old)) ⊎ ((settings : List Pairs) × AreLaidOver work.last lines settings × At settings old new r) → OrWhole number work.problem (FromFile told risen work name At old new) old new r
   lines_done told risen bytes lines continuous there spelled (inl (e, same)) = inl (continuous, inr (subst (EndsAt told risen Settings name RefusesSettings) (sym e) tt, same))
   lines_done told risen bytes lines continuous there spelled (inr (settings, laid, h)) =
       inl (continuous, inl (settings, record { bytes = bytes; are_told = there; lines = lines; spelled = spelled; laid = laid }, h))

@@ -26,7 +26,7 @@ use Rattle.dcx_words.specs.Commands.{Command, check, solve, resolve, certificate
 use Rattle.dcx_top.specs.Commands.{IsScriptOf, script_name, settings_name, certificate_name, AreOfFile, AreSettingsOf}
 use Rattle.dcx_top.specs.Files.{most_bytes, RefusesScript, RefusesSettings}
 use Rattle.dcx_top.specs.Runs.{GivesProblem, IsRefusedRun, long_script, bad_script, for_whole, bad_settings, long_certificate}
-use Rattle.dcx_top.specs.Whole.{HasNoWhole, IsFirstWhole, IsRefusedForWhole, IsSolving}
+use Rattle.dcx_top.specs.Whole.{HasNoWhole, IsFirstWhole, IsRefusedForWhole, IsSolving, whole_number}
 
 -- ---- answers of the front
 same_accepted : (a b : Accepted) → ◌≡◌ {A = Given} (Ok a) (Ok b) → a ≡ b
@@ -98,7 +98,7 @@ module _ (files : Files) where
 -- length
 pub data Refuses (files : Files) (command : Command) (r : Refusal) : Type 0 where
   in_script : (bytes : List ℕ) → IsScriptOf (Some files) command bytes → RefusesScript bytes r → Refuses files command r
-  in_problem : (a : Accepted) → GivesProblem (Some files) command a → IsSolving command → IsRefusedForWhole a.work.problem.tree r → Refuses files command r
+  in_problem : (a : Accepted) → GivesProblem (Some files) command a → IsSolving command → IsRefusedForWhole (whole_number command) a.work.problem.tree r → Refuses files command r
   in_settings : (a : Accepted) (name bytes : List ℕ) → GivesProblem (Some files) command a → HasNoWhole a.work.problem.tree → settings_name command ≡ Some name → files name ≡ Some bytes → RefusesSettings bytes r → Refuses files command r
   in_length : (a : Accepted) (settings : List Pairs) (name bytes : List ℕ) → GivesProblem (Some files) command a → HasNoWhole a.work.problem.tree → AreSettingsOf (Some files) command a.work settings → certificate_name command ≡ Some name →
       files name ≡ Some bytes → most_bytes Certificate < length bytes → IsTooLong Certificate r → Refuses files command r
@@ -128,11 +128,11 @@ one_first nodes i j h k =
     let high : j < i → ⊥ = (λ l. h.before j l k.is) in
     omega (arith, low, high)
 
-one_whole : (nodes : List Node) (r t : Refusal) → IsRefusedForWhole nodes r → IsRefusedForWhole nodes t → r ≡ t
-one_whole nodes r t h k =
+one_whole : (number : ℕ) (nodes : List Node) (r t : Refusal) → IsRefusedForWhole number nodes r → IsRefusedForWhole number nodes t → r ≡ t
+one_whole number nodes r t h k =
     let node = one_first nodes h.node k.node h.first k.first in
     let place = same_Some h.place k.place (sym h.stands ∙ ap (place_at nodes) node ∙ k.stands) in
-    one_refusal Script 12 k.place Nothing r t (subst (λ z. IsRefusedAs Script 12 z Nothing r) place h.refusal) k.refusal
+    one_refusal Script number k.place Nothing r t (subst (λ z. IsRefusedAs Script number z Nothing r) place h.refusal) k.refusal
 
 -- an ending is told by one refusal
 one_told : (e : Ending) (r t : Refusal) → IsRefusedBy Settings e r → IsRefusedBy Settings e t → r ≡ t
@@ -146,13 +146,13 @@ module _ (files : Files) (command : Command) where
   in_script_once : (a : Accepted) (r : Refusal) (b : List ℕ) → GivesProblem (Some files) command a → IsScriptOf (Some files) command b → RefusesScript b r → ⊥
   in_script_once a r b g of h = accepted_or_refused g.bytes a r g.gives (subst (λ x. RefusesScript x r) (one_script files command b g.bytes of g.are_of) h)
 
-  in_problem_once : (a b : Accepted) (r t : Refusal) → GivesProblem (Some files) command a → GivesProblem (Some files) command b → IsRefusedForWhole a.work.problem.tree r → IsRefusedForWhole b.work.problem.tree t → r ≡ t
+  in_problem_once : (a b : Accepted) (r t : Refusal) → GivesProblem (Some files) command a → GivesProblem (Some files) command b → IsRefusedForWhole (whole_number command) a.work.problem.tree r → IsRefusedForWhole (whole_number command) b.work.problem.tree t → r ≡ t
   in_problem_once a b r t g i h k =
-      one_whole b.work.problem.tree r t (subst (λ (x : Accepted). IsRefusedForWhole x.work.problem.tree r) (one_problem files command a b g i) h) k
+      one_whole (whole_number command) b.work.problem.tree r t (subst (λ (x : Accepted). IsRefusedForWhole (whole_number command) x.work.problem.tree r) (one_problem files command a b g i) h) k
 
-  whole_or_free : (a b : Accepted) (r : Refusal) → GivesProblem (Some files) command a → GivesProblem (Some files) command b → IsRefusedForWhole a.work.problem.tree r → HasNoWhole b.work.problem.tree → ⊥
+  whole_or_free : (a b : Accepted) (r : Refusal) → GivesProblem (Some files) command a → GivesProblem (Some files) command b → IsRefusedForWhole (whole_number command) a.work.problem.tree r → HasNoWhole b.work.problem.tree → ⊥
   whole_or_free a b r g i h free =
-      let k = subst (λ (x : Accepted). IsRefusedForWhole x.work.problem.tree r) (one_problem files command a b g i) h in
+      let k = subst (λ (x : Accepted). IsRefusedForWhole (whole_number command) x.work.problem.tree r) (one_problem files command a b g i) h in
       free k.node k.first.is
 
   -- a settings file that gives settings isn't refused

@@ -1,5 +1,5 @@
 -- Each run with its cause.
-use Rattle.std.specs.Prelude.{◌≡◌, ◌↔◌, IsTrue, Bool, false, ⊤, ℕ, ◌⊎◌, List, length, Option, Some, None, Ok, Err, count_by}
+use Rattle.std.specs.Prelude.{◌≡◌, ◌↔◌, IsTrue, Bool, true, false, ⊤, ℕ, ◌⊎◌, List, length, Option, Some, None, Ok, Err, count_by}
 use Rattle.dcx_point.specs.Pairs.{Pairs}
 use Rattle.dcx_tree.specs.declared.problem.Problem.{Problem}
 use Rattle.dcx_host.specs.Files.{Files, IsTold}
@@ -30,7 +30,7 @@ use Rattle.dcx_certificates.specs.Migrating.{IsMigrated}
 use Rattle.dcx_top.specs.Commands.{IsScriptOf, script_name, settings_name, certificate_name, AreOfFile, AreSettingsOf, limit_of, TellsOutcomes}
 use Rattle.dcx_top.specs.declared.solving.Task.{Task}
 use Rattle.dcx_top.specs.declared.solving.Task.TheVariants as tasks
-use Rattle.dcx_top.specs.Whole.{HasNoWhole, IsRefusedForWhole, IsSolving}
+use Rattle.dcx_top.specs.Whole.{HasNoWhole, IsRefusedForWhole, IsSolving, whole_number}
 use Rattle.dcx_top.specs.Files.{RefusesScript, RefusesSettings, IsLong, IsRefusedIn, IsNotHad, EndsAt, IsMisread, HasTextOf, ReadsCertificate}
 
 -- ---- scripts
@@ -150,9 +150,10 @@ pub data IsCertRefusedRun (words : List (List ℕ)) (told : Option Files) (secti
   misread : (command : Command) (files : HasCertificate words told command) → IsMisread told files.name files.accepted.work.problem (length files.settings) section f → IsCertRefusedRun words told section f
   failed : (command : Command) (sections : Sections) (reads : ReadsSections words told command sections) → IsFirstRefused reads.files.accepted.work.problem reads.files.settings sections.list section f → IsCertRefusedRun words told section f
 
--- no variable is to be whole, and the run is one of these; or it refuses the script for the first one, and no step is counted
-abbrev pub OrWhole : Problem → (Run → Type 0) → ℕ → ℕ → Run → Type 0
-OrWhole p Next old new r = (HasNoWhole p.tree × Next r) ⊎ ((t : Refusal) × IsRefusedForWhole p.tree t × (r ≡ run.Refused t) × (new ≡ old))
+-- no variable is to be whole, and the run is one of these; or it refuses the script for the first one with this number, and no step is
+-- counted
+abbrev pub OrWhole : ℕ → Problem → (Run → Type 0) → ℕ → ℕ → Run → Type 0
+OrWhole number p Next old new r = (HasNoWhole p.tree × Next r) ⊎ ((t : Refusal) × IsRefusedForWhole number p.tree t × (r ≡ run.Refused t) × (new ≡ old))
 
 -- a problem is solved at settings, warm or not, and its outcomes are told so; want of memory is free
 abbrev pub SolvesAt : Bool → Problem → ℕ → List Pairs → (List Outcome → Option ℕ → Run) → ℕ → ℕ → Run → Type 0
@@ -188,6 +189,13 @@ DoesAt tasks.Filter work limit settings old new r = FiltersAt work.problem limit
 abbrev pub DoesFrom : Option Files → Type 0 → Task → Work → List ℕ → ℕ → ℕ → ℕ → Run → Type 0
 DoesFrom told risen task work name limit old new r = FromFile told risen work name (DoesAt task work limit) old new r
 
+-- the number of the refusal where a variable is to be whole
+abbrev pub task_number : Task → ℕ
+task_number (tasks.Resolve false) = 12
+task_number (tasks.Resolve true) = 34
+task_number tasks.Certificate = 34
+task_number tasks.Filter = 34
+
 -- the command that asks for it
 abbrev pub command_for : Task → (script settings : List ℕ) → ℕ → Command
 command_for (tasks.Resolve warm) script settings limit = resolve script settings limit warm
@@ -213,7 +221,7 @@ pub record GivesSections (told : Option Files) (script name file : List ℕ) (p 
 -- one of the files ends the run: the script, a variable that is to be whole, the settings file, or the certificate; want of memory is free
 pub data EndsFiles (told : Option Files) (risen : Type 0) (script name file : List ℕ) (r : Run) : Type 0 where
   at_script : EndsAt told risen Script script RefusesScript r → EndsFiles told risen script name file r
-  at_whole : (a : Accepted) (bytes : List ℕ) (t : Refusal) → IsTold told script bytes → Gives bytes (Ok a) → IsRefusedForWhole a.work.problem.tree t → r ≡ run.Refused t → EndsFiles told risen script name file r
+  at_whole : (a : Accepted) (bytes : List ℕ) (t : Refusal) → IsTold told script bytes → Gives bytes (Ok a) → IsRefusedForWhole 34 a.work.problem.tree t → r ≡ run.Refused t → EndsFiles told risen script name file r
   at_settings : (a : Accepted) (bytes : List ℕ) → IsTold told script bytes → Gives bytes (Ok a) → HasNoWhole a.work.problem.tree → EndsAt told risen Settings name RefusesSettings r → EndsFiles told risen script name file r
   at_certificate : (a : Accepted) (settings : List Pairs) → GivesSettings told script name a settings → ReadsCertificate told risen file a.work.problem (length settings) (Err r) → EndsFiles told risen script name file r
   at_memory : r ≡ run.Memory → EndsFiles told risen script name file r
@@ -223,7 +231,7 @@ pub data EndsFiles (told : Option Files) (risen : Type 0) (script name file : Li
 pub data IsRefusedRun (words : List (List ℕ)) (told : Option Files) (r : Refusal) : Type 0 where
   long_script : (command : Command) (name : List ℕ) → command_of words ≡ Some command → script_name command ≡ Some name → IsLong told Script name r → IsRefusedRun words told r
   bad_script : (command : Command) (bytes : List ℕ) → command_of words ≡ Some command → IsScriptOf told command bytes → RefusesScript bytes r → IsRefusedRun words told r
-  for_whole : (command : Command) (a : Accepted) → command_of words ≡ Some command → GivesProblem told command a → IsSolving command → IsRefusedForWhole a.work.problem.tree r → IsRefusedRun words told r
+  for_whole : (command : Command) (a : Accepted) → command_of words ≡ Some command → GivesProblem told command a → IsSolving command → IsRefusedForWhole (whole_number command) a.work.problem.tree r → IsRefusedRun words told r
   bad_settings : (command : Command) (a : Accepted) (name : List ℕ) → command_of words ≡ Some command → GivesProblem told command a → HasNoWhole a.work.problem.tree → settings_name command ≡ Some name →
       IsLong told Settings name r ⊎ IsRefusedIn told name RefusesSettings r → IsRefusedRun words told r
   long_certificate : (command : Command) (files : HasCertificate words told command) → IsLong told Certificate files.name r → IsRefusedRun words told r

@@ -1,5 +1,5 @@
 -- Variables whose entries are to be whole: a problem that has one is checked, and not solved.
-use Rattle.std.specs.Prelude.{◌≡◌, ◌≢◌, ⊤, ℕ, ◌<◌, List, Some}
+use Rattle.std.specs.Prelude.{◌≡◌, ◌≢◌, ⊤, ℕ, ◌<◌, true, false, List, Some}
 use Rattle.dcx_shape.specs.declared.place.Place.{Place}
 use Rattle.dcx_arena.specs.Nodes.{call_at, place_at}
 use Rattle.dcx_call.specs.declared.attribute.Variable.{Variable}
@@ -26,13 +26,13 @@ pub record IsFirstWhole (nodes : List Node) (i : ℕ) : Type 0 where
   pub is : IsWholeAt nodes i
   pub before : (j : ℕ) → j < i → ¬ IsWholeAt nodes j
 
--- the script is refused for the first one, where it stands
-pub record IsRefusedForWhole (nodes : List Node) (r : Refusal) : Type 0 where
+-- the script is refused for the first one, with this number, where it stands
+pub record IsRefusedForWhole (number : ℕ) (nodes : List Node) (r : Refusal) : Type 0 where
   pub node : ℕ
   pub first : IsFirstWhole nodes node
   pub place : Place
   pub stands : place_at nodes node ≡ Some place
-  pub refusal : IsRefusedAs Script 12 place Nothing r
+  pub refusal : IsRefusedAs Script number place Nothing r
 
 -- the command solves the problem of its script, checks what shows its answers, or filters its constraints
 abbrev pub IsSolving : Command → Type 0
@@ -44,3 +44,15 @@ IsSolving (certify script settings cert) = ⊤
 IsSolving (migrate script settings cert) = ⊤
 IsSolving (trial size limit) = ⊤
 IsSolving (iis script settings limit) = ⊤
+
+-- the number of the refusal: what the command does isn't offered with such variables, or it has no meaning with them
+abbrev pub whole_number : Command → ℕ
+whole_number (check script) = 12
+whole_number (solve script limit) = 12
+whole_number (resolve script settings limit false) = 12
+whole_number (resolve script settings limit true) = 34
+whole_number (certificate script settings limit) = 34
+whole_number (certify script settings cert) = 34
+whole_number (migrate script settings cert) = 34
+whole_number (trial size limit) = 12
+whole_number (iis script settings limit) = 34

@@ -28,9 +28,7 @@ use crate::solving::{Task, resolve, solve, trial};
 use crate::write::write_all;
 use dcx_answer::Stop;
 use dcx_host::{Library, Sink, SinkFault};
-use dcx_report::{
-    FilterEnd, FilterOutcome, FilterStop, Outcome, OutcomeEnd, Run, report_text,
-};
+use dcx_report::{FilterEnd, FilterOutcome, FilterStop, Outcome, OutcomeEnd, Run, report_text};
 use dcx_steps::Steps;
 use dcx_words::{Form, plain_form};
 use std::alloc::Global;
@@ -95,15 +93,7 @@ fn answer<L: Library, S: Ledger>(
             script,
             settings,
             limit,
-        } => resolve(
-            alloc,
-            script,
-            settings,
-            Task::Filter,
-            limit,
-            library,
-            steps,
-        ),
+        } => resolve(alloc, script, settings, Task::Filter, limit, library, steps),
     }
 }
 
@@ -140,9 +130,7 @@ fn outcomes_status(outcomes: &[Outcome]) -> u8
 fn has_filter_stop(outcomes: &[FilterOutcome]) -> bool
     ensures { result ≡ list_any (λ o. is_filter_stop o.end) outcomes.now }
 {
-    outcomes
-        .iter()
-        .any(|outcome| matches!(&outcome.end, FilterEnd::Filter(_) | FilterEnd::Stop(_)))
+    outcomes.iter().any(|outcome| matches!(&outcome.end, FilterEnd::Filter(_) | FilterEnd::Stop(_)))
 }
 
 /// Whether a setting at which constraints are filtered stopped for want of memory.

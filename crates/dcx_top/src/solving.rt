@@ -12,7 +12,7 @@ ghost use Rattle.dcx_front.specs.Accepts.{IsJudged};
 ghost use Rattle.dcx_words.specs.Commands.{solve as solves, trial as tries, command_of};
 ghost use Rattle.dcx_overlay.specs.Settings.{AreLaidOver};
 ghost use Rattle.dcx_host.specs.Files.{Files};
-ghost use Rattle.dcx_top.specs.Runs.{OrWhole, SolvesAt, CertifiesAt, FiltersAt, TriesAt, DoesAt, DoesFrom, command_for, Causes};
+ghost use Rattle.dcx_top.specs.Runs.{OrWhole, SolvesAt, CertifiesAt, FiltersAt, TriesAt, DoesAt, DoesFrom, task_number, command_for, Causes};
 
 use crate::certifying::written;
 use crate::files::{ended, read_script, read_settings};
@@ -119,9 +119,9 @@ fn solve_events<S: Ledger>(
     steps: &mut Steps<S>,
 ) -> Run
     requires { IsJudged accepted.work.problem accepted.verdict }
-    ensures { OrWhole accepted.work.problem (SolvesAt false accepted.work.problem limit accepted.work.events (λ os count. Run.Solved Word.Solve accepted.work.problem.sense os count) steps.old steps.new) steps.old steps.new result }
+    ensures { OrWhole 12 accepted.work.problem (SolvesAt false accepted.work.problem limit accepted.work.events (λ os count. Run.Solved Word.Solve accepted.work.problem.sense os count) steps.old steps.new) steps.old steps.new result }
 {
-    if let Some(refusal) = refuse_whole(&accepted.work.problem) {
+    if let Some(refusal) = refuse_whole(&accepted.work.problem, 12) {
         return Run::Refused(refusal);
     }
     let Accepted { work, verdict } = accepted;
@@ -181,9 +181,9 @@ fn solve_trial<S: Ledger>(
     steps: &mut Steps<S>,
 ) -> Run
     requires { IsJudged accepted.work.problem accepted.verdict }
-    ensures { OrWhole accepted.work.problem (TriesAt accepted.work size limit steps.old steps.new) steps.old steps.new result }
+    ensures { OrWhole 12 accepted.work.problem (TriesAt accepted.work size limit steps.old steps.new) steps.old steps.new result }
 {
-    if let Some(refusal) = refuse_whole(&accepted.work.problem) {
+    if let Some(refusal) = refuse_whole(&accepted.work.problem, 12) {
         return Run::Refused(refusal);
     }
     let Accepted { work, verdict } = accepted;
@@ -216,6 +216,16 @@ pub(crate) fn solve<L: Library, S: Ledger>(
     }
 }
 
+/// The number of the refusal of a script that has a variable that is to be whole.
+fn whole_refusal(task: Task) -> u8
+    ensures { result ≡ task_number task }
+{
+    match task {
+        Task::Resolve { warm: false } => 12,
+        Task::Resolve { warm: true } | Task::Certificate | Task::Filter => 34,
+    }
+}
+
 /// What is asked of an accepted problem at the settings of a file.
 fn do_file<L: Library, S: Ledger>(
     alloc: Global,
@@ -227,11 +237,11 @@ fn do_file<L: Library, S: Ledger>(
     steps: &mut Steps<S>,
 ) -> Run
     requires { IsJudged accepted.work.problem accepted.verdict }
-    ensures run { OrWhole accepted.work.problem (DoesFrom (L.told library.old) (Rose (L.faults library.old) (L.faults library.new)) task accepted.work settings.now limit steps.old steps.new) steps.old steps.new result }
+    ensures run { OrWhole (task_number task) accepted.work.problem (DoesFrom (L.told library.old) (Rose (L.faults library.old) (L.faults library.new)) task accepted.work settings.now limit steps.old steps.new) steps.old steps.new result }
     ensures same { L.told library.new ≡ L.told library.old }
     ensures never_falls { L.faults library.old ≤ L.faults library.new }
 {
-    if let Some(refusal) = refuse_whole(&accepted.work.problem) {
+    if let Some(refusal) = refuse_whole(&accepted.work.problem, whole_refusal(task)) {
         return Run::Refused(refusal);
     }
     match read_settings(alloc, settings, library) {

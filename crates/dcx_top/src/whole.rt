@@ -1,5 +1,6 @@
 //! Variables whose entries are to be whole: a problem that has one is checked, and not solved.
 ghost use Rattle.std.specs.Prelude.{◌↔◌, ◌≢◌, ◌<◌, length, IsTrue, MatchOption};
+ghost use Rattle.dcx_front.specs.Refusals.{is_refusal};
 ghost use Rattle.dcx_top.specs.Whole.{IsWholeAt, HasNoWhole, IsFirstWhole, IsRefusedForWhole};
 
 use dcx_front::{Carried, Refusal, RefusalSource};
@@ -35,14 +36,15 @@ fn first_whole(tree: &Tree) -> Option<NodeId>
     None
 }
 
-/// The refusal of a script whose problem has a variable that is to be whole, at the place of the first one.
-pub(crate) fn refuse_whole(problem: &Problem) -> Option<Refusal>
-    ensures { MatchOption result (HasNoWhole problem.now.tree) (IsRefusedForWhole problem.now.tree) }
+/// The refusal, with this number, of a script whose problem has a variable that is to be whole, at the place of the first one.
+pub(crate) fn refuse_whole(problem: &Problem, number: u8) -> Option<Refusal>
+    requires { IsTrue (is_refusal number Carried.Nothing) }
+    ensures { MatchOption result (HasNoWhole problem.now.tree) (IsRefusedForWhole number problem.now.tree) }
 {
     let node = first_whole(&problem.tree)?;
     Some(Refusal {
         source: RefusalSource::Script,
-        number: 12,
+        number,
         place: problem.tree.place(node),
         carried: Carried::Nothing,
     })
