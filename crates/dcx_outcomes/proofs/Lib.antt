@@ -6,4 +6,4 @@ pub mod OneOutcome
 pub mod More
 pub mod Warm
 pub mod Counting
-pub mod Filters
+pub mod FilterEnds

@@ -7,7 +7,7 @@ use Rattle.dcx_report.specs.declared.filter_outcome.FilterOutcome.{FilterOutcome
 use Rattle.dcx_words.specs.Commands.{Command, iis, command_of}
 use Rattle.dcx_outcomes.specs.Filters.{AreFilterOutcomes}
 use Rattle.dcx_outcomes.specs.FilterLaws.{AreAlikeFilters}
-use Rattle.dcx_outcomes.proofs.Filters.{filters_are_one}
+use Rattle.dcx_outcomes.proofs.FilterEnds.{filters_are_one}
 use Rattle.dcx_top.specs.Commands.{AreSettingsOf, limit_of}
 use Rattle.dcx_top.specs.Runs.{GivesProblem, IsFilteredRun}
 use Rattle.dcx_top.specs.OneRun.{AreAlikeFiltersOver}

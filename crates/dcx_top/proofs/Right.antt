@@ -9,7 +9,7 @@ use Rattle.dcx_report.specs.declared.run.Run.TheVariants as run
 use Rattle.dcx_words.specs.Commands.{Command, check, certificate, certify, migrate, iis, command_of}
 use Rattle.dcx_words.specs.Laws.{is_warm_command}
 use Rattle.dcx_outcomes.proofs.Warm.{found_are_right}
-use Rattle.dcx_outcomes.proofs.Filters.{filters_are_right}
+use Rattle.dcx_outcomes.proofs.FilterEnds.{filters_are_right}
 use Rattle.dcx_sections.specs.declared.section.Section.{Section}
 use Rattle.dcx_sections.specs.declared.section.Sections.{Sections}
 use Rattle.dcx_certificates.specs.Checking.{AreShown}

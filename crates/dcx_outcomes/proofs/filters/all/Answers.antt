@@ -4,7 +4,7 @@ use Rattle.dcx_tree.specs.declared.problem.Problem.{Problem}
 use Rattle.dcx_cache.specs.Programs.{HasMap}
 use Rattle.dcx_outcomes.specs.Filters.{IsFilterOutcome}
 use Rattle.dcx_outcomes.proofs.More.{steps_more}
-use Rattle.dcx_outcomes.proofs.Filters.{filters_more}
+use Rattle.dcx_outcomes.proofs.FilterEnds.{filters_more}
 use Rattle.dcx_outcomes.proofs.filters.all.Goals as goal
 
 pub loop-setting-preserved : goal.loop-setting-preserved

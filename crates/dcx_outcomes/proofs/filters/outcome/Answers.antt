@@ -1,6 +1,6 @@
 -- The outcome tells how the setting ends.
 use Rattle.std.proofs.Common.{◌∙◌}
-use Rattle.dcx_outcomes.proofs.Filters.{end_names, outcome_is}
+use Rattle.dcx_outcomes.proofs.FilterEnds.{end_names, outcome_is}
 use Rattle.dcx_outcomes.proofs.filters.outcome.Goals as goal
 
 pub told-requires : goal.told-requires

@@ -1,4 +1,4 @@
-use Rattle.dcx_outcomes.proofs.Filters as holds
+use Rattle.dcx_outcomes.proofs.FilterEnds as holds
 use Rattle.dcx_outcomes.proofs.laws.filters_are_right.Goals as goal
 
 pub returns : goal.returns
