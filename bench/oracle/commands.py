@@ -75,12 +75,12 @@ class Accepted:
         self.problem, self.events, self.last = elaborate(parse(tokens_of(text_of(data))))
         self.verdict = Verdict(self.problem)
 
-    def test_solvable(self):
-        """A problem with a variable whose entries are to be whole is not solved."""
+    def test_solvable(self, number):
+        """A problem with a variable whose entries are to be whole is not solved, and refused with this number."""
         for _, n in self.problem.variables:
             node = self.problem.nodes[n]
             if node.call[3]:
-                raise Refused(12, node.place)
+                raise Refused(number, node.place)
 
 
 def ends_of(accepted, settings, limit):
@@ -138,7 +138,7 @@ def run_command(command, operands, limit, warm, fetch):
     accepted = Accepted(fetch(operands[0]))
     if command == "check":
         return 0, report.checked(accepted.problem, accepted.verdict)
-    accepted.test_solvable()
+    accepted.test_solvable(12 if command == "solve" or command == "resolve" and not warm else 34)
     if command == "solve":
         ends = ends_of(accepted, accepted.events, limit)
         return status_of(ends), report.solved(accepted.problem, "solve", ends)
