@@ -19,8 +19,8 @@ returns-in-Certificate g c =
       task_certified c.args.accepted.work c.args.limit c.in-Ok.settings.items c.deref.result.now c.args.task c.args.steps.now c.certified_at.new.steps c.certified_at.result c.in-Certificate.is c.deref.ensures.value c.certified_at.ensures,
     )
 
-pub returns-in-Filter : goal.returns-in-Filter
-returns-in-Filter g c =
+pub returns : goal.returns
+returns g c =
     inr (
       c.in-Ok.settings.items,
       subst (λ l. AreLaidOver c.args.accepted.work.last l c.in-Ok.settings.items) c.as_slice.ensures c.in-Ok.ensures,
