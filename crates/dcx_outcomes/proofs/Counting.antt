@@ -13,6 +13,10 @@ pub on_ok : {A E : Type 0} (r : Result A E) (P : Type 0) → P → OnOk r P
 on_ok (Ok x) P h = h
 on_ok (Err e) P h = tt
 
+pub both_ok : {A E : Type 0} (r : Result A E) (P Q R : Type 0) → (P → Q → R) → OnOk r P → OnOk r Q → OnOk r R
+both_ok (Ok x) P Q R f h k = f h k
+both_ok (Err e) P Q R f h k = tt
+
 -- those of the beginning, and those of the settings
 pub counts : (p q : Problem) (cached : Bool) (n old begun new : ℕ) → q ≡ p → (IsTrue cached → begun ≡ old + length p.tree) → (IsTrue cached ↔ HasMap p) → begun ≤ old + length p.tree → (HasMap q → new ≡ begun) →
     new ≤ begun + n * length q.tree → Counts p n old new

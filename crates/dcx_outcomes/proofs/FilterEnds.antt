@@ -1,6 +1,6 @@
 -- What holds of the outcomes of settings at which constraints are filtered.
-use Rattle.std.proofs.Common.{◌≡◌, ◌≢◌, ◌⊎◌, inl, inr, ℕ, ◌+◌, ◌<◌, List, [], ◌∷◌, ◌++◌, length, take, get_or, Result, Ok, Err, refl, sym, ap, ap₂, ◌∙◌, subst}
-use Rattle.std.specs.Prelude.{⊤, is_some}
+use Rattle.std.proofs.Common.{◌≡◌, ◌≢◌, ◌⊎◌, inl, inr, ℕ, ◌+◌, ◌<◌, List, [], ◌∷◌, ◌++◌, length, take, get_or, Ok, Err, refl, sym, ap, ap₂, ◌∙◌, subst}
+use Rattle.std.specs.Prelude.{is_some}
 use Rattle.std.specs.List.{AllZip}
 use Rattle.dcx_frac.specs.declared.fraction.Frac.{Frac}
 use Rattle.dcx_point.specs.Pairs.{Pairs}
@@ -20,16 +20,17 @@ use Rattle.dcx_report.specs.NodeStops.{filter_names_node}
 use Rattle.dcx_graph.specs.declared.stop.ReduceStop.{ReduceStop}
 use Rattle.dcx_graph.specs.declared.stop.ReduceStop.TheVariants as reduces
 use Rattle.dcx_graph.specs.Program.{Program}
-use Rattle.dcx_cache.specs.Programs.{SessionGives, IsUnformed, ProgramStops}
+use Rattle.dcx_graph.specs.Answers.{IsReducedAt}
+use Rattle.dcx_cache.specs.Programs.{SessionGives, IsProgramAt, IsUnformed, ProgramStops}
 use Rattle.dcx_cache.specs.Stops.{program_stop}
 use Rattle.dcx_cache.proofs.OneEnd.{one_program, program_apart, same_program, unfit}
 use Rattle.dcx_iis.specs.Steps.{StopsFilter, StopsAt}
-use Rattle.dcx_iis.specs.Found.{IsFound}
+use Rattle.dcx_iis.specs.Found.{IsRight, IsFound}
 use Rattle.dcx_iis.proofs.Ends.{found_or_stopped, stops_are_one}
 use Rattle.dcx_iis.proofs.OneFound.{found_is_one}
 use Rattle.dcx_outcomes.specs.Outcomes.{NamesNodes}
 use Rattle.dcx_outcomes.specs.Filters.{IsFilteredAt, IsFilterStopped, EndsFilter, NamesNodesOf, filter_place, IsFilterOutcome, AreFilterOutcomes}
-use Rattle.dcx_outcomes.specs.FilterLaws.{FindsRight, FiltersAreRight, WantsMemory, IsSameEnd, AreOneFilterEnd, AreAlikeFilters, FiltersAreOne}
+use Rattle.dcx_outcomes.specs.FilterLaws.{FindsRight, FiltersAreRight, WantsMemory, IsSameEnd, AreOneFilterEnd, FiltersAreOne}
 use Rattle.dcx_outcomes.proofs.Named.{in_program}
 use Rattle.dcx_outcomes.proofs.Placed.{placed}
 use Rattle.dcx_outcomes.proofs.More.{one_taken}
@@ -61,6 +62,31 @@ pub outcome_is : (p q : Problem) (setting : Pairs) (limit : ℕ) (end : FilterEn
 outcome_is p q setting limit end o same ends is place = record {
   ends = subst (EndsFilter p limit setting) (sym is) ends;
   placed = place ∙ ap (λ (z : Problem). filter_place z end) same ∙ ap (filter_place p) (sym is);
+}
+
+-- ---- one setting
+-- the program of a session is a reduced program of the problem that it tells
+pub reduced_there : (p q : Problem) (setting : Pairs) (r : Program Frac) → q ≡ p → IsProgramAt p setting r → IsReducedAt q (setting_of q setting) r
+reduced_there p q setting r same h = subst (λ (z : Problem). IsReducedAt z (setting_of z setting) r) (sym same) h.reduced
+
+pub filtered_there : (p q : Problem) (setting : Pairs) (limit : ℕ) (r : Program Frac) (found : Filtered) → q ≡ p → FitsParameters p.parameters setting → SessionGives p setting (Ok r) → IsProgramAt p setting r →
+    IsRight q (setting_of q setting) found → IsFound q r limit found → IsFilteredAt p limit setting found
+filtered_there p q setting limit r found same fits gives is right by = record {
+  fits = fits;
+  program = r;
+  gives = gives;
+  is_found = subst (λ (z : Problem). IsFound z r limit found) same by;
+  fitting = is.fitting;
+  right = subst (λ (z : Problem). IsRight z (setting_of z setting) found) same right;
+}
+
+pub stopped_there : (p q : Problem) (setting : Pairs) (limit : ℕ) (r : Program Frac) (stop : FilterStop) → q ≡ p → FitsParameters p.parameters setting → SessionGives p setting (Ok r) → StopsFilter q (setting_of q setting) r limit stop →
+    IsFilterStopped p limit setting stop
+stopped_there p q setting limit r stop same fits gives h = record {
+  fits = fits;
+  program = r;
+  gives = gives;
+  stops = subst (λ (z : Problem). StopsFilter z (setting_of z setting) r limit stop) same h;
 }
 
 -- ---- one setting more

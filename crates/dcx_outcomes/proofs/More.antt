@@ -14,7 +14,7 @@ use Rattle.dcx_cache.specs.declared.rewarming.Warmed.{Warmed}
 use Rattle.dcx_cache.specs.Answers.{Answers}
 use Rattle.dcx_cache.specs.Warm.{WarmAnswersAll}
 use Rattle.dcx_outcomes.specs.Outcomes.{NamesNodes, IsOutcome, AreOutcomes}
-use Rattle.dcx_outcomes.specs.Warm.{is_kept, Tells, AreTold, AreFound, AreWarmOutcomes, EndsFrom, IsToldFrom, EndFrom, AreToldFrom, counted_where}
+use Rattle.dcx_outcomes.specs.Warm.{is_kept, Tells, AreTold, AreFound, EndsFrom, IsToldFrom, EndFrom, AreToldFrom, counted_where}
 use Rattle.dcx_outcomes.proofs.Named.{names_nodes}
 
 pub one_taken : {X : Type 0} (xs : List X) (i : ℕ) (x : X) → i < length xs → x ≡ get_or xs i x → take (i + 1) xs ≡ take i xs ++ x ∷ []

@@ -1,9 +1,8 @@
 -- The outcome of the next setting is one outcome more.
-use Rattle.std.proofs.Common.{◌≡◌, ℕ, ◌+◌, ◌≤◌, Bool, cond, List, length, take, sym, ap, ◌∙◌, subst, arith}
+use Rattle.std.proofs.Common.{◌+◌, ◌≤◌, length, take, sym, ap, ◌∙◌, subst, arith}
 use Rattle.dcx_tree.specs.declared.problem.Problem.{Problem}
-use Rattle.dcx_report.specs.declared.outcome.Outcome.{Outcome}
 use Rattle.dcx_cache.specs.Programs.{HasMap}
-use Rattle.dcx_outcomes.specs.Warm.{IsToldFrom, AreToldFrom}
+use Rattle.dcx_outcomes.specs.Warm.{IsToldFrom}
 use Rattle.dcx_outcomes.proofs.More.{told_step, items_of, flag_added, kept_within, steps_more}
 use Rattle.dcx_outcomes.proofs.finding.all.Goals as goal
 

@@ -1,5 +1,5 @@
 -- The outcome tells how the session ends at the setting.
-use Rattle.std.proofs.Common.{subst, sym, ◌∙◌}
+use Rattle.std.proofs.Common.{subst, ◌∙◌}
 use Rattle.dcx_tree.specs.declared.problem.Problem.{Problem}
 use Rattle.dcx_outcomes.specs.Warm.{Tells}
 use Rattle.dcx_outcomes.proofs.More.{names_end}
