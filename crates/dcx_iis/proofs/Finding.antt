@@ -27,6 +27,7 @@ use Rattle.dcx_mapping.specs.Programs.{gap_rows, bound_row}
 use Rattle.dcx_postsolve.specs.Duals.{all_multipliers, AreDuals, multipliers_in}
 use Rattle.dcx_solved.specs.Solved.{IsSolved}
 use Rattle.dcx_graph.specs.Program.{Program}
+use Rattle.dcx_graph.proofs.Slacks.{gaps_length}
 use Rattle.dcx_answer.specs.declared.filter_stop.FilterStop.{FilterStop}
 use Rattle.dcx_answer.specs.declared.filter_stop.FilterStop.TheVariants as filter
 use Rattle.dcx_answer.specs.declared.filtered.Filtered.{Filtered}
@@ -40,7 +41,7 @@ use Rattle.dcx_iis.specs.Found.{IsFeasiblePoint, KeepsOthers, IsIrreducible, IsR
 use Rattle.dcx_iis.specs.Multipliers.{HasShapeOf, AreSpread}
 use Rattle.dcx_iis.specs.Runs.{IsStep, IsTried, IsShownImpossible, IsDecided, numbers_from, IsLeft, IsEnd, StopsTrying, StopsRun}
 use Rattle.dcx_iis.proofs.Sets.{beside_same, within_beside}
-use Rattle.dcx_iis.proofs.Kept.{kept_same, gaps_length}
+use Rattle.dcx_iis.proofs.Kept.{kept_same}
 use Rattle.dcx_iis.proofs.Telling.{program_same}
 use Rattle.dcx_iis.proofs.Shown.{zip_length, not_impossible, point_domain, point_keeps, shown_impossible, rows_noted, duals_show, rows_few}
 use Rattle.dcx_iis.proofs.Flags.{flagged_all, numbers_below, numbers_rise, among_is, zip_weaker}

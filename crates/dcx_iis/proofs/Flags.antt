@@ -4,7 +4,7 @@ use Rattle.std.specs.Prelude.{nat_eq, ◌||◌, slice_index_or}
 use Rattle.std.specs.List.{AllZip, list_any}
 use Rattle.std.proofs.Math.Path.{fun_ext}
 use Rattle.std.proofs.lemmas.Bool.{cases_order, eqb-true, eq-eqb, ne_eqb, cases_eq, true≢false, or_cases}
-use Rattle.std.proofs.lemmas.List.{set-set, set-get_or, take-set-le, length-set}
+use Rattle.std.proofs.lemmas.List.{get_or_default, set-set, set-get_or, take-set-le, length-set}
 use Rattle.std.proofs.lemmas.List.Elements.{All-nil, All-cons, All-head, All-tail}
 use Rattle.dcx_linear.specs.Terms.{IsRising}
 use Rattle.dcx_iis.specs.Sets.{ConstraintSet, every_constraint, set_of, flagged, left_beside}
@@ -17,6 +17,10 @@ all_flags : (n k : ℕ) → flagged (replicate n true) k ≡ true
 all_flags zero k = refl
 all_flags (suc n) zero = refl
 all_flags (suc n) (suc k) = all_flags n k
+
+-- a flag that is read is the one that is told
+pub flag_read : (flags : List Bool) (i : ℕ) (d : Bool) → i < length flags → flagged flags i ≡ get_or flags i d
+flag_read flags i d l = get_or_default flags i true d l
 
 -- flags that are all set tell all constraints
 pub flagged_all : (flags : List Bool) (n : ℕ) → flags ≡ replicate n true → flagged flags ≡ every_constraint

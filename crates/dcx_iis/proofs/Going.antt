@@ -1,13 +1,20 @@
 -- What is left when one more constraint is tried.
-use Rattle.std.proofs.Common.{◌≡◌, ◌≢◌, ◌⊎◌, ◌↔◌, ℕ, zero, suc, ◌+◌, ◌<◌, ◌≤◌, arith, Bool, true, false, IsTrue, List, [], ◌∷◌, ◌++◌, All, length, take, set, replicate, inl, inr, refl, sym, ap, ◌∙◌, subst, ⊎_elim, get_or-set_other, length-take-le}
+use Rattle.std.proofs.Common.{◌≡◌, ◌≢◌, ◌⊎◌, ◌↔◌, Some, ℕ, zero, suc, ◌+◌, ◌<◌, ◌≤◌, arith, Bool, true, false, IsTrue, List, [], ◌∷◌, ◌++◌, All, length, take, set, replicate, inl, inr, refl, sym, ap, ◌∙◌, subst, ⊎_elim, get_or-set_other, length-take-le}
 use Rattle.std.specs.List.{AllZip}
 use Rattle.std.proofs.lemmas.Bool.{cases_lt, false≢true}
 use Rattle.std.proofs.lemmas.List.{length-set, length-replicate}
 use Rattle.dcx_frac.specs.declared.fraction.Frac.{Frac}
 use Rattle.dcx_point.specs.Pairs.{Pairs}
 use Rattle.dcx_tree.specs.declared.problem.Problem.{Problem}
+use Rattle.dcx_answer.specs.declared.site.Site.TheVariants as sites
+use Rattle.dcx_answer.specs.declared.stop.Stop.TheVariants as stops
+use Rattle.dcx_lp_answer.specs.declared.answer.LpStatus.{LpStatus}
 use Rattle.dcx_lp_answer.specs.declared.answer.LpStatus.TheVariants as status
 use Rattle.dcx_lp_answer.specs.declared.answer.LpAnswer.{LpAnswer}
+use Rattle.dcx_lp_answer.specs.declared.stop.MultiplierStop.{MultiplierStop}
+use Rattle.dcx_lp_answer.specs.declared.stop.MultiplierStop.TheVariants as multipliers
+use Rattle.dcx_lp_answer.specs.Multipliers.{passing_from, StopsAt}
+use Rattle.dcx_postsolve.specs.Duals.{all_multipliers}
 use Rattle.dcx_solved.specs.declared.stop.SolveStop.{SolveStop}
 use Rattle.dcx_solved.specs.declared.stop.SolveStop.TheVariants as solves
 use Rattle.dcx_solved.specs.Solved.{IsSolved, Stops}
@@ -17,10 +24,15 @@ use Rattle.dcx_answer.specs.declared.filter_stop.FilterStop.TheVariants as filte
 use Rattle.dcx_iis.specs.declared.trying.Tried.TheVariants as tried
 use Rattle.dcx_iis.specs.declared.left.Left.{Left}
 use Rattle.dcx_iis.specs.Sets.{ConstraintSet, every_constraint, flagged, left_beside}
-use Rattle.dcx_iis.specs.Steps.{program_of_set, step_set, IsReadAt, IsLastImpossible}
-use Rattle.dcx_iis.specs.Runs.{IsStep, IsTried, StopsTry, IsShownImpossible, IsDecided, numbers_from, IsLeft, StopsRun}
+use Rattle.dcx_iis.specs.Steps.{kept_of, program_of_set, step_set, IsReadAt, IsLastImpossible}
+use Rattle.dcx_iis.specs.Runs.{IsStep, IsTried, step_stop, StopsTry, IsShownImpossible, IsDecided, numbers_from, IsLeft, StopsRun}
 use Rattle.dcx_iis.proofs.Sets.{beside_same, beside_before, beside_itself, beside_behind}
 use Rattle.dcx_iis.proofs.Flags.{flagged_all, flagged_cleared, flags_restored, numbers_stay, numbers_cleared, numbers_below, zip_push, zip_weaker}
+
+-- the stop at a multiplier
+abbrev pub forming_stop : ℕ → MultiplierStop → FilterStop
+forming_stop step (multipliers.Wide row passes) = filter.Step step (stops.Wide (sites.Answer row passes))
+forming_stop step multipliers.Memory = filter.Memory
 
 module _ (p : Problem) (q : Program Frac) (limit : ℕ) where
   -- ---- sets that agree on the constraints before one
@@ -38,7 +50,31 @@ module _ (p : Problem) (q : Program Frac) (limit : ℕ) where
     read = r.read;
   }
 
+  -- ---- one step
+  -- the stop of its program is its own
+  pub stops_try : (set : ConstraintSet) (step : ℕ) (e : SolveStop) → Stops limit (program_of_set p q set) e → StopsTry p q limit set step (step_stop step e)
+  stops_try set step (solves.TooLarge r c) h = (refl, solves.TooLarge r c, λ e. cc, h, refl)
+  stops_try set step (solves.Wide site) h = (refl, solves.Wide site, λ e. cc, h, refl)
+  stops_try set step (solves.PivotLimit n) h = (refl, solves.PivotLimit n, λ e. cc, h, refl)
+  stops_try set step solves.Memory h = tt
+
   -- ---- the first step
+  -- it stops
+  pub first_stops : (flags : List Bool) (e : FilterStop) → flags ≡ replicate (length p.constraints) true → StopsTry p q limit (flagged flags) 0 e → StopsRun p q limit e
+  first_stops flags (filter.Step step stop) all (number, inner, some, stops, told) =
+      let same : step_set every_constraint step ≡ flagged flags = ap (step_set every_constraint) number ∙ sym (flagged_all flags (length p.constraints) all) in
+      inl (record {
+        set = every_constraint;
+        within = omega (arith, number);
+        first = λ b. absurd (omega (arith, number, b));
+        decided = λ k b. absurd (omega (arith, number, b));
+        inner = inner;
+        some = some;
+        stops = subst (λ set. Stops limit (program_of_set p q set) inner) (sym same) stops;
+        told = told;
+      })
+  first_stops flags filter.Memory all h = tt
+
   -- all constraints are impossible
   pub first_left : (flags : List Bool) (answer : LpAnswer) (l : Left) → flags ≡ replicate (length p.constraints) true → IsTried p q limit (flagged flags) (tried.Impossible answer) →
       l.kept.items ≡ flags → l.answer ≡ answer → l.step ≡ 0 → l.points.items ≡ [] → IsLeft p q limit 0 l
@@ -154,3 +190,23 @@ module _ (p : Problem) (q : Program Frac) (limit : ℕ) where
               (subst (AllZip (IsReadAt p q limit (flagged flags)) (numbers_from 0 (take (i + 1) flags))) (sym points)
               (subst (λ xs. AllZip (IsReadAt p q limit (flagged flags)) xs l.points.items) (sym (numbers_cleared l.kept.items i within) ∙ ap (λ n. numbers_from 0 (take n flags)) (let e : suc i ≡ i + 1 = omega arith in e)) rest));
         }
+
+  -- ---- the end
+  -- a multiplier of what is left passes
+  pub forming_stops : (l : Left) → IsLeft p q limit (length p.constraints) l → (e : MultiplierStop) → StopsAt e (passing_from 0 (all_multipliers l.answer.status (kept_of (flagged l.kept.items) p.constraints) l.answer.rows)) →
+      StopsRun p q limit (forming_stop l.step e)
+  forming_stops l is (multipliers.Wide row passes) first =
+      let (solved, step, none, same) = is.shown in
+      inr (record {
+        set = flagged l.kept.items;
+        first = is.first;
+        decided = is.decided;
+        last = is.last;
+        answer = l.answer;
+        shown = is.shown;
+        row = row;
+        passes = passes;
+        passing = subst (λ (t : LpStatus). passing_from 0 (all_multipliers t (kept_of (flagged l.kept.items) p.constraints) l.answer.rows) ≡ Some (row, passes)) (ap (λ (a : LpAnswer). a.status) same ∙ none) first;
+        told = refl;
+      })
+  forming_stops l is multipliers.Memory first = tt

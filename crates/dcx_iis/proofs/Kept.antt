@@ -127,13 +127,6 @@ rows_same a b i (c ∷ cs) rows h =
     ap₂ (λ (t : Bool) rest. (if t then take (constraint_rows c) rows else []) ++ rest) (h i (omega arith) (omega arith))
     (rows_same a b (suc i) cs (drop (constraint_rows c) rows) (λ k l m. h k (omega (arith, l)) (omega (arith, m))))
 
-pub gaps_length : (forms : Unknowns → ℕ → Numbers) (cs : List Constraint) → length (gap_rows forms (map convex_constraint cs)) ≡ sum_by constraint_rows cs
-gaps_length forms [] = refl
-gaps_length forms (c ∷ cs) =
-    length-append (list_below (constraint_rows c) (gap_row forms (convex_constraint c))) (gap_rows forms (map convex_constraint cs))
-    ∙ ap₂ ◌+◌ (length-list_below (constraint_rows c) (gap_row forms (convex_constraint c))) (gaps_length forms cs)
-    ∙ sym (sum_by-cons constraint_rows c cs)
-
 -- ---- widths
 module _ {C : Type 0} (n : ℕ) where
   width_append : (xs ys : List (Row C)) → rows_width xs ≤ n → rows_width ys ≤ n → rows_width (xs ++ ys) ≤ n

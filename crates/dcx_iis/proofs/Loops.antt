@@ -9,6 +9,8 @@ use Rattle.dcx_math.specs.Rational.{whole}
 use Rattle.dcx_atom.specs.declared.array.Array.{Array}
 use Rattle.dcx_atom.specs.Arrays.{number_at}
 use Rattle.dcx_tree.specs.declared.constraint.Constraint.{Constraint}
+use Rattle.dcx_linear.specs.declared.form.Form.{Form}
+use Rattle.dcx_linear.specs.declared.row.Row.{Row}
 use Rattle.dcx_linear.proofs.Formed.{drop_at}
 use Rattle.dcx_unknowns.specs.Layout.{constraint_rows}
 use Rattle.dcx_postsolve.specs.Duals.{multipliers_in}
@@ -150,6 +152,11 @@ module _ (set : ConstraintSet) (cs : List Constraint) (i : ℕ) (c : Constraint)
         (λ e. own.zero (false_from_ne_true (set i) (λ u. n (ap set (e ∙ count) ∙ u))) j);
     rest_shaped = own.rest;
   }
+
+-- where none has, all arrays are left
+pub spread_first : (set : ConstraintSet) (cs : List Constraint) (arrays duals rest : List Array) → duals ≡ [] → rest ≡ arrays → AllZip HasShapeOf (kept_of set cs) arrays → AreSpreadSo set cs 0 arrays duals rest
+spread_first set cs arrays duals rest none e h =
+    subst (λ ys. AreSpreadSo set cs 0 arrays ys rest) (sym none) (record { shaped = tt; kept = e; zeros = λ k n j. refl; rest_shaped = subst (AllZip HasShapeOf (kept_of set cs)) (sym e) h })
 
 -- where no constraint is left, the arrays are spread
 pub spread_last : (set : ConstraintSet) (cs : List Constraint) (i : ℕ) (arrays duals rest : List Array) → length cs ≤ i → AreSpreadSo set cs i arrays duals rest → AreSpread set cs arrays duals

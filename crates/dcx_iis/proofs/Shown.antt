@@ -1,6 +1,6 @@
 -- What a step shows: its point keeps the set, or the set is impossible, and then its multipliers show it.
 use Rattle.std.proofs.Common.{◌≡◌, ◌≢◌, ℕ, suc, ◌<◌, ◌≤◌, ◌^◌, arith, List, [], ◌∷◌, length, map, Some, option_map, slice_get, refl, sym, ap, ap₂, ◌∙◌, subst, pos}
-use Rattle.std.specs.Prelude.{sum_by}
+use Rattle.std.specs.Prelude.{sum_by, drop}
 use Rattle.std.specs.List.{AllZip}
 use Rattle.std.proofs.Math.Path.{fun_ext}
 use Rattle.std.proofs.lemmas.List.{length-map}
@@ -12,8 +12,6 @@ use Rattle.dcx_frac.specs.declared.fraction.Frac.{Frac}
 use Rattle.dcx_frac.specs.Frac.{value}
 use Rattle.dcx_atom.specs.declared.array.Array.{Array}
 use Rattle.dcx_point.specs.Pairs.{Pairs}
-use Rattle.dcx_call.specs.declared.attribute.Variable.{Variable}
-use Rattle.dcx_call.specs.Values.{given_by}
 use Rattle.dcx_convex.specs.Nodes.{Setting}
 use Rattle.dcx_convex.specs.Problems.{Holds}
 use Rattle.dcx_convex.specs.Answers as answers
@@ -27,6 +25,7 @@ use Rattle.dcx_tab.specs.Table.{Table}
 use Rattle.dcx_lp_answer.specs.declared.answer.LpStatus.{LpStatus}
 use Rattle.dcx_lp_answer.specs.declared.answer.LpStatus.TheVariants as status
 use Rattle.dcx_lp_answer.specs.declared.answer.LpAnswer.{LpAnswer}
+use Rattle.dcx_lp_answer.specs.declared.answer.RowNote.{RowNote}
 use Rattle.dcx_lp_answer.specs.Right.{multiplier_at, IsOneSided, IsRightAs}
 use Rattle.dcx_simplex.specs.declared.run.LpEnd.{LpEnd}
 use Rattle.dcx_simplex.specs.declared.run.LpEnd.TheVariants as ends
@@ -37,8 +36,6 @@ use Rattle.dcx_std.proofs.ScaledProgram.{scaled_program}
 use Rattle.dcx_std.proofs.RightAnswers.{shown_of}
 use Rattle.dcx_unknowns.specs.Layout.{constraint_rows}
 use Rattle.dcx_unknowns.specs.Unknowns.{point_at}
-use Rattle.dcx_unknowns.specs.Laws.{IsVariable, KeepsDomain}
-use Rattle.dcx_unknowns.proofs.Domains.{to_domain, to_variables}
 use Rattle.dcx_mapping.specs.Programs.{bound_row, multipliers_of}
 use Rattle.dcx_postsolve.specs.Points.{numbered, IsPointOf}
 use Rattle.dcx_postsolve.specs.Duals.{AreDuals, multipliers_in}
@@ -46,7 +43,7 @@ use Rattle.dcx_postsolve.specs.Laws.{ColumnsTellUnknowns}
 use Rattle.dcx_postsolve.proofs.ColumnParts.{columns_tell}
 use Rattle.dcx_postsolve.proofs.DualLaws.{right_multiplier}
 use Rattle.dcx_postsolve.proofs.Alike.{arrays_are_points}
-use Rattle.dcx_postsolve.proofs.Carrying.{alike_value}
+use Rattle.dcx_postsolve.proofs.Carrying.{alike_value, domain_alike}
 use Rattle.dcx_solved.specs.declared.solving.Solved.{Solved}
 use Rattle.dcx_graph.specs.Program.{Program}
 use Rattle.dcx_graph.specs.Answers.{HasParts, TellUnknowns, IsPointRead}
@@ -70,22 +67,17 @@ parts_of q t (ends.PivotLimit n) a h = absurd h
 -- ---- points
 -- the point of unknowns whose arrays these are keeps what theirs does
 module _ (p : Problem) (us : List Frac) (given : Pairs) (is : IsPointOf p.variables us given) where
-  variable_same : (k : ℕ) (v : Variable) → IsVariable p.variables k v → point_at p.variables (numbered us) k ≡ point_of p given k
-  variable_same k v at = fun_ext (λ j.
-      sym (is.numbers k v at j)
-      ∙ ap (λ name. given_by given name j) (sym (get_or_from_slice_get (map (λ (w : Variable). w.name) p.variables) k v.name [] (slice_get-map (λ (w : Variable). w.name) p.variables k ∙ ap (option_map (λ (w : Variable). w.name)) at))))
-
-  domain_read : IsInDomain p (point_at p.variables (numbered us)) → IsDomainPoint p given
-  domain_read dom = record {
+  domain_read : (s : Setting) → IsInDomain p (point_at p.variables (numbered us)) → IsDomainPoint p given
+  domain_read s dom = record {
     shaped = is.shaped;
-    domain = to_domain p (point_of p given) (λ k v at. subst (KeepsDomain v) (variable_same k v at) (to_variables p (point_at p.variables (numbered us)) dom k v at));
+    domain = domain_alike p s (point_at p.variables (numbered us)) (point_of p given) (arrays_are_points p us given is) dom;
   }
 
   keeps_read : (s : Setting) (set : ConstraintSet) → KeepsSet p s set (point_at p.variables (numbered us)) → KeepsSet p s set (point_of p given)
   keeps_read s set h =
       let alike = arrays_are_points p us given is in
       record {
-        domain = (domain_read h.domain).domain;
+        domain = (domain_read s h.domain).domain;
         keeps = λ k t c at j l. subst (Holds c.relation)
             (ap₂ (λ x y. x -ℚ y) (alike_value p s (point_at p.variables (numbered us)) (point_of p given) alike c.left j) (alike_value p s (point_at p.variables (numbered us)) (point_of p given) alike c.right j))
             (h.keeps k t c at j l);
@@ -97,6 +89,13 @@ zip_length R [] [] h = refl
 zip_length R [] (y ∷ ys) h = absurd h
 zip_length R (x ∷ xs) [] h = absurd h
 zip_length R (x ∷ xs) (y ∷ ys) h = ap suc (zip_length R xs ys h.1)
+
+-- multipliers that are formed have the shapes of their constraints
+pub duals_shaped : (t : LpStatus) (cs : List Constraint) (notes : List RowNote) (ds : List Array) → AreDuals t cs notes ds → AllZip HasShapeOf cs ds
+duals_shaped t [] notes [] h = tt
+duals_shaped t [] notes (d ∷ ds) h = absurd h
+duals_shaped t (c ∷ cs) notes [] h = absurd h
+duals_shaped t (c ∷ cs) notes (d ∷ ds) h = (h.0.shape, duals_shaped t cs (drop (constraint_rows c) notes) ds h.1)
 
 module _ (p : Problem) (q : Program Frac) (limit : ℕ) (set : ConstraintSet) (solved : Solved) (step : IsStep p q limit set solved) where
   parts : HasParts solved.program solved.answer
@@ -144,7 +143,7 @@ module _ (p : Problem) (q : Program Frac) (limit : ℕ) (set : ConstraintSet) (s
 
     -- the point that is read keeps it
     pub point_domain : solved.answer.status ≢ status.Infeasible → (point : Pairs) → IsPointRead p q.kinds solved.answer.columns point → IsDomainPoint p point
-    point_domain n point at = domain_read p at.unknowns point at.of_variables (subst (λ u. IsInDomain p (point_at p.variables u)) (sym (numbered_same point at)) (some_keeps n).domain)
+    point_domain n point at = domain_read p at.unknowns point at.of_variables s (subst (λ u. IsInDomain p (point_at p.variables u)) (sym (numbered_same point at)) (some_keeps n).domain)
 
     pub point_keeps : solved.answer.status ≢ status.Infeasible → (point : Pairs) → IsPointRead p q.kinds solved.answer.columns point → KeepsSet p s set (point_of p point)
     point_keeps n point at = keeps_read p at.unknowns point at.of_variables s set (subst (λ u. KeepsSet p s set (point_at p.variables u)) (sym (numbered_same point at)) (some_keeps n))

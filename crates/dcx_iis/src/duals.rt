@@ -58,12 +58,13 @@ fn next_dual(
 ) -> Result<Array, AllocError>
     ensures { IfOk result (TakesNext kept constraint.now (into_iter_items rest.old) (into_iter_items rest.new)) }
 {
-    if kept {
-        if let Some(array) = rest.next() {
-            return Ok(array);
-        }
+    if !kept {
+        return zeros(alloc, constraint);
     }
-    zeros(alloc, constraint)
+    match rest.next() {
+        Some(array) => Ok(array),
+        None => zeros(alloc, constraint),
+    }
 }
 
 /// The arrays of the constraints that are kept, each at its place, and zeros for the others.

@@ -47,12 +47,13 @@ impl Left {
             Tried::Possible { point } => {
                 self.kept[constraint as usize] = true;
                 self.points.push(point)?;
+                Ok(())
             }
             Tried::Impossible { answer } => {
                 self.answer = answer;
                 self.step = step;
+                Ok(())
             }
         }
-        Ok(())
     }
 }
