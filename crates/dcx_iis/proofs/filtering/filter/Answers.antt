@@ -1,0 +1,97 @@
+-- What the steps tell is told of the problem.
+use Rattle.std.proofs.Common.{◌≡◌, ◌<◌, ◌≤◌, true, Bool, List, replicate, length, IfOk, IfErr, refl, sym, ap, subst, ◌∙◌}
+use Rattle.std.proofs.lemmas.Result.{IfOk-weaker, IfErr-weaker, err_from_is_err_and}
+use Rattle.dcx_tree.specs.declared.constraint.Constraint.{Constraint}
+use Rattle.dcx_tree.specs.Meaning.{setting_of}
+use Rattle.dcx_iis.specs.declared.trying.Tried.{Tried}
+use Rattle.dcx_iis.specs.Sets.{flagged}
+use Rattle.dcx_iis.specs.Steps.{StopsFilter}
+use Rattle.dcx_iis.specs.Found.{IsRight, IsFound}
+use Rattle.dcx_iis.specs.Runs.{IsTried, IsEnd, StopsTry, StopsRun}
+use Rattle.dcx_iis.proofs.Going.{first_stops, first_left}
+use Rattle.dcx_iis.proofs.Finding.{tells_stop, feasible_point, point_found, left_noted, end_right, end_found, rows_of_reduced}
+use Rattle.dcx_iis.proofs.filtering.filter.Goals as goal
+
+pub try_kept-requires-clause-rows : goal.try_kept-requires-clause-rows
+try_kept-requires-clause-rows c = rows_of_reduced c.args.problem.now (setting_of c.args.problem.now c.args.setting.now) c.args.reduced.now.program c.requires.reduced
+
+pub returns-in_err-point-clause-stops : goal.returns-in_err-point-clause-stops
+returns-in_err-point-clause-stops c =
+    let r = err_from_is_err_and c.from_residual-in_err-point.result c.from_residual-in_err-point.ensures.1 in
+    let p = c.args.problem.now in
+    let q = c.args.reduced.now.program in
+    let limit = c.args.limit in
+    let e = c.in_err-point.field-0.0 in
+    let all = c.in_ok-kept.ensures.items_if_clones_equal (λ y h. h) ∙ ap (λ (cs : List Constraint). replicate (length cs) true) c.as_slice.ensures in
+    rw (r.1, r.2) (tells_stop p q limit (setting_of p c.args.setting.now) c.requires.reduced e
+    (first_stops p q limit c.in_ok-kept.kept.items e all (subst (λ (flags : List Bool). StopsTry p q limit (flagged flags) 0 e) c.deref.ensures.value c.in_err-point.ensures.stops)))
+
+pub try_each-requires-clause-rows : goal.try_each-requires-clause-rows
+try_each-requires-clause-rows c = rows_of_reduced c.args.problem.now (setting_of c.args.problem.now c.args.setting.now) c.args.reduced.now.program c.requires.reduced
+
+pub try_each-requires-clause-left : goal.try_each-requires-clause-left
+try_each-requires-clause-left c =
+    let p = c.args.problem.now in
+    let q = c.args.reduced.now.program in
+    let limit = c.args.limit in
+    let flags = c.in_ok-kept.kept.items in
+    let all = c.in_ok-kept.ensures.items_if_clones_equal (λ y h. h) ∙ ap (λ (cs : List Constraint). replicate (length cs) true) c.as_slice.ensures in
+    first_left p q limit flags c.in-Impossible.answer _ all
+    (subst (λ (t : Tried). IsTried p q limit (flagged flags) t) c.in-Impossible.is
+    (subst (λ (fs : List Bool). IsTried p q limit (flagged fs) c.in_ok-point.field-0) c.deref.ensures.value c.in_ok-point.ensures.tried))
+    refl refl refl c.new.ensures.items
+
+pub returns-in_err-try_each-in-Impossible-clause-stops : goal.returns-in_err-try_each-in-Impossible-clause-stops
+returns-in_err-try_each-in-Impossible-clause-stops c =
+    let r = err_from_is_err_and c.from_residual-in_err-try_each-in-Impossible.result c.from_residual-in_err-try_each-in-Impossible.ensures.1 in
+    let p = c.args.problem.now in
+    rw (r.1, r.2) (tells_stop p c.args.reduced.now.program c.args.limit (setting_of p c.args.setting.now) c.requires.reduced c.in_err-try_each-in-Impossible.field-0.0 c.in_err-try_each-in-Impossible.ensures.stops)
+
+pub found-requires-clause-rows : goal.found-requires-clause-rows
+found-requires-clause-rows c =
+    let p = c.args.problem.now in
+    left_noted p c.args.reduced.now.program c.args.limit (setting_of p c.args.setting.now) c.requires.reduced c.try_each.new.left c.in_ok-try_each-in-Impossible.ensures.left
+
+pub returns-in-Possible-clause-right : goal.returns-in-Possible-clause-right
+returns-in-Possible-clause-right c =
+    let p = c.args.problem.now in
+    let q = c.args.reduced.now.program in
+    let limit = c.args.limit in
+    let flags = c.in_ok-kept.kept.items in
+    let all = c.in_ok-kept.ensures.items_if_clones_equal (λ y h. h) ∙ ap (λ (cs : List Constraint). replicate (length cs) true) c.as_slice.ensures in
+    feasible_point p q limit (setting_of p c.args.setting.now) c.requires.reduced flags c.in-Possible.point all
+    (subst (λ (t : Tried). IsTried p q limit (flagged flags) t) c.in-Possible.is
+    (subst (λ (fs : List Bool). IsTried p q limit (flagged fs) c.in_ok-point.field-0) c.deref.ensures.value c.in_ok-point.ensures.tried))
+
+pub returns-in-Possible-clause-found : goal.returns-in-Possible-clause-found
+returns-in-Possible-clause-found c =
+    let p = c.args.problem.now in
+    let q = c.args.reduced.now.program in
+    let limit = c.args.limit in
+    let flags = c.in_ok-kept.kept.items in
+    let all = c.in_ok-kept.ensures.items_if_clones_equal (λ y h. h) ∙ ap (λ (cs : List Constraint). replicate (length cs) true) c.as_slice.ensures in
+    point_found p q limit (setting_of p c.args.setting.now) c.requires.reduced flags c.in-Possible.point all
+    (subst (λ (t : Tried). IsTried p q limit (flagged flags) t) c.in-Possible.is
+    (subst (λ (fs : List Bool). IsTried p q limit (flagged fs) c.in_ok-point.field-0) c.deref.ensures.value c.in_ok-point.ensures.tried))
+
+pub returns-in_ok-try_each-in-Impossible-clause-right : goal.returns-in_ok-try_each-in-Impossible-clause-right
+returns-in_ok-try_each-in-Impossible-clause-right c =
+    let p = c.args.problem.now in
+    let s = setting_of p c.args.setting.now in
+    IfOk-weaker c.found.result (IsEnd p c.try_each.new.left) (IsRight p s)
+    (end_right p c.args.reduced.now.program c.args.limit s c.requires.reduced c.try_each.new.left c.in_ok-try_each-in-Impossible.ensures.left) c.found.ensures.end
+
+pub returns-in_ok-try_each-in-Impossible-clause-found : goal.returns-in_ok-try_each-in-Impossible-clause-found
+returns-in_ok-try_each-in-Impossible-clause-found c =
+    let p = c.args.problem.now in
+    let q = c.args.reduced.now.program in
+    IfOk-weaker c.found.result (IsEnd p c.try_each.new.left) (IsFound p q c.args.limit)
+    (end_found p q c.args.limit (setting_of p c.args.setting.now) c.requires.reduced c.try_each.new.left c.in_ok-try_each-in-Impossible.ensures.left) c.found.ensures.end
+
+pub returns-in_ok-try_each-in-Impossible-clause-stops : goal.returns-in_ok-try_each-in-Impossible-clause-stops
+returns-in_ok-try_each-in-Impossible-clause-stops c =
+    let p = c.args.problem.now in
+    let q = c.args.reduced.now.program in
+    let s = setting_of p c.args.setting.now in
+    IfErr-weaker c.found.result (StopsRun p q c.args.limit) (StopsFilter p s q c.args.limit) (tells_stop p q c.args.limit s c.requires.reduced)
+    (c.found.ensures.stops q c.args.limit c.in_ok-try_each-in-Impossible.ensures.left)
