@@ -1,5 +1,5 @@
 -- What the steps show of the problem: what is found, and what stops.
-use Rattle.std.proofs.Common.{◌≡◌, ◌≢◌, ◌↔◌, ℕ, zero, suc, ◌+◌, ◌<◌, ◌≤◌, arith, Bool, true, IsTrue, List, [], ◌∷◌, All, length, take, replicate, inl, inr, refl, sym, ap, ◌∙◌, subst, ⊎_elim, pos, Some}
+use Rattle.std.proofs.Common.{◌≡◌, ◌≢◌, ◌↔◌, ℕ, zero, suc, ◌+◌, ◌<◌, ◌≤◌, arith, Bool, true, IsTrue, List, [], ◌∷◌, All, length, replicate, inl, inr, refl, sym, ap, ◌∙◌, subst, ⊎_elim, pos, Some}
 use Rattle.std.specs.Prelude.{◌^◌, nat_eq, not, ◌||◌, map, sum_by}
 use Rattle.std.specs.List.{AllZip}
 use Rattle.std.proofs.lemmas.Bool.{cases_lt, and_from, or_right, eq-eqb, ne_eqb}
@@ -9,18 +9,15 @@ use Rattle.dcx_math.specs.Rational.{whole}
 use Rattle.dcx_frac.specs.declared.fraction.Frac.{Frac}
 use Rattle.dcx_frac.specs.Frac.{value}
 use Rattle.dcx_atom.specs.declared.array.Array.{Array}
-use Rattle.dcx_atom.specs.Formed.{zero_frac}
 use Rattle.dcx_point.specs.Pairs.{Pairs}
 use Rattle.dcx_convex.specs.Nodes.{Setting}
 use Rattle.dcx_tree.specs.declared.constraint.Constraint.{Constraint}
 use Rattle.dcx_tree.specs.declared.problem.Problem.{Problem}
 use Rattle.dcx_tree.specs.Meaning.{convex_constraint, IsInfeasible}
-use Rattle.dcx_linear.specs.Forms.{is_constant}
 use Rattle.dcx_lp_answer.specs.declared.answer.LpStatus.{LpStatus}
 use Rattle.dcx_lp_answer.specs.declared.answer.LpStatus.TheVariants as status
 use Rattle.dcx_lp_answer.specs.declared.answer.LpAnswer.{LpAnswer}
 use Rattle.dcx_lp_answer.specs.Multipliers.{passing_from}
-use Rattle.dcx_std.specs.GivenRows.{given}
 use Rattle.dcx_std.specs.Solutions.{row_at}
 use Rattle.dcx_unknowns.specs.Layout.{constraint_rows}
 use Rattle.dcx_mapping.specs.Programs.{gap_rows, bound_row}
@@ -35,7 +32,7 @@ use Rattle.dcx_answer.specs.declared.filtered.Filtered.TheVariants as filtered
 use Rattle.dcx_iis.specs.declared.trying.Tried.TheVariants as tried
 use Rattle.dcx_iis.specs.declared.left.Left.{Left}
 use Rattle.dcx_iis.specs.Sets.{ConstraintSet, every_constraint, set_of, flagged, IsImpossible, left_beside, IsFilterSet}
-use Rattle.dcx_iis.specs.Steps.{kept_of, program_of_set, HasAnswer, IsReadIn, IsReadAt, IsLastImpossible, in_step, at_multiplier, StopsFilter}
+use Rattle.dcx_iis.specs.Steps.{kept_of, program_of_set, HasAnswer, IsReadIn, IsReadAt, in_step, at_multiplier, StopsFilter}
 use Rattle.dcx_graph.specs.Answers.{IsReducedAt}
 use Rattle.dcx_iis.specs.Found.{IsFeasiblePoint, KeepsOthers, IsIrreducible, IsRight, AreFound, IsFound}
 use Rattle.dcx_iis.specs.Multipliers.{HasShapeOf, AreSpread}
@@ -76,8 +73,8 @@ module _ (p : Problem) (q : Program Frac) (limit : ℕ) where
 
     stays_of : (set : ConstraintSet) (k : ℕ) → IsDecided p q limit set k → IsTrue (set k) ↔ ¬ IsImpossible p s (left_beside set k)
     stays_of set k d = (
-        λ t. not_impossible p q limit (left_beside set k) d.solved d.is_step s is (d.stays.0 t),
-        λ n. d.stays.1 (λ e. n (shown_impossible p q limit (left_beside set k) d.solved d.is_step s is e)),
+      λ t. not_impossible p q limit (left_beside set k) d.solved d.is_step s is (d.stays.0 t),
+      λ n. d.stays.1 (λ e. n (shown_impossible p q limit (left_beside set k) d.solved d.is_step s is e)),
     )
 
     -- ---- stops

@@ -1,16 +1,15 @@
 -- Sets that flags tell, and the numbers of the flags that are set.
-use Rattle.std.proofs.Common.{◌≡◌, ◌≢◌, ◌⊎◌, ℕ, zero, suc, ◌+◌, ◌<◌, ◌≤◌, arith, Bool, true, false, if◌then◌else◌, IsTrue, List, [], ◌∷◌, ◌++◌, All, length, take, set, get_or, replicate, inl, inr, refl, sym, ap, ap₂, ◌∙◌, subst, add-zero, append_assoc, append-nil, get_or-set_same, get_or-set_other}
-use Rattle.std.specs.Prelude.{nat_eq, ◌||◌, slice_index_or}
-use Rattle.std.specs.List.{AllZip, list_any}
+use Rattle.std.proofs.Common.{◌≡◌, ◌≢◌, ℕ, zero, suc, ◌+◌, ◌<◌, ◌≤◌, arith, Bool, true, false, if◌then◌else◌, IsTrue, List, [], ◌∷◌, ◌++◌, All, length, take, set, get_or, replicate, refl, sym, ap, ◌∙◌, subst, add-zero, append_assoc, append-nil, get_or-set_same, get_or-set_other}
+use Rattle.std.specs.Prelude.{◌||◌}
+use Rattle.std.specs.List.{AllZip}
 use Rattle.std.proofs.Math.Path.{fun_ext}
-use Rattle.std.proofs.lemmas.Bool.{cases_order, eqb-true, eq-eqb, ne_eqb, cases_eq, true≢false, or_cases}
+use Rattle.std.proofs.lemmas.Bool.{eq-eqb, ne_eqb}
 use Rattle.std.proofs.lemmas.List.{get_or_default, set-set, set-get_or, take-set-le, length-set}
 use Rattle.std.proofs.lemmas.List.Elements.{All-nil, All-cons, All-head, All-tail}
 use Rattle.dcx_linear.specs.Terms.{IsRising}
-use Rattle.dcx_iis.specs.Sets.{ConstraintSet, every_constraint, set_of, flagged, left_beside}
+use Rattle.dcx_iis.specs.Sets.{every_constraint, set_of, flagged, left_beside}
 use Rattle.dcx_iis.specs.Runs.{numbers_from}
 use Rattle.dcx_iis.proofs.Sets.{beside_is}
-use Rattle.dcx_iis.proofs.Kept.{one_if}
 
 -- ---- sets that flags tell
 all_flags : (n k : ℕ) → flagged (replicate n true) k ≡ true
@@ -122,13 +121,6 @@ among_from i (suc k) (b ∷ flags) l =
 -- it has the constraints whose flags are set, and none beyond the flags
 pub among_is : (flags : List Bool) (k : ℕ) → k < length flags → set_of (numbers_from 0 flags) k ≡ flagged flags k
 among_is flags k l = let q : k ≡ 0 + k = omega arith in ap (set_of (numbers_from 0 flags)) q ∙ among_from 0 k flags l
-
-beyond_one : (b : Bool) (i k : ℕ) (rest : List ℕ) → i ≢ k → set_of rest k ≡ false → set_of ((if b then i ∷ [] else []) ++ rest) k ≡ false
-beyond_one b i k rest n e = among_one b i k rest n ∙ e
-
-pub none_beyond : (i k : ℕ) (flags : List Bool) → i + length flags ≤ k → set_of (numbers_from i flags) k ≡ false
-none_beyond i k [] l = refl
-none_beyond i k (b ∷ flags) l = beyond_one b i k (numbers_from (suc i) flags) (λ e. omega (arith, e, l)) (none_beyond (suc i) k flags (omega (arith, l)))
 
 -- ---- lists of which each has its own of another
 module _ {A B : Type 0} where

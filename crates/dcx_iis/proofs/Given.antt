@@ -1,9 +1,8 @@
 -- The program of a set as it is made, and what it names.
-use Rattle.std.proofs.Common.{◌≡◌, ◌≤◌, arith, List, length, sym, ap, ◌∙◌, subst, pos}
+use Rattle.std.proofs.Common.{◌≡◌, ◌≤◌, arith, List, length, sym, subst, pos}
 use Rattle.dcx_math.specs.Rational.{whole}
 use Rattle.dcx_frac.specs.declared.fraction.Frac.{Frac}
 use Rattle.dcx_frac.specs.Frac.{value}
-use Rattle.dcx_atom.specs.Formed.{zero_frac}
 use Rattle.dcx_atom.proofs.FormedSums.{zero_frac-unique}
 use Rattle.dcx_tree.specs.declared.constraint.Constraint.{Constraint}
 use Rattle.dcx_tree.specs.declared.problem.Problem.{Problem}

@@ -1,5 +1,5 @@
 -- What is left when one more constraint is tried.
-use Rattle.std.proofs.Common.{◌≡◌, ◌≢◌, ◌⊎◌, ◌↔◌, Some, ℕ, zero, suc, ◌+◌, ◌<◌, ◌≤◌, arith, Bool, true, false, IsTrue, List, [], ◌∷◌, ◌++◌, All, length, take, set, replicate, inl, inr, refl, sym, ap, ◌∙◌, subst, ⊎_elim, get_or-set_other, length-take-le}
+use Rattle.std.proofs.Common.{◌≡◌, Some, ℕ, suc, ◌+◌, ◌<◌, ◌≤◌, arith, Bool, true, false, IsTrue, List, [], ◌∷◌, ◌++◌, length, take, set, replicate, inl, inr, refl, sym, ap, ◌∙◌, subst, ⊎_elim, get_or-set_other, length-take-le}
 use Rattle.std.specs.List.{AllZip}
 use Rattle.std.proofs.lemmas.Bool.{cases_lt, false≢true}
 use Rattle.std.proofs.lemmas.List.{length-set, length-replicate}
@@ -9,7 +9,6 @@ use Rattle.dcx_tree.specs.declared.problem.Problem.{Problem}
 use Rattle.dcx_answer.specs.declared.site.Site.TheVariants as sites
 use Rattle.dcx_answer.specs.declared.stop.Stop.TheVariants as stops
 use Rattle.dcx_lp_answer.specs.declared.answer.LpStatus.{LpStatus}
-use Rattle.dcx_lp_answer.specs.declared.answer.LpStatus.TheVariants as status
 use Rattle.dcx_lp_answer.specs.declared.answer.LpAnswer.{LpAnswer}
 use Rattle.dcx_lp_answer.specs.declared.stop.MultiplierStop.{MultiplierStop}
 use Rattle.dcx_lp_answer.specs.declared.stop.MultiplierStop.TheVariants as multipliers
@@ -24,9 +23,9 @@ use Rattle.dcx_answer.specs.declared.filter_stop.FilterStop.TheVariants as filte
 use Rattle.dcx_iis.specs.declared.trying.Tried.TheVariants as tried
 use Rattle.dcx_iis.specs.declared.left.Left.{Left}
 use Rattle.dcx_iis.specs.Sets.{ConstraintSet, every_constraint, flagged, left_beside}
-use Rattle.dcx_iis.specs.Steps.{kept_of, program_of_set, step_set, IsReadAt, IsLastImpossible}
+use Rattle.dcx_iis.specs.Steps.{kept_of, program_of_set, step_set, IsReadAt}
 use Rattle.dcx_iis.specs.Runs.{IsStep, IsTried, step_stop, StopsTry, IsShownImpossible, IsDecided, numbers_from, IsLeft, StopsRun}
-use Rattle.dcx_iis.proofs.Sets.{beside_same, beside_before, beside_itself, beside_behind}
+use Rattle.dcx_iis.proofs.Sets.{beside_same, beside_itself, beside_behind}
 use Rattle.dcx_iis.proofs.Flags.{flagged_all, flagged_cleared, flags_restored, numbers_stay, numbers_cleared, numbers_below, zip_push, zip_weaker}
 
 -- the stop at a multiplier

@@ -1,8 +1,6 @@
 -- Lists of the items of a set, and the rows of its constraints.
-use Rattle.std.proofs.Common.{◌≡◌, ◌⊎◌, ℕ, zero, suc, ◌+◌, ◌<◌, ◌≤◌, arith, Bool, true, false, if◌then◌else◌, IsTrue, List, [], ◌∷◌, ◌++◌, length, map, take, drop, Some, slice_get, inl, inr, refl, sym, ap, ap₂, ◌∙◌, add-zero, append_assoc, length-append}
-use Rattle.std.specs.Prelude.{sum_by}
+use Rattle.std.proofs.Common.{◌≡◌, ◌⊎◌, ℕ, zero, suc, ◌+◌, ◌<◌, ◌≤◌, arith, Bool, true, false, if◌then◌else◌, IsTrue, List, [], ◌∷◌, ◌++◌, length, map, take, drop, Some, slice_get, inl, inr, refl, sym, ap, ap₂, ◌∙◌, add-zero, append_assoc}
 use Rattle.std.proofs.lemmas.List.{map-append, take_at, drop_at}
-use Rattle.std.proofs.lemmas.List.Sums.{sum_by-cons}
 use Rattle.std.proofs.lemmas.Option.{none-some, same_Some}
 use Rattle.dcx_atom.specs.Arrays.{list_below}
 use Rattle.dcx_atom.proofs.BoundRows.{length-list_below}
@@ -32,10 +30,6 @@ ahead_of true y rest zero x e = inl (refl, same_Some y x e)
 ahead_of true y rest (suc n) x e = inr (n, e)
 ahead_of false y rest n x e = inr (n, e)
 
-map-one : {A B : Type 0} (f : A → B) (b : Bool) (x : A) (rest : List A) → map f (one_if b x rest) ≡ one_if b (f x) (map f rest)
-map-one f true x rest = refl
-map-one f false x rest = refl
-
 module _ {A : Type 0} (set : ConstraintSet) where
   -- an item of the set is kept
   pub kept_at : (i : ℕ) (xs : List A) (k : ℕ) (x : A) → slice_get xs k ≡ Some x → IsTrue (set (i + k)) → (n : ℕ) × (slice_get (kept_from set i xs) n ≡ Some x)
@@ -58,10 +52,6 @@ module _ {A : Type 0} (set : ConstraintSet) where
           let (k, at, t) = rest h.0 h.1 in
           let q : i + suc k ≡ suc i + k = omega arith in
           (suc k, at, ap set q ∙ t)
-
-  pub map-kept : {B : Type 0} (f : A → B) (i : ℕ) (xs : List A) → map f (kept_from set i xs) ≡ kept_from set i (map f xs)
-  map-kept f i [] = refl
-  map-kept f i (x ∷ xs) = map-one f (set i) x (kept_from set (suc i) xs) ∙ ap (one_if (set i) (f x)) (map-kept f (suc i) xs)
 
   pub kept_push : (i : ℕ) (xs : List A) (x : A) → kept_from set i (xs ++ x ∷ []) ≡ kept_from set i xs ++ one_if (set (i + length xs)) x []
   kept_push i [] x = ap (λ n. one_if (set n) x []) (sym (add-zero i))

@@ -1,5 +1,5 @@
 -- One more constraint in a loop: its rows, its number, its array.
-use Rattle.std.proofs.Common.{◌≡◌, ◌⊎◌, ℕ, zero, suc, ◌+◌, ◌-◌, ◌<◌, ◌≤◌, arith, Bool, true, false, if◌then◌else◌, IsTrue, List, [], ◌∷◌, ◌++◌, length, get_or, take, drop, slice_range, inl, inr, refl, sym, ap, ap₂, ◌∙◌, subst, pos, append_assoc, append-nil, length-take-le}
+use Rattle.std.proofs.Common.{◌≡◌, ℕ, zero, suc, ◌+◌, ◌-◌, ◌<◌, ◌≤◌, arith, Bool, true, false, if◌then◌else◌, IsTrue, List, [], ◌∷◌, ◌++◌, length, get_or, take, drop, slice_range, refl, sym, ap, ap₂, ◌∙◌, subst, pos, append_assoc, append-nil, length-take-le}
 use Rattle.std.specs.Prelude.{sum_by}
 use Rattle.std.specs.List.{AllZip}
 use Rattle.std.proofs.lemmas.Bool.{true≢false, false_from_ne_true}
@@ -14,7 +14,7 @@ use Rattle.dcx_linear.specs.declared.row.Row.{Row}
 use Rattle.dcx_linear.proofs.Formed.{drop_at}
 use Rattle.dcx_unknowns.specs.Layout.{constraint_rows}
 use Rattle.dcx_postsolve.specs.Duals.{multipliers_in}
-use Rattle.dcx_iis.specs.Sets.{ConstraintSet, flagged}
+use Rattle.dcx_iis.specs.Sets.{ConstraintSet}
 use Rattle.dcx_iis.specs.Steps.{kept_from, kept_of, rows_from}
 use Rattle.dcx_iis.specs.Multipliers.{HasShapeOf, AreZeros, TakesNext, AreSpread}
 use Rattle.dcx_iis.specs.Runs.{numbers_from}

@@ -1,10 +1,9 @@
 -- What a step shows: its point keeps the set, or the set is impossible, and then its multipliers show it.
-use Rattle.std.proofs.Common.{◌≡◌, ◌≢◌, ℕ, suc, ◌<◌, ◌≤◌, ◌^◌, arith, List, [], ◌∷◌, length, map, Some, option_map, slice_get, refl, sym, ap, ap₂, ◌∙◌, subst, pos}
+use Rattle.std.proofs.Common.{◌≡◌, ◌≢◌, ℕ, suc, ◌<◌, ◌≤◌, ◌^◌, arith, List, [], ◌∷◌, length, map, Some, slice_get, refl, sym, ap, ap₂, ◌∙◌, subst, pos}
 use Rattle.std.specs.Prelude.{sum_by, drop}
 use Rattle.std.specs.List.{AllZip}
 use Rattle.std.proofs.Math.Path.{fun_ext}
 use Rattle.std.proofs.lemmas.List.{length-map}
-use Rattle.std.proofs.lemmas.Option.{slice_get-map, get_or_from_slice_get}
 use Rattle.dcx_math.specs.Rational.{ℚ, whole, ◌+ℚ◌, ◌-ℚ◌}
 use Rattle.dcx_math.specs.Sums.{rat_at}
 use Rattle.dcx_math.proofs.Orders.{≤ℚ_refl, zero-*ℚ, +ℚ_idr}

@@ -1,5 +1,5 @@
 -- Multipliers that are 0 outside a set of constraints: what they show of all constraints is what those of the set show of the set.
-use Rattle.std.proofs.Common.{◌≡◌, ◌⊎◌, ◌↔◌, ℕ, zero, suc, ◌+◌, ◌<◌, arith, Bool, true, false, if◌then◌else◌, IsTrue, List, [], ◌∷◌, ◌++◌, length, map, Some, slice_get, refl, sym, ap, ap₂, ◌∙◌, subst, pos, add-zero}
+use Rattle.std.proofs.Common.{◌≡◌, ℕ, zero, suc, ◌+◌, ◌<◌, arith, Bool, true, false, IsTrue, List, [], ◌∷◌, length, map, Some, slice_get, refl, sym, ap, ap₂, ◌∙◌, subst, pos, add-zero}
 use Rattle.std.specs.Prelude.{⊤}
 use Rattle.std.proofs.lemmas.Bool.{true≢false}
 use Rattle.std.proofs.lemmas.Option.{none-some, same_Some}
@@ -106,10 +106,10 @@ module _ (set : ConstraintSet) where
   arrays_spread i [] ys m n h z = tt
   arrays_spread i (c ∷ cs) [] m n h z = absurd (omega (arith, n))
   arrays_spread i (c ∷ cs) (y ∷ ys) m n h z = (
-      head_agrees (set i) c (kept_from set (suc i) cs) y (kept_from set (suc i) ys) m h
-      (λ e. z 0 (λ t. not_in i e (ap set (sym (add-zero i)) ∙ t))),
-      arrays_spread (suc i) cs ys (rest_if (set i) m) (omega (arith, n)) (rest_agrees (set i) c (kept_from set (suc i) cs) y (kept_from set (suc i) ys) m h)
-      (λ k t. let q : i + suc k ≡ suc i + k = omega arith in z (suc k) (λ u. t (ap set (sym q) ∙ u))),
+    head_agrees (set i) c (kept_from set (suc i) cs) y (kept_from set (suc i) ys) m h
+        (λ e. z 0 (λ t. not_in i e (ap set (sym (add-zero i)) ∙ t))),
+    arrays_spread (suc i) cs ys (rest_if (set i) m) (omega (arith, n)) (rest_agrees (set i) c (kept_from set (suc i) cs) y (kept_from set (suc i) ys) m h)
+        (λ k t. let q : i + suc k ≡ suc i + k = omega arith in z (suc k) (λ u. t (ap set (sym q) ∙ u))),
   )
 
 -- ---- what they show

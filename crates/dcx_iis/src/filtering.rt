@@ -10,11 +10,9 @@ ghost use Rattle.dcx_iis.specs.Found.{IsRight, IsFound};
 ghost use Rattle.dcx_iis.specs.Runs.{numbers_from, AreDualsOf, IsLeft, IsEnd, StopsRun};
 
 use crate::duals::duals_kept;
-use dcx_answer::{Filtered, Members, Points};
 use crate::left::Left;
-use dcx_answer::FilterStop;
 use crate::trying::{Tried, try_kept};
-use dcx_answer::{Duals, Site, Stop};
+use dcx_answer::{Duals, FilterStop, Filtered, Members, Points, Site, Stop};
 use dcx_frac::Frac;
 use dcx_graph::Reduced;
 use dcx_lp_answer::MultiplierStop;
@@ -44,7 +42,12 @@ fn duals_left(alloc: Global, problem: &Problem, left: &Left) -> Result<Duals, Fi
     ensures made { IfOk result (AreDualsOf problem.now left.now) }
     ensures stops { (q : Program Frac) (limit : ℕ) → IsLeft problem.now q limit (length problem.now.constraints) left.now → IfErr result (StopsRun problem.now q limit) }
 {
-    match duals_kept(alloc, problem.constraints.as_slice(), &left.kept, &left.answer) {
+    match duals_kept(
+        alloc,
+        problem.constraints.as_slice(),
+        &left.kept,
+        &left.answer,
+    ) {
         Ok(duals) => Ok(duals),
         Err(MultiplierStop::Wide { row, passes }) => Err(FilterStop::Step {
             step: left.step,

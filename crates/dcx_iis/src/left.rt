@@ -3,8 +3,8 @@ ghost use Rattle.std.specs.Prelude.{◌≡◌, ◌+◌, ◌<◌, ◌≤◌, leng
 ghost use Rattle.dcx_unknowns.specs.Layout.{constraint_rows};
 ghost use Rattle.dcx_iis.specs.Runs.{IsLeft, StopsRun};
 
-use dcx_answer::FilterStop;
 use crate::trying::{Tried, try_kept};
+use dcx_answer::FilterStop;
 use dcx_frac::Frac;
 use dcx_graph::Reduced;
 use dcx_lp_answer::LpAnswer;

@@ -18,12 +18,10 @@
 #![tactic(auto)]
 
 mod duals;
-
 mod filtering;
 pub mod laws;
 mod left;
 mod program;
-
 mod trying;
 
 pub use filtering::filter;

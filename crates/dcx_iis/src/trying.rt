@@ -6,8 +6,7 @@ ghost use Rattle.dcx_iis.specs.Sets.{flagged};
 ghost use Rattle.dcx_iis.specs.Runs.{IsShownBy, IsTried, StopsTry, step_stop};
 
 use crate::program::solve_kept;
-use dcx_answer::FilterStop;
-use dcx_answer::Stop;
+use dcx_answer::{FilterStop, Stop};
 use dcx_frac::Frac;
 use dcx_graph::Reduced;
 use dcx_linear::UnknownKind;

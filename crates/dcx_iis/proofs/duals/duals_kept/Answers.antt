@@ -1,14 +1,12 @@
 -- The multipliers are those of the constraints that are kept.
-use Rattle.std.proofs.Common.{◌≡◌, ◌≤◌, List, length, sum_by, IfOk, IfErr, refl, sym, ap, subst, ◌∙◌}
-use Rattle.std.specs.List.{AllZip}
-use Rattle.std.proofs.lemmas.Result.{IfOk-weaker, err_from_is_err_and}
+use Rattle.std.proofs.Common.{◌≤◌, List, length, sum_by, sym, subst, ◌∙◌}
+use Rattle.std.proofs.lemmas.Result.{err_from_is_err_and}
 use Rattle.dcx_lp_answer.specs.Multipliers.{passing_from, StopsAt}
 use Rattle.dcx_tree.specs.declared.constraint.Constraint.{Constraint}
 use Rattle.dcx_unknowns.specs.Layout.{constraint_rows}
 use Rattle.dcx_postsolve.specs.Duals.{all_multipliers, AreDuals}
 use Rattle.dcx_iis.specs.Sets.{flagged}
 use Rattle.dcx_iis.specs.Steps.{kept_of}
-use Rattle.dcx_iis.specs.Multipliers.{HasShapeOf, AreSpread}
 use Rattle.dcx_iis.proofs.Shown.{duals_shaped}
 use Rattle.dcx_iis.proofs.duals.duals_kept.Goals as goal
 
@@ -32,7 +30,8 @@ spread-requires-clause-shaped c =
 
 pub returns-clause-made : goal.returns-clause-made
 returns-clause-made c =
-    let a = c.args.answer.now in
-    (c.in_ok-formed.formed,
-    subst (λ (xs : List Constraint). AreDuals a.status xs a.rows c.in_ok-formed.formed) (c.as_slice.ensures.value ∙ c.in_ok-members.ensures) c.in_ok-formed.ensures.made,
-    c.in_ok-spread.ensures)
+    let a = c.args.answer.now in (
+      c.in_ok-formed.formed,
+      subst (λ (xs : List Constraint). AreDuals a.status xs a.rows c.in_ok-formed.formed) (c.as_slice.ensures.value ∙ c.in_ok-members.ensures) c.in_ok-formed.ensures.made,
+      c.in_ok-spread.ensures,
+    )

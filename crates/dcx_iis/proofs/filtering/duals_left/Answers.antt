@@ -1,5 +1,5 @@
 -- A multiplier of what is left passes.
-use Rattle.std.proofs.Common.{◌≡◌, List, Bool, Some, subst}
+use Rattle.std.proofs.Common.{List, Bool, subst}
 use Rattle.dcx_lp_answer.specs.declared.stop.MultiplierStop.TheVariants as multipliers
 use Rattle.dcx_lp_answer.specs.Multipliers.{passing_from, StopsAt}
 use Rattle.dcx_tree.specs.declared.constraint.Constraint.{Constraint}

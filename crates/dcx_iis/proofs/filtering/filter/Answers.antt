@@ -1,5 +1,5 @@
 -- What the steps tell is told of the problem.
-use Rattle.std.proofs.Common.{◌≡◌, ◌<◌, ◌≤◌, true, Bool, List, replicate, length, IfOk, IfErr, refl, sym, ap, subst, ◌∙◌}
+use Rattle.std.proofs.Common.{◌≡◌, true, Bool, List, replicate, length, refl, ap, subst, ◌∙◌}
 use Rattle.std.proofs.lemmas.Result.{IfOk-weaker, IfErr-weaker, err_from_is_err_and}
 use Rattle.dcx_tree.specs.declared.constraint.Constraint.{Constraint}
 use Rattle.dcx_tree.specs.Meaning.{setting_of}
@@ -9,8 +9,19 @@ use Rattle.dcx_iis.specs.Steps.{StopsFilter}
 use Rattle.dcx_iis.specs.Found.{IsRight, IsFound}
 use Rattle.dcx_iis.specs.Runs.{IsTried, IsEnd, StopsTry, StopsRun}
 use Rattle.dcx_iis.proofs.Going.{first_stops, first_left}
-use Rattle.dcx_iis.proofs.Finding.{tells_stop, feasible_point, point_found, left_noted, end_right, end_found, rows_of_reduced}
+use Rattle.dcx_iis.proofs.Finding.{tells_stop, feasible_point, point_found, left_noted, left_few, end_right, end_found, rows_of_reduced}
 use Rattle.dcx_iis.proofs.filtering.filter.Goals as goal
+use Rattle.dcx_iis.proofs.filtering.filter.Goals.{In_ok-kept, In_ok-point}
+
+-- all flags are set
+all_set : (c : In_ok-kept) → c.in_ok-kept.kept.items ≡ replicate (length c.args.problem.now.constraints) true
+all_set c = c.in_ok-kept.ensures.items_if_clones_equal (λ y h. h) ∙ ap (λ (cs : List Constraint). replicate (length cs) true) c.as_slice.ensures
+
+-- what the first step shows
+first_tried : (c : In_ok-point) (t : Tried) → c.in_ok-point.field-0 ≡ t → IsTried c.args.problem.now c.args.reduced.now.program c.args.limit (flagged c.in_ok-kept.kept.items) t
+first_tried c t is =
+    subst (IsTried c.args.problem.now c.args.reduced.now.program c.args.limit (flagged c.in_ok-kept.kept.items)) is
+    (subst (λ (flags : List Bool). IsTried c.args.problem.now c.args.reduced.now.program c.args.limit (flagged flags) c.in_ok-point.field-0) c.deref.ensures.value c.in_ok-point.ensures.tried)
 
 pub try_kept-requires-clause-rows : goal.try_kept-requires-clause-rows
 try_kept-requires-clause-rows c = rows_of_reduced c.args.problem.now (setting_of c.args.problem.now c.args.setting.now) c.args.reduced.now.program c.requires.reduced
@@ -22,9 +33,8 @@ returns-in_err-point-clause-stops c =
     let q = c.args.reduced.now.program in
     let limit = c.args.limit in
     let e = c.in_err-point.field-0.0 in
-    let all = c.in_ok-kept.ensures.items_if_clones_equal (λ y h. h) ∙ ap (λ (cs : List Constraint). replicate (length cs) true) c.as_slice.ensures in
     rw (r.1, r.2) (tells_stop p q limit (setting_of p c.args.setting.now) c.requires.reduced e
-    (first_stops p q limit c.in_ok-kept.kept.items e all (subst (λ (flags : List Bool). StopsTry p q limit (flagged flags) 0 e) c.deref.ensures.value c.in_err-point.ensures.stops)))
+    (first_stops p q limit c.in_ok-kept.kept.items e (all_set (goal.at.returns-in_err-point-clause-stops c).In_ok-kept) (subst (λ (flags : List Bool). StopsTry p q limit (flagged flags) 0 e) c.deref.ensures.value c.in_err-point.ensures.stops)))
 
 pub try_each-requires-clause-rows : goal.try_each-requires-clause-rows
 try_each-requires-clause-rows c = rows_of_reduced c.args.problem.now (setting_of c.args.problem.now c.args.setting.now) c.args.reduced.now.program c.requires.reduced
@@ -35,11 +45,8 @@ try_each-requires-clause-left c =
     let q = c.args.reduced.now.program in
     let limit = c.args.limit in
     let flags = c.in_ok-kept.kept.items in
-    let all = c.in_ok-kept.ensures.items_if_clones_equal (λ y h. h) ∙ ap (λ (cs : List Constraint). replicate (length cs) true) c.as_slice.ensures in
-    first_left p q limit flags c.in-Impossible.answer _ all
-    (subst (λ (t : Tried). IsTried p q limit (flagged flags) t) c.in-Impossible.is
-    (subst (λ (fs : List Bool). IsTried p q limit (flagged fs) c.in_ok-point.field-0) c.deref.ensures.value c.in_ok-point.ensures.tried))
-    refl refl refl c.new.ensures.items
+    let at = goal.at.try_each-requires-clause-left c in
+    first_left p q limit flags c.in-Impossible.answer _ (all_set at.In_ok-kept) (first_tried at.In_ok-point _ c.in-Impossible.is) refl refl refl c.new.ensures.items
 
 pub returns-in_err-try_each-in-Impossible-clause-stops : goal.returns-in_err-try_each-in-Impossible-clause-stops
 returns-in_err-try_each-in-Impossible-clause-stops c =
@@ -52,16 +59,19 @@ found-requires-clause-rows c =
     let p = c.args.problem.now in
     left_noted p c.args.reduced.now.program c.args.limit (setting_of p c.args.setting.now) c.requires.reduced c.try_each.new.left c.in_ok-try_each-in-Impossible.ensures.left
 
+pub found-requires-clause-few : goal.found-requires-clause-few
+found-requires-clause-few c =
+    let p = c.args.problem.now in
+    left_few p c.args.reduced.now.program c.args.limit (setting_of p c.args.setting.now) c.requires.reduced c.try_each.new.left c.in_ok-try_each-in-Impossible.ensures.left
+
 pub returns-in-Possible-clause-right : goal.returns-in-Possible-clause-right
 returns-in-Possible-clause-right c =
     let p = c.args.problem.now in
     let q = c.args.reduced.now.program in
     let limit = c.args.limit in
     let flags = c.in_ok-kept.kept.items in
-    let all = c.in_ok-kept.ensures.items_if_clones_equal (λ y h. h) ∙ ap (λ (cs : List Constraint). replicate (length cs) true) c.as_slice.ensures in
-    feasible_point p q limit (setting_of p c.args.setting.now) c.requires.reduced flags c.in-Possible.point all
-    (subst (λ (t : Tried). IsTried p q limit (flagged flags) t) c.in-Possible.is
-    (subst (λ (fs : List Bool). IsTried p q limit (flagged fs) c.in_ok-point.field-0) c.deref.ensures.value c.in_ok-point.ensures.tried))
+    let at = goal.at.returns-in-Possible-clause-right c in
+    feasible_point p q limit (setting_of p c.args.setting.now) c.requires.reduced flags c.in-Possible.point (all_set at.In_ok-kept) (first_tried at.In_ok-point _ c.in-Possible.is)
 
 pub returns-in-Possible-clause-found : goal.returns-in-Possible-clause-found
 returns-in-Possible-clause-found c =
@@ -69,10 +79,8 @@ returns-in-Possible-clause-found c =
     let q = c.args.reduced.now.program in
     let limit = c.args.limit in
     let flags = c.in_ok-kept.kept.items in
-    let all = c.in_ok-kept.ensures.items_if_clones_equal (λ y h. h) ∙ ap (λ (cs : List Constraint). replicate (length cs) true) c.as_slice.ensures in
-    point_found p q limit (setting_of p c.args.setting.now) c.requires.reduced flags c.in-Possible.point all
-    (subst (λ (t : Tried). IsTried p q limit (flagged flags) t) c.in-Possible.is
-    (subst (λ (fs : List Bool). IsTried p q limit (flagged fs) c.in_ok-point.field-0) c.deref.ensures.value c.in_ok-point.ensures.tried))
+    let at = goal.at.returns-in-Possible-clause-found c in
+    point_found p q limit (setting_of p c.args.setting.now) c.requires.reduced flags c.in-Possible.point (all_set at.In_ok-kept) (first_tried at.In_ok-point _ c.in-Possible.is)
 
 pub returns-in_ok-try_each-in-Impossible-clause-right : goal.returns-in_ok-try_each-in-Impossible-clause-right
 returns-in_ok-try_each-in-Impossible-clause-right c =

@@ -1,11 +1,11 @@
 -- The rows of one more constraint are passed, and added where it is kept.
-use Rattle.std.proofs.Common.{◌≡◌, ◌+◌, ◌≤◌, ◌++◌, [], false, Bool, List, if◌then◌else◌, length, drop, slice_range, refl, sym, ap₂, subst, ◌∙◌, arith}
+use Rattle.std.proofs.Common.{◌≡◌, ◌+◌, ◌≤◌, ◌++◌, [], false, Bool, if◌then◌else◌, length, drop, slice_range, refl, sym, ap₂, subst, ◌∙◌, arith}
 use Rattle.std.specs.Prelude.{sum_by}
 use Rattle.dcx_unknowns.specs.Layout.{constraint_rows}
 use Rattle.dcx_iis.specs.Sets.{flagged}
 use Rattle.dcx_iis.specs.Steps.{rows_from}
 use Rattle.dcx_iis.proofs.Flags.{flag_read}
-use Rattle.dcx_iis.proofs.Loops.{rows_there, rows_next, rows_last}
+use Rattle.dcx_iis.proofs.Loops.{rows_there, rows_next}
 use Rattle.dcx_iis.proofs.program.rows_kept.Goals as goal
 
 pub constraints-preserved : goal.constraints-preserved
@@ -21,7 +21,7 @@ constraints-preserved c =
     let h = c.constraints.invariant in
     let copies = c.push_kept.new.copies.items in
     let added = c.in_ok-push_kept.ensures
-        ∙ ap₂ (λ (b : Bool) n. c.constraints.copies.items ++ (if b then slice_range rows next (next + n) else [])) (sym (flag_read c.args.kept.now i false (omega (arith, c.requires.flags)))) size in
+    ∙ ap₂ (λ (b : Bool) n. c.constraints.copies.items ++ (if b then slice_range rows next (next + n) else [])) (sym (flag_read c.args.kept.now i false (omega (arith, c.requires.flags)))) size in
     record {
       made = subst (λ n. copies ++ rows_from set (i + 1) (drop (i + 1) cs) (drop (next + n) rows) ≡ all) (sym size)
           (rows_next set cs rows i next d (omega arith) c.index-constraints-index.is c.constraints.copies.items copies all (slice_range rows next (next + constraint_rows d)) h.made refl added);

@@ -1,7 +1,5 @@
 -- Where the program can be solved the point is read, and else the answer is what is shown.
-use Rattle.std.proofs.Common.{◌≡◌, refl, sym, ap, subst, ◌∙◌}
-use Rattle.dcx_linear.specs.declared.row.UnknownKind.{UnknownKind}
-use Rattle.dcx_graph.specs.Answers.{IsPointRead}
+use Rattle.std.proofs.Common.{refl}
 use Rattle.dcx_iis.proofs.trying.shown.Goals as goal
 
 pub returns-in-Infeasible : goal.returns-in-Infeasible

@@ -1,8 +1,6 @@
 -- What the step's program tells.
 use Rattle.std.proofs.Common.{sym, subst}
-use Rattle.dcx_solved.specs.Solved.{Stops}
 use Rattle.dcx_iis.specs.Sets.{flagged}
-use Rattle.dcx_iis.specs.Steps.{program_of_set}
 use Rattle.dcx_iis.specs.Runs.{IsStep, StopsTry}
 use Rattle.dcx_iis.proofs.Shown.{columns_told}
 use Rattle.dcx_iis.proofs.Going.{stops_try}
