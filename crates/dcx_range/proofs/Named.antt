@@ -1,15 +1,25 @@
 -- The parameter of a name, and that one thing is told of a name.
 use Rattle.std.proofs.Common.{◌≡◌, ◌≢◌, ℕ, ◌<◌, Bool, true, false, List, [], ◌∷◌, length, get_or, Option, Some, None, Ok, Err, slice_get, refl, sym, ap, ◌∙◌, subst}
 use Rattle.std.proofs.lemmas.List.Quantifiers.{position-Some}
-use Rattle.std.proofs.lemmas.Option.{none-some, same_Some, slice_get-get_or}
+use Rattle.std.specs.Option.{option_and_then}
+use Rattle.std.proofs.lemmas.Option.{none-some, same_Some, slice_get-get_or, get_or_from_slice_get}
+use Rattle.dcx_frac.specs.declared.fraction.Frac.{Frac}
 use Rattle.dcx_shape.specs.declared.shape.Sides.TheVariants.{Scalar}
 use Rattle.dcx_shape.specs.Shape.{sides_of}
-use Rattle.dcx_point.specs.Pairs.{same_name}
+use Rattle.dcx_atom.specs.declared.array.Array.{Array}
+use Rattle.dcx_point.specs.Pairs.{Pairs, same_name, array_of}
+use Rattle.dcx_point.proofs.Puts.{same_name-true}
 use Rattle.dcx_call.specs.declared.attribute.Parameter.{Parameter}
+use Rattle.dcx_call.specs.Values.{HasArray}
 use Rattle.dcx_tree.specs.declared.problem.Problem.{Problem}
 use Rattle.dcx_linear.specs.declared.param_form.ParamForm.{ParamForm}
+use Rattle.dcx_linear.specs.Parameters.{array_entry}
 use Rattle.dcx_graph.specs.Program.{Program}
+use Rattle.dcx_graph.specs.Fixed.{HaveArrays}
+use Rattle.dcx_graph.proofs.Entries.{all_at}
 use Rattle.dcx_range.specs.declared.told.NotRanged.TheVariants as faults
+use Rattle.dcx_range.specs.declared.asked.Asked.{Asked}
+use Rattle.dcx_range.specs.Range.{IsAsked}
 use Rattle.dcx_range.specs.Parameters.{place_of, HasParameter, scales, IsNumber, HasSides, IsRanged, IsScaling, TellsOnce}
 
 -- the position is that of a parameter
@@ -43,7 +53,7 @@ same_parameter : (parameters : List Parameter) (k l : ℕ) (q r : Parameter) →
 same_parameter parameters k l q r e f g = same_Some q r (sym f ∙ ap (slice_get parameters) e ∙ g)
 
 module _ (p : Problem) (name : List ℕ) where
-  same_place : (k l : ℕ) → place_of p.parameters name ≡ Some k → place_of p.parameters name ≡ Some l → k ≡ l
+  pub same_place : (k l : ℕ) → place_of p.parameters name ≡ Some k → place_of p.parameters name ≡ Some l → k ≡ l
   same_place k l e f = same_Some k l (sym e ∙ f)
 
   there : (k : ℕ) → place_of p.parameters name ≡ Some k → place_of p.parameters name ≡ None → ⊥
@@ -91,3 +101,26 @@ tells_once p o name (Err faults.Coefficient) (Err faults.Unknown) h k = absurd (
 tells_once p o name (Err faults.Coefficient) (Err faults.Shape) h k = absurd (clash p name h.2.number k)
 tells_once p o name (Err faults.Coefficient) (Err faults.Map) h k = absurd (no_program o h.0 h.1 k.1)
 tells_once p o name (Err faults.Coefficient) (Err faults.Coefficient) h k = refl
+
+-- ---- what a setting has under a name
+-- the parameter at the position of a name has it
+pub name_is : (parameters : List Parameter) (name : List ℕ) (k : ℕ) (q : Parameter) → place_of parameters name ≡ Some k → slice_get parameters k ≡ Some q → q.name ≡ name
+name_is parameters name k q e there =
+    let place = position-Some (λ (r : Parameter). same_name name r.name) parameters k q e in
+    sym (same_name-true name q.name (ap (λ (r : Parameter). same_name name r.name) (sym (get_or_from_slice_get parameters k q q there)) ∙ place.1))
+
+module _ (p : Problem) (setting : Pairs) (name : List ℕ) (arrays : HaveArrays p setting) (n : IsNumber p name) where
+  pub array_there : HasArray setting name Scalar
+  array_there =
+      let has = all_at (λ (q : Parameter). HasArray setting q.name (sides_of q.shape)) p.parameters n.at n.parameter arrays n.named.there in
+      subst (λ z. HasArray setting name z) n.scalar (subst (λ z. HasArray setting z (sides_of n.parameter.shape)) (name_is p.parameters name n.at n.parameter n.named.place n.named.there) has)
+
+  -- what is read of both
+  pub is_asked : (k : ℕ) (q : Parameter) (array : Array) (x : Frac) → place_of p.parameters name ≡ Some k → slice_get p.parameters k ≡ Some q → array_of setting name ≡ Some array → slice_get array.entries 0 ≡ Some x
+      → (a : Asked) → a.position ≡ k → a.attribute ≡ q.attribute → a.at ≡ x → IsAsked p setting name a
+  is_asked k q array x e f g h a position attribute at = record {
+    number = record { at = k; parameter = q; named = record { place = e; there = f }; scalar = ap (λ (z : Parameter). sides_of z.shape) (same_parameter p.parameters k n.at q n.parameter (same_place p name k n.at e n.named.place) f n.named.there) ∙ n.scalar };
+    position = position;
+    attribute = attribute;
+    at_is = ap (option_and_then (array_entry 0)) g ∙ h ∙ ap Some (sym at);
+  }

@@ -1,17 +1,33 @@
-//! The range of a parameter: whether it has one.
+//! The range of a parameter: how far it may move, where all others stay, before the plan changes.
 //!
 //! A parameter has a range where it is a number that stands in no coefficient of an unknown: then the rows of the program move with it
-//! by their constants alone.
+//! by their constants alone, the tableau of a basis stays, and its right sides move along lines. While they stay at least 0 the basis
+//! stays optimal, with the same multipliers, and the value of the problem moves along a line too.
 //!
 //! | what must hold | where |
 //! |---|---|
 //! | where a parameter stands in affine numbers, forms and rows | `specs/Standing.antt` |
 //! | a parameter has a range, or the first thing that stands against it is told | `ranged`, `specs/Parameters.antt`: `IsTold` |
 //! | one thing is told of a name | `laws::tells_once` |
+//! | the numbers of a span are formed in the written order of operations, or the first that passes is told | `range`, `specs/Operations.antt`: `operations` |
+//! | the span is the interval of values at which the last basis stays feasible | `range`, `specs/Interval.antt`: `IsInInterval` |
+//! | at each fitting setting that differs by a value in the span alone the problem has the value on the line | `range`, `specs/Range.antt`: `HoldsOn` |
+//! | infeasible, unbounded and the stops of the run come where the run at the setting ends so | `range`, `specs/Range.antt`: `RangeGives` |
+//! | a parameter has one range at a setting under a limit, or one stop | `laws::ranges_are_one` |
 #![tactic(auto)]
 
+mod asked;
+mod ends;
+mod finding;
 pub mod laws;
+mod numbers;
+mod rates;
+mod span;
 mod standing;
+mod stop;
 mod told;
 
+pub use finding::range;
+pub use span::Ranged;
+pub use stop::RangeStop;
 pub use told::{NotRanged, ranged};

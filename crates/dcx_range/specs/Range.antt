@@ -1,0 +1,124 @@
+-- What is told of the range of a parameter.
+use Rattle.std.specs.Prelude.{◌≡◌, ⊤, ℕ, ◌↔◌, List, Some, Result, Ok, Err}
+use Rattle.dcx_math.specs.Rational.{ℚ, ◌+ℚ◌, ◌*ℚ◌}
+use Rattle.dcx_frac.specs.declared.fraction.Frac.{Frac}
+use Rattle.dcx_frac.specs.declared.fraction.Passes.{Passes}
+use Rattle.dcx_frac.specs.Frac.{value}
+use Rattle.dcx_point.specs.Pairs.{Pairs}
+use Rattle.dcx_convex.specs.Nodes.{Setting, Point}
+use Rattle.dcx_convex.specs.Answers.{Multipliers}
+use Rattle.dcx_tree.specs.declared.problem.Problem.{Problem}
+use Rattle.dcx_tree.specs.Meaning.{IsDpp, Fits, IsOptimal, setting_of}
+use Rattle.dcx_linear.specs.declared.param_form.ParamForm.{ParamForm}
+use Rattle.dcx_linear.specs.Parameters.{entry_of}
+use Rattle.dcx_tab.specs.declared.program.Program as tab
+use Rattle.dcx_tab.specs.First.{first_tableau}
+use Rattle.dcx_tab.specs.Table.{Table}
+use Rattle.dcx_simplex.specs.declared.run.LpEnd.TheVariants as ends
+use Rattle.dcx_simplex.specs.Reading.{cost_at}
+use Rattle.dcx_simplex.specs.Whole.{objective_row, RunEnds}
+use Rattle.dcx_std.specs.IntegerRows.{IsMade}
+use Rattle.dcx_solved.specs.declared.stop.SolveStop.TheVariants as solves
+use Rattle.dcx_solved.specs.Solved.{EndsAt, Stops}
+use Rattle.dcx_graph.specs.Program.{Program}
+use Rattle.dcx_graph.specs.Answers.{rows_of}
+use Rattle.dcx_graph.specs.Correct.{ReducesAffine}
+use Rattle.dcx_range.specs.declared.asked.Asked.{Asked}
+use Rattle.dcx_range.specs.declared.span.Ranged.{Ranged}
+use Rattle.dcx_range.specs.declared.span.Ranged.TheVariants.{Span, Infeasible, Unbounded}
+use Rattle.dcx_range.specs.declared.stop.RangeStop.{RangeStop}
+use Rattle.dcx_range.specs.declared.stop.RangeStop.TheVariants as stops
+use Rattle.dcx_range.specs.Parameters.{IsNumber}
+use Rattle.dcx_range.specs.Operations.{operations}
+use Rattle.dcx_range.specs.Interval.{DifferAt, IsBetween, IsInInterval}
+
+-- the rules accept the problem with parameters affine, and this is its program with affine coefficients, in building which some setting
+-- was at hand
+pub record IsMapOf (p : Problem) (q : Program ParamForm) : Type 0 where
+  pub dpp : IsDpp p
+  pub unread : Pairs
+  pub reduces : ReducesAffine p unread (Ok q)
+
+-- what a range is asked of: the position and the attribute of the parameter with this name, and its value at the setting
+pub record IsAsked (p : Problem) (setting : Pairs) (name : List ℕ) (a : Asked) : Type 0 where
+  pub number : IsNumber p name
+  pub position : a.position ≡ number.at
+  pub attribute : a.attribute ≡ number.parameter.attribute
+  pub at_is : entry_of setting name 0 ≡ Some a.at
+
+-- ---- the span
+-- the run at the setting ends optimal at this tableau, and these are the parameter, its attribute and its value there, and the value of
+-- the problem
+pub record IsKnown (p : Problem) (r : Program Frac) (setting : Pairs) (name : List ℕ) (limit : ℕ) : Type 0 where
+  pub number : IsNumber p name
+  pub at : Frac
+  pub at_is : entry_of setting name 0 ≡ Some at
+  pub integer : tab.Program
+  pub made : IsMade (rows_of r) integer
+  pub last : Table
+  pub pivots : ℕ
+  pub run : RunEnds limit (first_tableau integer) last (ends.Optimal pivots)
+  pub cost : Frac
+  pub cost_is : value cost ≡ cost_at last (objective_row last)
+
+-- what the operations form of it
+abbrev pub formed : (p : Problem) (q : Program ParamForm) (r : Program Frac) (setting : Pairs) (name : List ℕ) (limit : ℕ) → IsKnown p r setting name limit → Result Ranged Passes
+formed p q r setting name limit s =
+    operations s.last s.integer.rows q.rows q.objective.constant (record { position = s.number.at; attribute = s.number.parameter.attribute; at = s.at }) s.cost
+
+-- the value is in the span
+abbrev pub IsIn : Ranged → ℚ → Type 0
+IsIn (Span low high constant slope) v = IsBetween low high v
+IsIn Infeasible v = ⊥
+IsIn Unbounded v = ⊥
+
+-- the numbers are those that the operations form, and the span is the interval at whose values the last basis stays feasible
+pub record IsSpan (p : Problem) (q : Program ParamForm) (r : Program Frac) (setting : Pairs) (name : List ℕ) (limit : ℕ) (answer : Ranged) : Type 0 where
+  pub known : IsKnown p r setting name limit
+  pub numbers : formed p q r setting name limit known ≡ Ok answer
+  pub interval : (v : ℚ) → IsIn answer v ↔ IsInInterval known.integer known.last q.rows (setting_of p setting) known.number.at known.number.parameter.attribute v
+  pub holds : IsIn answer (value known.at)
+
+-- the run at the setting ends so
+pub record EndsInfeasible (r : Program Frac) (limit : ℕ) : Type 0 where
+  pub integer : tab.Program
+  pub made : IsMade (rows_of r) integer
+  pub pivots : ℕ
+  pub ends : EndsAt limit integer (ends.Infeasible pivots)
+
+pub record EndsUnbounded (r : Program Frac) (limit : ℕ) : Type 0 where
+  pub integer : tab.Program
+  pub made : IsMade (rows_of r) integer
+  pub pivots : ℕ
+  pub column : ℕ
+  pub ends : EndsAt limit integer (ends.Unbounded pivots column)
+
+-- the first operation of the range that passes
+pub record IsPassing (p : Problem) (q : Program ParamForm) (r : Program Frac) (setting : Pairs) (name : List ℕ) (limit : ℕ) (passes : Passes) : Type 0 where
+  pub known : IsKnown p r setting name limit
+  pub passing : formed p q r setting name limit known ≡ Err passes
+
+-- ---- what is answered
+abbrev pub RangeGives : Problem → Program ParamForm → Program Frac → Pairs → List ℕ → ℕ → Result Ranged RangeStop → Type 0
+RangeGives p q r setting name limit (Ok (Span low high constant slope)) = IsSpan p q r setting name limit (Span low high constant slope)
+RangeGives p q r setting name limit (Ok Infeasible) = EndsInfeasible r limit
+RangeGives p q r setting name limit (Ok Unbounded) = EndsUnbounded r limit
+RangeGives p q r setting name limit (Err (stops.Wide site)) = Stops limit (rows_of r) (solves.Wide site)
+RangeGives p q r setting name limit (Err (stops.PivotLimit count)) = Stops limit (rows_of r) (solves.PivotLimit count)
+RangeGives p q r setting name limit (Err (stops.RangeWide passes)) = IsPassing p q r setting name limit passes
+RangeGives p q r setting name limit (Err stops.Memory) = ⊤
+
+-- ---- in the problem's own words
+-- some point and some multipliers show that the problem has this value
+pub record HasValue (p : Problem) (s : Setting) (v : ℚ) : Type 0 where
+  pub point : Point
+  pub multipliers : Multipliers
+  pub optimal : IsOptimal p s v point multipliers
+
+-- at each setting that fits and differs from this one by a value of the parameter in the span alone, the problem has the value on the
+-- line
+abbrev pub HoldsOn : Problem → Setting → List ℕ → Ranged → Type 0
+HoldsOn p s name (Span low high constant slope) =
+    (n : IsNumber p name) (t : Setting) → Fits p t → DifferAt n.at s t → IsBetween low high (t n.at 0) → HasValue p t (value constant +ℚ value slope *ℚ t n.at 0)
+HoldsOn p s name Infeasible = ⊤
+HoldsOn p s name Unbounded = ⊤
