@@ -76,11 +76,10 @@ class Accepted:
         self.verdict = Verdict(self.problem)
 
     def test_solvable(self, number):
-        """A problem with a variable whose entries are to be whole is not solved, and refused with this number."""
-        for _, n in self.problem.variables:
-            node = self.problem.nodes[n]
-            if node.call[3]:
-                raise Refused(number, node.place)
+        """A problem with a variable whose entries are to be whole is not solved, and refused with this number at the first one that it reaches."""
+        marked = [n for _, n in self.problem.variables if self.problem.nodes[n].call[3]]
+        if marked:
+            raise Refused(number, self.problem.nodes[min(marked)].place)
 
 
 def ends_of(accepted, settings, limit):
