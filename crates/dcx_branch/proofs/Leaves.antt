@@ -19,26 +19,13 @@ use Rattle.dcx_linear.specs.Rows.{LinearProgram, HaveSigns, combined_from}
 use Rattle.dcx_mapping.specs.Programs.{bound_row, multipliers_of}
 use Rattle.dcx_mapping.proofs.Rows.{AllFrom, IsSigned}
 use Rattle.dcx_graph.specs.AsLinear.{IsReductionAt}
+use Rattle.dcx_graph.proofs.Backward.{well_formed}
 use Rattle.dcx_whole.specs.Boxes.{Box}
 use Rattle.dcx_whole.specs.Trees.{Weight, over, all_exceeded, MayShow, penalty}
 use Rattle.dcx_branch.specs.declared.bound.BoundAt.{BoundAt}
 use Rattle.dcx_branch.specs.Nodes.{excess, bound_number, node_program, IsBoundOf, weights_from, NodesShow, AnswersAreLeaves}
 use Rattle.dcx_branch.proofs.Lifting as lifting
 use Rattle.dcx_branch.proofs.Entries.{entry_unknown, lifted_entry}
-
--- a problem is well formed in the terms of disciplined convex programming
-well_formed : (p : Problem) → IsWellFormed (convex_problem p)
-well_formed p = record {
-  ordered = (tree_lawful (names_in p) p.tree p.nodes).ordered;
-  objective = inside p.objective.0 p.objective_kept.there;
-  sides = λ k c at. let (d, there, is) = mapped convex_constraint p.constraints k c at in (
-    subst (λ (e : convex.Constraint). e.left < length (convex_problem p).nodes) is (inside d.left.0 (p.constraints_kept.left k d there).there),
-    subst (λ (e : convex.Constraint). e.right < length (convex_problem p).nodes) is (inside d.right.0 (p.constraints_kept.right k d there).there),
-  );
-}
-  where
-    inside : (i : ℕ) → i < length p.tree → i < length (convex_problem p).nodes
-    inside i b = omega (arith, length-map p.tree (convex_node (names_in p) p.tree), b)
 
 -- ---- multipliers of bounds
 -- a multiplier times what a bound is exceeded by

@@ -2,3 +2,12 @@
 pub mod Lifting
 pub mod Entries
 pub mod Leaves
+pub mod Between
+pub mod Boxes
+pub mod Members
+pub mod Linear
+pub mod Bounds
+pub mod OneRun
+pub mod Shown
+pub mod Completes
+pub mod Found

@@ -1,2 +1,10 @@
 -- What the contracts of this crate cite.
+pub mod Places
+pub mod Rows
+pub mod Sides
+pub mod Leaves
 pub mod Nodes
+pub mod Run
+pub mod Trees
+pub mod Answers
+pub mod Taken
