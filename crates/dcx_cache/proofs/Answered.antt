@@ -24,7 +24,7 @@ use Rattle.dcx_graph.specs.Answers.{rows_of, HasParts, IsAnswered}
 use Rattle.dcx_graph.proofs.Correct.{numbers_are_reductions, affine_are_reductions, affine_are_known}
 use Rattle.dcx_graph.proofs.AtSetting.{fixed_are_reductions}
 use Rattle.dcx_graph.proofs.Mapped.{read_right}
-use Rattle.dcx_cache.specs.Programs.{SessionGives, mapped, anew, IsReducedAt}
+use Rattle.dcx_cache.specs.Programs.{SessionGives, mapped, anew, IsProgramAt}
 use Rattle.dcx_cache.specs.Laws.{AnswersAreRight}
 use Rattle.dcx_cache.proofs.Arrays.{have_arrays}
 
@@ -39,27 +39,37 @@ parts_of q t (ends.PivotLimit n) a h = absurd h
 -- ---- a program of the session
 module _ (p : Problem) (setting : Pairs) (ok : IsAccepted p) (fits : FitsParameters p.parameters setting) where
   -- it is a reduced program there
-  pub sound : (q : Program Frac) → SessionGives p setting (Ok q) → IsReducedAt p setting q
-  sound q (mapped map m f) = record {
-    rules = Parametrized;
-    accepted = m.dpp.1;
-    fitting = (formed_are_fitting p).param_forms m.dpp [] setting m.reduces.nodes.table m.reduces.nodes.formed fits;
-    reduction = fixed_are_reductions Parametrized p setting map q (setting_of p setting) (affine_are_known p [] map m.reduces) (have_arrays p setting fits) f
-        (affine_are_reductions p [] map m.dpp m.reduces (setting_of p setting));
-  }
-  sound q (anew n h) = record {
-    rules = Plain;
-    accepted = ok;
-    fitting = (formed_are_fitting p).fracs ok setting h.nodes.table h.nodes.formed fits;
-    reduction = numbers_are_reductions p setting q (setting_of p setting) ok h;
-  }
+  pub sound : (q : Program Frac) → SessionGives p setting (Ok q) → IsProgramAt p setting q
+  sound q (mapped map m f) =
+      let fitting : IsFitting p setting = (formed_are_fitting p).param_forms m.dpp [] setting m.reduces.nodes.table m.reduces.nodes.formed fits in
+      record {
+        fitting = fitting;
+        reduced = record {
+          rules = Parametrized;
+          accepted = m.dpp.1;
+          fits = fitting.fits;
+          reduction = fixed_are_reductions Parametrized p setting map q (setting_of p setting) (affine_are_known p [] map m.reduces) (have_arrays p setting fits) f
+              (affine_are_reductions p [] map m.dpp m.reduces (setting_of p setting));
+        };
+      }
+  sound q (anew n h) =
+      let fitting : IsFitting p setting = (formed_are_fitting p).fracs ok setting h.nodes.table h.nodes.formed fits in
+      record {
+        fitting = fitting;
+        reduced = record {
+          rules = Plain;
+          accepted = ok;
+          fits = fitting.fits;
+          reduction = numbers_are_reductions p setting q (setting_of p setting) ok h;
+        };
+      }
 
   -- an answer of its rows can be read that has the parts and is right
   pub answered_by : (q : Program Frac) (i : tab.Program) (a : LpAnswer) → SessionGives p setting (Ok q) → IsMade (rows_of q) i → HasParts i a → IsRight i a → IsAnswered p (setting_of p setting) q a
-  answered_by q i a g made parts right = let w = sound q g in record {
+  answered_by q i a g made parts right = let w = (sound q g).reduced in record {
     rules = w.rules;
     accepted = w.accepted;
-    fits = w.fitting.fits;
+    fits = w.fits;
     reduction = w.reduction;
     integer = i;
     made = made;
@@ -76,7 +86,7 @@ module _ (p : Problem) (setting : Pairs) (ok : IsAccepted p) (fits : FitsParamet
   is_fitting q g = (sound q g).fitting
 
 pub reduced_at : (p : Problem) (setting : Pairs) (r : Result (Reduction Frac) Stop) → IsAccepted p → OnOk r (FitsParameters p.parameters setting) → IfOk r (λ x. SessionGives p setting (Ok x.program)) →
-    IfOk r (λ x. IsReducedAt p setting x.program)
+    IfOk r (λ x. IsProgramAt p setting x.program)
 reduced_at p setting (Ok x) ok fits g = sound p setting ok fits x.program g
 reduced_at p setting (Err e) ok fits g = tt
 

@@ -1,11 +1,9 @@
 -- Which program a session solves at a setting, and what stops it.
-use Rattle.std.specs.Prelude.{⊤, IsTrue, [], Result, Ok, Err}
+use Rattle.std.specs.Prelude.{⊤, [], Result, Ok, Err}
 use Rattle.dcx_frac.specs.declared.fraction.Frac.{Frac}
 use Rattle.dcx_point.specs.Pairs.{Pairs}
 use Rattle.dcx_tree.specs.declared.problem.Problem.{Problem}
-use Rattle.dcx_convex.specs.Rules.{Rules}
-use Rattle.dcx_convex.specs.Problems.{accepted_by}
-use Rattle.dcx_tree.specs.Meaning.{convex_problem, IsDpp, IsFitting, setting_of}
+use Rattle.dcx_tree.specs.Meaning.{IsDpp, IsFitting, setting_of}
 use Rattle.dcx_fit.specs.Fit.{FitsParameters, IsFirstMisfit}
 use Rattle.dcx_answer.specs.declared.stop.Stop.{Stop}
 use Rattle.dcx_answer.specs.declared.stop.Stop.TheVariants as why
@@ -14,9 +12,7 @@ use Rattle.dcx_linear.specs.declared.param_form.ParamForm.{ParamForm}
 use Rattle.dcx_graph.specs.declared.stop.ReduceStop.{ReduceStop}
 use Rattle.dcx_graph.specs.declared.stop.ReduceStop.TheVariants as stops
 use Rattle.dcx_graph.specs.Program.{Program}
-use Rattle.dcx_std.specs.Solutions.{linear_program}
-use Rattle.dcx_graph.specs.AsLinear.{IsReductionAt}
-use Rattle.dcx_graph.specs.Answers.{rows_of}
+use Rattle.dcx_graph.specs.Answers.{IsReducedAt}
 use Rattle.dcx_graph.specs.Fixing.{FixGives}
 use Rattle.dcx_graph.specs.Correct.{ReducesNumbers, ReducesAffine}
 
@@ -49,12 +45,10 @@ pub data SessionGives (p : Problem) (setting : Pairs) (r : Result (Program Frac)
   anew : ¬ HasMap p → ReducesNumbers p setting r → SessionGives p setting r
 
 -- ---- what it is for the problem
--- the setting fits, and by rules that accept the problem the program is one of its reduced programs there
-pub record IsReducedAt (p : Problem) (setting : Pairs) (q : Program Frac) : Type 0 where
-  pub rules : Rules
-  pub accepted : IsTrue (accepted_by rules (convex_problem p))
+-- the setting fits, and the program is a reduced program of the problem there
+pub record IsProgramAt (p : Problem) (setting : Pairs) (q : Program Frac) : Type 0 where
   pub fitting : IsFitting p setting
-  pub reduction : IsReductionAt rules p (setting_of p setting) (linear_program (rows_of q))
+  pub reduced : IsReducedAt p (setting_of p setting) q
 
 -- ---- what stops it
 -- the setting fits the parameters, and there this stops the program

@@ -23,7 +23,7 @@
 //! | a warm answer is right, and has the status and value of a fresh one | `laws::warm_answers_are_right`, `laws::warm_answers_agree` |
 //! | a warm re-solve stops only where a fresh one does, and so | `Session::solve_warm`: `answers`, `laws::answered_stays_answered` |
 //! | settings one after another have one list of answers, warm or not, and of stops | `laws::one_warm_answer`, `laws::one_warm_list` |
-//! | the program at a setting is given, or the first thing that stops it | `Session::program`, `specs/Programs.antt`: `ProgramStops`, `IsReducedAt` |
+//! | the program at a setting is given, or the first thing that stops it | `Session::program`, `specs/Programs.antt`: `ProgramStops`, `IsProgramAt` |
 //! | the program with affine coefficients is lent where it is kept | `Session::map` |
 #![tactic(auto)]
 

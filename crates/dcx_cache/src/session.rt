@@ -5,7 +5,7 @@ ghost use Rattle.dcx_rules.specs.Verdicts.{IsVerdictOf};
 ghost use Rattle.dcx_tree.specs.Meaning.{IsAccepted, IsFitting, setting_of};
 ghost use Rattle.dcx_graph.specs.Answers.{IsRightFor};
 ghost use Rattle.dcx_cache.specs.declared.session.Last.{Last as Found};
-ghost use Rattle.dcx_cache.specs.Programs.{IsMapOf, HasMap, SessionGives, IsReducedAt, ProgramStops};
+ghost use Rattle.dcx_cache.specs.Programs.{IsMapOf, HasMap, SessionGives, IsProgramAt, ProgramStops};
 ghost use Rattle.dcx_cache.specs.Answers.{Answers};
 ghost use Rattle.dcx_cache.specs.Columns.{Keeps};
 ghost use Rattle.dcx_cache.specs.Sessions.{Shows};
@@ -251,7 +251,7 @@ impl Session {
         ensures fits { OnOk result (FitsParameters self.old.problem.parameters setting.now) }
         ensures gives { IfOk result (λ r. SessionGives self.old.problem setting.now (Ok r.program)) }
         ensures from_map { IfOk result (λ r. r.from_map ≡ self.old.cached) }
-        ensures reduced { IfOk result (λ r. IsReducedAt self.old.problem setting.now r.program) }
+        ensures reduced { IfOk result (λ r. IsProgramAt self.old.problem setting.now r.program) }
         ensures stops { IfErr result (ProgramStops self.old.problem setting.now) }
         ensures none { self.new.last ≡ None }
         ensures columns { self.new.columns ≡ self.old.columns }

@@ -22,7 +22,7 @@ use Rattle.dcx_postsolve.proofs.DualLaws.{are_one}
 use Rattle.dcx_graph.specs.Answers.{IsPointRead, IsRead, PassesAt, IsSamePoint, AreSameDuals, IsSameAnswer, ReadingsAreOne}
 
 module _ (p : Problem) (kinds : List UnknownKind) (a : LpAnswer) where
-  same_point : (columns : List Frac) (x y : Pairs) → IsPointRead p kinds columns x → IsPointRead p kinds columns y → IsSamePoint p x y
+  pub same_point : (columns : List Frac) (x y : Pairs) → IsPointRead p kinds columns x → IsPointRead p kinds columns y → IsSamePoint p x y
   same_point columns x y h k =
       let same : numbered h.unknowns ≡ numbered k.unknowns = ap (λ zs u. rat_at zs u) (h.are ∙ sym k.are) in
       record {

@@ -24,7 +24,7 @@ use Rattle.dcx_solved.specs.declared.stop.SolveStop.TheVariants as solves
 use Rattle.dcx_solved.specs.Solved.{IsSolved, Stops}
 use Rattle.dcx_solved.proofs.OneSolution as one
 use Rattle.dcx_graph.specs.Program.{Program}
-use Rattle.dcx_iis.specs.declared.filtered.Filtered.TheVariants as filtered
+use Rattle.dcx_answer.specs.declared.filtered.Filtered.TheVariants as filtered
 use Rattle.dcx_iis.specs.Sets.{ConstraintSet, every_constraint, set_of, KeepsSet, StayBelow, IsFilterSet}
 use Rattle.dcx_iis.specs.Steps.{kept_of, program_of_set, step_set, solve_stop, HasAnswer, IsReadIn, IsLastImpossible, StopsInStep, StopsAtMultiplier, StopsAt, in_step, at_multiplier}
 use Rattle.dcx_iis.specs.Found.{IsFeasiblePoint, AreFound}

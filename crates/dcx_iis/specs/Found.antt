@@ -16,8 +16,8 @@ use Rattle.dcx_lp_answer.specs.declared.answer.LpStatus.TheVariants as status
 use Rattle.dcx_solved.specs.declared.solving.Solved.{Solved}
 use Rattle.dcx_solved.specs.Solved.{IsSolved}
 use Rattle.dcx_graph.specs.Program.{Program}
-use Rattle.dcx_iis.specs.declared.filtered.Filtered.{Filtered}
-use Rattle.dcx_iis.specs.declared.filtered.Filtered.TheVariants as filtered
+use Rattle.dcx_answer.specs.declared.filtered.Filtered.{Filtered}
+use Rattle.dcx_answer.specs.declared.filtered.Filtered.TheVariants as filtered
 use Rattle.dcx_iis.specs.Sets.{ConstraintSet, every_constraint, set_of, Keeps, IsFilterSet}
 use Rattle.dcx_iis.specs.Multipliers.{HasShapeOf}
 use Rattle.dcx_iis.specs.Steps.{kept_of, program_of_set, HasAnswer, IsReadIn, IsReadAt, IsLastImpossible}

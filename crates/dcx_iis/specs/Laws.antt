@@ -11,7 +11,7 @@ use Rattle.dcx_std.specs.Solutions.{linear_program}
 use Rattle.dcx_answer.specs.declared.stop.Stop.{Stop}
 use Rattle.dcx_graph.specs.Program.{Program}
 use Rattle.dcx_graph.specs.Answers.{IsReducedAt}
-use Rattle.dcx_iis.specs.declared.filtered.Filtered.{Filtered}
+use Rattle.dcx_answer.specs.declared.filtered.Filtered.{Filtered}
 use Rattle.dcx_iis.specs.Sets.{ConstraintSet, KeepsSet, IsImpossible, IsFilterSet}
 use Rattle.dcx_iis.specs.Steps.{program_of_set, StopsAt}
 use Rattle.dcx_iis.specs.Found.{IsRight, IsFound}

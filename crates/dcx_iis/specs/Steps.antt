@@ -22,8 +22,8 @@ use Rattle.dcx_solved.specs.declared.stop.SolveStop.TheVariants as solves
 use Rattle.dcx_solved.specs.Solved.{IsSolved, Stops}
 use Rattle.dcx_graph.specs.Program.{Program}
 use Rattle.dcx_graph.specs.Answers.{IsPointRead}
-use Rattle.dcx_iis.specs.declared.stop.FilterStop.{FilterStop}
-use Rattle.dcx_iis.specs.declared.stop.FilterStop.TheVariants as filter
+use Rattle.dcx_answer.specs.declared.filter_stop.FilterStop.{FilterStop}
+use Rattle.dcx_answer.specs.declared.filter_stop.FilterStop.TheVariants as filter
 use Rattle.dcx_iis.specs.Sets.{ConstraintSet, every_constraint, left_beside, IsImpossible, StayBelow, IsFilterSet}
 
 -- ---- programs

@@ -14,9 +14,4 @@
 //! | where something is found nothing stops, and there is one stop at most | `laws::found_or_stopped`, `laws::stops_are_one` |
 #![tactic(auto)]
 
-mod filtered;
 pub mod laws;
-mod stop;
-
-pub use filtered::{Filtered, Members, Points};
-pub use stop::FilterStop;
