@@ -1,9 +1,10 @@
 -- The greatest integer below a fraction that isn't whole, and that there is one.
-use Rattle.std.proofs.Common.{◌≡◌, ◌≢◌, ℕ, zero, suc, ◌+◌, ◌*◌, ◌-◌, ◌/◌, ◌%◌, ◌<◌, arith, refl, sym, ap, ◌∙◌, subst, inl, inr, ◌⊎◌, lit<}
+use Rattle.std.proofs.Common.{◌≡◌, ◌≢◌, ℕ, suc, ◌+◌, ◌*◌, ◌-◌, ◌/◌, ◌%◌, ◌<◌, ◌≤◌, ◌^◌, arith, refl, sym, ap, ◌∙◌, subst, inl, inr, ◌⊎◌}
 use Rattle.std.specs.Prelude.{ℤ, pos, negsuc, ◌+ℤ◌, ◌*ℤ◌, neg_ℤ, ◌<ℤ◌, ◌≤ℤ◌, unsigned_abs}
 use Rattle.std.specs.Int.{int_div_euclid}
 use Rattle.std.proofs.lemmas.Int.{ints}
 use Rattle.std.proofs.lemmas.Nat.{div-add-mod', mod_below}
+use Rattle.std.proofs.Math.Nat.{mul-le-mul_left}
 use native.Mathlib.Nat.{eq-one_of_dvd-one}
 use Rattle.dcx_math.specs.Rational.{ℚ, ratio, whole, ◌≤ℚ◌, ◌<ℚ◌}
 use Rattle.dcx_math.specs.Integers.{*ℤ-+ℤ_left, *ℤ_idl, *ℤ-neg_ℤ_left}
@@ -16,7 +17,7 @@ use Rattle.dcx_math.proofs.LowestTerms.{lowest_terms_unique}
 use Rattle.dcx_frac.specs.declared.fraction.Frac.{Frac}
 use Rattle.dcx_frac.specs.Frac.{num_of, den_of, value}
 use Rattle.dcx_frac.proofs.Parts.{value_lowest}
-use Rattle.dcx_branch.specs.Sides.{IsBetween}
+use Rattle.dcx_branch.specs.Between.{IsBetween, HasRoom}
 
 -- ---- there is one such integer at most
 -- an integer below a number is at most the greatest one
@@ -128,3 +129,24 @@ one_whole f e = by (den_of f) f.positive e
       where
         times_one : (z : ℤ) → z *ℤ pos 1 ≡ z
         times_one z = omega (arith, ints)
+
+-- ---- room
+twice_below : (a b : ℕ) → 2 ≤ b → 2 * (a / b) ≤ a
+twice_below a b h = let e = div-add-mod' a b in omega (arith, mul-le-mul_left (a / b) h, e)
+
+above_one : (n : ℕ) → 0 < n → (n ≡ 1 → ⊥) → 2 ≤ n
+above_one n h k = omega arith
+
+-- an integer below a fraction that isn't whole has room
+pub divided_room : (f : Frac) → den_of f ≢ pos 1 → HasRoom (int_div_euclid (num_of f) (den_of f))
+divided_room f not_one = let den = at_least_one (den_of f) f.positive in by (num_of f) f.num_fits (den_of f) den.size den.is den.some not_one
+  where
+    by : (z : ℤ) → unsigned_abs z < 2 ^ 127 → (d : ℤ) (n : ℕ) → d ≡ pos n → 0 < n → d ≢ pos 1 → HasRoom (int_div_euclid z d)
+    by z h d n e some other = subst (λ k. HasRoom (int_div_euclid z k)) (sym e) (of_size z h)
+      where
+        two : 2 ≤ n
+        two = above_one n some (λ one. other (e ∙ ap pos one))
+
+        of_size : (w : ℤ) → unsigned_abs w < 2 ^ 127 → HasRoom (int_div_euclid w (pos n))
+        of_size (pos a) small = let half = twice_below a n two in omega arith
+        of_size (negsuc a) small = let half = twice_below a n two in omega arith

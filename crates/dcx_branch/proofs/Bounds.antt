@@ -1,14 +1,13 @@
 -- The bounds of a box in row order: each is one of the box, and numbers that keep them are within the box.
-use Rattle.std.proofs.Common.{◌≡◌, ℕ, zero, suc, Bool, true, false, if◌then◌else◌, List, [], ◌∷◌, ◌++◌, Option, Some, None, slice_get, refl, sym, ap, ◌∙◌, subst}
+use Rattle.std.proofs.Common.{◌≡◌, zero, suc, Bool, true, false, if◌then◌else◌, List, [], ◌∷◌, Option, Some, None, refl, subst}
 use Rattle.std.specs.Prelude.{ℤ, pos}
 use Rattle.std.proofs.lemmas.Option.{none-some, same_Some}
-use Rattle.dcx_math.specs.Rational.{ℚ, whole, ◌+ℚ◌, ◌-ℚ◌, ◌≤ℚ◌}
+use Rattle.dcx_math.specs.Rational.{ℚ, whole, ◌-ℚ◌, ◌≤ℚ◌}
 use Rattle.dcx_math.proofs.Ring.{reads}
 use Rattle.dcx_math.proofs.Orders.{linear}
 use Rattle.dcx_linear.specs.FormTerms.{Unknowns}
 use Rattle.dcx_tree.specs.declared.problem.Problem.{Problem}
-use Rattle.dcx_whole.specs.Points.{HasEntry}
-use Rattle.dcx_whole.specs.Boxes.{Bounds, IsAtLeast, IsAtMost, IsWithin, Box}
+use Rattle.dcx_whole.specs.Boxes.{IsAtLeast, IsAtMost, IsWithin, Box}
 use Rattle.dcx_branch.specs.declared.place.Place.{Place}
 use Rattle.dcx_branch.specs.declared.bound.BoundAt.{BoundAt}
 use Rattle.dcx_branch.specs.Places.{places}

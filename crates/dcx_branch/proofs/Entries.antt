@@ -1,8 +1,7 @@
 -- The unknown of an entry: at the unknowns of a point it is that entry.
-use Rattle.std.proofs.Common.{◌≡◌, ℕ, ◌<◌, if◌then◌else◌, map, Some, option_map, slice_get, sym, ap, ◌∙◌, subst, pos}
+use Rattle.std.proofs.Common.{◌≡◌, ℕ, ◌<◌, map, Some, option_map, slice_get, sym, ap, ◌∙◌, subst}
 use Rattle.std.proofs.Math.Logic.{∥∥₁_elim}
 use Rattle.std.proofs.lemmas.Option.{slice_get-map, slice_get_within, get_or_from_slice_get}
-use Rattle.dcx_math.specs.Rational.{whole}
 use Rattle.dcx_math.proofs.Orders.{≡ℚ_prop}
 use Rattle.dcx_shape.specs.Sides.{entries_of}
 use Rattle.dcx_call.specs.declared.attribute.Variable.{Variable}

@@ -1,6 +1,5 @@
 -- Answers of a node's linear program are leaves of its box.
-use Rattle.std.proofs.Common.{◌≡◌, ℕ, suc, ◌+◌, ◌<◌, arith, Bool, true, false, if◌then◌else◌, IsTrue, List, [], ◌∷◌, length, map, All, Option, Some, option_map, slice_get, refl, sym, ap, ap₂, ◌∙◌, subst, ℤ, pos, add-zero}
-use Rattle.std.proofs.lemmas.List.{length-map}
+use Rattle.std.proofs.Common.{◌≡◌, ℕ, suc, ◌+◌, arith, Bool, true, false, if◌then◌else◌, IsTrue, List, [], ◌∷◌, length, map, All, Option, Some, option_map, slice_get, refl, sym, ap, ap₂, ◌∙◌, subst, ℤ, pos, add-zero}
 use Rattle.std.proofs.lemmas.List.Elements.{All-cons, All-nil}
 use Rattle.std.proofs.lemmas.Option.{slice_get-map}
 use Rattle.dcx_math.specs.Rational.{ℚ, whole, ◌+ℚ◌, ◌-ℚ◌, ◌*ℚ◌, ◌≤ℚ◌}
@@ -8,13 +7,9 @@ use Rattle.dcx_math.specs.Sums.{IsNonnegative}
 use Rattle.dcx_math.proofs.Orders.{≤ℚ_trans, ≤ℚ-from_≡}
 use Rattle.dcx_convex.specs.Nodes.{Point, Setting}
 use Rattle.dcx_convex.specs.Rules.{Rules}
-use Rattle.dcx_convex.specs.Problems as convex
 use Rattle.dcx_convex.specs.Problems.{accepted_by}
-use Rattle.dcx_convex.specs.Reductions.{IsWellFormed}
 use Rattle.dcx_tree.specs.declared.problem.Problem.{Problem}
-use Rattle.dcx_tree.specs.Nodes.{convex_node}
-use Rattle.dcx_tree.specs.Meaning.{names_in, convex_problem, convex_constraint, Fits, IsInDomain, IsFeasible, objective_at, lagrangian}
-use Rattle.dcx_tree.proofs.Lawful.{mapped, tree_lawful}
+use Rattle.dcx_tree.specs.Meaning.{convex_problem, Fits, IsInDomain, IsFeasible, objective_at, lagrangian}
 use Rattle.dcx_linear.specs.Rows.{LinearProgram, HaveSigns, combined_from}
 use Rattle.dcx_mapping.specs.Programs.{bound_row, multipliers_of}
 use Rattle.dcx_mapping.proofs.Rows.{AllFrom, IsSigned}

@@ -11,3 +11,12 @@ pub mod OneRun
 pub mod Shown
 pub mod Completes
 pub mod Found
+pub mod Rooms
+pub mod Told
+pub mod Floors
+pub mod Marks
+pub mod Units
+pub mod Formed
+pub mod Taking
+pub mod Advance
+pub mod Lists

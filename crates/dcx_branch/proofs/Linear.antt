@@ -1,5 +1,5 @@
 -- The rows of a node are those of its linear program.
-use Rattle.std.proofs.Common.{◌≡◌, ℕ, zero, suc, ◌<◌, ◌^◌, Bool, true, false, if◌then◌else◌, List, [], ◌∷◌, ◌++◌, map, refl, sym, ap, ap₂, ◌∙◌, subst, lit<}
+use Rattle.std.proofs.Common.{◌≡◌, ℕ, zero, suc, ◌<◌, ◌^◌, Bool, true, false, List, [], ◌∷◌, ◌++◌, map, refl, sym, ap, ap₂, ◌∙◌, subst, lit<}
 use Rattle.std.specs.Prelude.{ℤ, pos, negsuc, neg_ℤ, unsigned_abs}
 use Rattle.std.specs.List.{All}
 use Rattle.std.proofs.Math.Path.{fun_ext}
@@ -23,7 +23,7 @@ use Rattle.dcx_graph.specs.Program.{Program}
 use Rattle.dcx_graph.specs.Answers.{rows_of}
 use Rattle.dcx_frac.specs.declared.fraction.Frac.{Frac}
 use Rattle.dcx_branch.specs.declared.bound.BoundAt.{BoundAt}
-use Rattle.dcx_branch.specs.Rows.{unit_row, bound_form, bound_row, bound_rows, node_rows}
+use Rattle.dcx_branch.specs.Rows.{bound_form, bound_row, bound_rows, node_rows}
 use Rattle.dcx_branch.specs.Nodes.{excess, bound_number, node_program}
 
 -- ---- integers as fractions

@@ -1,15 +1,21 @@
 -- Which entries are listed as those that may be bounded.
-use Rattle.std.proofs.Common.{◌≡◌, ◌≢◌, ◌⊎◌, inl, inr, ℕ, zero, suc, ◌+◌, ◌<◌, arith, List, [], ◌∷◌, ◌++◌, length, map, Option, Some, None, option_map, slice_get, refl, sym, ap, ◌∙◌, subst, add-zero, zero-add}
+use Rattle.std.proofs.Common.{◌≡◌, ◌≢◌, ℕ, zero, suc, ◌+◌, ◌<◌, ◌≤◌, arith, get_or, List, [], ◌∷◌, ◌++◌, length, map, Option, Some, None, option_map, slice_get, refl, sym, ap, ◌∙◌, subst, add-zero, zero-add}
 use Rattle.std.proofs.lemmas.Option.{none-some, same_Some, slice_get-map, slice_get_within, get_or_from_slice_get, slice_get-get_or}
+use Rattle.std.specs.List.{All}
 use Rattle.std.proofs.lemmas.List.FromFn.{length-range_with_len, get_or-range_with_len}
 use Rattle.dcx_shape.specs.Sides.{entries_of}
 use Rattle.dcx_shape.specs.Places.{places_below}
 use Rattle.dcx_call.specs.declared.attribute.Variable.{Variable}
+use Rattle.dcx_call.specs.Attributes.{IsSquare, AreSquare}
 use Rattle.dcx_call.specs.declared.attribute.Whole.{Whole}
 use Rattle.dcx_call.specs.declared.attribute.Whole.TheVariants.{Not, Integer, Boolean}
-use Rattle.dcx_unknowns.specs.Unknowns.{sides_in, first_unknown, unknown_from}
-use Rattle.dcx_unknowns.proofs.Places.{place_within}
+use Rattle.dcx_unknowns.specs.Own.{source_of, own_before}
+use Rattle.dcx_unknowns.specs.Unknowns.{demanded, sides_in, variable_unknowns, first_unknown, unknown_from}
+use Rattle.dcx_unknowns.proofs.Places.{place_within, own_before-lt}
+use Rattle.dcx_unknowns.proofs.Sources.{Owns, source_own}
+use Rattle.dcx_unknowns.proofs.Owners.{count_of, first_fits}
 use Rattle.dcx_branch.specs.declared.place.Place.{Place}
+use Rattle.dcx_branch.specs.Searches.{IsIn}
 use Rattle.dcx_branch.specs.Places.{places_of, entry_places, marked_places, variable_places, places_from, places}
 
 -- the place of an entry
@@ -42,10 +48,6 @@ each_left P (a ∷ xs) ys h (suc i) x e = each_left P xs ys (λ n y d. h (suc n)
 pub each_right : {A : Type 0} (P : A → Type 0) (xs ys : List A) → Each P (xs ++ ys) → Each P ys
 each_right P [] ys h i x e = h i x e
 each_right P (a ∷ xs) ys h i x e = each_right P xs ys (λ n y d. h (suc n) y d) i x e
-
--- something is an item of a list
-abbrev pub IsIn : {A : Type 0} → A → List A → Type 0
-IsIn x xs = (i : ℕ) × (slice_get xs i ≡ Some x)
 
 pub in_left : {A : Type 0} (x : A) (xs ys : List A) → IsIn x xs → IsIn x (xs ++ ys)
 in_left x [] ys (i, e) = absurd (none-some x e)
@@ -163,3 +165,33 @@ module _ (vs : List Variable) where
   place_listed k v j n at marked lt e =
       there_from 0 vs k v (place_at k v.whole j n) at
       (subst (λ x. IsIn (place_at k v.whole j n) (variable_places x (first_unknown vs x) v)) (sym (zero-add k)) (variable_there k v (place_at k v.whole j n) marked (entry_there k v j n lt e)))
+
+-- ---- the unknown of an entry is one of the variables'
+-- an unknown that stands for an entry is that of an entry with its own
+source_there : (f : ℕ → ℕ) (o : Option ℕ) (n : ℕ) → option_map f o ≡ Some n → (e : ℕ) × (o ≡ Some e) × (f e ≡ n)
+source_there f None n h = absurd (none-some n h)
+source_there f (Some e) n h = (e, refl, same_Some (f e) n h)
+
+unknown_within : (first all : ℕ) (v : Variable) (j n : ℕ) → IsSquare v → j < entries_of (sides_in v) → first + count_of v ≤ all → unknown_from first v j ≡ Some n → n < all
+unknown_within first all v j n sq lt fits e =
+    let (k, at, is) = source_there (λ i. first + own_before (demanded v) (sides_in v) i) (source_of (demanded v) (sides_in v) j) n e in
+    let own : Owns (demanded v) (sides_in v) k = source_own (demanded v) (sides_in v) j k sq lt at in
+    let less = own_before-lt (demanded v) (sides_in v) k own.0 own.1 in
+    omega (arith, is, less, fits)
+
+pub place_below : (vs : List Variable) → AreSquare vs → (q : Place) → IsPlaceOf vs q → q.unknown < variable_unknowns vs
+place_below vs squares q is =
+    let k = q.variable in
+    let v = is.variable in
+    let lt = slice_get_within vs k v is.there in
+    let same : get_or vs k v ≡ v = get_or_from_slice_get vs k v v is.there in
+    let square : IsSquare v = subst (λ (w : Variable). IsSquare w) same (squares k v lt) in
+    let fits = first_fits vs k (first_unknown vs k) v lt (sym same) refl in
+    unknown_within (first_unknown vs k) (variable_unknowns vs) v q.entry q.unknown square is.entry fits is.unknown
+
+-- so each place is below any number that the unknowns are
+pub places_below_all : (vs : List Variable) (n : ℕ) → AreSquare vs → variable_unknowns vs ≤ n → All (λ (q : Place). q.unknown < n) (places vs)
+places_below_all vs n squares few i d lt =
+    let at = slice_get-get_or (places vs) i d lt in
+    let less = place_below vs squares (get_or (places vs) i d) (each_place vs i (get_or (places vs) i d) at) in
+    omega (arith, less, few)

@@ -1,15 +1,14 @@
 -- A run of nodes has one end.
-use Rattle.std.proofs.Common.{◌≡◌, ◌≢◌, ◌⊎◌, inl, inr, ℕ, zero, suc, ◌+◌, ◌<◌, ◌≤◌, arith, List, [], ◌∷◌, length, map, Option, Some, None, slice_get, Result, Ok, Err, refl, sym, ap, ap₂, ◌∙◌, subst, ⊤}
-use Rattle.std.specs.Prelude.{ℤ, pos, ◌+ℤ◌}
+use Rattle.std.proofs.Common.{◌≡◌, ◌⊎◌, inl, inr, ℕ, zero, suc, ◌<◌, ◌≤◌, arith, List, [], ◌∷◌, length, Option, Some, None, slice_get, Ok, Err, refl, sym, ap, ap₂, ◌∙◌, subst}
+use Rattle.std.specs.Prelude.{ℤ}
 use Rattle.std.proofs.Math.Path.{fun_ext}
 use Rattle.std.proofs.lemmas.Option.{none-some, same_Some}
-use Rattle.dcx_math.specs.Rational.{ℚ, whole, ◌≤ℚ◌, ◌<ℚ◌}
+use Rattle.dcx_math.specs.Rational.{ℚ}
 use Rattle.dcx_math.proofs.Orders.{<ℚ-not}
 use Rattle.dcx_frac.specs.declared.fraction.Frac.{Frac}
 use Rattle.dcx_frac.specs.declared.fraction.Passes.{Passes}
 use Rattle.dcx_frac.specs.Frac.{value}
 use Rattle.dcx_point.specs.Pairs.{Pairs}
-use Rattle.dcx_call.specs.declared.attribute.Variable.{Variable}
 use Rattle.dcx_tree.specs.declared.problem.Problem.{Problem}
 use Rattle.dcx_answer.specs.declared.stop.Stop.{Stop}
 use Rattle.dcx_answer.specs.declared.stop.Stop.TheVariants as why
@@ -20,27 +19,21 @@ use Rattle.dcx_lp_answer.specs.declared.answer.LpAnswer.{LpAnswer}
 use Rattle.dcx_lp_answer.specs.declared.answer.LpStatus.{LpStatus}
 use Rattle.dcx_lp_answer.specs.declared.answer.LpStatus.TheVariants as status
 use Rattle.dcx_solved.specs.declared.solving.Solved.{Solved}
-use Rattle.dcx_solved.specs.declared.stop.SolveStop.{SolveStop}
-use Rattle.dcx_solved.specs.declared.stop.SolveStop.TheVariants as solves
 use Rattle.dcx_solved.proofs.OneSolution as rows
 use Rattle.dcx_unknowns.specs.Unknowns.{point_at}
-use Rattle.dcx_unknowns.specs.Laws.{IsVariable}
 use Rattle.dcx_postsolve.specs.Points.{numbered}
 use Rattle.dcx_graph.specs.Program.{Program}
 use Rattle.dcx_graph.specs.Answers.{IsSamePoint}
-use Rattle.dcx_whole.specs.Points.{IsWhole}
 use Rattle.dcx_whole.specs.Boxes.{Box, root_box}
 use Rattle.dcx_branch.specs.declared.place.Place.{Place}
-use Rattle.dcx_branch.specs.declared.answer.WholeAnswer.{WholeAnswer}
 use Rattle.dcx_branch.specs.declared.answer.WholeAnswer.TheVariants.{Optimal, Infeasible}
-use Rattle.dcx_branch.specs.declared.answer.BranchStop.{BranchStop}
 use Rattle.dcx_branch.specs.declared.answer.BranchStop.TheVariants.{RelaxationUnbounded, NodeLimit, Node, Memory}
 use Rattle.dcx_branch.specs.Places.{places}
 use Rattle.dcx_branch.specs.Rows.{node_rows}
-use Rattle.dcx_branch.specs.Sides.{IsBetween}
+use Rattle.dcx_branch.specs.Between.{IsBetween}
 use Rattle.dcx_branch.specs.Leaves.{first_passing}
 use Rattle.dcx_branch.specs.Run.{Best, State, start, best_value, IsPruned, IsBetter, AreWhole, IsFirstSplit, unknowns_in, Turn, Cut, Found, Divided, TurnsOut, after, run_stop, IsLeafTurn, bounds_in, IsNode, leaf_passing, FormsLeaf, Steps, Reaches, here, next, Ends, PassesNodes, FallsAtRoot, NodeStops, at_rows, at_leaf, StopsAtNode}
-use Rattle.dcx_branch.specs.Answers.{IsPointAt, EndsAt, IsEndOf, IsSameAnswer, AreOneEnd, RunsAreOne}
+use Rattle.dcx_branch.specs.Answers.{IsPointAt, EndsAt, RunsAreOne}
 use Rattle.dcx_branch.proofs.Between.{one_between, between_not_whole}
 
 -- ---- a node turns out to be one thing
@@ -142,15 +135,15 @@ module _ (p : Problem) (q : Program Frac) (limit : ℕ) where
   -- ---- steps
   turn_there : (box : Box) (best : Option ℚ) (s t : Solved) (turn : Turn) → IsNode p q limit box s → IsNode p q limit box t → TurnsOut (places p.variables) best t.program t.answer turn → TurnsOut (places p.variables) best s.program s.answer turn
   turn_there box best s t turn h k turns =
-      let same = rows.answers_are_one limit (node_rows q (bounds_in p q limit box)) s t h k in
+      let same = rows.answers_are_one limit (node_rows q (bounds_in p box)) s t h k in
       subst (λ (a : LpAnswer). TurnsOut (places p.variables) best s.program a turn) (sym same.answer) (subst (λ (r : tab.Program). TurnsOut (places p.variables) best r t.answer turn) (sym same.program) turns)
 
   pub one_step : (a b c : State) → Steps p q limit a b → Steps p q limit a c → b ≡ c
   one_step a b c h k =
-      let boxes = sym h.open ∙ k.open in
+      let boxes = sym h.first ∙ k.first in
       let box = heads h.box k.box h.rest k.rest boxes in
       let node = subst (λ (x : Box). IsNode p q limit x k.solved) (sym box) k.node in
-      let same = rows.answers_are_one limit (node_rows q (bounds_in p q limit h.box)) h.solved k.solved h.node node in
+      let same = rows.answers_are_one limit (node_rows q (bounds_in p h.box)) h.solved k.solved h.node node in
       let turn = one_turn (places p.variables) (best_value a.best) h.solved.program h.solved.answer h.turn k.turn h.turns (turn_there h.box (best_value a.best) h.solved k.solved k.turn h.node node k.turns) in
       h.next
       ∙ after_same h.box k.box h.rest k.rest a.best a.taken h.solved.program k.solved.program h.solved.answer k.solved.answer h.turn k.turn box (tails h.box k.box h.rest k.rest boxes) same.program same.answer turn
@@ -164,19 +157,19 @@ module _ (p : Problem) (q : Program Frac) (limit : ℕ) where
   record IsFirst (a c : State) : Type 0 where
     second : State
     step : Steps p q limit a second
-    then : Reaches p q limit second c
+    later : Reaches p q limit second c
 
   first : (a c : State) → Reaches p q limit a c → (a ≡ c) ⊎ IsFirst a c
   first a c (here _) = inl refl
   first a c (next _ b _ r s) = elim (first a b r) [
-    | inl e ↦ inr (record { second = c; step = subst (λ x. Steps p q limit x c) (sym e) s; then = here c })
-    | inr f ↦ inr (record { second = f.second; step = f.step; then = next f.second b c f.then s })
+    | inl e ↦ inr (record { second = c; step = subst (λ x. Steps p q limit x c) (sym e) s; later = here c })
+    | inr f ↦ inr (record { second = f.second; step = f.step; later = next f.second b c f.later s })
   ]
 
   follow : (a b c : State) → Reaches p q limit a b → Steps p q limit a c → Reaches p q limit b c ⊎ Reaches p q limit c b
   follow a b c r s = elim (first a b r) [
     | inl e ↦ inl (next b b c (here b) (subst (λ x. Steps p q limit x c) e s))
-    | inr f ↦ inr (subst (λ x. Reaches p q limit x b) (one_step a f.second c f.step s) f.then)
+    | inr f ↦ inr (subst (λ x. Reaches p q limit x b) (one_step a f.second c f.step s) f.later)
   ]
 
   pub either : (a b c : State) → Reaches p q limit a b → Reaches p q limit a c → Reaches p q limit b c ⊎ Reaches p q limit c b
@@ -220,7 +213,7 @@ module _ (p : Problem) (q : Program Frac) (limit : ℕ) where
 
       on : IsFirst now c → ⊥
       on f =
-          let rise = taken_rises f.second c f.then in
+          let rise = taken_rises f.second c f.later in
           let one = step_taken now f.second f.step in
           omega arith
 
@@ -230,11 +223,11 @@ module _ (p : Problem) (q : Program Frac) (limit : ℕ) where
 
   -- the states at which a run ends or stops
   ended_last : (best : Option Best) (nodes : ℕ) → IsLast (record { open_boxes = []; best = best; taken = nodes })
-  ended_last best nodes b s = none_open s.box s.rest s.open
+  ended_last best nodes b s = none_open s.box s.rest s.first
 
   falls_last : FallsAtRoot p q limit → IsLast (start p)
   falls_last f b s =
-      let box = heads (root_box p) s.box [] s.rest s.open in
+      let box = heads (root_box p) s.box [] s.rest s.first in
       let node = subst (λ (x : Box). IsNode p q limit x s.solved) (sym box) s.node in
       falls_not (places p.variables) None f.solved.program f.solved.answer s.turn f.unbounded (turn_there (root_box p) None f.solved s.solved s.turn f.node node s.turns)
 
@@ -246,26 +239,26 @@ module _ (p : Problem) (q : Program Frac) (limit : ℕ) where
 
   passing_same : (box : Box) (s t : Solved) → IsNode p q limit box s → IsNode p q limit box t → leaf_passing p q limit box s ≡ leaf_passing p q limit box t
   passing_same box s t h k =
-      let same = rows.answers_are_one limit (node_rows q (bounds_in p q limit box)) s t h k in
-      ap (λ (a : LpAnswer). first_passing p a (length q.rows) (bounds_in p q limit box)) same.answer
+      let same = rows.answers_are_one limit (node_rows q (bounds_in p box)) s t h k in
+      ap (λ (a : LpAnswer). first_passing p a (length q.rows) (bounds_in p box)) same.answer
 
-  node_last : (box : Box) (rest : List Box) (best : Option Best) (taken : ℕ) (stop : Stop) → NodeStops p q limit box (best_value best) stop → IsLast (record { open_boxes = box ∷ rest; best = best; taken = taken })
+  node_last : (box : Box) (rest : List Box) (best : Option Best) (taken : ℕ) (stop : Stop) → NodeStops p q limit (bounds_in p box) (best_value best) stop → IsLast (record { open_boxes = box ∷ rest; best = best; taken = taken })
   node_last box rest best taken stop (at_rows e some stops is) b s =
-      let same = heads box s.box rest s.rest s.open in
+      let same = heads box s.box rest s.rest s.first in
       let node = subst (λ (x : Box). IsNode p q limit x s.solved) (sym same) s.node in
-      some (rows.solved_or_stopped limit (node_rows q (bounds_in p q limit box)) s.solved e node stops)
+      some (rows.solved_or_stopped limit (node_rows q (bounds_in p box)) s.solved e node stops)
   node_last box rest best taken stop (at_leaf t turn row passes node turns leaf first_one is) b s =
-      let same = heads box s.box rest s.rest s.open in
+      let same = heads box s.box rest s.rest s.first in
       let there = subst (λ (x : Box). IsNode p q limit x s.solved) (sym same) s.node in
       let one = one_turn (places p.variables) (best_value best) t.program t.answer turn s.turn turns (turn_there box (best_value best) t s.solved s.turn node there s.turns) in
       let forms = subst (λ (x : Box). FormsLeaf p q limit x s.solved s.turn) (sym same) s.forms in
       leaf_not box s.solved s.turn row passes (subst IsLeafTurn one leaf) (sym (passing_same box t s.solved node there) ∙ first_one) forms
 
   -- a node has one stop
-  one_stop : (box : Box) (best : Option ℚ) (a b : Stop) → NodeStops p q limit box best a → NodeStops p q limit box best b → a ≡ b
-  one_stop box best a b (at_rows e n h is) (at_rows f m k it) = is ∙ ap run_stop (rows.stops_are_one limit (node_rows q (bounds_in p q limit box)) e f h k n m) ∙ sym it
-  one_stop box best a b (at_rows e n h is) (at_leaf t turn row passes node turns leaf first_one it) = absurd (n (rows.solved_or_stopped limit (node_rows q (bounds_in p q limit box)) t e node h))
-  one_stop box best a b (at_leaf t turn row passes node turns leaf first_one it) (at_rows e n h is) = absurd (n (rows.solved_or_stopped limit (node_rows q (bounds_in p q limit box)) t e node h))
+  one_stop : (box : Box) (best : Option ℚ) (a b : Stop) → NodeStops p q limit (bounds_in p box) best a → NodeStops p q limit (bounds_in p box) best b → a ≡ b
+  one_stop box best a b (at_rows e n h is) (at_rows f m k it) = is ∙ ap run_stop (rows.stops_are_one limit (node_rows q (bounds_in p box)) e f h k n m) ∙ sym it
+  one_stop box best a b (at_rows e n h is) (at_leaf t turn row passes node turns leaf first_one it) = absurd (n (rows.solved_or_stopped limit (node_rows q (bounds_in p box)) t e node h))
+  one_stop box best a b (at_leaf t turn row passes node turns leaf first_one it) (at_rows e n h is) = absurd (n (rows.solved_or_stopped limit (node_rows q (bounds_in p box)) t e node h))
   one_stop box best a b (at_leaf s turn row passes node turns leaf first_one is) (at_leaf t other line others there ways end first_two it) =
       let same : (row, passes) ≡ (line, others) = same_Some (row, passes) (line, others) (sym first_one ∙ passing_same box s t node there ∙ first_two) in
       is ∙ ap (λ x. why.Wide (sites.Answer x.0 x.1)) same ∙ sym it
@@ -328,8 +321,8 @@ module _ (p : Problem) (q : Program Frac) (limit : ℕ) where
         let box = heads (root_box p) k.box [] k.rest (ap (λ (x : State). x.open_boxes) same) in
         not_both k.box (best_value k.best) stop f.solved (subst (λ (x : Box). IsNode p q limit x f.solved) box f.node) f.unbounded k.stops
       where
-        not_both : (box : Box) (best : Option ℚ) (stop : Stop) (s : Solved) → IsNode p q limit box s → s.answer.status ≡ status.Unbounded → NodeStops p q limit box best stop → ⊥
-        not_both box best stop s node u (at_rows e n h is) = n (rows.solved_or_stopped limit (node_rows q (bounds_in p q limit box)) s e node h)
+        not_both : (box : Box) (best : Option ℚ) (stop : Stop) (s : Solved) → IsNode p q limit box s → s.answer.status ≡ status.Unbounded → NodeStops p q limit (bounds_in p box) best stop → ⊥
+        not_both box best stop s node u (at_rows e n h is) = n (rows.solved_or_stopped limit (node_rows q (bounds_in p box)) s e node h)
         not_both box best stop s node u (at_leaf t turn row passes there turns leaf first_one is) = falls_not (places p.variables) best s.program s.answer turn u (turn_there box best s t turn node there turns)
 
     stops_same : (node other : ℕ) (stop second : Stop) → node ≤ allowed → other ≤ allowed → StopsAtNode p q limit node stop → StopsAtNode p q limit other second → Node node stop ≡ Node other second
@@ -337,8 +330,8 @@ module _ (p : Problem) (q : Program Frac) (limit : ℕ) where
         let same = same_last (record { open_boxes = h.box ∷ h.rest; best = h.best; taken = h.taken }) (record { open_boxes = k.box ∷ k.rest; best = k.best; taken = k.taken }) (stopped node stop few h) (stopped other second less k) in
         let box = heads h.box k.box h.rest k.rest (ap (λ (x : State). x.open_boxes) same) in
         let best = ap (λ (x : State). best_value x.best) same in
-        let here_too = subst (λ (x : Box). NodeStops p q limit x (best_value k.best) second) (sym box) k.stops in
-        let there = subst (λ (x : Option ℚ). NodeStops p q limit h.box x second) (sym best) here_too in
+        let here_too = subst (λ (x : Box). NodeStops p q limit (bounds_in p x) (best_value k.best) second) (sym box) k.stops in
+        let there = subst (λ (x : Option ℚ). NodeStops p q limit (bounds_in p h.box) x second) (sym best) here_too in
         ap₂ Node (h.number ∙ ap (λ (x : State). suc x.taken) same ∙ sym k.number) (one_stop h.box (best_value h.best) stop second h.stops there)
 
     stops_passes : (node : ℕ) (stop : Stop) → node ≤ allowed → StopsAtNode p q limit node stop → PassesNodes p q limit allowed → ⊥

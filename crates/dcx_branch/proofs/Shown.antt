@@ -1,11 +1,10 @@
 -- What the answer of a node's integer program shows of the node's box, in the numbers that a leaf is handed out with.
-use Rattle.std.proofs.Common.{◌≡◌, ℕ, zero, suc, ◌+◌, ◌-◌, ◌<◌, ◌≤◌, arith, List, [], ◌∷◌, ◌++◌, length, map, Some, Ok, slice_get, refl, sym, ap, ap₂, ◌∙◌, subst, pos, true, add-zero, append_assoc, length-append, take, drop}
+use Rattle.std.proofs.Common.{◌≡◌, ℕ, zero, suc, ◌+◌, ◌-◌, ◌<◌, ◌≤◌, arith, List, [], ◌∷◌, ◌++◌, length, map, Some, Ok, slice_get, refl, sym, ap, ap₂, ◌∙◌, subst, pos, true, add-zero, append_assoc, length-append, drop}
 use Rattle.std.specs.Prelude.{Bool, false, ℤ, Result, sum_by, slice_range, option_map}
 use Rattle.std.specs.List.{All}
 use Rattle.std.proofs.lemmas.List.{length-map, length-take-le, length-drop}
 use Rattle.std.proofs.lemmas.Option.{none-some, same_Some, slice_get-map, slice_get_within}
 use Rattle.dcx_math.specs.Rational.{ℚ, whole, ◌+ℚ◌, ◌*ℚ◌, ◌≤ℚ◌}
-use Rattle.dcx_math.specs.Sums.{rat_at}
 use Rattle.dcx_math.proofs.Sums.{rat_sum_below-same}
 use Rattle.dcx_frac.specs.declared.fraction.Frac.{Frac}
 use Rattle.dcx_frac.specs.declared.fraction.Passes.{Passes}
@@ -22,7 +21,7 @@ use Rattle.dcx_tree.specs.Meaning.{convex_problem, convex_constraint, IsFeasible
 use Rattle.dcx_tree.proofs.Lawful.{mapped}
 use Rattle.dcx_linear.specs.declared.row.RowKind.TheVariants.{AtMost}
 use Rattle.dcx_linear.specs.FormTerms.{Unknowns}
-use Rattle.dcx_linear.specs.Rows.{RowAt, LinearProgram, IsOptimal, IsInfeasible}
+use Rattle.dcx_linear.specs.Rows.{RowAt, LinearProgram, IsOptimal, IsInfeasible, IsUnbounded}
 use Rattle.dcx_tab.specs.declared.program.Program as tab
 use Rattle.dcx_lp_answer.specs.declared.answer.LpStatus.{LpStatus}
 use Rattle.dcx_lp_answer.specs.declared.answer.LpStatus.TheVariants as status
@@ -32,7 +31,7 @@ use Rattle.dcx_lp_answer.specs.Multipliers.{multiplier_of}
 use Rattle.dcx_lp_answer.proofs.Formed.{formed_is_right}
 use Rattle.dcx_std.specs.Answers.{IsRightForRowsAs}
 use Rattle.dcx_std.specs.IntegerRows.{IsMade}
-use Rattle.dcx_std.specs.Solutions.{HasKinds, row_at, linear_program}
+use Rattle.dcx_std.specs.Solutions.{HasKinds, row_at, unknowns_at, linear_program}
 use Rattle.dcx_std.proofs.ScaledProgram.{scaled_program}
 use Rattle.dcx_std.proofs.Solutions.{facts_of, inequality_there, unmapped_at}
 use Rattle.dcx_std.proofs.RightAnswers.{shown_of}
@@ -48,12 +47,12 @@ use Rattle.dcx_graph.specs.Program.{Program}
 use Rattle.dcx_graph.specs.Answers.{rows_of, IsReducedAt}
 use Rattle.dcx_graph.proofs.Slacks.{rows_enough, have_slacks, multiplier_is}
 use Rattle.dcx_whole.specs.Boxes.{Box}
-use Rattle.dcx_whole.specs.Trees.{Weight, Shown, all_exceeded, MayShow, BoundsBelow, ShowsEmpty, penalty}
+use Rattle.dcx_whole.specs.Trees.{Weight, all_exceeded, BoundsBelow, ShowsEmpty, penalty}
 use Rattle.dcx_branch.specs.declared.bound.BoundAt.{BoundAt}
 use Rattle.dcx_branch.specs.declared.tree.BoundDual.{BoundDual}
 use Rattle.dcx_branch.specs.Rows.{bound_form, bound_row, bound_rows, node_rows}
 use Rattle.dcx_branch.specs.Nodes.{excess, bound_number, node_program, IsBoundOf, weights_from, NodesShow}
-use Rattle.dcx_branch.specs.Leaves.{bound_duals, bound_multipliers, AreBoundDuals, IsLeaf}
+use Rattle.dcx_branch.specs.Leaves.{bound_duals, AreBoundDuals, IsLeaf}
 use Rattle.dcx_branch.specs.Run.{unknowns_in}
 use Rattle.dcx_branch.specs.Trees.{weight_of, shown_by}
 use Rattle.dcx_branch.proofs.Lifting.{back}
@@ -108,7 +107,7 @@ row_of_bound [] i b e = absurd (none-some b e)
 row_of_bound (a ∷ bs) zero b e = ap (λ (c : BoundAt). Some (bound_row c)) (same_Some a b e)
 row_of_bound (a ∷ bs) (suc i) b e = row_of_bound bs i b e
 
-rows_counted : (bs : List BoundAt) → length (bound_rows bs) ≡ length bs
+pub rows_counted : (bs : List BoundAt) → length (bound_rows bs) ≡ length bs
 rows_counted [] = refl
 rows_counted (b ∷ bs) = ap suc (rows_counted bs)
 
@@ -204,8 +203,11 @@ module _ (p : Problem) (s : Setting) (q : Program Frac) (given : IsReducedAt p s
   pub optimal : a.status ≡ status.Optimal → IsOptimal (node_program l bs) (value a.number) x m
   optimal e = subst (λ (k : LinearProgram). IsOptimal k (value a.number) x m) linear (right_as status.Optimal e)
 
-  infeasible : a.status ≡ status.Infeasible → IsInfeasible (node_program l bs) (value a.number) m
+  pub infeasible : a.status ≡ status.Infeasible → IsInfeasible (node_program l bs) (value a.number) m
   infeasible e = subst (λ (k : LinearProgram). IsInfeasible k (value a.number) m) linear (right_as status.Infeasible e)
+
+  pub unbounded : a.status ≡ status.Unbounded → IsUnbounded (node_program l bs) x (unknowns_at program.columns (map value a.ray)) (value a.number) (value a.slope)
+  unbounded e = subst (λ (k : LinearProgram). IsUnbounded k x (unknowns_at program.columns (map value a.ray)) (value a.number) (value a.slope)) linear (right_as status.Unbounded e)
 
   weights_there : (ds : List BoundDual) → length q.rows + length bs ≤ length a.rows → AreBoundDuals a (length q.rows) bs ds → weights_from m (length l.rows) bs ≡ map weight_of ds
   weights_there ds enough are = ap (λ n. weights_from m n bs) (length-map q.rows row_at) ∙ sym (bounds_same ds enough are)

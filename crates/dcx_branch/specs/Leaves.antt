@@ -11,7 +11,7 @@ use Rattle.dcx_linear.specs.declared.row.RowKind.TheVariants.{AtMost}
 use Rattle.dcx_lp_answer.specs.declared.answer.LpAnswer.{LpAnswer}
 use Rattle.dcx_lp_answer.specs.declared.stop.MultiplierStop.{MultiplierStop}
 use Rattle.dcx_lp_answer.specs.declared.stop.MultiplierStop.TheVariants as multipliers
-use Rattle.dcx_lp_answer.specs.Multipliers.{multiplier_of, passing_from, StopsAt}
+use Rattle.dcx_lp_answer.specs.Multipliers.{multiplier_of, passing_from}
 use Rattle.dcx_postsolve.specs.Duals.{all_multipliers, AreDuals}
 use Rattle.dcx_branch.specs.declared.bound.BoundAt.{BoundAt}
 use Rattle.dcx_branch.specs.declared.tree.BoundDual.{BoundDual}

@@ -1,4 +1,5 @@
 -- What the contracts of this crate cite.
+pub mod Between
 pub mod Places
 pub mod Rows
 pub mod Sides
@@ -8,3 +9,4 @@ pub mod Run
 pub mod Trees
 pub mod Answers
 pub mod Taken
+pub mod Searches

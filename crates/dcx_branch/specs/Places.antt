@@ -14,6 +14,11 @@ places_of k mark j [] = []
 places_of k mark j (None ∷ us) = places_of k mark (suc j) us
 places_of k mark j (Some n ∷ us) = record { variable = k; entry = j; unknown = n; whole = mark } ∷ places_of k mark (suc j) us
 
+-- the entry j of variable k, where it has an unknown
+abbrev pub place_if : ℕ → Whole → ℕ → Option ℕ → List Place
+place_if k mark j None = []
+place_if k mark j (Some n) = record { variable = k; entry = j; unknown = n; whole = mark } ∷ []
+
 -- those of variable k, whose unknowns begin with `first`
 abbrev pub entry_places : ℕ → ℕ → Variable → List Place
 entry_places k first v = places_of k v.whole 0 (map (unknown_from first v) (places_below (entries_of (sides_in v))))

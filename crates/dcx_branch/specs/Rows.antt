@@ -1,5 +1,5 @@
 -- The rows of a node: those of the program, and after them one for each bound of its box, place by place and the lower one first.
-use Rattle.std.specs.Prelude.{ℕ, Bool, true, false, List, [], ◌∷◌, ◌++◌, Option, Some, None, flat_map, ℤ, pos}
+use Rattle.std.specs.Prelude.{ℕ, Bool, true, false, List, [], ◌∷◌, ◌++◌, Option, Some, None, ℤ, pos}
 use Rattle.dcx_math.specs.Rational.{ℚ, whole, neg_ℚ}
 use Rattle.dcx_frac.specs.declared.fraction.Frac.{Frac}
 use Rattle.dcx_atom.specs.Formed.{frac_at}

@@ -1,6 +1,6 @@
 -- The run of nodes: which boxes are open, the best point so far, and how many nodes are taken. It ends where no box is open.
-use Rattle.std.specs.Prelude.{◌≡◌, ◌≢◌, ⊤, ◌⊎◌, ℕ, suc, ◌<◌, List, [], ◌∷◌, length, map, Option, Some, None, option_map, slice_get, ℤ, ◌+ℤ◌, pos}
-use Rattle.dcx_math.specs.Rational.{ℚ, whole, ◌≤ℚ◌, ◌<ℚ◌}
+use Rattle.std.specs.Prelude.{◌≡◌, ◌≢◌, ⊤, ◌⊎◌, ℕ, suc, ◌<◌, List, [], ◌∷◌, length, map, Option, Some, None, slice_get, ℤ, ◌+ℤ◌, pos}
+use Rattle.dcx_math.specs.Rational.{ℚ, ◌≤ℚ◌, ◌<ℚ◌}
 use Rattle.dcx_frac.specs.declared.fraction.Frac.{Frac}
 use Rattle.dcx_frac.specs.declared.fraction.Passes.{Passes}
 use Rattle.dcx_frac.specs.Frac.{value}
@@ -24,7 +24,7 @@ use Rattle.dcx_branch.specs.declared.place.Place.{Place}
 use Rattle.dcx_branch.specs.declared.bound.BoundAt.{BoundAt}
 use Rattle.dcx_branch.specs.Places.{places}
 use Rattle.dcx_branch.specs.Rows.{node_rows, all_bounds}
-use Rattle.dcx_branch.specs.Sides.{IsBetween}
+use Rattle.dcx_branch.specs.Between.{IsBetween}
 use Rattle.dcx_branch.specs.Leaves.{first_passing}
 
 -- ---- states
@@ -107,18 +107,18 @@ IsLeafTurn Cut = ⊤
 IsLeafTurn Found = ⊤
 IsLeafTurn (Divided place n) = ⊥
 
-module _ (p : Problem) (q : Program Frac) (limit : ℕ) where
-  -- the bounds of a box, in row order
-  abbrev pub bounds_in : Box → List BoundAt
-  bounds_in box = all_bounds (places p.variables) box
+-- the bounds of a box, in row order
+abbrev pub bounds_in : Problem → Box → List BoundAt
+bounds_in p box = all_bounds (places p.variables) box
 
+module _ (p : Problem) (q : Program Frac) (limit : ℕ) where
   -- the rows of the node of a box are solved so
   abbrev pub IsNode : Box → Solved → Type 0
-  IsNode box s = IsSolved limit (node_rows q (bounds_in box)) s
+  IsNode box s = IsSolved limit (node_rows q (bounds_in p box)) s
 
   -- the first multiplier of a leaf that passes
   abbrev pub leaf_passing : Box → Solved → Option (ℕ × Passes)
-  leaf_passing box s = first_passing p s.answer (length q.rows) (bounds_in box)
+  leaf_passing box s = first_passing p s.answer (length q.rows) (bounds_in p box)
 
   -- a leaf forms its multipliers, and none passes; a node with two sides forms none
   abbrev pub FormsLeaf : Box → Solved → Turn → Type 0
@@ -130,7 +130,7 @@ module _ (p : Problem) (q : Program Frac) (limit : ℕ) where
   pub record Steps (a b : State) : Type 0 where
     pub box : Box
     pub rest : List Box
-    pub open : a.open_boxes ≡ box ∷ rest
+    pub first : a.open_boxes ≡ box ∷ rest
     pub solved : Solved
     pub node : IsNode box solved
     pub turn : Turn
@@ -160,11 +160,11 @@ pub record FallsAtRoot (p : Problem) (q : Program Frac) (limit : ℕ) : Type 0 w
   pub node : IsNode p q limit (root_box p) solved
   pub unbounded : solved.answer.status ≡ status.Unbounded
 
--- the rows of the node aren't solved, or a multiplier of the leaf passes, the first one
-pub data NodeStops (p : Problem) (q : Program Frac) (limit : ℕ) (box : Box) (best : Option ℚ) (stop : Stop) : Type 0 where
-  at_rows : (e : SolveStop) → e ≢ solves.Memory → RowsStop limit (node_rows q (bounds_in p q limit box)) e → stop ≡ run_stop e → NodeStops p q limit box best stop
-  at_leaf : (s : Solved) (turn : Turn) (row : ℕ) (passes : Passes) → IsNode p q limit box s → TurnsOut (places p.variables) best s.program s.answer turn → IsLeafTurn turn →
-      leaf_passing p q limit box s ≡ Some (row, passes) → stop ≡ why.Wide (sites.Answer row passes) → NodeStops p q limit box best stop
+-- the rows of a node with these bounds aren't solved, or a multiplier of its leaf passes, the first one
+pub data NodeStops (p : Problem) (q : Program Frac) (limit : ℕ) (bs : List BoundAt) (best : Option ℚ) (stop : Stop) : Type 0 where
+  at_rows : (e : SolveStop) → e ≢ solves.Memory → RowsStop limit (node_rows q bs) e → stop ≡ run_stop e → NodeStops p q limit bs best stop
+  at_leaf : (s : Solved) (turn : Turn) (row : ℕ) (passes : Passes) → IsSolved limit (node_rows q bs) s → TurnsOut (places p.variables) best s.program s.answer turn → IsLeafTurn turn →
+      first_passing p s.answer (length q.rows) bs ≡ Some (row, passes) → stop ≡ why.Wide (sites.Answer row passes) → NodeStops p q limit bs best stop
 
 -- the run comes to this node, and the node stops so
 pub record StopsAtNode (p : Problem) (q : Program Frac) (limit node : ℕ) (stop : Stop) : Type 0 where
@@ -174,4 +174,4 @@ pub record StopsAtNode (p : Problem) (q : Program Frac) (limit node : ℕ) (stop
   pub taken : ℕ
   pub number : node ≡ suc taken
   pub reached : Reaches p q limit (start p) (record { open_boxes = box ∷ rest; best = best; taken = taken })
-  pub stops : NodeStops p q limit box (best_value best) stop
+  pub stops : NodeStops p q limit (bounds_in p box) (best_value best) stop

@@ -1,23 +1,13 @@
 -- Sides of splits, one after another from the root box on: the box that they lead to, and the boxes that are open beside it.
-use Rattle.std.specs.Prelude.{◌≡◌, ℕ, ◌≤◌, ◌^◌, if◌then◌else◌, List, [], ◌∷◌, ◌++◌, Some, ℤ, ◌+ℤ◌, pos, unsigned_abs}
-use Rattle.dcx_math.specs.Rational.{ℚ, whole, ◌<ℚ◌}
+use Rattle.std.specs.Prelude.{◌≡◌, ℕ, Bool, true, false, if◌then◌else◌, List, [], ◌∷◌, ◌++◌, Some, ◌+ℤ◌, pos}
 use Rattle.dcx_whole.specs.Boxes.{Bounds, Box, mark_bounds, is_entry, at_most, at_least}
 use Rattle.dcx_branch.specs.declared.place.Place.{Place}
 use Rattle.dcx_branch.specs.declared.bound.BoundAt.{BoundAt}
 use Rattle.dcx_branch.specs.declared.side.Side.{Side}
-use Rattle.dcx_branch.specs.declared.side.Limits.{Limits}
+use Rattle.dcx_branch.specs.declared.limits.Limits.{Limits}
 use Rattle.dcx_branch.specs.Rows.{bounds_of}
 
 -- ---- limits
--- the limit and the next integer are far below 2 ^ 127 in magnitude
-abbrev pub HasRoom : ℤ → Type 0
-HasRoom n = unsigned_abs n ≤ 2 ^ 126
-
--- n is the greatest integer below x, which isn't whole
-pub record IsBetween (x : ℚ) (n : ℤ) : Type 0 where
-  pub above : whole n <ℚ x
-  pub below : x <ℚ whole (n +ℤ pos 1)
-
 abbrev pub limits_of : Limits → Bounds
 limits_of l = record { lower = l.lower; upper = l.upper }
 
@@ -55,3 +45,15 @@ sided b k j (d ∷ ds) = sided (if is_entry d.place.variable d.place.entry k j t
 abbrev pub box_bounds : List Place → List Side → List BoundAt
 box_bounds [] ds = []
 box_bounds (q ∷ ps) ds = bounds_of q (sided (mark_bounds q.whole) q.variable q.entry ds) ++ box_bounds ps ds
+
+-- ---- the next open side
+-- the upper side of the same split
+pub record IsUpperOf (d c : Side) : Type 0 where
+  pub place : c.place ≡ d.place
+  pub limit : c.limit ≡ d.limit
+  pub above : c.above ≡ true
+
+-- the sides lead to the box that is open beside the others, or no box is open
+abbrev pub IsNextSide : List Side → Bool → List Side → Type 0
+IsNextSide old true new = (box : Box) → open_sides box old ≡ box_of box new ∷ open_sides box new
+IsNextSide old false new = (box : Box) → open_sides box old ≡ []

@@ -34,11 +34,7 @@ fn leaf_stop(stop: MultiplierStop) -> Stop
 }
 
 /// The bounds with these multipliers.
-fn weighed(
-    alloc: Global,
-    bounds: &[BoundAt],
-    weights: &[Frac],
-) -> Result<BoundDuals, AllocError>
+fn weighed(alloc: Global, bounds: &[BoundAt], weights: &[Frac]) -> Result<BoundDuals, AllocError>
     requires { length bounds.now ≤ length weights.now }
     ensures { IfOk result (λ d. d ≡ duals_by bounds.now weights.now) }
 {

@@ -19,6 +19,8 @@ mod answer;
 mod bound;
 pub mod laws;
 mod leaf;
+mod limits;
+mod next;
 mod node;
 mod place;
 mod rows;

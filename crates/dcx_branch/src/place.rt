@@ -1,11 +1,9 @@
 //! Entries that may be bounded.
-ghost use Rattle.std.specs.Prelude.{◌≡◌, ◌+◌, ◌<◌, ◌^◌, ◌++◌, length, map, IfOk, OnOk};
-ghost use Rattle.dcx_shape.specs.Sides.{entries_of};
-ghost use Rattle.dcx_shape.specs.Places.{places_below};
+ghost use Rattle.std.specs.Prelude.{◌≡◌, ◌+◌, ◌<◌, ◌^◌, ◌++◌, length, IfOk, OnOk};
 ghost use Rattle.dcx_call.specs.Attributes.{IsSquare, AreSquare};
 ghost use Rattle.dcx_unknowns.specs.Own.{own_count};
-ghost use Rattle.dcx_unknowns.specs.Unknowns.{demanded, sides_in, variable_unknowns, unknown_from};
-ghost use Rattle.dcx_branch.specs.Places.{places_of as places_by, entry_places, variable_places, places};
+ghost use Rattle.dcx_unknowns.specs.Unknowns.{demanded, sides_in, variable_unknowns};
+ghost use Rattle.dcx_branch.specs.Places.{places_of as places_by, place_if, variable_places, places};
 
 use dcx_call::{Variable, Whole};
 use dcx_unknowns::{entry_unknowns, first_unknowns};
@@ -24,6 +22,30 @@ pub struct Place {
     pub whole: Whole,
 }
 
+/// Adds an entry of a variable, where it has an unknown.
+fn push_entry(
+    places: &mut Vec<Place>,
+    variable: u32,
+    whole: Whole,
+    entry: u32,
+    unknown: Option<u32>,
+) -> Result<(), AllocError>
+    ensures { OnOk result (places.new.items ≡ places.old.items ++ place_if variable whole entry unknown) }
+{
+    match unknown {
+        None => Ok(()),
+        Some(unknown) => {
+            places.push(Place {
+                variable,
+                entry,
+                unknown,
+                whole,
+            })?;
+            Ok(())
+        }
+    }
+}
+
 /// Adds the entries of a variable that have an unknown, in order.
 fn push_entries(
     places: &mut Vec<Place>,
@@ -35,14 +57,7 @@ fn push_entries(
     ensures { OnOk result (places.new.items ≡ places.old.items ++ places_by variable whole 0 unknowns.now) }
 {
     'entries: for (entry, unknown) in unknowns.iter().enumerate() {
-        if let Some(unknown) = *unknown {
-            places.push(Place {
-                variable,
-                entry: entry as u32,
-                unknown,
-                whole,
-            })?;
-        }
+        push_entry(places, variable, whole, entry as u32, *unknown)?;
     }
     Ok(())
 }

@@ -13,7 +13,7 @@ use dcx_linear::{Form, FormTerm, FormTerms, Row, RowKind, RowList, Rows, Unknown
 use std::alloc::{AllocError, Global};
 
 /// An integer as a fraction.
-fn whole(number: i128) -> Frac
+fn integer(number: i128) -> Frac
     requires { Fits number }
     ensures { value result ≡ whole number }
 {
@@ -52,7 +52,7 @@ fn bound_row(alloc: Global, bound: &BoundAt) -> Result<Row<Frac>, AllocError>
     requires { Fits bound.now.limit }
     ensures { IfOk result (λ r. r ≡ row_of bound.now) }
 {
-    let limit = whole(bound.limit);
+    let limit = integer(bound.limit);
     let unknown = bound.place.unknown;
     if bound.upper {
         unit_row(alloc, Frac::one(), unknown, limit.neg())
@@ -62,11 +62,7 @@ fn bound_row(alloc: Global, bound: &BoundAt) -> Result<Row<Frac>, AllocError>
 }
 
 /// Adds copies of rows.
-fn push_rows(
-    alloc: Global,
-    rows: &mut Vec<Row<Frac>>,
-    from: &[Row<Frac>],
-) -> Result<(), AllocError>
+fn push_rows(alloc: Global, rows: &mut Vec<Row<Frac>>, from: &[Row<Frac>]) -> Result<(), AllocError>
     ensures { OnOk result (rows.new.items ≡ rows.old.items ++ from.now) }
 {
     'rows: for row in from {
