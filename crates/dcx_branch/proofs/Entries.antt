@@ -1,9 +1,7 @@
 -- The unknown of an entry: at the unknowns of a point it is that entry.
-use Rattle.std.proofs.Common.{◌≡◌, ℕ, ◌<◌, if◌then◌else◌, map, Some, option_map, slice_get, sym, ap, ◌∙◌, subst, pos}
+use Rattle.std.proofs.Common.{◌≡◌, ℕ, ◌<◌, map, Some, option_map, slice_get, sym, ap, ◌∙◌, subst}
 use Rattle.std.proofs.Math.Logic.{∥∥₁_elim}
-use Rattle.std.proofs.lemmas.Bool.{lt-ltb}
 use Rattle.std.proofs.lemmas.Option.{slice_get-map, slice_get_within, get_or_from_slice_get}
-use Rattle.dcx_math.specs.Rational.{whole}
 use Rattle.dcx_math.proofs.Orders.{≡ℚ_prop}
 use Rattle.dcx_shape.specs.Sides.{entries_of}
 use Rattle.dcx_call.specs.declared.attribute.Variable.{Variable}
@@ -23,11 +21,8 @@ use Rattle.dcx_linear.specs.Rows.{LinearProgram}
 use Rattle.dcx_unknowns.specs.Unknowns.{sides_in, first_unknown, unknown_from, number_at, point_at}
 use Rattle.dcx_unknowns.specs.Laws.{IsVariable}
 use Rattle.dcx_unknowns.proofs.Domains.{number_is}
-use Rattle.dcx_unknowns.proofs.Points.{array_is}
+use Rattle.dcx_unknowns.proofs.Points.{array_is, below}
 use Rattle.dcx_graph.specs.AsLinear.{IsReductionAt}
-
-below : (n : ℕ) (f : Numbers) (j : ℕ) → j < n → first_of n f j ≡ f j
-below n f j h = ap (λ b. if b then f j else whole (pos 0)) (lt-ltb j n h)
 
 -- an entry of a point of unknowns is its unknown
 pub entry_unknown : (p : Problem) (u : Unknowns) (k j n : ℕ) (v : Variable) → IsVariable p.variables k v → j < entries_of (sides_in v) → unknown_from (first_unknown p.variables k) v j ≡ Some n →

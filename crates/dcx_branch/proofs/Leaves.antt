@@ -1,6 +1,5 @@
 -- Answers of a node's linear program are leaves of its box.
-use Rattle.std.proofs.Common.{◌≡◌, ℕ, suc, ◌+◌, ◌<◌, arith, Bool, true, false, if◌then◌else◌, IsTrue, List, [], ◌∷◌, length, map, All, Option, Some, option_map, slice_get, refl, sym, ap, ap₂, ◌∙◌, subst, ℤ, pos, add-zero}
-use Rattle.std.proofs.lemmas.List.{length-map}
+use Rattle.std.proofs.Common.{◌≡◌, ℕ, suc, ◌+◌, arith, Bool, true, false, if◌then◌else◌, IsTrue, List, [], ◌∷◌, length, map, All, Option, Some, option_map, slice_get, refl, sym, ap, ap₂, ◌∙◌, subst, ℤ, pos, add-zero}
 use Rattle.std.proofs.lemmas.List.Elements.{All-cons, All-nil}
 use Rattle.std.proofs.lemmas.Option.{slice_get-map}
 use Rattle.dcx_math.specs.Rational.{ℚ, whole, ◌+ℚ◌, ◌-ℚ◌, ◌*ℚ◌, ◌≤ℚ◌}
@@ -8,37 +7,20 @@ use Rattle.dcx_math.specs.Sums.{IsNonnegative}
 use Rattle.dcx_math.proofs.Orders.{≤ℚ_trans, ≤ℚ-from_≡}
 use Rattle.dcx_convex.specs.Nodes.{Point, Setting}
 use Rattle.dcx_convex.specs.Rules.{Rules}
-use Rattle.dcx_convex.specs.Problems as convex
 use Rattle.dcx_convex.specs.Problems.{accepted_by}
-use Rattle.dcx_convex.specs.Reductions.{IsWellFormed}
 use Rattle.dcx_tree.specs.declared.problem.Problem.{Problem}
-use Rattle.dcx_tree.specs.Nodes.{convex_node}
-use Rattle.dcx_tree.specs.Meaning.{names_in, convex_problem, convex_constraint, Fits, IsInDomain, IsFeasible, objective_at, lagrangian}
-use Rattle.dcx_tree.proofs.Lawful.{mapped, tree_lawful}
+use Rattle.dcx_tree.specs.Meaning.{convex_problem, Fits, IsInDomain, IsFeasible, objective_at, lagrangian}
 use Rattle.dcx_linear.specs.Rows.{LinearProgram, HaveSigns, combined_from}
 use Rattle.dcx_mapping.specs.Programs.{bound_row, multipliers_of}
 use Rattle.dcx_mapping.proofs.Rows.{AllFrom, IsSigned}
 use Rattle.dcx_graph.specs.AsLinear.{IsReductionAt}
+use Rattle.dcx_graph.proofs.Backward.{well_formed}
 use Rattle.dcx_whole.specs.Boxes.{Box}
 use Rattle.dcx_whole.specs.Trees.{Weight, over, all_exceeded, MayShow, penalty}
 use Rattle.dcx_branch.specs.declared.bound.BoundAt.{BoundAt}
 use Rattle.dcx_branch.specs.Nodes.{excess, bound_number, node_program, IsBoundOf, weights_from, NodesShow, AnswersAreLeaves}
 use Rattle.dcx_branch.proofs.Lifting as lifting
 use Rattle.dcx_branch.proofs.Entries.{entry_unknown, lifted_entry}
-
--- a problem is well formed in the terms of disciplined convex programming
-well_formed : (p : Problem) → IsWellFormed (convex_problem p)
-well_formed p = record {
-  ordered = (tree_lawful (names_in p) p.tree p.nodes).ordered;
-  objective = inside p.objective.0 p.objective_kept.there;
-  sides = λ k c at. let (d, there, is) = mapped convex_constraint p.constraints k c at in (
-    subst (λ (e : convex.Constraint). e.left < length (convex_problem p).nodes) is (inside d.left.0 (p.constraints_kept.left k d there).there),
-    subst (λ (e : convex.Constraint). e.right < length (convex_problem p).nodes) is (inside d.right.0 (p.constraints_kept.right k d there).there),
-  );
-}
-  where
-    inside : (i : ℕ) → i < length p.tree → i < length (convex_problem p).nodes
-    inside i b = omega (arith, length-map p.tree (convex_node (names_in p) p.tree), b)
 
 -- ---- multipliers of bounds
 -- a multiplier times what a bound is exceeded by

@@ -2,19 +2,18 @@
 use Rattle.std.proofs.Common.{◌≡◌, ℕ, zero, suc, ◌+◌, arith, List, [], ◌∷◌, ◌++◌, length, map, Some, slice_get, refl, sym, ap, ap₂, ◌∙◌, subst, pos, zero-add, add-zero, append_assoc, IsTrue}
 use Rattle.std.proofs.lemmas.List.{map-append}
 use Rattle.std.proofs.lemmas.Option.{none-some}
-use Rattle.dcx_math.specs.Rational.{ℚ, whole, ◌+ℚ◌, ◌-ℚ◌, ◌*ℚ◌, ◌≤ℚ◌}
+use Rattle.dcx_math.specs.Rational.{ℚ, whole, ◌+ℚ◌, ◌≤ℚ◌}
 use Rattle.dcx_math.proofs.Ring.{reads}
 use Rattle.dcx_math.proofs.Orders.{≤ℚ_refl, ≤ℚ_trans, ≤ℚ-from_≡, linear, +ℚ-≤ℚ, +ℚ-nonpositive, +ℚ_idr}
 use Rattle.dcx_math.proofs.Products.{*ℚ-nonpositive}
-use Rattle.dcx_math.proofs.Sums.{rat_sum_below-same}
 use Rattle.dcx_convex.specs.Nodes.{Point, Setting}
 use Rattle.dcx_convex.specs.Rules.{Rules}
 use Rattle.dcx_convex.specs.Problems as convex
-use Rattle.dcx_convex.specs.Problems.{Constraint, accepted_by, minimized, objective_of, gap_of, gap_at}
+use Rattle.dcx_convex.specs.Problems.{accepted_by, objective_of}
 use Rattle.dcx_convex.specs.Answers as answers
-use Rattle.dcx_convex.specs.Answers.{Multipliers, weighed, penalty_of}
+use Rattle.dcx_convex.specs.Answers.{Multipliers, penalty_of}
 use Rattle.dcx_convex.specs.Reductions.{Unknowns, Reduced, IsLifted, Solves, IsWellFormed}
-use Rattle.dcx_convex.proofs.MapBack.{Projects, projects}
+use Rattle.dcx_convex.proofs.MapBack.{Projects, projects, lifted_penalty, lifted_objective}
 use Rattle.dcx_tree.specs.declared.problem.Problem.{Problem}
 use Rattle.dcx_tree.specs.Meaning.{names_in, convex_problem, Fits, IsInDomain, objective_at, lagrangian}
 use Rattle.dcx_tree.proofs.Lawful.{tree_lawful}
@@ -34,22 +33,14 @@ bounds_nonpositive m u i (row ∷ rows) h k =
     (bounds_nonpositive m u (suc i) rows (λ l r e s. let q : i + suc l ≡ suc i + l = omega arith in subst (λ n. whole (pos 0) ≤ℚ m n) q (h (suc l) r e s)) (λ l. k (suc l)))
 
 -- an item of the first list is one of both
-front : {A : Type 0} (xs ys : List A) (k : ℕ) (x : A) → slice_get xs k ≡ Some x → slice_get (xs ++ ys) k ≡ Some x
+pub front : {A : Type 0} (xs ys : List A) (k : ℕ) (x : A) → slice_get xs k ≡ Some x → slice_get (xs ++ ys) k ≡ Some x
 front [] ys k x e = absurd (none-some x e)
 front (z ∷ xs) ys zero x e = e
 front (z ∷ xs) ys (suc k) x e = front xs ys k x e
 
-back : {A : Type 0} (xs ys : List A) (k : ℕ) (x : A) → slice_get ys k ≡ Some x → slice_get (xs ++ ys) (length xs + k) ≡ Some x
+pub back : {A : Type 0} (xs ys : List A) (k : ℕ) (x : A) → slice_get ys k ≡ Some x → slice_get (xs ++ ys) (length xs + k) ≡ Some x
 back [] ys k x e = ap (slice_get ys) (zero-add k) ∙ e
 back (z ∷ xs) ys k x e = let q : suc (length xs) + k ≡ suc (length xs + k) = omega arith in ap (slice_get (z ∷ (xs ++ ys))) q ∙ back xs ys k x e
-
--- constraints weighed by gaps that are the same
-weighed_same : (f g : Constraint → ℕ → ℚ) (constraints : List Constraint) (m : Multipliers) → ((k : ℕ) (c : Constraint) → slice_get constraints k ≡ Some c → (j : ℕ) → f c j ≡ g c j) →
-    weighed f constraints m ≡ weighed g constraints m
-weighed_same f g [] m h = refl
-weighed_same f g (c ∷ constraints) m h =
-    ap₂ ◌+ℚ◌ (rat_sum_below-same c.size (λ j. m 0 j *ℚ f c j) (λ j. m 0 j *ℚ g c j) (λ j b. ap (λ u. m 0 j *ℚ u) (h 0 c refl j)))
-    (weighed_same f g constraints (λ k. m (suc k)) (λ k. h (suc k)))
 
 -- the same linear program with further rows that are at most 0
 abbrev pub with_rows : LinearProgram → List (Unknowns → ℚ) → LinearProgram
@@ -104,12 +95,10 @@ module _ (rules : Rules) (p : Problem) (s : Setting) (ok : IsTrue (accepted_by r
 
   -- ---- the rows of the program at the unknowns of a point
   same_penalty : (y : Point) (m : Multipliers) (t : Unknowns) → IsLifted r P s y t → penalty_of P m (r.forms t) ≡ answers.penalty P s y m
-  same_penalty y m t low =
-      weighed_same (gap_of (r.forms t)) (gap_at P s y) P.constraints m
-      (λ k c e j. ap₂ ◌-ℚ◌ (ap (λ f. f j) (low.same c.left (formed.sides k c e).0)) (ap (λ f. f j) (low.same c.right (formed.sides k c e).1)))
+  same_penalty = lifted_penalty rules P (tree_lawful (names_in p) p.tree p.nodes).lawful formed ok s fit r is.reduction
 
   same_objective : (y : Point) (t : Unknowns) → IsLifted r P s y t → objective_of P (r.forms t) ≡ objective_at p s y
-  same_objective y t low = ap (λ f. minimized P.sense (f 0)) (low.same P.objective formed.objective)
+  same_objective = lifted_objective rules P (tree_lawful (names_in p) p.tree p.nodes).lawful formed ok s fit r is.reduction
 
   program_below : (m : ℕ → ℚ) → HaveSigns (with_rows l extra) m → (y : Point) (t : Unknowns) → IsLifted r P s y t → combined_from m 0 l.rows t ≤ℚ answers.penalty P s y (multipliers_of P m)
   program_below m h y t lifted =

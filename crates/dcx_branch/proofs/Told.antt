@@ -1,0 +1,84 @@
+-- What the answer of a node's rows has: notes of its rows, and numbers of columns that tell those of the unknowns.
+use Rattle.std.proofs.Common.{◌≡◌, ℕ, ◌+◌, ◌≤◌, arith, List, length, map, sym, ap, ◌∙◌, length-append}
+use Rattle.std.specs.Prelude.{sum_by}
+use Rattle.std.proofs.lemmas.List.{length-map}
+use Rattle.dcx_frac.specs.declared.fraction.Frac.{Frac}
+use Rattle.dcx_frac.specs.Frac.{value}
+use Rattle.dcx_convex.specs.Nodes.{Setting}
+use Rattle.dcx_tree.specs.declared.problem.Problem.{Problem}
+use Rattle.dcx_tree.specs.Meaning.{convex_constraint}
+use Rattle.dcx_tab.specs.declared.program.Program as tab
+use Rattle.dcx_tab.specs.Table.{Table}
+use Rattle.dcx_chained.specs.Tables.{table_of}
+use Rattle.dcx_lp_answer.specs.declared.answer.LpStatus.{LpStatus}
+use Rattle.dcx_lp_answer.specs.declared.answer.LpStatus.TheVariants as status
+use Rattle.dcx_lp_answer.specs.declared.answer.LpAnswer.{LpAnswer}
+use Rattle.dcx_lp_answer.specs.Right.{IsOneSided, IsRightAs}
+use Rattle.dcx_simplex.specs.declared.run.LpEnd.{LpEnd}
+use Rattle.dcx_simplex.specs.declared.run.LpEnd.TheVariants as ends
+use Rattle.dcx_simplex.specs.Reading.{IsRead}
+use Rattle.dcx_std.specs.Solutions.{row_at}
+use Rattle.dcx_std.proofs.ScaledProgram.{scaled_program}
+use Rattle.dcx_solved.specs.declared.solving.Solved.{Solved}
+use Rattle.dcx_solved.specs.Solved.{IsSolved}
+use Rattle.dcx_unknowns.specs.Layout.{constraint_rows}
+use Rattle.dcx_mapping.specs.Programs.{gap_rows, bound_row}
+use Rattle.dcx_postsolve.proofs.ColumnParts.{columns_tell}
+use Rattle.dcx_graph.specs.Program.{Program}
+use Rattle.dcx_graph.specs.Answers.{IsReducedAt}
+use Rattle.dcx_graph.proofs.Slacks.{gaps_length}
+use Rattle.dcx_branch.specs.declared.bound.BoundAt.{BoundAt}
+use Rattle.dcx_branch.specs.Rows.{bound_rows, node_rows}
+use Rattle.dcx_branch.specs.Taken.{HasNotes, TellsUnknowns}
+use Rattle.dcx_branch.proofs.Shown.{rows_counted}
+
+-- ---- counts
+-- an answer that is read has a note of each row and a number of each column
+record HasCounts (q : tab.Program) (a : LpAnswer) : Type 0 where
+  rows : length a.rows ≡ length q.rows
+  columns : length a.columns ≡ length q.columns
+
+counts_of : (q : tab.Program) (t : Table) (end : LpEnd) (a : LpAnswer) → IsRead q.rows q.columns t end a → HasCounts q a
+counts_of q t (ends.Optimal n) a h = record { rows = h.0.notes; columns = h.0.columns }
+counts_of q t (ends.Infeasible n) a h = record { rows = h.0.notes; columns = h.0.columns }
+counts_of q t (ends.Unbounded n c) a h = record { rows = h.0.notes; columns = h.0.columns }
+counts_of q t (ends.Wide n r c) a h = absurd h
+counts_of q t (ends.PivotLimit n) a h = absurd h
+
+one_sided : (t : LpStatus) (q : tab.Program) (a : LpAnswer) → IsRightAs t q a → IsOneSided q.columns (map value a.columns)
+one_sided status.Optimal q a r = r.one_sided
+one_sided status.Infeasible q a r = r.one_sided
+one_sided status.Unbounded q a r = r.one_sided
+
+-- the rows of constraints are among those of the program
+pub rows_there : (p : Problem) (s : Setting) (q : Program Frac) → IsReducedAt p s q → sum_by constraint_rows p.constraints ≤ length q.rows
+rows_there p s q given =
+    let gaps = gap_rows given.reduction.reduced.forms (map convex_constraint p.constraints) in
+    let rest = map bound_row given.reduction.reduced.rows in
+    let all : length q.rows ≡ sum_by constraint_rows p.constraints + length rest =
+    sym (length-map q.rows row_at) ∙ ap length given.reduction.program.rows ∙ length-append gaps rest ∙ ap (λ n. n + length rest) (gaps_length given.reduction.reduced.forms p.constraints) in
+    omega (arith, all)
+
+module _ (q : Program Frac) (limit : ℕ) (bs : List BoundAt) (s : Solved) (is : IsSolved limit (node_rows q bs) s) where
+  counts : HasCounts s.program s.answer
+  counts = counts_of s.program (table_of s.tableau) is.solved.end s.answer is.solved.read
+
+  pub notes_count : length s.answer.rows ≡ length q.rows + length bs
+  notes_count =
+      let count = (scaled_program (node_rows q bs) s.program is.made).count in
+      counts.rows ∙ count ∙ length-append q.rows (bound_rows bs) ∙ ap (λ n. length q.rows + n) (rows_counted bs)
+
+  pub has_notes : (p : Problem) → sum_by constraint_rows p.constraints ≤ length q.rows → HasNotes p s.answer (length q.rows) bs
+  has_notes p enough =
+      let count = notes_count in
+      let few = is.made.fits.0 in
+      let same = length-append q.rows (bound_rows bs) ∙ ap (λ n. length q.rows + n) (rows_counted bs) in
+      record { constraints = omega (arith, count, enough); rows = omega (arith, count); few = omega (arith, count, few, same) }
+
+  pub tells : TellsUnknowns q.kinds s.program s.answer
+  tells =
+      let t = columns_tell (node_rows q bs) s.program (map value s.answer.columns) is.made (length-map s.answer.columns value ∙ counts.columns) in
+      record {
+        columns = record { there = t.there; one_sided = t.one_sided (one_sided s.answer.status s.program s.answer is.solved.right) };
+        same = t.same;
+      }

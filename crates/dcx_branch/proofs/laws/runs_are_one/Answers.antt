@@ -1,0 +1,6 @@
+-- The law of the lemma of its name.
+use Rattle.dcx_branch.proofs.OneRun.{runs_are_one}
+use Rattle.dcx_branch.proofs.laws.runs_are_one.Goals as goal
+
+pub returns : goal.returns
+returns c = runs_are_one

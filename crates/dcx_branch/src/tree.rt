@@ -1,0 +1,112 @@
+//! Trees that show what whole points there are, as they are handed out.
+ghost use Rattle.std.specs.Prelude.{◌≡◌};
+
+use dcx_answer::Duals;
+use dcx_frac::Frac;
+use std::marker::Model;
+
+/// The multiplier of a bound of an entry.
+#[derive(Clone, Copy, Debug, PartialEq, Eq)]
+pub struct BoundDual {
+    /// The variable, by position in order of declaration.
+    pub variable: u32,
+    /// The entry, in row-major order.
+    pub entry: u32,
+    /// Whether the bound is the upper one, or the lower one.
+    pub upper: bool,
+    /// The multiplier.
+    pub weight: Frac,
+}
+
+/// Multipliers of bounds, seen by contracts as a list.
+#[derive(Drop)]
+pub struct BoundDuals {
+    items: Vec<BoundDual>,
+}
+
+impl Model for BoundDuals {
+    ghost use Rattle.std.specs.Prelude.{List};
+    ghost use Rattle.dcx_branch.specs.declared.tree.BoundDual.{BoundDual};
+
+    ghost Value = { List BoundDual };
+
+    ghost view = { λ d. d.items.items };
+}
+
+impl BoundDuals {
+    /// The list with these items. Takes no memory.
+    pub fn from_vec(items: Vec<BoundDual>) -> BoundDuals
+        ensures { result ≡ items.items }
+    {
+        BoundDuals { items }
+    }
+
+    /// The items of the list.
+    pub fn as_slice(&self) -> &[BoundDual]
+        ensures { result.now ≡ self.now }
+    {
+        self.items.as_slice()
+    }
+}
+
+/// A node of a tree.
+#[derive(Drop)]
+pub enum BranchNode {
+    /// A leaf: the multipliers show that no point of its box has a small objective.
+    Bound {
+        /// The multipliers of each constraint.
+        duals: Duals,
+        /// Those of the bounds of its box.
+        bounds: BoundDuals,
+    },
+    /// A leaf: the multipliers show that no point of its box is feasible.
+    Empty {
+        /// The multipliers of each constraint.
+        duals: Duals,
+        /// Those of the bounds of its box.
+        bounds: BoundDuals,
+        /// What the multipliers leave above 0.
+        gap: Frac,
+    },
+    /// Two sides: that where an entry is at most the limit, and that where it is at least the next integer.
+    Split {
+        /// The variable, by position in order of declaration.
+        variable: u32,
+        /// The entry, in row-major order.
+        entry: u32,
+        /// The limit.
+        limit: i128,
+    },
+}
+
+/// The nodes of a tree: first the root, and behind each node that has two sides all nodes of the lower one and then all of the
+/// upper one. Contracts see the list.
+#[derive(Drop)]
+pub struct BranchTree {
+    nodes: Vec<BranchNode>,
+}
+
+impl Model for BranchTree {
+    ghost use Rattle.std.specs.Prelude.{List};
+    ghost use Rattle.dcx_branch.specs.declared.tree.BranchNode.{BranchNode};
+
+    ghost Value = { List BranchNode };
+
+    ghost view = { λ t. t.nodes.items };
+}
+
+impl BranchTree {
+    /// The tree with these nodes. Takes no memory.
+    pub fn from_vec(nodes: Vec<BranchNode>) -> BranchTree
+        ensures { result ≡ nodes.items }
+    {
+        BranchTree { nodes }
+    }
+
+    /// The nodes, each before its two sides, and all of the lower side before the upper one.
+    pub fn nodes(&self) -> &[BranchNode]
+        ensures { result.now ≡ self.now }
+    {
+        self.nodes.as_slice()
+    }
+}
