@@ -18,5 +18,6 @@ pub mod Marks
 pub mod Units
 pub mod Formed
 pub mod Taking
+pub mod Enough
 pub mod Advance
 pub mod Lists

@@ -1,5 +1,6 @@
 -- What the contracts of this crate cite.
 pub mod Between
+pub mod Unknowns
 pub mod Places
 pub mod Rows
 pub mod Sides

@@ -11,6 +11,7 @@
 //! | an answer is a whole optimum with a tree that shows it, or a tree that shows that there is no whole point | `branch`, `specs/Answers.antt`: `IsRightFor` |
 //! | the run ends so, with so many nodes; what stops it | `branch`, `specs/Answers.antt`: `IsEndOf`; `specs/Run.antt` |
 //! | a run has one end | `laws::runs_are_one` |
+//! | reduced programs have what `branch` asks of them | `laws::programs_have_unknowns` |
 //! | the linear program of a node, and which bounds are those of its box | `specs/Nodes.antt` |
 //! | answers of a node's linear program are leaves of its box, and an optimal one has a feasible point that keeps the bounds | `laws::answers_are_leaves` |
 #![tactic(auto)]

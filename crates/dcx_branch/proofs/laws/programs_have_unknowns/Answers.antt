@@ -1,0 +1,6 @@
+-- The law of the lemma of its name.
+use Rattle.dcx_branch.proofs.Enough.{programs_have_unknowns}
+use Rattle.dcx_branch.proofs.laws.programs_have_unknowns.Goals as goal
+
+pub returns : goal.returns
+returns c = programs_have_unknowns
