@@ -24,7 +24,7 @@ use Rattle.dcx_branch.proofs.Enough.{programs_have_unknowns}
 use Rattle.dcx_branch.proofs.OneRun.{runs_are_one}
 use Rattle.dcx_outcomes.specs.Outcomes.{NamesNodes}
 use Rattle.dcx_outcomes.specs.Wholes.{most_nodes, EndsRun, IsWholeAt, EndsWhole, NamesNodesOf, whole_place, IsWholeOutcome, AreWholeOutcomes}
-use Rattle.dcx_outcomes.specs.WholeLaws.{AnswersRight, WholesAreRight, WantsMemory, IsSameEnd, AreOneWholeEnd, WholesAreOne}
+use Rattle.dcx_outcomes.specs.WholeLaws.{AnswersRight, WholesAreRight, WantsMemory, AreOneWholeEnd, WholesAreOne}
 use Rattle.dcx_outcomes.proofs.FilterEnds.{program_names, zip_more, given_apart, same_stop}
 use Rattle.dcx_outcomes.proofs.Placed.{placed}
 use Rattle.dcx_outcomes.proofs.More.{one_taken}

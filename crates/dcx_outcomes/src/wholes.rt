@@ -36,7 +36,14 @@ fn whole_end<S: Ledger>(
     ensures few { steps.new ≤ steps.old + length session.old.problem.tree }
 {
     match session.program(alloc, setting, steps) {
-        Ok(reduced) => match branch(alloc, session.problem(), &reduced, setting, limit, MOST_NODES) {
+        Ok(reduced) => match branch(
+            alloc,
+            session.problem(),
+            &reduced,
+            setting,
+            limit,
+            MOST_NODES,
+        ) {
             Ok(answer) => WholeEnd::Whole(answer),
             Err(stop) => WholeEnd::Branch(stop),
         },
