@@ -30,8 +30,8 @@ use crate::write::write_all;
 use dcx_answer::Stop;
 use dcx_host::{Library, Sink, SinkFault};
 use dcx_report::{
-    BranchStop, FilterEnd, FilterOutcome, FilterStop, Outcome, OutcomeEnd, Run, WholeEnd, WholeOutcome,
-    report_text,
+    BranchStop, FilterEnd, FilterOutcome, FilterStop, Outcome, OutcomeEnd, Run, WholeEnd,
+    WholeOutcome, report_text,
 };
 use dcx_steps::Steps;
 use dcx_words::{Form, plain_form};
