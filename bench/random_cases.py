@@ -1,7 +1,8 @@
-"""Writes worked cases of scripts drawn at random, with what the reference answers: `random_cases.py SEED COUNT [LINES [iis]]`.
+"""Writes worked cases of scripts drawn at random, with what the reference answers: `random_cases.py SEED COUNT [LINES [iis|whole]]`.
 
 A script that is refused is drawn anew, and so is one with no number but 0 to tell. About half of the cases have settings. LINES is how long a report may be.
-With `iis` they are cases of that word, with more constraints, and at some setting of each no point keeps them all.
+With `iis` they are cases of that word, with more constraints, and at some setting of each no point keeps them all. With `whole` some variables are boolean or
+integer, all of them have bounds, and some setting of each has more than one node.
 The reference shows of each answer that it is right; the program of `crates/dcx_cases`, given the file, tells where dcx differs.
 """
 import random
@@ -36,10 +37,10 @@ def array(shape):
 
 
 class Model:
-    """A script that is drawn: its variables and parameters with their shapes."""
+    """A script that is drawn: its variables and parameters with their shapes. If it is whole, each variable has bounds, and most are to be whole."""
 
-    def __init__(self):
-        self.lines, self.variables, self.parameters = [], [], []
+    def __init__(self, is_whole=False):
+        self.lines, self.variables, self.parameters, self.is_whole = [], [], [], is_whole
         for name in "xyz"[: random.randint(1, 3)]:
             self.variable(name)
         for name in "pqr"[: random.randint(0, 2)]:
@@ -48,6 +49,9 @@ class Model:
     def variable(self, name):
         shape = pick(*SHAPES)
         kinds = ["", "", "", "nonneg=True", "nonpos=True"]
+        if self.is_whole:
+            shape = pick("", "", "2", "3", "(2, 2)")
+            kinds = ["", "nonneg=True", "boolean=True", "boolean=True", "integer=True", "integer=True", "integer=True, nonneg=True", "nonpos=True, integer=True"]
         if shape in ("(2, 2)", "(3, 3)"):
             kinds += ["symmetric=True", "diag=True"]
         self.lines.append(f"{name} = cp.Variable({', '.join(part for part in (shape, pick(*kinds)) if part)})")
@@ -121,7 +125,8 @@ class Model:
 
     def box(self):
         """Bounds of all variables, so that few problems are unbounded."""
-        return [f"{name} {sign}= {bound}" for name, _ in self.variables for sign, bound in (("<", "10"), (">", "-10")) if random.random() < 0.7]
+        bounds = (("<", pick("5/2", "4")), (">", pick("-7/2", "-3"))) if self.is_whole else (("<", "10"), (">", "-10"))
+        return [f"{name} {sign}= {bound}" for name, _ in self.variables for sign, bound in bounds if self.is_whole or random.random() < 0.7]
 
     def script(self, least=0, most=3):
         rules = self.box() + [self.constraint() for _ in range(random.randint(least, most))]
@@ -147,10 +152,10 @@ def tells_something(report):
     return re.search(r"^(var|dual|ray) .* = .*[1-9]", report, re.MULTILINE) is not None
 
 
-def drawn(most, is_filtered):
+def drawn(most, is_filtered, is_whole):
     """A case: its words, files, status and report."""
     while True:
-        model = Model()
+        model = Model(is_whole)
         script = model.script(2, 6) if is_filtered else model.script()
         files = {"model.py": IMPORTS + "\n".join(script).encode() + b"\n"}
         words = "solve model.py"
@@ -161,6 +166,8 @@ def drawn(most, is_filtered):
         status, report = run(words.split(), files.__getitem__)
         if is_filtered and "infeasible" not in report:
             continue
+        if is_whole and not re.search(r"^nodes ([2-9]|1[0-9])", report, re.MULTILINE):
+            continue
         if status in (0, 6) and report.count("\n") <= most and tells_something(report):
             return words, script, settings, status, report
 
@@ -169,7 +176,7 @@ def main(seed, count, most=40, word=None):
     random.seed(int(seed))
     print(f"# Scripts drawn at random from the seed {seed}, answered by bench/reference.py, which shows that each answer is right.")
     for _ in range(int(count)):
-        words, script, settings, status, report = drawn(int(most), word == "iis")
+        words, script, settings, status, report = drawn(int(most), word == "iis", word == "whole")
         print(f"\ncase {words}\nfile model.py\nimports", *(f"| {line}" for line in script), sep="\n")
         if settings:
             print("file settings.txt", *(f"| {line}" for line in settings), sep="\n")
@@ -177,6 +184,6 @@ def main(seed, count, most=40, word=None):
 
 
 if __name__ == "__main__":
-    if len(sys.argv) not in (3, 4, 5) or sys.argv[4:] not in ([], ["iis"]):
+    if len(sys.argv) not in (3, 4, 5) or sys.argv[4:] not in ([], ["iis"], ["whole"]):
         raise SystemExit(__doc__)
     main(*sys.argv[1:])

@@ -2,6 +2,7 @@
 import re
 
 from . import report
+from .branching import Branching, marked
 from .certifying import CertRefused, certificate, certify, migrate
 from .elaborate import elaborate
 from .faults import Refused, Stopped
@@ -75,11 +76,14 @@ class Accepted:
         self.problem, self.events, self.last = elaborate(parse(tokens_of(text_of(data))))
         self.verdict = Verdict(self.problem)
 
-    def test_solvable(self, number):
-        """A problem with a variable whose entries are to be whole is not solved, and refused with this number at the first one that it reaches."""
-        marked = [n for _, n in self.problem.variables if self.problem.nodes[n].call[3]]
-        if marked:
-            raise Refused(number, self.problem.nodes[min(marked)].place)
+    def is_marked(self):
+        return bool(marked(self.problem))
+
+    def test_unmarked(self):
+        """Some words refuse a problem with a variable whose entries are to be whole, at the first one that it reaches."""
+        nodes = [self.problem.variables[v][1] for v, _ in marked(self.problem)]
+        if nodes:
+            raise Refused(34, self.problem.nodes[min(nodes)].place)
 
 
 def ends_of(accepted, settings, limit):
@@ -87,7 +91,7 @@ def ends_of(accepted, settings, limit):
     ends = []
     for setting in settings:
         try:
-            ends.append(session.solve(setting, limit))
+            ends.append(Branching(session, setting, limit).found() if accepted.is_marked() else session.solve(setting, limit))
         except Stopped as stop:
             ends.append(stop)
     return ends
@@ -137,7 +141,8 @@ def run_command(command, operands, limit, warm, fetch):
     accepted = Accepted(fetch(operands[0]))
     if command == "check":
         return 0, report.checked(accepted.problem, accepted.verdict)
-    accepted.test_solvable(12 if command == "solve" or command == "resolve" and not warm else 34)
+    if warm or command not in ("solve", "resolve"):
+        accepted.test_unmarked()
     if command == "solve":
         ends = ends_of(accepted, accepted.events, limit)
         return status_of(ends), report.solved(accepted.problem, "solve", ends)

@@ -54,6 +54,10 @@ def outcome(problem, word, k, end):
     if isinstance(end, Stopped):
         return f"{head}{end.text()}\n"
     head += f"{end.kind}\n"
+    if end.kind == "whole infeasible":
+        return head + f"nodes {len(end.nodes)}\n"
+    if end.kind == "whole optimal":
+        return head + f"value {users(problem, end.number)}\n" + arrays(problem, "var", end.point) + f"nodes {len(end.nodes)}\n"
     if end.kind == "optimal":
         return head + f"value {users(problem, end.number)}\n" + arrays(problem, "var", end.point) + duals(problem, end)
     if end.kind == "infeasible":

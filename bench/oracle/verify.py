@@ -158,10 +158,16 @@ def running(coefficients, take, result):
     return result
 
 
-def bounded(problem, setting, duals, weights, with_objective):
-    """What the Lagrangian is at least, at every point of the domain."""
+def bounded(problem, setting, duals, weights, with_objective, bounds=()):
+    """What the Lagrangian is at least, at every point of the domain. A bound of an entry adds its multiplier times what the entry is beyond it."""
     values = Values(problem, None, setting)
     reach = [[Fraction(0)] * shapes.size(node.shape) for node in problem.nodes]
+    total = Fraction(0)
+    for (v, entry, is_upper, k), m in bounds:
+        demand(m >= 0, "a multiplier of a bound is below 0")
+        sign = 1 if is_upper else -1
+        reach[problem.variables[v][1]][entry] += sign * m
+        total -= sign * m * k
     if with_objective:
         reach[problem.objective][0] += -1 if problem.sense == "maximize" else 1
     for constraint, multipliers in zip(problem.constraints, duals):
@@ -169,7 +175,6 @@ def bounded(problem, setting, duals, weights, with_objective):
             demand(constraint.kind == "equal" or m >= 0, "a multiplier is below 0")
             reach[constraint.left][e] += m
             reach[constraint.right][e] -= m
-    total = Fraction(0)
     for number in reversed(range(len(problem.nodes))):
         node = problem.nodes[number]
         if not problem.has_variable[number]:
@@ -248,3 +253,41 @@ def verify(problem, setting, answer):
     in_domain(problem, answer.ray)
     feasible(problem, rising, "the ray")
     demand(minimized(problem, rising) <= -answer.slope, "the objective doesn't fall along the ray")
+
+
+def verify_whole(problem, setting, answer):
+    """Shows that a point is whole and has the value, and that the nodes leave no whole point with a smaller one; or that they leave none."""
+    if answer.number is not None:
+        values = verify_point(problem, setting, answer.point)
+        demand(minimized(problem, values) == answer.number, "the value isn't that of the point")
+        for (name, n), entries in zip(problem.variables, answer.point):
+            mark = problem.nodes[n].call[3]
+            for value in entries:
+                demand(not mark or value == int(value), f"an entry of {name} isn't whole")
+                demand(mark != "boolean" or value in (0, 1), f"an entry of {name} is neither 0 nor 1")
+    waiting = [root_box(problem)]
+    for node in answer.nodes:
+        box = waiting.pop()
+        if hasattr(node, "k"):
+            v, entry = node.entry
+            demand(problem.nodes[problem.variables[v][1]].call[3], "an entry is split that need not be whole")
+            lower, upper = box.get(node.entry, (None, None))
+            waiting += [{**box, node.entry: (node.k + 1, upper)}, {**box, node.entry: (lower, node.k)}]
+        else:
+            verify_leaf(problem, setting, box, node, answer.number)
+    demand(not waiting, "a side of a node is forgotten")
+
+
+def root_box(problem):
+    """For the entries of variables that have one or both, a lower and an upper whole number."""
+    boolean = [(v, n) for v, (_, n) in enumerate(problem.variables) if problem.nodes[n].call[3] == "boolean"]
+    return {(v, e): (None, 1) for v, n in boolean for e in range(shapes.size(problem.nodes[n].shape))}
+
+
+def verify_leaf(problem, setting, box, leaf, value):
+    """Shows that no point of the box is below the value, or that there is no point in it."""
+    sides = [(v, e, is_upper, k) for (v, e), ends in sorted(box.items()) for is_upper, k in enumerate(ends) if k is not None]
+    demand(len(sides) == len(leaf.bounds), "the bounds of a leaf aren't those of its box")
+    least = bounded(problem, setting, leaf.duals, leaf.weights, leaf.kind == "bound", zip(sides, leaf.bounds))
+    demand(least >= leaf.number, "the multipliers of a leaf don't show its number")
+    demand(leaf.number > 0 if leaf.kind == "empty" else value is not None and leaf.number >= value, "the number of a leaf shows nothing")

@@ -37,7 +37,7 @@ use Rattle.dcx_outcomes.proofs.More.{one_taken}
 
 -- ---- nodes
 -- what stops a session's program names nodes of the problem
-program_names : (p : Problem) (setting : Pairs) (limit : ℕ) (e : Stop) → ProgramStops p setting e → NamesNodes p e
+pub program_names : (p : Problem) (setting : Pairs) (limit : ℕ) (e : Stop) → ProgramStops p setting e → NamesNodes p e
 program_names p setting limit (why.UnknownParam name) h = tt
 program_names p setting limit (why.MissingParam name) h = tt
 program_names p setting limit (why.ParamShape name declared given) h = tt
@@ -90,7 +90,7 @@ stopped_there p q setting limit r stop same fits gives h = record {
 }
 
 -- ---- one setting more
-zip_more : {A B : Type 0} (R : A → B → Type 0) (xs : List A) (ys : List B) (x : A) (y : B) → AllZip R xs ys → R x y → AllZip R (xs ++ x ∷ []) (ys ++ y ∷ [])
+pub zip_more : {A B : Type 0} (R : A → B → Type 0) (xs : List A) (ys : List B) (x : A) (y : B) → AllZip R xs ys → R x y → AllZip R (xs ++ x ∷ []) (ys ++ y ∷ [])
 zip_more R [] [] x y h k = (k, tt)
 zip_more R [] (b ∷ ys) x y h k = absurd h
 zip_more R (a ∷ xs) [] x y h k = absurd h
@@ -129,14 +129,14 @@ module _ (p : Problem) (setting : Pairs) (limit : ℕ) where
   parted why.Memory n h = absurd (n refl)
 
   -- a setting that has a program isn't stopped
-  given_apart : (q : Program Frac) (e : Stop) → e ≢ why.Memory → FitsParameters p.parameters setting → SessionGives p setting (Ok q) → ProgramStops p setting e → ⊥
+  pub given_apart : (q : Program Frac) (e : Stop) → e ≢ why.Memory → FitsParameters p.parameters setting → SessionGives p setting (Ok q) → ProgramStops p setting e → ⊥
   given_apart q e n fits g h = by (parted e n h)
     where
       by : IsFirstMisfit p.parameters setting e ⊎ ((r : ReduceStop) × IsUnformed p setting r × (e ≡ program_stop r)) → ⊥
       by (inl m) = unfit p setting limit e m fits
       by (inr (r, k, is)) = program_apart p setting limit q r g k.stops
 
-  same_stop : (e f : Stop) → e ≢ why.Memory → f ≢ why.Memory → ProgramStops p setting e → ProgramStops p setting f → e ≡ f
+  pub same_stop : (e f : Stop) → e ≢ why.Memory → f ≢ why.Memory → ProgramStops p setting e → ProgramStops p setting f → e ≡ f
   same_stop e f n m h k = by (parted e n h) (parted f m k)
     where
       by : IsFirstMisfit p.parameters setting e ⊎ ((r : ReduceStop) × IsUnformed p setting r × (e ≡ program_stop r)) → IsFirstMisfit p.parameters setting f ⊎ ((r : ReduceStop) × IsUnformed p setting r × (f ≡ program_stop r)) → e ≡ f

@@ -7,3 +7,4 @@ pub mod More
 pub mod Warm
 pub mod Counting
 pub mod FilterEnds
+pub mod WholeEnds

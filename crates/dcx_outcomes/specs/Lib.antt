@@ -5,3 +5,5 @@ pub mod Right
 pub mod Laws
 pub mod Filters
 pub mod FilterLaws
+pub mod Wholes
+pub mod WholeLaws

@@ -1,6 +1,7 @@
 //! What holds of all outcomes. There is no code: each clause is a statement about all of them.
 ghost use Rattle.dcx_outcomes.specs.FilterLaws.{FiltersAreRight, FiltersAreOne};
 ghost use Rattle.dcx_outcomes.specs.Laws.{OutcomesAreRight, OutcomesAreOne, WarmOutcomesAreRight, WarmOutcomesAgree, WarmOutcomesAreOne};
+ghost use Rattle.dcx_outcomes.specs.WholeLaws.{WholesAreRight, WholesAreOne};
 
 /// Each answer among the outcomes of an accepted problem is right at its setting, which fits.
 pub fn outcomes_are_right()
@@ -37,4 +38,14 @@ pub fn filters_are_right()
 /// Settings have one list of what the filter finds, or of its stops; want of memory is free.
 pub fn filters_are_one()
     ensures { FiltersAreOne }
+{}
+
+/// Each answer of a problem with marked variables at settings is right at its setting, which fits.
+pub fn wholes_are_right()
+    ensures { WholesAreRight }
+{}
+
+/// Settings have one list of outcomes of a problem with marked variables; want of memory is free.
+pub fn wholes_are_one()
+    ensures { WholesAreOne }
 {}

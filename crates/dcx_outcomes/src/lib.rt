@@ -11,13 +11,18 @@
 //! | constraints are filtered at each setting, in order: what the filter of a session's program finds, or what stops it | `filter_outcomes`, `specs/Filters.antt`: `AreFilterOutcomes` |
 //! | whatever it finds is right for the problem at its setting, which fits | `laws::filters_are_right` |
 //! | settings have one list of what is found, or of stops; want of memory is free | `laws::filters_are_one` |
-//! | a problem that has a map is reduced once for all settings, another one at most once more at each | `outcomes`, `filter_outcomes`: `counted` |
+//! | a problem with marked variables is solved at each setting, in order: how the run of nodes over a session's program ends, of at most 10,000 nodes | `whole_outcomes`, `specs/Wholes.antt`: `AreWholeOutcomes` |
+//! | each answer among them is a whole optimum, or that there is no whole point, at its setting, which fits, with a tree that shows it | `laws::wholes_are_right` |
+//! | settings have one list of them; want of memory is free | `laws::wholes_are_one` |
+//! | a problem that has a map is reduced once for all settings, another one at most once more at each | `outcomes`, `filter_outcomes`, `whole_outcomes`: `counted` |
 #![tactic(auto)]
 
 mod filters;
 mod finding;
 pub mod laws;
 mod outcome;
+mod wholes;
 
 pub use filters::filter_outcomes;
 pub use finding::{Found, outcomes};
+pub use wholes::whole_outcomes;

@@ -11,3 +11,4 @@ pub mod ReportText
 pub mod SameText
 pub mod StopText
 pub mod TrialText
+pub mod WholeText

@@ -7,6 +7,8 @@ use Rattle.dcx_report.specs.declared.outcome.OutcomeEnd.{OutcomeEnd}
 use Rattle.dcx_report.specs.declared.outcome.OutcomeEnd.TheVariants as the
 use Rattle.dcx_report.specs.declared.filter_outcome.FilterEnd.{FilterEnd}
 use Rattle.dcx_report.specs.declared.filter_outcome.FilterEnd.TheVariants as filter
+use Rattle.dcx_report.specs.declared.whole_outcome.WholeEnd.{WholeEnd}
+use Rattle.dcx_report.specs.declared.whole_outcome.WholeEnd.TheVariants as whole
 
 -- a zero divisor, or an operation at a node that passes
 abbrev pub stop_names_node : Stop → Bool
@@ -22,3 +24,8 @@ abbrev pub filter_names_node : FilterEnd → Bool
 filter_names_node (filter.Filtered found) = false
 filter_names_node (filter.Filter stop) = false
 filter_names_node (filter.Stop stop) = stop_names_node stop
+
+abbrev pub whole_names_node : WholeEnd → Bool
+whole_names_node (whole.Whole answer) = false
+whole_names_node (whole.Branch stop) = false
+whole_names_node (whole.Stop stop) = stop_names_node stop

@@ -1,4 +1,4 @@
--- What the report of a run tells: two runs over one problem with the same report have the same answers.
+-- What the report of a run tells: two runs over one problem without marked variables with the same report have the same answers.
 use Rattle.std.specs.Prelude.{◌≡◌, ◌≢◌, ℕ, List, All, map, None, Some, ⊤}
 use Rattle.std.specs.declared.option.Option.{Option}
 use Rattle.dcx_shape.specs.declared.shape.Shape.{Shape}
@@ -54,7 +54,7 @@ answer_of (the.Stop stop) = None
 abbrev pub answers_of : List Outcome → List (Option Answer)
 answers_of outcomes = map (λ o. answer_of o.end) outcomes
 
--- two runs over one problem with the same report have the same answers
+-- two runs over one problem without marked variables with the same report have the same answers
 abbrev pub SameTextSameAnswers : Type 0
 SameTextSameAnswers =
     (layout : Layout) (word : Word) (sense : Sense) (xs ys : List Outcome) (m n : Option ℕ)

@@ -21,7 +21,7 @@ fn turned(number: Frac) -> Frac
 
 /// Appends a line of a word and a number of the minimized objective, as the user's objective has it.
 #[tactic(auto, unfolding(crate::specs::AnswerText::user_number))]
-fn put_user_line(
+pub(crate) fn put_user_line(
     out: &mut Vec<u8>,
     word: &[u8],
     sense: Sense,

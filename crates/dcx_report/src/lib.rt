@@ -8,9 +8,10 @@
 //! | a refused certificate is told with its section, the check that fails there, and what that carries | `cert_refused_text` of `specs/CertifiedText.antt` |
 //! | a line behind the outcomes counts the settings that are answered and those that are stopped | `count_line` of `specs/OutcomeText.antt` |
 //! | constraints that no point keeps together are told by their numbers, each with a point that keeps the others | `filter_lines` of `specs/FilterText.antt` |
+//! | a whole answer is told with the number of nodes of its run | `whole_text` of `specs/WholeText.antt` |
 //! | a last line counts the outcomes that were found warm, where that was wanted | `warm_line` of `specs/OutcomeText.antt` |
-//! | an outcome has a place exactly where its stop names a node | `Outcome`, `FilterOutcome`, `names_node` of `specs/NodeStops.antt` |
-//! | two runs over one problem with the same report have the same answers | `laws::same_text_same_answers` |
+//! | an outcome has a place exactly where its stop names a node | `Outcome`, `FilterOutcome`, `WholeOutcome`, `names_node` of `specs/NodeStops.antt` |
+//! | two runs over one problem without marked variables with the same report have the same answers | `laws::same_text_same_answers` |
 #![tactic(auto)]
 
 mod answer_lines;
@@ -27,8 +28,11 @@ mod report;
 mod run;
 mod stop_line;
 mod trial_lines;
+mod whole_lines;
+mod whole_outcome;
 
 pub use dcx_answer::{Answer, FilterStop, Filtered, Stop};
+pub use dcx_branch::{BranchStop, WholeAnswer};
 pub use dcx_front::Refusal;
 pub use dcx_sections::CertFault;
 pub use dcx_tree::Sense;
@@ -37,3 +41,4 @@ pub use outcome::{Outcome, OutcomeEnd};
 pub use outcomes::Outcomes;
 pub use report::report_text;
 pub use run::{Run, Word};
+pub use whole_outcome::{WholeEnd, WholeOutcome, WholeOutcomes};

@@ -10,6 +10,7 @@ use crate::filter_lines::{put_filter_counts, put_filters};
 use crate::refusal_line::put_refusal;
 use crate::stop_line::put_stopped;
 use crate::trial_lines::put_trial;
+use crate::whole_lines::{put_whole_counts, put_wholes};
 use crate::{Outcome, OutcomeEnd, Run, Sense, Word};
 use dcx_lines::{put_bytes, put_number};
 use dcx_shape::{Bytes, Place};
@@ -17,7 +18,7 @@ use std::alloc::{AllocError, Global};
 
 /// The word that each outcome's first line begins with.
 #[tactic(auto, unfolding(crate::specs::OutcomeText::word_text))]
-fn word_of_outcomes(word: Word) -> &'static [u8]
+pub(crate) fn word_of_outcomes(word: Word) -> &'static [u8]
     ensures { result.now ≡ word_text word }
 {
     match word {
@@ -161,6 +162,14 @@ fn put_run(out: &mut Vec<u8>, run: &Run) -> Result<(), AllocError>
             put_outcomes(out, *word, *sense, outcomes.as_slice())?;
             put_counts(out, outcomes.as_slice())?;
             put_warm(out, *warm)
+        }
+        Run::Branched {
+            word,
+            sense,
+            outcomes,
+        } => {
+            put_wholes(out, *word, *sense, outcomes.as_slice())?;
+            put_whole_counts(out, outcomes.as_slice())
         }
         Run::Certificates { text, .. } => put_bytes(out, text.as_slice()),
         Run::Certified { sections } => put_certified(out, *sections),

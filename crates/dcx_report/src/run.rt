@@ -1,6 +1,6 @@
 //! How a run ends.
 
-use crate::{FilterOutcomes, Outcomes, Refusal, Sense};
+use crate::{FilterOutcomes, Outcomes, Refusal, Sense, WholeOutcomes};
 use dcx_front::Checked;
 use dcx_sections::CertFault;
 use dcx_shape::Bytes;
@@ -33,6 +33,15 @@ pub enum Run {
         outcomes: Outcomes,
         /// How many of them were found from the columns of an earlier answer, where that was wanted.
         warm: Option<u32>,
+    },
+    /// The problem, which has marked variables, was solved by branch and bound, or stopped, at each setting.
+    Branched {
+        /// What the outcomes stand under.
+        word: Word,
+        /// Which way the script's objective goes.
+        sense: Sense,
+        /// The outcomes, in order.
+        outcomes: WholeOutcomes,
     },
     /// The text of a certificate: of the answers at each setting, or of sections that were read and hold.
     Certificates {

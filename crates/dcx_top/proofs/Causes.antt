@@ -1,5 +1,6 @@
 -- What each command gives has its cause.
 use Rattle.std.proofs.Common.{◌≡◌, ◌↔◌, ◌⊎◌, ◌∙◌, ◌≤◌, ◌+◌, ◌*◌, length, count_by, None, inl, inr, ℕ, Bool, true, false, IsTrue, List, Option, Some, Ok, Err, refl, sym, ap, subst}
+use Rattle.std.specs.Prelude.{⊤}
 use Rattle.std.proofs.lemmas.Option.{none-some}
 use Rattle.dcx_point.specs.Pairs.{Pairs}
 use Rattle.dcx_tree.specs.declared.problem.Problem.{Problem}
@@ -12,6 +13,7 @@ use Rattle.dcx_cert_lines.specs.CertText.{cert_text}
 use Rattle.dcx_cache.specs.Programs.{HasMap}
 use Rattle.dcx_outcomes.specs.Outcomes.{Counts}
 use Rattle.dcx_outcomes.specs.Warm.{AreFound}
+use Rattle.dcx_outcomes.specs.Wholes.{AreWholeOutcomes}
 use Rattle.dcx_certificates.specs.Sections.{StopsSomewhere, IsCertificateAt}
 use Rattle.dcx_certificates.specs.Checking.{is_cert, ArePassed, IsFirstRefused}
 use Rattle.dcx_certificates.specs.Migrating.{IsMigrated}
@@ -20,27 +22,28 @@ use Rattle.dcx_front.specs.declared.accepted.Accepted.{Accepted}
 use Rattle.dcx_front.specs.declared.checked.Checked.{Checked}
 use Rattle.dcx_front.specs.declared.fault.FrontFault.{FrontFault}
 use Rattle.dcx_front.specs.declared.fault.FrontFault.TheVariants as front
-use Rattle.dcx_front.specs.declared.refusal.Carried.TheVariants.{Nothing}
 use Rattle.dcx_front.specs.declared.refusal.Refusal.{Refusal}
-use Rattle.dcx_front.specs.Refusals.{is_refusal}
 use Rattle.dcx_front.specs.declared.refusal.RefusalSource.TheVariants.{Script, Settings}
 use Rattle.dcx_front.specs.Checks.{IsFoundOf}
 use Rattle.dcx_front.specs.Accepts.{Gives, IsJudged}
 use Rattle.dcx_front.proofs.OneVerdict.{acceptance}
 use Rattle.dcx_report.specs.declared.outcome.Outcome.{Outcome}
+use Rattle.dcx_report.specs.declared.filter_outcome.FilterOutcome.{FilterOutcome}
+use Rattle.dcx_report.specs.declared.whole_outcome.WholeOutcome.{WholeOutcome}
 use Rattle.dcx_report.specs.declared.run.Run.{Run}
 use Rattle.dcx_report.specs.declared.run.Run.TheVariants as run
+use Rattle.dcx_report.specs.declared.run.Word.{Word}
 use Rattle.dcx_report.specs.declared.run.Word.TheVariants as word
 use Rattle.dcx_words.specs.Commands.{Command, check, solve, resolve, certify, migrate, trial, command_of}
 use Rattle.dcx_words.specs.Laws.{is_warm_command}
 use Rattle.dcx_trial.specs.Trial.{trial_text}
-use Rattle.dcx_top.specs.Commands.{IsScriptOf, script_name, settings_name, certificate_name, AreOfFile, AreSettingsOf, limit_of, TellsOutcomes}
+use Rattle.dcx_top.specs.Commands.{IsScriptOf, script_name, settings_name, certificate_name, AreOfFile, AreSettingsOf, limit_of, TellsOutcomes, TellsWholes}
 use Rattle.dcx_top.specs.Files.{run_of, RefusesScript, RefusesSettings, EndsAt, refused_at, HasTextOf, ReadsCertificate}
 use Rattle.dcx_top.proofs.Reading.{told_fault}
-use Rattle.dcx_top.specs.Whole.{HasNoWhole, IsRefusedForWhole, IsSolving, whole_number}
+use Rattle.dcx_top.specs.Whole.{HasNoWhole, HasWhole, IsRefusedForWhole, RefusesWhole, Takes}
 use Rattle.dcx_top.specs.declared.solving.Task.{Task}
 use Rattle.dcx_top.specs.declared.solving.Task.TheVariants as tasks
-use Rattle.dcx_top.specs.Runs.{GivesProblem, IsSolvedRun, OrWhole, SolvesAt, TriesAt, CertifiesAt, FiltersAt, DoesAt, DoesFrom, task_number, command_for, GivesSettings, GivesSections, EndsFiles, at_script, at_whole, at_settings, at_certificate, at_memory, HasCertificate, ReadsSections, HasPassed, misread, failed, long_script, bad_script, for_whole, bad_settings, long_certificate, no_script, no_settings, no_certificate, Causes}
+use Rattle.dcx_top.specs.Runs.{GivesProblem, IsSolvedRun, IsBranchedRun, OrWhole, SolvesAt, BranchesAt, AnswersAt, TriesAt, CertifiesAt, FiltersAt, DoesAt, DoesFrom, task_refuses, command_for, GivesSettings, GivesSections, EndsFiles, at_script, at_whole, at_settings, at_certificate, at_memory, HasCertificate, ReadsSections, HasPassed, misread, failed, long_script, bad_script, for_whole, bad_settings, long_certificate, no_script, no_settings, no_certificate, Causes}
 
 pub judged_of : (bytes : List ℕ) (a : Accepted) → Gives bytes (Ok a) → IsJudged a.work.problem a.verdict
 judged_of bytes a g = (acceptance bytes a g).judged
@@ -56,6 +59,7 @@ module _ (words : List (List ℕ)) (told : Option Files) (risen : Type 0) (comma
   script_ends name n run.Usage is of h = absurd h
   script_ends name n (run.Checked c) is of h = absurd h
   script_ends name n (run.Solved word sense outcomes warm) is of h = absurd h
+  script_ends name n (run.Branched word sense outcomes) is of h = absurd h
   script_ends name n (run.Certificates text stopped) is of h = absurd h
   script_ends name n (run.Certified sections) is of h = absurd h
   script_ends name n (run.CertRefused section fault) is of h = absurd h
@@ -69,23 +73,24 @@ module _ (words : List (List ℕ)) (told : Option Files) (risen : Type 0) (comma
 
   module _ (a : Accepted) (gives : GivesProblem told command a) where
     -- ---- a variable that is to be whole ends it
-    pub whole_ends : (old new : ℕ) (r : Run) → IsSolving command → (t : Refusal) × IsRefusedForWhole (whole_number command) a.work.problem.tree t × (r ≡ run.Refused t) × (new ≡ old) → Causes words told risen old new r
+    pub whole_ends : (old new : ℕ) (r : Run) → RefusesWhole command → (t : Refusal) × IsRefusedForWhole a.work.problem.tree t × (r ≡ run.Refused t) × (new ≡ old) → Causes words told risen old new r
     whole_ends old new r solving (t, h, e, same) =
         subst (Causes words told risen old new) (sym e) (for_whole command a form gives solving h, same)
 
     -- ---- the settings file ends it
-    pub settings_end : (continuous : HasNoWhole a.work.problem.tree) (name : List ℕ) (n : ℕ) (r : Run) → settings_name command ≡ Some name → EndsAt told risen Settings name RefusesSettings r → Causes words told risen n n r
-    settings_end continuous name n run.ReadFault is h = (no_settings command a name form gives continuous is h, refl)
-    settings_end continuous name n (run.Refused r) is h = (bad_settings command a name form gives continuous is h, refl)
-    settings_end continuous name n run.Memory is h = tt
-    settings_end continuous name n run.Usage is h = absurd h
-    settings_end continuous name n (run.Checked c) is h = absurd h
-    settings_end continuous name n (run.Solved word sense outcomes warm) is h = absurd h
-    settings_end continuous name n (run.Certificates text stopped) is h = absurd h
-    settings_end continuous name n (run.Certified sections) is h = absurd h
-    settings_end continuous name n (run.CertRefused section fault) is h = absurd h
-    settings_end continuous name n (run.Trial size outcomes) is h = absurd h
-    settings_end continuous name n (run.Filtered outcomes) is h = absurd h
+    pub settings_end : (taken : Takes command a.work.problem.tree) (name : List ℕ) (n : ℕ) (r : Run) → settings_name command ≡ Some name → EndsAt told risen Settings name RefusesSettings r → Causes words told risen n n r
+    settings_end taken name n run.ReadFault is h = (no_settings command a name form gives taken is h, refl)
+    settings_end taken name n (run.Refused r) is h = (bad_settings command a name form gives taken is h, refl)
+    settings_end taken name n run.Memory is h = tt
+    settings_end taken name n run.Usage is h = absurd h
+    settings_end taken name n (run.Checked c) is h = absurd h
+    settings_end taken name n (run.Solved word sense outcomes warm) is h = absurd h
+    settings_end taken name n (run.Branched word sense outcomes) is h = absurd h
+    settings_end taken name n (run.Certificates text stopped) is h = absurd h
+    settings_end taken name n (run.Certified sections) is h = absurd h
+    settings_end taken name n (run.CertRefused section fault) is h = absurd h
+    settings_end taken name n (run.Trial size outcomes) is h = absurd h
+    settings_end taken name n (run.Filtered outcomes) is h = absurd h
 
     -- ---- the problem is solved
     module _ (settings : List Pairs) (asked : AreSettingsOf told command a.work settings) (tells : List Outcome → Option ℕ → Run)
@@ -112,9 +117,32 @@ module _ (words : List (List ℕ)) (told : Option Files) (risen : Type 0) (comma
       solved_so old new r caused (inl e) = subst (Causes words told risen old new) (sym e) tt
       solved_so old new r caused (inr (outcomes, count, are, steps, e)) = subst (Causes words told risen old new) (sym e) (caused outcomes count (solved_run old new outcomes count are steps))
 
+    -- ---- it is solved by branch and bound
+    module _ (settings : List Pairs) (asked : AreSettingsOf told command a.work settings) (tells : List WholeOutcome → Run) (marked : HasWhole a.work.problem.tree)
+        (told_so : (outcomes : List WholeOutcome) → TellsWholes command a.work.problem.sense outcomes (tells outcomes)) where
+      abbrev branched_run : (old new : ℕ) (outcomes : List WholeOutcome) → AreWholeOutcomes a.work.problem (limit_of command) settings outcomes → Counts a.work.problem (length settings) old new → IsBranchedRun words told old new (tells outcomes)
+      branched_run old new outcomes are steps = record {
+        command = command;
+        form = form;
+        accepted = a;
+        problem = gives;
+        marked = marked;
+        settings = settings;
+        asked = asked;
+        outcomes = outcomes;
+        are = are;
+        tells = told_so outcomes;
+        steps = steps;
+      }
+
+      pub branched_so : (old new : ℕ) (r : Run) → ((outcomes : List WholeOutcome) → IsBranchedRun words told old new (tells outcomes) → Causes words told risen old new (tells outcomes)) →
+          BranchesAt a.work.problem (limit_of command) settings tells old new r → Causes words told risen old new r
+      branched_so old new r caused (inl e) = subst (Causes words told risen old new) (sym e) tt
+      branched_so old new r caused (inr (outcomes, are, steps, e)) = subst (Causes words told risen old new) (sym e) (caused outcomes (branched_run old new outcomes are steps))
+
 -- ---- a certificate that is read
 module _ (words : List (List ℕ)) (told : Option Files) (risen : Type 0) (command : Command) (form : command_of words ≡ Some command) (script name file : List ℕ)
-    (scripted : script_name command ≡ Some script) (set : settings_name command ≡ Some name) (named : certificate_name command ≡ Some file) (solving : IsSolving command)
+    (scripted : script_name command ≡ Some script) (set : settings_name command ≡ Some name) (named : certificate_name command ≡ Some file) (refuses : RefusesWhole command)
     (of : (bytes : List ℕ) → IsTold told script bytes → IsScriptOf told command bytes) (asks : (work : Work) (settings : List Pairs) → AreOfFile told name work.last settings → AreSettingsOf told command work settings) where
   abbrev has_certificate : (a : Accepted) (settings : List Pairs) → GivesSettings told script name a settings → HasCertificate words told command
   has_certificate a settings h = record {
@@ -137,18 +165,19 @@ module _ (words : List (List ℕ)) (told : Option Files) (risen : Type 0) (comma
   certificate_ends a settings n run.Usage g h = absurd h
   certificate_ends a settings n (run.Checked c) g h = absurd h
   certificate_ends a settings n (run.Solved word sense outcomes warm) g h = absurd h
+  certificate_ends a settings n (run.Branched word sense outcomes) g h = absurd h
   certificate_ends a settings n (run.Certificates text stopped) g h = absurd h
   certificate_ends a settings n (run.Certified sections) g h = absurd h
   certificate_ends a settings n (run.Trial size outcomes) g h = absurd h
   certificate_ends a settings n (run.Filtered outcomes) g h = absurd h
 
   -- one of the files ends the run
-  pub files_end : whole_number command ≡ 34 → (n : ℕ) (r : Run) → EndsFiles told risen script name file r → Causes words told risen n n r
-  files_end number n r (at_script h) = script_ends words told risen command form script n r scripted of h
-  files_end number n r (at_whole a bytes t there gives h e) = whole_ends words told risen command form a (record { bytes = bytes; are_of = of bytes there; gives = gives }) n n r solving (t, subst (λ k. IsRefusedForWhole k a.work.problem.tree t) (sym number) h, e, refl)
-  files_end number n r (at_settings a bytes there gives free h) = settings_end words told risen command form a (record { bytes = bytes; are_of = of bytes there; gives = gives }) free name n r set h
-  files_end number n r (at_certificate a settings g h) = certificate_ends a settings n r g h
-  files_end number n r (at_memory e) = subst (Causes words told risen n n) (sym e) tt
+  pub files_end : (n : ℕ) (r : Run) → EndsFiles told risen script name file r → Causes words told risen n n r
+  files_end n r (at_script h) = script_ends words told risen command form script n r scripted of h
+  files_end n r (at_whole a bytes t there gives h e) = whole_ends words told risen command form a (record { bytes = bytes; are_of = of bytes there; gives = gives }) n n r refuses (t, h, e, refl)
+  files_end n r (at_settings a bytes there gives free h) = settings_end words told risen command form a (record { bytes = bytes; are_of = of bytes there; gives = gives }) (λ refusing. free) name n r set h
+  files_end n r (at_certificate a settings g h) = certificate_ends a settings n r g h
+  files_end n r (at_memory e) = subst (Causes words told risen n n) (sym e) tt
 
   -- the sections are read
   abbrev pub reads_sections : (p : Problem) (settings : List Pairs) (sections : Sections) (g : GivesSections told script name file p settings sections) → ReadsSections words told command sections
@@ -195,8 +224,8 @@ certificate_at p limit settings c stopped old new r is flag mapped anew h = told
 
 -- ---- what is asked is done
 -- at the settings that the slice holds
-pub task_resolved : (work : Work) (limit : ℕ) (settings slice : List Pairs) (task : Task) (warm : Bool) (old new : ℕ) (r : Run) → task ≡ tasks.Resolve warm → slice ≡ settings →
-    SolvesAt warm work.problem limit slice (λ os count. run.Solved word.Setting work.problem.sense os count) old new r → DoesAt task work limit settings old new r
+pub task_resolved : (work : Work) (limit : ℕ) (settings slice : List Pairs) (task : Task) (warm : Bool) (old new : ℕ) (r : Run) → task ≡ tasks.Resolve warm → slice ≡ settings → DoesAt (tasks.Resolve warm) work limit slice old new r →
+    DoesAt task work limit settings old new r
 task_resolved work limit settings slice task warm old new r is same h =
     subst (λ (t : Task). DoesAt t work limit settings old new r) (sym is) (subst (λ (s : List Pairs). DoesAt (tasks.Resolve warm) work limit s old new r) same h)
 
@@ -225,44 +254,49 @@ task_settings (tasks.Resolve warm) script name limit = refl
 task_settings tasks.Certificate script name limit = refl
 task_settings tasks.Filter script name limit = refl
 
--- a script that has a variable that is to be whole is refused with the number of the command
-task_numbered : (task : Task) (script name : List ℕ) (limit : ℕ) → task_number task ≡ whole_number (command_for task script name limit)
-task_numbered (tasks.Resolve false) script name limit = refl
-task_numbered (tasks.Resolve true) script name limit = refl
-task_numbered tasks.Certificate script name limit = refl
-task_numbered tasks.Filter script name limit = refl
+-- a task refuses a problem with a variable that is to be whole where its command does
+task_refused : (task : Task) (script name : List ℕ) (limit : ℕ) → IsTrue (task_refuses task) → RefusesWhole (command_for task script name limit)
+task_refused (tasks.Resolve false) script name limit t = let f : false ≡ true = t in absurd (cc)
+task_refused (tasks.Resolve true) script name limit t = tt
+task_refused tasks.Certificate script name limit t = tt
+task_refused tasks.Filter script name limit t = tt
 
-pub task_refuses : (task : Task) → IsTrue (is_refusal (task_number task) Nothing)
-task_refuses (tasks.Resolve false) = refl
-task_refuses (tasks.Resolve true) = refl
-task_refuses tasks.Certificate = refl
-task_refuses tasks.Filter = refl
-
-task_solves : (task : Task) (script name : List ℕ) (limit : ℕ) → IsSolving (command_for task script name limit)
-task_solves (tasks.Resolve warm) script name limit = tt
-task_solves tasks.Certificate script name limit = tt
-task_solves tasks.Filter script name limit = tt
+task_takes : (task : Task) (script name : List ℕ) (limit : ℕ) (p : Problem) → (IsTrue (task_refuses task) → HasNoWhole p.tree) → Takes (command_for task script name limit) p.tree
+task_takes (tasks.Resolve false) script name limit p h t = absurd t
+task_takes (tasks.Resolve true) script name limit p h t = h refl
+task_takes tasks.Certificate script name limit p h t = h refl
+task_takes tasks.Filter script name limit p h t = h refl
 
 module _ (words : List (List ℕ)) (told : Option Files) (risen : Type 0) where
   pub checked : (script bytes : List ℕ) (a : Accepted) (c : Checked) (n : ℕ) → command_of words ≡ Some (check script) → IsTold told script bytes → Gives bytes (Ok a) → IsFoundOf a.work.problem c → Causes words told risen n n (run.Checked c)
   checked script bytes a c n form there gives found =
       (record { script = script; form = form; accepted = a; problem = record { bytes = bytes; are_of = there; gives = gives }; found = found }, refl)
 
+  -- a problem is solved, by branch and bound where a variable is to be whole
+  answered : (command : Command) (said : Word) (a : Accepted) (gives : GivesProblem told command a) (settings : List Pairs) (old new : ℕ) (r : Run) → command_of words ≡ Some command → is_warm_command command ≡ false →
+      AreSettingsOf told command a.work settings → ((os : List Outcome) (count : Option ℕ) → TellsOutcomes command a.work.problem.sense os count (run.Solved said a.work.problem.sense os count)) →
+      ((os : List WholeOutcome) → TellsWholes command a.work.problem.sense os (run.Branched said a.work.problem.sense os)) → AnswersAt said a.work.problem (limit_of command) settings old new r → Causes words told risen old new r
+  answered command said a gives settings old new r form cold asked solves branches (inl (continuous, h)) =
+      solved_so words told risen command form a gives settings asked (λ os count. run.Solved said a.work.problem.sense os count) continuous solves old new r (λ os count k. k)
+      (subst (λ warm. SolvesAt warm a.work.problem (limit_of command) settings (λ os count. run.Solved said a.work.problem.sense os count) old new r) (sym cold) h)
+  answered command said a gives settings old new r form cold asked solves branches (inr (marked, h)) =
+      branched_so words told risen command form a gives settings asked (λ os. run.Branched said a.work.problem.sense os) marked branches old new r (λ os k. k) h
+
   pub solved : (script bytes : List ℕ) (limit : ℕ) (a : Accepted) (old new : ℕ) (r : Run) → command_of words ≡ Some (solve script limit) → IsTold told script bytes → Gives bytes (Ok a) →
-      OrWhole 12 a.work.problem (SolvesAt false a.work.problem limit a.work.events (λ os count. run.Solved word.Solve a.work.problem.sense os count) old new) old new r → Causes words told risen old new r
-  solved script bytes limit a old new r form there gives (inl (continuous, h)) =
-      solved_so words told risen (solve script limit) form a (record { bytes = bytes; are_of = there; gives = gives }) a.work.events refl (λ os count. run.Solved word.Solve a.work.problem.sense os count) continuous (λ os count. refl)
-      old new r (λ os count k. k) h
-  solved script bytes limit a old new r form there gives (inr h) = whole_ends words told risen (solve script limit) form a (record { bytes = bytes; are_of = there; gives = gives }) old new r tt h
+      AnswersAt word.Solve a.work.problem limit a.work.events old new r → Causes words told risen old new r
+  solved script bytes limit a old new r form there gives h =
+      answered (solve script limit) word.Solve a (record { bytes = bytes; are_of = there; gives = gives }) a.work.events old new r form refl refl (λ os count. refl) (λ os. refl) h
 
   -- ---- what is asked at the settings of a file
   does_at : (task : Task) (script name bytes : List ℕ) (limit : ℕ) (a : Accepted) (settings : List Pairs) (old new : ℕ) (r : Run) → command_of words ≡ Some (command_for task script name limit) → IsTold told script bytes → Gives bytes (Ok a) →
-      HasNoWhole a.work.problem.tree → AreOfFile told name a.work.last settings → DoesAt task a.work limit settings old new r → Causes words told risen old new r
-  does_at (tasks.Resolve warm) script name bytes limit a settings old new r form there gives continuous are h =
-      solved_so words told risen (resolve script name limit warm) form a (record { bytes = bytes; are_of = there; gives = gives }) settings are (λ os count. run.Solved word.Setting a.work.problem.sense os count) continuous (λ os count. refl)
-      old new r (λ os count k. k) h
-  does_at tasks.Certificate script name bytes limit a settings old new r form there gives continuous are (inl e) = subst (Causes words told risen old new) (sym e) tt
-  does_at tasks.Certificate script name bytes limit a settings old new r form there gives continuous are (inr (c, stopped, is, flag, steps, e)) =
+      (IsTrue (task_refuses task) → HasNoWhole a.work.problem.tree) → AreOfFile told name a.work.last settings → DoesAt task a.work limit settings old new r → Causes words told risen old new r
+  does_at (tasks.Resolve false) script name bytes limit a settings old new r form there gives free are h =
+      answered (resolve script name limit false) word.Setting a (record { bytes = bytes; are_of = there; gives = gives }) settings old new r form refl are (λ os count. refl) (λ os. refl) h
+  does_at (tasks.Resolve true) script name bytes limit a settings old new r form there gives free are h =
+      solved_so words told risen (resolve script name limit true) form a (record { bytes = bytes; are_of = there; gives = gives }) settings are (λ os count. run.Solved word.Setting a.work.problem.sense os count) (free refl)
+      (λ os count. refl) old new r (λ os count k. k) h
+  does_at tasks.Certificate script name bytes limit a settings old new r form there gives free are (inl e) = subst (Causes words told risen old new) (sym e) tt
+  does_at tasks.Certificate script name bytes limit a settings old new r form there gives free are (inr (c, stopped, is, flag, steps, e)) =
       subst (Causes words told risen old new) (sym e) (inl (record {
         script = script;
         name = name;
@@ -270,7 +304,7 @@ module _ (words : List (List ℕ)) (told : Option Files) (risen : Type 0) where
         form = form;
         accepted = a;
         problem = record { bytes = bytes; are_of = there; gives = gives };
-        continuous = continuous;
+        continuous = free refl;
         settings = settings;
         asked = are;
         sections = c;
@@ -279,8 +313,8 @@ module _ (words : List (List ℕ)) (told : Option Files) (risen : Type 0) where
         text = refl;
         steps = steps;
       }))
-  does_at tasks.Filter script name bytes limit a settings old new r form there gives continuous are (inl e) = subst (Causes words told risen old new) (sym e) tt
-  does_at tasks.Filter script name bytes limit a settings old new r form there gives continuous are (inr (outcomes, is, steps, e)) =
+  does_at tasks.Filter script name bytes limit a settings old new r form there gives free are (inl e) = subst (Causes words told risen old new) (sym e) tt
+  does_at tasks.Filter script name bytes limit a settings old new r form there gives free are (inr (outcomes, is, steps, e)) =
       subst (Causes words told risen old new) (sym e) (record {
         script = script;
         name = name;
@@ -288,7 +322,7 @@ module _ (words : List (List ℕ)) (told : Option Files) (risen : Type 0) where
         form = form;
         accepted = a;
         problem = record { bytes = bytes; are_of = there; gives = gives };
-        continuous = continuous;
+        continuous = free refl;
         settings = settings;
         asked = are;
         are = is;
@@ -296,20 +330,18 @@ module _ (words : List (List ℕ)) (told : Option Files) (risen : Type 0) where
       })
 
   pub done : (task : Task) (script name bytes : List ℕ) (limit : ℕ) (a : Accepted) (old new : ℕ) (r : Run) → command_of words ≡ Some (command_for task script name limit) → IsTold told script bytes → Gives bytes (Ok a) →
-      OrWhole (task_number task) a.work.problem (DoesFrom told risen task a.work name limit old new) old new r → Causes words told risen old new r
+      OrWhole (IsTrue (task_refuses task)) a.work.problem (DoesFrom told risen task a.work name limit old new) old new r → Causes words told risen old new r
   done task script name bytes limit a old new r form there gives h = by h
     where
       problem : GivesProblem told (command_for task script name limit) a
       problem = record { bytes = bytes; are_of = task_script task script name limit told bytes there; gives = gives }
 
-      by : OrWhole (task_number task) a.work.problem (DoesFrom told risen task a.work name limit old new) old new r → Causes words told risen old new r
-      by (inl (continuous, inl (settings, are, k))) = does_at task script name bytes limit a settings old new r form there gives continuous are k
-      by (inl (continuous, inr (k, same))) =
+      by : OrWhole (IsTrue (task_refuses task)) a.work.problem (DoesFrom told risen task a.work name limit old new) old new r → Causes words told risen old new r
+      by (inl (free, inl (settings, are, k))) = does_at task script name bytes limit a settings old new r form there gives free are k
+      by (inl (free, inr (k, same))) =
           subst (λ n. Causes words told risen old n r) (sym same)
-          (settings_end words told risen (command_for task script name limit) form a problem continuous name old r (task_settings task script name limit) k)
-      by (inr (t, k, e, same)) =
-          whole_ends words told risen (command_for task script name limit) form a problem old new r (task_solves task script name limit)
-          (t, subst (λ n. IsRefusedForWhole n a.work.problem.tree t) (task_numbered task script name limit) k, e, same)
+          (settings_end words told risen (command_for task script name limit) form a problem (task_takes task script name limit a.work.problem free) name old r (task_settings task script name limit) k)
+      by (inr (refuses, k)) = whole_ends words told risen (command_for task script name limit) form a problem old new r (task_refused task script name limit refuses) k
 
   pub certified : (script name file : List ℕ) (p : Problem) (settings : List Pairs) (sections : Sections) (list : List Section) (n certs : ℕ) → command_of words ≡ Some (certify script name file) →
       GivesSections told script name file p settings sections → list ≡ sections.list → ArePassed p settings list → certs ≡ count_by is_cert list → Causes words told risen n n (run.Certified certs)
@@ -346,12 +378,12 @@ module _ (words : List (List ℕ)) (told : Option Files) (risen : Type 0) where
       ))
 
   pub tried : (size limit : ℕ) (a : Accepted) (old new : ℕ) (r : Run) → command_of words ≡ Some (trial size limit) → Gives (trial_text size) (Ok a) →
-      OrWhole 12 a.work.problem (TriesAt a.work size limit old new) old new r → Causes words told risen old new r
-  tried size limit a old new r form gives (inl (continuous, inl e)) = subst (Causes words told risen old new) (sym e) tt
-  tried size limit a old new r form gives (inl (continuous, inr (settings, are, h))) =
-      solved_so words told risen (trial size limit) form a (record { bytes = trial_text size; are_of = refl; gives = gives }) settings are (λ os count. run.Trial size os) continuous (λ os count. refl)
+      OrWhole ⊤ a.work.problem (TriesAt a.work size limit old new) old new r → Causes words told risen old new r
+  tried size limit a old new r form gives (inl (free, inl e)) = subst (Causes words told risen old new) (sym e) tt
+  tried size limit a old new r form gives (inl (free, inr (settings, are, h))) =
+      solved_so words told risen (trial size limit) form a (record { bytes = trial_text size; are_of = refl; gives = gives }) settings are (λ os count. run.Trial size os) (free tt) (λ os count. refl)
       old new r (λ os count k. k) h
-  tried size limit a old new r form gives (inr h) = whole_ends words told risen (trial size limit) form a (record { bytes = trial_text size; are_of = refl; gives = gives }) old new r tt h
+  tried size limit a old new r form gives (inr (refuses, h)) = whole_ends words told risen (trial size limit) form a (record { bytes = trial_text size; are_of = refl; gives = gives }) old new r tt h
 
 -- ---- words
 -- a run with a cause tells the usage line exactly where the words are no plain form

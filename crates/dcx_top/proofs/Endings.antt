@@ -29,6 +29,7 @@ ends_before told risen source name Refuses run.Memory h = tt
 ends_before told risen source name Refuses run.Usage h = absurd h
 ends_before told risen source name Refuses (run.Checked c) h = absurd h
 ends_before told risen source name Refuses (run.Solved word sense outcomes warm) h = absurd h
+ends_before told risen source name Refuses (run.Branched word sense outcomes) h = absurd h
 ends_before told risen source name Refuses (run.Certificates text stopped) h = absurd h
 ends_before told risen source name Refuses (run.Certified n) h = absurd h
 ends_before told risen source name Refuses (run.CertRefused section fault) h = absurd h
@@ -78,27 +79,28 @@ ends_rising told risen rose source name Refuses run.Memory more h = tt
 ends_rising told risen rose source name Refuses run.Usage more h = absurd h
 ends_rising told risen rose source name Refuses (run.Checked c) more h = absurd h
 ends_rising told risen rose source name Refuses (run.Solved word sense outcomes warm) more h = absurd h
+ends_rising told risen rose source name Refuses (run.Branched word sense outcomes) more h = absurd h
 ends_rising told risen rose source name Refuses (run.Certificates text stopped) more h = absurd h
 ends_rising told risen rose source name Refuses (run.Certified n) more h = absurd h
 ends_rising told risen rose source name Refuses (run.CertRefused section fault) more h = absurd h
 ends_rising told risen rose source name Refuses (run.Trial size outcomes) more h = absurd h
 ends_rising told risen rose source name Refuses (run.Filtered outcomes) more h = absurd h
 
-module _ (number : ℕ) (work : Work) (name : List ℕ) (At : List Pairs → ℕ → ℕ → Run → Type 0) (old new : ℕ) (r : Run) where
-  pub from_file_rising : (told : Option Files) (risen rose : Type 0) → (risen → rose) → OrWhole number work.problem (FromFile told risen work name At old new) old new r → OrWhole number work.problem (FromFile told rose work name At old new) old new r
+module _ (Refuses : Type 0) (work : Work) (name : List ℕ) (At : List Pairs → ℕ → ℕ → Run → Type 0) (old new : ℕ) (r : Run) where
+  pub from_file_rising : (told : Option Files) (risen rose : Type 0) → (risen → rose) → OrWhole Refuses work.problem (FromFile told risen work name At old new) old new r → OrWhole Refuses work.problem (FromFile told rose work name At old new) old new r
   from_file_rising told risen rose more (inl (continuous, inl h)) = inl (continuous, inl h)
   from_file_rising told risen rose more (inl (continuous, inr (h, same))) = inl (continuous, inr (ends_rising told risen rose Settings name RefusesSettings r more h, same))
   from_file_rising told risen rose more (inr h) = inr h
 
   -- the files that are told are the same after a part
-  pub from_file_moved : (was told : Option Files) (risen rose : Type 0) → was ≡ told → (risen → rose) → OrWhole number work.problem (FromFile was risen work name At old new) old new r → OrWhole number work.problem (FromFile told rose work name At old new) old new r
+  pub from_file_moved : (was told : Option Files) (risen rose : Type 0) → was ≡ told → (risen → rose) → OrWhole Refuses work.problem (FromFile was risen work name At old new) old new r → OrWhole Refuses work.problem (FromFile told rose work name At old new) old new r
   from_file_moved was told risen rose same more h =
-      from_file_rising told risen rose more (subst (λ t. OrWhole number work.problem (FromFile t risen work name At old new) old new r) same h)
+      from_file_rising told risen rose more (subst (λ t. OrWhole Refuses work.problem (FromFile t risen work name At old new) old new r) same h)
 
   -- ---- settings that are read
   -- something is done with an accepted problem at the lines of a settings file
-  pub lines_done : (told : Option Files) (risen : Type 0) (bytes : List ℕ) (lines : List (List SettingItem)) → HasNoWhole work.problem.tree → IsTold told name bytes → SpellSettings bytes lines →
-      ((r ≡ run.Memory) × (new ≡ old)) ⊎ ((settings : List Pairs) × AreLaidOver work.last lines settings × At settings old new r) → OrWhole number work.problem (FromFile told risen work name At old new) old new r
+  pub lines_done : (told : Option Files) (risen : Type 0) (bytes : List ℕ) (lines : List (List SettingItem)) → (Refuses → HasNoWhole work.problem.tree) → IsTold told name bytes → SpellSettings bytes lines →
+      ((r ≡ run.Memory) × (new ≡ old)) ⊎ ((settings : List Pairs) × AreLaidOver work.last lines settings × At settings old new r) → OrWhole Refuses work.problem (FromFile told risen work name At old new) old new r
   lines_done told risen bytes lines continuous there spelled (inl (e, same)) = inl (continuous, inr (subst (EndsAt told risen Settings name RefusesSettings) (sym e) tt, same))
   lines_done told risen bytes lines continuous there spelled (inr (settings, laid, h)) =
       inl (continuous, inl (settings, record { bytes = bytes; are_told = there; lines = lines; spelled = spelled; laid = laid }, h))

@@ -1,5 +1,5 @@
 -- Runs of different kinds are of different commands.
-use Rattle.std.proofs.Common.{◌≡◌, ℕ, Bool, List, Option, Some, refl, sym, ap, ◌∙◌}
+use Rattle.std.proofs.Common.{◌≡◌, ℕ, Bool, true, false, List, Option, Some, refl, sym, ap, ◌∙◌}
 use Rattle.std.proofs.lemmas.Option.{none-some}
 use Rattle.dcx_tree.specs.declared.constraint.Sense.{Sense}
 use Rattle.dcx_host.specs.Files.{Files}
@@ -7,10 +7,11 @@ use Rattle.dcx_front.specs.declared.checked.Checked.{Checked}
 use Rattle.dcx_sections.specs.declared.fault.CertFault.{CertFault}
 use Rattle.dcx_report.specs.declared.outcome.Outcome.{Outcome}
 use Rattle.dcx_report.specs.declared.filter_outcome.FilterOutcome.{FilterOutcome}
+use Rattle.dcx_report.specs.declared.whole_outcome.WholeOutcome.{WholeOutcome}
 use Rattle.dcx_report.specs.declared.run.Run.{Run}
 use Rattle.dcx_words.specs.Commands.{Command, check, solve, resolve, certificate, certify, migrate, trial, iis, command_of}
-use Rattle.dcx_top.specs.Commands.{certificate_name, TellsOutcomes}
-use Rattle.dcx_top.specs.Runs.{IsChecked, IsSolvedRun, IsFilteredRun, IsCertificateRun, IsMigrateRun, IsCertifiedRun, IsCertRefusedRun, misread, failed}
+use Rattle.dcx_top.specs.Commands.{certificate_name, TellsOutcomes, TellsWholes}
+use Rattle.dcx_top.specs.Runs.{IsChecked, IsSolvedRun, IsBranchedRun, IsFilteredRun, IsCertificateRun, IsMigrateRun, IsCertifiedRun, IsCertRefusedRun, misread, failed}
 use Rattle.dcx_top.proofs.Refusals.{same_command}
 
 -- what a command does with its problem
@@ -46,6 +47,17 @@ kind_told (certify script name cert) sense os count r h = absurd h
 kind_told (migrate script name cert) sense os count r h = absurd h
 kind_told (trial size limit) sense os count r h = refl
 kind_told (iis script name limit) sense os count r h = absurd h
+
+kind_branched : (c : Command) (sense : Sense) (os : List WholeOutcome) (r : Run) → TellsWholes c sense os r → kind_of c ≡ solves
+kind_branched (check script) sense os r h = absurd h
+kind_branched (solve script limit) sense os r h = refl
+kind_branched (resolve script name limit false) sense os r h = refl
+kind_branched (resolve script name limit true) sense os r h = absurd h
+kind_branched (certificate script name limit) sense os r h = absurd h
+kind_branched (certify script name cert) sense os r h = absurd h
+kind_branched (migrate script name cert) sense os r h = absurd h
+kind_branched (trial size limit) sense os r h = absurd h
+kind_branched (iis script name limit) sense os r h = absurd h
 
 kind_read : (c : Command) (name : List ℕ) → certificate_name c ≡ Some name → Reads (kind_of c)
 kind_read (check script) name h = absurd (none-some name h)
@@ -131,6 +143,9 @@ module _ (words : List (List ℕ)) (files : Files) where
 
   pub ask_solves : (old new : ℕ) (r : Run) → IsSolvedRun words (Some files) old new r → Asks words solves
   ask_solves old new r h = record { command = h.command; form = h.form; kind = kind_told h.command h.accepted.work.problem.sense h.outcomes h.warm r h.tells }
+
+  pub ask_branches : (old new : ℕ) (r : Run) → IsBranchedRun words (Some files) old new r → Asks words solves
+  ask_branches old new r h = record { command = h.command; form = h.form; kind = kind_branched h.command h.accepted.work.problem.sense h.outcomes r h.tells }
 
   pub ask_filters : (old new : ℕ) (os : List FilterOutcome) → IsFilteredRun words (Some files) old new os → Asks words filters
   ask_filters old new os h = record { command = iis h.script h.name h.limit; form = h.form; kind = refl }

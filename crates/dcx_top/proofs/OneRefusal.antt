@@ -1,5 +1,5 @@
 -- A run that refuses a file is one, and no run that goes on.
-use Rattle.std.proofs.Common.{◌≡◌, ℕ, ◌≤◌, Bool, List, length, Option, Some, None, refl, sym, ap, subst, ◌∙◌}
+use Rattle.std.proofs.Common.{◌≡◌, ℕ, ◌≤◌, Bool, true, false, List, length, Option, Some, None, refl, sym, ap, subst, ◌∙◌}
 use Rattle.std.proofs.lemmas.Option.{none-some, same_Some}
 use Rattle.dcx_tree.specs.declared.constraint.Sense.{Sense}
 use Rattle.dcx_host.specs.Files.{Files}
@@ -10,11 +10,13 @@ use Rattle.dcx_sections.specs.declared.fault.CertFault.{CertFault}
 use Rattle.dcx_sections.specs.declared.section.Sections.{Sections}
 use Rattle.dcx_report.specs.declared.outcome.Outcome.{Outcome}
 use Rattle.dcx_report.specs.declared.filter_outcome.FilterOutcome.{FilterOutcome}
+use Rattle.dcx_report.specs.declared.whole_outcome.WholeOutcome.{WholeOutcome}
 use Rattle.dcx_report.specs.declared.run.Run.{Run}
 use Rattle.dcx_words.specs.Commands.{Command, check, solve, resolve, certificate, certify, migrate, trial, iis, command_of}
-use Rattle.dcx_top.specs.Commands.{certificate_name, TellsOutcomes}
+use Rattle.dcx_top.specs.Commands.{certificate_name, TellsOutcomes, TellsWholes}
 use Rattle.dcx_top.specs.Files.{most_bytes}
-use Rattle.dcx_top.specs.Runs.{IsChecked, IsSolvedRun, IsFilteredRun, IsCertificateRun, HasCertificate, ReadsSections, IsMigrateRun, IsCertifiedRun, IsCertRefusedRun, misread, failed, IsRefusedRun, long_script, bad_script, for_whole, bad_settings, long_certificate}
+use Rattle.dcx_top.specs.Runs.{IsChecked, IsSolvedRun, IsBranchedRun, IsFilteredRun, IsCertificateRun, HasCertificate, ReadsSections, IsMigrateRun, IsCertifiedRun, IsCertRefusedRun, misread, failed, IsRefusedRun, long_script, bad_script, for_whole, bad_settings, long_certificate}
+use Rattle.dcx_top.specs.Whole.{RefusesWhole}
 use Rattle.dcx_top.proofs.Refusals.{refuses, one_refused, IsShort, never_refused, never_refused_check}
 
 -- a command whose outcomes are told has no certificate
@@ -27,6 +29,29 @@ tells_none (certify script name cert) sense os count r h = absurd h
 tells_none (migrate script name cert) sense os count r h = absurd h
 tells_none (trial size limit) sense os count r h = refl
 tells_none (iis script name limit) sense os count r h = absurd h
+
+-- nor has one that solves by branch and bound, and it takes any problem
+pub wholes_none : (command : Command) (sense : Sense) (os : List WholeOutcome) (r : Run) → TellsWholes command sense os r → certificate_name command ≡ None
+wholes_none (check script) sense os r h = absurd h
+wholes_none (solve script limit) sense os r h = refl
+wholes_none (resolve script name limit false) sense os r h = refl
+wholes_none (resolve script name limit true) sense os r h = absurd h
+wholes_none (certificate script name limit) sense os r h = absurd h
+wholes_none (certify script name cert) sense os r h = absurd h
+wholes_none (migrate script name cert) sense os r h = absurd h
+wholes_none (trial size limit) sense os r h = absurd h
+wholes_none (iis script name limit) sense os r h = absurd h
+
+pub wholes_taken : (command : Command) (sense : Sense) (os : List WholeOutcome) (r : Run) → TellsWholes command sense os r → ¬ RefusesWhole command
+wholes_taken (check script) sense os r h t = h
+wholes_taken (solve script limit) sense os r h t = t
+wholes_taken (resolve script name limit false) sense os r h t = t
+wholes_taken (resolve script name limit true) sense os r h t = h
+wholes_taken (certificate script name limit) sense os r h t = h
+wholes_taken (certify script name cert) sense os r h t = h
+wholes_taken (migrate script name cert) sense os r h t = h
+wholes_taken (trial size limit) sense os r h t = h
+wholes_taken (iis script name limit) sense os r h t = h
 
 module _ (words : List (List ℕ)) (files : Files) where
   short_of_none : (command : Command) → certificate_name command ≡ None → IsShort files command
@@ -54,22 +79,28 @@ module _ (words : List (List ℕ)) (files : Files) where
 
   pub refused_or_solved : (r : Refusal) (old new : ℕ) (s : Run) → IsRefusedRun words (Some files) r → IsSolvedRun words (Some files) old new s → ⊥
   refused_or_solved r old new s h k =
-      never_refused files k.command k.accepted k.settings r k.problem k.continuous k.asked (short_of_none k.command (tells_none k.command k.accepted.work.problem.sense k.outcomes k.warm s k.tells)) (refuses words files k.command k.form r h)
+      never_refused files k.command k.accepted k.settings r k.problem (λ refusing. k.continuous) k.asked (short_of_none k.command (tells_none k.command k.accepted.work.problem.sense k.outcomes k.warm s k.tells)) (refuses words files k.command k.form r h)
+
+  pub refused_or_branched : (r : Refusal) (old new : ℕ) (s : Run) → IsRefusedRun words (Some files) r → IsBranchedRun words (Some files) old new s → ⊥
+  refused_or_branched r old new s h k =
+      let sense = k.accepted.work.problem.sense in
+      never_refused files k.command k.accepted k.settings r k.problem (λ refusing. absurd (wholes_taken k.command sense k.outcomes s k.tells refusing)) k.asked
+      (short_of_none k.command (wholes_none k.command sense k.outcomes s k.tells)) (refuses words files k.command k.form r h)
 
   pub refused_or_written : (r : Refusal) (old new : ℕ) (bytes : List ℕ) (stopped : Bool) → IsRefusedRun words (Some files) r → IsCertificateRun words (Some files) old new bytes stopped → ⊥
   refused_or_written r old new bytes stopped h k =
       let command = certificate k.script k.name k.limit in
-      never_refused files command k.accepted k.settings r k.problem k.continuous k.asked (short_of_none command refl) (refuses words files command k.form r h)
+      never_refused files command k.accepted k.settings r k.problem (λ refusing. k.continuous) k.asked (short_of_none command refl) (refuses words files command k.form r h)
 
   pub refused_or_filtered : (r : Refusal) (old new : ℕ) (os : List FilterOutcome) → IsRefusedRun words (Some files) r → IsFilteredRun words (Some files) old new os → ⊥
   refused_or_filtered r old new os h k =
       let command = iis k.script k.name k.limit in
-      never_refused files command k.accepted k.settings r k.problem k.continuous k.asked (short_of_none command refl) (refuses words files command k.form r h)
+      never_refused files command k.accepted k.settings r k.problem (λ refusing. k.continuous) k.asked (short_of_none command refl) (refuses words files command k.form r h)
 
   -- ---- runs that read a certificate
   refused_or_files : (r : Refusal) (command : Command) (f : HasCertificate words (Some files) command) (bytes : List ℕ) → files f.name ≡ Some bytes → length bytes ≤ most_bytes Certificate → IsRefusedRun words (Some files) r → ⊥
   refused_or_files r command f bytes there few h =
-      never_refused files command f.accepted f.settings r f.problem f.continuous f.asked (short_of command f.name bytes f.named there few) (refuses words files command f.form r h)
+      never_refused files command f.accepted f.settings r f.problem (λ refusing. f.continuous) f.asked (short_of command f.name bytes f.named there few) (refuses words files command f.form r h)
 
   refused_or_read : (r : Refusal) (command : Command) (sections : Sections) → IsRefusedRun words (Some files) r → ReadsSections words (Some files) command sections → ⊥
   refused_or_read r command sections h k = refused_or_files r command k.files k.has.bytes k.has.are_told k.has.few h

@@ -12,8 +12,8 @@ use Rattle.dcx_sections.specs.declared.fault.CertFault.{CertFault}
 use Rattle.dcx_report.specs.declared.filter_outcome.FilterOutcome.{FilterOutcome}
 use Rattle.dcx_report.specs.declared.run.Run.{Run}
 use Rattle.dcx_report.specs.declared.run.Run.TheVariants as run
-use Rattle.dcx_words.specs.Commands.{check, migrate, command_of}
-use Rattle.dcx_top.specs.Runs.{GivesProblem, IsChecked, IsSolvedRun, IsFilteredRun, AreBytesOf, IsCertifiedRun, IsCertRefusedRun, IsRefusedRun, Causes}
+use Rattle.dcx_words.specs.Commands.{Command, check, migrate, iis, command_of}
+use Rattle.dcx_top.specs.Runs.{GivesProblem, IsChecked, IsSolvedRun, IsBranchedRun, IsFilteredRun, AreBytesOf, IsCertifiedRun, IsCertRefusedRun, IsRefusedRun, Causes}
 use Rattle.dcx_top.specs.OneRun.{IsAnswered, AreOneRun, IsOnlyRun}
 use Rattle.dcx_top.proofs.OneFiltered.{filtered_once}
 use Rattle.dcx_top.proofs.Refusals.{one_problem, same_command}
@@ -45,6 +45,7 @@ use Rattle.dcx_top.proofs.OneKind.{
   not_reading,
   ask_checks,
   ask_solves,
+  ask_branches,
   ask_filters,
   ask_writes,
   ask_migrates,
@@ -52,7 +53,8 @@ use Rattle.dcx_top.proofs.OneKind.{
   ask_reading,
 }
 use Rattle.dcx_top.proofs.OneSolved.{solved_once}
-use Rattle.dcx_top.proofs.OneRefusal.{command_of_refused, refused_once, refused_or_checked, refused_or_solved, refused_or_filtered, refused_or_written, refused_or_migrated, refused_or_certified, refused_or_cert_refused}
+use Rattle.dcx_top.proofs.OneBranched.{solved_or_branched, branched_once}
+use Rattle.dcx_top.proofs.OneRefusal.{command_of_refused, refused_once, refused_or_checked, refused_or_solved, refused_or_branched, refused_or_filtered, refused_or_written, refused_or_migrated, refused_or_certified, refused_or_cert_refused}
 use Rattle.dcx_top.proofs.OneCertificate.{written_once, migrated_once, certified_once, cert_refused_once, certified_or_refused, migrated_or_refused}
 
 module _ (words : List (List ℕ)) (files : Files) where
@@ -106,8 +108,8 @@ module _ (words : List (List ℕ)) (files : Files) where
   bytes_or_cert_refused old new bytes stopped section f (inr (h, off, still)) k = migrated_or_refused words files bytes section f h k
 
   -- ---- checked or solved, beside runs of other kinds
-  checked_or_solved : (c : Checked) (old new : ℕ) (r : Run) → IsChecked words (Some files) c → IsSolvedRun words (Some files) old new r → ⊥
-  checked_or_solved c old new r h k = checks_solves (same_kind words files checks solves (ask_checks words files c h) (ask_solves words files old new r k))
+  checked_or_solved : (c : Checked) → IsChecked words (Some files) c → Asks words solves → ⊥
+  checked_or_solved c h asks = checks_solves (same_kind words files checks solves (ask_checks words files c h) asks)
 
   checked_or_bytes : (c : Checked) (old new : ℕ) (bytes : List ℕ) (stopped : Bool) → IsChecked words (Some files) c → AreBytesOf words (Some files) old new bytes stopped → ⊥
   checked_or_bytes c old new bytes stopped h k = bytes_or_other old new bytes stopped checks checks_writes checks_migrates k (ask_checks words files c h)
@@ -118,10 +120,7 @@ module _ (words : List (List ℕ)) (files : Files) where
   checked_or_cert_refused : (c : Checked) (section : ℕ) (f : CertFault) → IsChecked words (Some files) c → IsCertRefusedRun words (Some files) section f → ⊥
   checked_or_cert_refused c section f h k = not_reading words files checks checks_certifies checks_migrates (ask_checks words files c h) (ask_reading words files section f k)
 
-  module _ (was now : ℕ) (r : Run) (h : IsSolvedRun words (Some files) was now r) where
-    asks : Asks words solves
-    asks = ask_solves words files was now r h
-
+  module _ (asks : Asks words solves) where
     solved_or_bytes : (old new : ℕ) (bytes : List ℕ) (stopped : Bool) → AreBytesOf words (Some files) old new bytes stopped → ⊥
     solved_or_bytes old new bytes stopped k = bytes_or_other old new bytes stopped solves solves_writes solves_migrates k asks
 
@@ -139,8 +138,8 @@ module _ (words : List (List ℕ)) (files : Files) where
     filtered_or_checked : (c : Checked) → IsChecked words (Some files) c → ⊥
     filtered_or_checked c k = checks_filters (same_kind words files checks filters (ask_checks words files c k) filter_asks)
 
-    filtered_or_solved : (old new : ℕ) (r : Run) → IsSolvedRun words (Some files) old new r → ⊥
-    filtered_or_solved old new r k = solves_filters (same_kind words files solves filters (ask_solves words files old new r k) filter_asks)
+    filtered_or_solved : Asks words solves → ⊥
+    filtered_or_solved asks = solves_filters (same_kind words files solves filters asks filter_asks)
 
     filtered_or_bytes : (old new : ℕ) (bytes : List ℕ) (stopped : Bool) → AreBytesOf words (Some files) old new bytes stopped → ⊥
     filtered_or_bytes old new bytes stopped k = bytes_or_other old new bytes stopped filters filters_writes filters_migrates k filter_asks
@@ -158,6 +157,7 @@ module _ (words : List (List ℕ)) (files : Files) where
     of_usage (run.Refused t) h k j = absurd (none_refused t h k.0)
     of_usage (run.Checked d) h k j = absurd (not_asked checks h (ask_checks words files d k.0))
     of_usage (run.Solved w s os u) h k j = absurd (not_asked solves h (ask_solves words files was now (run.Solved w s os u) k))
+    of_usage (run.Branched w s os) h k j = absurd (not_asked solves h (ask_branches words files was now (run.Branched w s os) k))
     of_usage (run.Certificates b s) h k j = absurd (none_written was now b s h k)
     of_usage (run.Certified n) h k j = absurd (not_asked certifies h (ask_certifies words files n k.0))
     of_usage (run.CertRefused m f) h k j = absurd (none_cert_refused m f h k.0)
@@ -171,6 +171,7 @@ module _ (words : List (List ℕ)) (files : Files) where
     of_refused r (run.Refused t) h k j = ap run.Refused (refused_once words files r t h k.0)
     of_refused r (run.Checked d) h k j = absurd (refused_or_checked words files r d h k.0)
     of_refused r (run.Solved w s os u) h k j = absurd (refused_or_solved words files r was now (run.Solved w s os u) h k)
+    of_refused r (run.Branched w s os) h k j = absurd (refused_or_branched words files r was now (run.Branched w s os) h k)
     of_refused r (run.Certificates b s) h k j = absurd (bytes_or_refused was now b s r k h)
     of_refused r (run.Certified n) h k j = absurd (refused_or_certified words files r n h k.0)
     of_refused r (run.CertRefused m f) h k j = absurd (refused_or_cert_refused words files r m f h k.0)
@@ -183,11 +184,12 @@ module _ (words : List (List ℕ)) (files : Files) where
     of_checked c run.Usage h k j = absurd (not_asked checks k.0 (ask_checks words files c h))
     of_checked c (run.Refused t) h k j = absurd (refused_or_checked words files t c k.0 h)
     of_checked c (run.Checked d) h k j = ap run.Checked (checked_once c d h k.0)
-    of_checked c (run.Solved w s os u) h k j = absurd (checked_or_solved c was now (run.Solved w s os u) h k)
+    of_checked c (run.Solved w s os u) h k j = absurd (checked_or_solved c h (ask_solves words files was now (run.Solved w s os u) k))
+    of_checked c (run.Branched w s os) h k j = absurd (checked_or_solved c h (ask_branches words files was now (run.Branched w s os) k))
     of_checked c (run.Certificates b s) h k j = absurd (checked_or_bytes c was now b s h k)
     of_checked c (run.Certified n) h k j = absurd (checked_or_certified c n h k.0)
     of_checked c (run.CertRefused m f) h k j = absurd (checked_or_cert_refused c m f h k.0)
-    of_checked c (run.Trial n os) h k j = absurd (checked_or_solved c was now (run.Trial n os) h k)
+    of_checked c (run.Trial n os) h k j = absurd (checked_or_solved c h (ask_solves words files was now (run.Trial n os) k))
     of_checked c (run.Filtered os) h k j = absurd (filtered_or_checked was now os k c h)
     of_checked c run.ReadFault h k j = absurd j
     of_checked c run.Memory h k j = absurd j
@@ -195,25 +197,41 @@ module _ (words : List (List ℕ)) (files : Files) where
     of_solved : (old new : ℕ) (r s : Run) → IsSolvedRun words (Some files) old new r → Causes words (Some files) rose was now s → IsAnswered s → AreOneRun words files r s
     of_solved old new r run.Usage h k j = absurd (not_asked solves k.0 (ask_solves words files old new r h))
     of_solved old new r (run.Refused t) h k j = absurd (refused_or_solved words files t old new r k.0 h)
-    of_solved old new r (run.Checked d) h k j = absurd (checked_or_solved d old new r k.0 h)
+    of_solved old new r (run.Checked d) h k j = absurd (checked_or_solved d k.0 (ask_solves words files old new r h))
     of_solved old new r (run.Solved w s os u) h k j = solved_once words files old new was now r (run.Solved w s os u) h k
-    of_solved old new r (run.Certificates b s) h k j = absurd (solved_or_bytes old new r h was now b s k)
-    of_solved old new r (run.Certified n) h k j = absurd (solved_or_certified old new r h n k.0)
-    of_solved old new r (run.CertRefused m f) h k j = absurd (solved_or_cert_refused old new r h m f k.0)
+    of_solved old new r (run.Branched w s os) h k j = absurd (solved_or_branched words files old new was now r (run.Branched w s os) h k)
+    of_solved old new r (run.Certificates b s) h k j = absurd (solved_or_bytes (ask_solves words files old new r h) was now b s k)
+    of_solved old new r (run.Certified n) h k j = absurd (solved_or_certified (ask_solves words files old new r h) n k.0)
+    of_solved old new r (run.CertRefused m f) h k j = absurd (solved_or_cert_refused (ask_solves words files old new r h) m f k.0)
     of_solved old new r (run.Trial n os) h k j = solved_once words files old new was now r (run.Trial n os) h k
-    of_solved old new r (run.Filtered os) h k j = absurd (filtered_or_solved was now os k old new r h)
+    of_solved old new r (run.Filtered os) h k j = absurd (filtered_or_solved was now os k (ask_solves words files old new r h))
     of_solved old new r run.ReadFault h k j = absurd j
     of_solved old new r run.Memory h k j = absurd j
+
+    of_branched : (old new : ℕ) (r s : Run) → IsBranchedRun words (Some files) old new r → Causes words (Some files) rose was now s → IsAnswered s → AreOneRun words files r s
+    of_branched old new r run.Usage h k j = absurd (not_asked solves k.0 (ask_branches words files old new r h))
+    of_branched old new r (run.Refused t) h k j = absurd (refused_or_branched words files t old new r k.0 h)
+    of_branched old new r (run.Checked d) h k j = absurd (checked_or_solved d k.0 (ask_branches words files old new r h))
+    of_branched old new r (run.Solved w s os u) h k j = absurd (solved_or_branched words files was now old new (run.Solved w s os u) r k h)
+    of_branched old new r (run.Branched w s os) h k j = branched_once words files old new was now r (run.Branched w s os) h k
+    of_branched old new r (run.Certificates b s) h k j = absurd (solved_or_bytes (ask_branches words files old new r h) was now b s k)
+    of_branched old new r (run.Certified n) h k j = absurd (solved_or_certified (ask_branches words files old new r h) n k.0)
+    of_branched old new r (run.CertRefused m f) h k j = absurd (solved_or_cert_refused (ask_branches words files old new r h) m f k.0)
+    of_branched old new r (run.Trial n os) h k j = absurd (solved_or_branched words files was now old new (run.Trial n os) r k h)
+    of_branched old new r (run.Filtered os) h k j = absurd (filtered_or_solved was now os k (ask_branches words files old new r h))
+    of_branched old new r run.ReadFault h k j = absurd j
+    of_branched old new r run.Memory h k j = absurd j
 
     of_bytes : (old new : ℕ) (b : List ℕ) (s : Bool) (other : Run) → AreBytesOf words (Some files) old new b s → Causes words (Some files) rose was now other → IsAnswered other → AreOneRun words files (run.Certificates b s) other
     of_bytes old new b s run.Usage h k j = absurd (none_written old new b s k.0 h)
     of_bytes old new b s (run.Refused t) h k j = absurd (bytes_or_refused old new b s t h k.0)
     of_bytes old new b s (run.Checked d) h k j = absurd (checked_or_bytes d old new b s k.0 h)
-    of_bytes old new b s (run.Solved w z os u) h k j = absurd (solved_or_bytes was now (run.Solved w z os u) k old new b s h)
+    of_bytes old new b s (run.Solved w z os u) h k j = absurd (solved_or_bytes (ask_solves words files was now (run.Solved w z os u) k) old new b s h)
+    of_bytes old new b s (run.Branched w z os) h k j = absurd (solved_or_bytes (ask_branches words files was now (run.Branched w z os) k) old new b s h)
     of_bytes old new b s (run.Certificates c t) h k j = bytes_once old new was now b c s t h k
     of_bytes old new b s (run.Certified n) h k j = absurd (bytes_or_certified old new b s n h k.0)
     of_bytes old new b s (run.CertRefused m f) h k j = absurd (bytes_or_cert_refused old new b s m f h k.0)
-    of_bytes old new b s (run.Trial n os) h k j = absurd (solved_or_bytes was now (run.Trial n os) k old new b s h)
+    of_bytes old new b s (run.Trial n os) h k j = absurd (solved_or_bytes (ask_solves words files was now (run.Trial n os) k) old new b s h)
     of_bytes old new b s (run.Filtered os) h k j = absurd (filtered_or_bytes was now os k old new b s h)
     of_bytes old new b s run.ReadFault h k j = absurd j
     of_bytes old new b s run.Memory h k j = absurd j
@@ -222,11 +240,12 @@ module _ (words : List (List ℕ)) (files : Files) where
     of_certified n run.Usage h k j = absurd (not_asked certifies k.0 (ask_certifies words files n h))
     of_certified n (run.Refused t) h k j = absurd (refused_or_certified words files t n k.0 h)
     of_certified n (run.Checked d) h k j = absurd (checked_or_certified d n k.0 h)
-    of_certified n (run.Solved w s os u) h k j = absurd (solved_or_certified was now (run.Solved w s os u) k n h)
+    of_certified n (run.Solved w s os u) h k j = absurd (solved_or_certified (ask_solves words files was now (run.Solved w s os u) k) n h)
+    of_certified n (run.Branched w s os) h k j = absurd (solved_or_certified (ask_branches words files was now (run.Branched w s os) k) n h)
     of_certified n (run.Certificates b s) h k j = absurd (bytes_or_certified was now b s n k h)
     of_certified n (run.Certified m) h k j = ap run.Certified (certified_once words files n m h k.0)
     of_certified n (run.CertRefused m f) h k j = absurd (certified_or_refused words files n m f h k.0)
-    of_certified n (run.Trial m os) h k j = absurd (solved_or_certified was now (run.Trial m os) k n h)
+    of_certified n (run.Trial m os) h k j = absurd (solved_or_certified (ask_solves words files was now (run.Trial m os) k) n h)
     of_certified n (run.Filtered os) h k j = absurd (filtered_or_certified was now os k n h)
     of_certified n run.ReadFault h k j = absurd j
     of_certified n run.Memory h k j = absurd j
@@ -235,11 +254,12 @@ module _ (words : List (List ℕ)) (files : Files) where
     of_cert_refused m f run.Usage h k j = absurd (none_cert_refused m f k.0 h)
     of_cert_refused m f (run.Refused t) h k j = absurd (refused_or_cert_refused words files t m f k.0 h)
     of_cert_refused m f (run.Checked d) h k j = absurd (checked_or_cert_refused d m f k.0 h)
-    of_cert_refused m f (run.Solved w s os u) h k j = absurd (solved_or_cert_refused was now (run.Solved w s os u) k m f h)
+    of_cert_refused m f (run.Solved w s os u) h k j = absurd (solved_or_cert_refused (ask_solves words files was now (run.Solved w s os u) k) m f h)
+    of_cert_refused m f (run.Branched w s os) h k j = absurd (solved_or_cert_refused (ask_branches words files was now (run.Branched w s os) k) m f h)
     of_cert_refused m f (run.Certificates b s) h k j = absurd (bytes_or_cert_refused was now b s m f k h)
     of_cert_refused m f (run.Certified n) h k j = absurd (certified_or_refused words files n m f k.0 h)
     of_cert_refused m f (run.CertRefused n g) h k j = cert_refused_once words files m n f g h k.0
-    of_cert_refused m f (run.Trial n os) h k j = absurd (solved_or_cert_refused was now (run.Trial n os) k m f h)
+    of_cert_refused m f (run.Trial n os) h k j = absurd (solved_or_cert_refused (ask_solves words files was now (run.Trial n os) k) m f h)
     of_cert_refused m f (run.Filtered os) h k j = absurd (filtered_or_cert_refused was now os k m f h)
     of_cert_refused m f run.ReadFault h k j = absurd j
     of_cert_refused m f run.Memory h k j = absurd j
@@ -248,11 +268,12 @@ module _ (words : List (List ℕ)) (files : Files) where
     of_filtered old new os run.Usage h k j = absurd (not_asked filters k.0 (ask_filters words files old new os h))
     of_filtered old new os (run.Refused t) h k j = absurd (refused_or_filtered words files t old new os k.0 h)
     of_filtered old new os (run.Checked d) h k j = absurd (filtered_or_checked old new os h d k.0)
-    of_filtered old new os (run.Solved w z qs u) h k j = absurd (filtered_or_solved old new os h was now (run.Solved w z qs u) k)
+    of_filtered old new os (run.Solved w z qs u) h k j = absurd (filtered_or_solved old new os h (ask_solves words files was now (run.Solved w z qs u) k))
+    of_filtered old new os (run.Branched w z qs) h k j = absurd (filtered_or_solved old new os h (ask_branches words files was now (run.Branched w z qs) k))
     of_filtered old new os (run.Certificates b s) h k j = absurd (filtered_or_bytes old new os h was now b s k)
     of_filtered old new os (run.Certified n) h k j = absurd (filtered_or_certified old new os h n k.0)
     of_filtered old new os (run.CertRefused m f) h k j = absurd (filtered_or_cert_refused old new os h m f k.0)
-    of_filtered old new os (run.Trial n qs) h k j = absurd (filtered_or_solved old new os h was now (run.Trial n qs) k)
+    of_filtered old new os (run.Trial n qs) h k j = absurd (filtered_or_solved old new os h (ask_solves words files was now (run.Trial n qs) k))
     of_filtered old new os (run.Filtered qs) h k j = filtered_once words files old new was now os qs h k
     of_filtered old new os run.ReadFault h k j = absurd j
     of_filtered old new os run.Memory h k j = absurd j
@@ -262,6 +283,7 @@ module _ (words : List (List ℕ)) (files : Files) where
     one risen old new (run.Refused r) s h k i j = of_refused r s h.0 k j
     one risen old new (run.Checked c) s h k i j = of_checked c s h.0 k j
     one risen old new (run.Solved w z os u) s h k i j = of_solved old new (run.Solved w z os u) s h k j
+    one risen old new (run.Branched w z os) s h k i j = of_branched old new (run.Branched w z os) s h k j
     one risen old new (run.Certificates b z) s h k i j = of_bytes old new b z s h k j
     one risen old new (run.Certified n) s h k i j = of_certified n s h.0 k j
     one risen old new (run.CertRefused m f) s h k i j = of_cert_refused m f s h.0 k j

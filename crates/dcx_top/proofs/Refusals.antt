@@ -26,7 +26,7 @@ use Rattle.dcx_words.specs.Commands.{Command, check, solve, resolve, certificate
 use Rattle.dcx_top.specs.Commands.{IsScriptOf, script_name, settings_name, certificate_name, AreOfFile, AreSettingsOf}
 use Rattle.dcx_top.specs.Files.{most_bytes, RefusesScript, RefusesSettings}
 use Rattle.dcx_top.specs.Runs.{GivesProblem, IsRefusedRun, long_script, bad_script, for_whole, bad_settings, long_certificate}
-use Rattle.dcx_top.specs.Whole.{HasNoWhole, IsFirstWhole, IsRefusedForWhole, IsSolving, whole_number}
+use Rattle.dcx_top.specs.Whole.{HasNoWhole, IsFirstWhole, IsRefusedForWhole, RefusesWhole, Takes}
 
 -- ---- answers of the front
 same_accepted : (a b : Accepted) → ◌≡◌ {A = Given} (Ok a) (Ok b) → a ≡ b
@@ -98,8 +98,8 @@ module _ (files : Files) where
 -- length
 pub data Refuses (files : Files) (command : Command) (r : Refusal) : Type 0 where
   in_script : (bytes : List ℕ) → IsScriptOf (Some files) command bytes → RefusesScript bytes r → Refuses files command r
-  in_problem : (a : Accepted) → GivesProblem (Some files) command a → IsSolving command → IsRefusedForWhole (whole_number command) a.work.problem.tree r → Refuses files command r
-  in_settings : (a : Accepted) (name bytes : List ℕ) → GivesProblem (Some files) command a → HasNoWhole a.work.problem.tree → settings_name command ≡ Some name → files name ≡ Some bytes → RefusesSettings bytes r → Refuses files command r
+  in_problem : (a : Accepted) → GivesProblem (Some files) command a → RefusesWhole command → IsRefusedForWhole a.work.problem.tree r → Refuses files command r
+  in_settings : (a : Accepted) (name bytes : List ℕ) → GivesProblem (Some files) command a → Takes command a.work.problem.tree → settings_name command ≡ Some name → files name ≡ Some bytes → RefusesSettings bytes r → Refuses files command r
   in_length : (a : Accepted) (settings : List Pairs) (name bytes : List ℕ) → GivesProblem (Some files) command a → HasNoWhole a.work.problem.tree → AreSettingsOf (Some files) command a.work settings → certificate_name command ≡ Some name →
       files name ≡ Some bytes → most_bytes Certificate < length bytes → IsTooLong Certificate r → Refuses files command r
 
@@ -115,7 +115,7 @@ module _ (words : List (List ℕ)) (files : Files) (command : Command) (form : c
   refuses r (long_script c name e is (long, (bytes, there, more))) =
       of_command r c e (in_script bytes (script_is files c name bytes is there) (unread (reads.TooLong start_of_text.place) (no_script_text (more, refl)) long))
   refuses r (bad_script c bytes e of h) = of_command r c e (in_script bytes of h)
-  refuses r (for_whole c a e g solving h) = of_command r c e (in_problem a g solving h)
+  refuses r (for_whole c a e g refusing h) = of_command r c e (in_problem a g refusing h)
   refuses r (bad_settings c a name e g free is (inl (long, (bytes, there, more)))) =
       of_command r c e (in_settings a name bytes g free is there (record { fault = reads.TooLong start_of_text.place; refused = no_settings_text (more, refl); told = long }))
   refuses r (bad_settings c a name e g free is (inr (bytes, there, h))) = of_command r c e (in_settings a name bytes g free is there h)
@@ -128,11 +128,11 @@ one_first nodes i j h k =
     let high : j < i → ⊥ = (λ l. h.before j l k.is) in
     omega (arith, low, high)
 
-one_whole : (number : ℕ) (nodes : List Node) (r t : Refusal) → IsRefusedForWhole number nodes r → IsRefusedForWhole number nodes t → r ≡ t
-one_whole number nodes r t h k =
+one_whole : (nodes : List Node) (r t : Refusal) → IsRefusedForWhole nodes r → IsRefusedForWhole nodes t → r ≡ t
+one_whole nodes r t h k =
     let node = one_first nodes h.node k.node h.first k.first in
     let place = same_Some h.place k.place (sym h.stands ∙ ap (place_at nodes) node ∙ k.stands) in
-    one_refusal Script number k.place Nothing r t (subst (λ z. IsRefusedAs Script number z Nothing r) place h.refusal) k.refusal
+    one_refusal Script 34 k.place Nothing r t (subst (λ z. IsRefusedAs Script 34 z Nothing r) place h.refusal) k.refusal
 
 -- an ending is told by one refusal
 one_told : (e : Ending) (r t : Refusal) → IsRefusedBy Settings e r → IsRefusedBy Settings e t → r ≡ t
@@ -146,13 +146,13 @@ module _ (files : Files) (command : Command) where
   in_script_once : (a : Accepted) (r : Refusal) (b : List ℕ) → GivesProblem (Some files) command a → IsScriptOf (Some files) command b → RefusesScript b r → ⊥
   in_script_once a r b g of h = accepted_or_refused g.bytes a r g.gives (subst (λ x. RefusesScript x r) (one_script files command b g.bytes of g.are_of) h)
 
-  in_problem_once : (a b : Accepted) (r t : Refusal) → GivesProblem (Some files) command a → GivesProblem (Some files) command b → IsRefusedForWhole (whole_number command) a.work.problem.tree r → IsRefusedForWhole (whole_number command) b.work.problem.tree t → r ≡ t
+  in_problem_once : (a b : Accepted) (r t : Refusal) → GivesProblem (Some files) command a → GivesProblem (Some files) command b → IsRefusedForWhole a.work.problem.tree r → IsRefusedForWhole b.work.problem.tree t → r ≡ t
   in_problem_once a b r t g i h k =
-      one_whole (whole_number command) b.work.problem.tree r t (subst (λ (x : Accepted). IsRefusedForWhole (whole_number command) x.work.problem.tree r) (one_problem files command a b g i) h) k
+      one_whole b.work.problem.tree r t (subst (λ (x : Accepted). IsRefusedForWhole x.work.problem.tree r) (one_problem files command a b g i) h) k
 
-  whole_or_free : (a b : Accepted) (r : Refusal) → GivesProblem (Some files) command a → GivesProblem (Some files) command b → IsRefusedForWhole (whole_number command) a.work.problem.tree r → HasNoWhole b.work.problem.tree → ⊥
+  whole_or_free : (a b : Accepted) (r : Refusal) → GivesProblem (Some files) command a → GivesProblem (Some files) command b → IsRefusedForWhole a.work.problem.tree r → HasNoWhole b.work.problem.tree → ⊥
   whole_or_free a b r g i h free =
-      let k = subst (λ (x : Accepted). IsRefusedForWhole (whole_number command) x.work.problem.tree r) (one_problem files command a b g i) h in
+      let k = subst (λ (x : Accepted). IsRefusedForWhole x.work.problem.tree r) (one_problem files command a b g i) h in
       free k.node k.first.is
 
   -- a settings file that gives settings isn't refused
@@ -164,20 +164,20 @@ module _ (files : Files) (command : Command) where
   pub one_refused : (r t : Refusal) → Refuses files command r → Refuses files command t → r ≡ t
   one_refused r t (in_script b of h) (in_script c also k) =
       same_refused r t (one_answer c (Err (front.Refused r)) (subst (λ x. RefusesScript x r) (one_script files command b c of also) h) (Err (front.Refused t)) k)
-  one_refused r t (in_script b of h) (in_problem a g solving k) = absurd (in_script_once a r b g of h)
+  one_refused r t (in_script b of h) (in_problem a g refusing k) = absurd (in_script_once a r b g of h)
   one_refused r t (in_script b of h) (in_settings a name c g free is there k) = absurd (in_script_once a r b g of h)
   one_refused r t (in_script b of h) (in_length a settings name c g free asked named there more long) = absurd (in_script_once a r b g of h)
-  one_refused r t (in_problem a g solving k) (in_script b of h) = absurd (in_script_once a t b g of h)
-  one_refused r t (in_problem a g solving h) (in_problem b i also k) = in_problem_once a b r t g i h k
-  one_refused r t (in_problem a g solving h) (in_settings b name c i free is there k) = absurd (whole_or_free a b r g i h free)
-  one_refused r t (in_problem a g solving h) (in_length b settings name c i free asked named there more long) = absurd (whole_or_free a b r g i h free)
+  one_refused r t (in_problem a g refusing k) (in_script b of h) = absurd (in_script_once a t b g of h)
+  one_refused r t (in_problem a g refusing h) (in_problem b i also k) = in_problem_once a b r t g i h k
+  one_refused r t (in_problem a g refusing h) (in_settings b name c i taken is there k) = absurd (whole_or_free a b r g i h (taken refusing))
+  one_refused r t (in_problem a g refusing h) (in_length b settings name c i free asked named there more long) = absurd (whole_or_free a b r g i h free)
   one_refused r t (in_length b settings name c i free asked named there more long) (in_script d of h) = absurd (in_script_once b t d i of h)
-  one_refused r t (in_length b settings name c i free asked named there more long) (in_problem a g solving h) = absurd (whole_or_free a b t g i h free)
+  one_refused r t (in_length b settings name c i free asked named there more long) (in_problem a g refusing h) = absurd (whole_or_free a b t g i h free)
   one_refused r t (in_length b settings name c i free asked named there more long) (in_settings a other d g unmarked is here k) = absurd (settings_or_not b.work settings other d k.fault asked is here k.refused)
   one_refused r t (in_length b settings name c i free asked named there more long) (in_length a others other d g unmarked also known here most such) = one_refusal Certificate 8 _ _ r t long such
   one_refused r t (in_settings a other d g unmarked is here k) (in_length b settings name c i free asked named there more long) = absurd (settings_or_not b.work settings other d k.fault asked is here k.refused)
   one_refused r t (in_settings a name c g free is there k) (in_script b of h) = absurd (in_script_once a t b g of h)
-  one_refused r t (in_settings b name c i free is there k) (in_problem a g solving h) = absurd (whole_or_free a b t g i h free)
+  one_refused r t (in_settings b name c i taken is there k) (in_problem a g refusing h) = absurd (whole_or_free a b t g i h (taken refusing))
   one_refused r t (in_settings a name b g free is there h) (in_settings d other c i unmarked also here k) =
       let same = one_settings name other b c is also there here in
       let fault = refused_one c h.fault k.fault (subst (λ x. IsRefused x h.fault) same h.refused) k.refused in
@@ -188,15 +188,15 @@ module _ (files : Files) (command : Command) where
   IsShort = (name bytes : List ℕ) → certificate_name command ≡ Some name → files name ≡ Some bytes → length bytes ≤ most_bytes Certificate
 
   -- nothing is refused where the problem is solved
-  pub never_refused : (a : Accepted) (settings : List Pairs) (r : Refusal) → GivesProblem (Some files) command a → HasNoWhole a.work.problem.tree → AreSettingsOf (Some files) command a.work settings → IsShort → Refuses files command r → ⊥
-  never_refused a settings r g free are short (in_script b of h) = in_script_once a r b g of h
-  never_refused a settings r g free are short (in_problem b i solving h) = whole_or_free b a r i g h free
-  never_refused a settings r g free are short (in_settings d name bytes i unmarked is there h) = settings_or_not a.work settings name bytes h.fault are is there h.refused
-  never_refused a settings r g free are short (in_length d others name bytes i unmarked asked named there more long) = let few = short name bytes named there in omega (arith, few, more)
+  pub never_refused : (a : Accepted) (settings : List Pairs) (r : Refusal) → GivesProblem (Some files) command a → Takes command a.work.problem.tree → AreSettingsOf (Some files) command a.work settings → IsShort → Refuses files command r → ⊥
+  never_refused a settings r g taken are short (in_script b of h) = in_script_once a r b g of h
+  never_refused a settings r g taken are short (in_problem b i refusing h) = whole_or_free b a r i g h (taken refusing)
+  never_refused a settings r g taken are short (in_settings d name bytes i also is there h) = settings_or_not a.work settings name bytes h.fault are is there h.refused
+  never_refused a settings r g taken are short (in_length d others name bytes i unmarked asked named there more long) = let few = short name bytes named there in omega (arith, few, more)
 
 -- nor where it is checked
 pub never_refused_check : (files : Files) (script : List ℕ) (a : Accepted) (r : Refusal) → GivesProblem (Some files) (check script) a → Refuses files (check script) r → ⊥
 never_refused_check files script a r g (in_script b of h) = in_script_once files (check script) a r b g of h
-never_refused_check files script a r g (in_problem b i solving h) = solving
+never_refused_check files script a r g (in_problem b i refusing h) = refusing
 never_refused_check files script a r g (in_settings d name bytes i free is there h) = none-some name is
 never_refused_check files script a r g (in_length d settings name bytes i free asked named there more long) = none-some name named

@@ -10,13 +10,14 @@ use Rattle.dcx_words.specs.Commands.{Command, check, certificate, certify, migra
 use Rattle.dcx_words.specs.Laws.{is_warm_command}
 use Rattle.dcx_outcomes.proofs.Warm.{found_are_right}
 use Rattle.dcx_outcomes.proofs.FilterEnds.{filters_are_right}
+use Rattle.dcx_outcomes.proofs.WholeEnds.{wholes_are_right}
 use Rattle.dcx_sections.specs.declared.section.Section.{Section}
 use Rattle.dcx_sections.specs.declared.section.Sections.{Sections}
 use Rattle.dcx_certificates.specs.Checking.{AreShown}
 use Rattle.dcx_certificates.proofs.Shown.{sections_are_shown}
 use Rattle.dcx_top.specs.Commands.{limit_of}
-use Rattle.dcx_top.specs.Runs.{GivesProblem, IsSolvedRun, IsFilteredRun, IsCertificateRun, HasCertificate, HasPassed, IsMigrateRun, Causes}
-use Rattle.dcx_top.specs.Headline.{IsAcceptedWork, IsRightlySolved, IsRightlyFiltered, IsRightlyShown, IsRightRun}
+use Rattle.dcx_top.specs.Runs.{GivesProblem, IsSolvedRun, IsBranchedRun, IsFilteredRun, IsCertificateRun, HasCertificate, HasPassed, IsMigrateRun, Causes}
+use Rattle.dcx_top.specs.Headline.{IsAcceptedWork, IsRightlySolved, IsRightlyBranched, IsRightlyFiltered, IsRightlyShown, IsRightRun}
 use Rattle.dcx_top.proofs.Passed.{passed_shown, migrated_shown}
 
 accepted_work : (words : List (List ℕ)) (told : Option Files) (command : Command) (a : Accepted) → command_of words ≡ Some command → GivesProblem told command a → IsAcceptedWork words told command a.work
@@ -42,6 +43,18 @@ solved_right words told old new r h = let w = accepted_work words told h.command
   warm = h.warm;
   tells = h.tells;
   right = found_are_right (is_warm_command h.command) h.accepted.work.problem (limit_of h.command) h.settings h.outcomes h.warm w.accepted h.are;
+}
+
+branched_right : (words : List (List ℕ)) (told : Option Files) (old new : ℕ) (r : Run) → IsBranchedRun words told old new r → IsRightlyBranched words told r
+branched_right words told old new r h = record {
+  command = h.command;
+  work = h.accepted.work;
+  accepted = accepted_work words told h.command h.accepted h.form h.problem;
+  settings = h.settings;
+  asked = h.asked;
+  outcomes = h.outcomes;
+  tells = h.tells;
+  right = wholes_are_right h.accepted.work.problem (limit_of h.command) h.settings h.outcomes h.are;
 }
 
 filtered_right : (words : List (List ℕ)) (told : Option Files) (old new : ℕ) (os : List FilterOutcome) → IsFilteredRun words told old new os → IsRightlyFiltered words told os
@@ -93,6 +106,7 @@ pub caused_are_right : (words : List (List ℕ)) (told : Option Files) (risen : 
 caused_are_right words told risen old new (run.Checked c) (h, same) =
     record { command = check h.script; work = h.accepted.work; accepted = accepted_work words told (check h.script) h.accepted h.form h.problem; found = h.found }
 caused_are_right words told risen old new (run.Solved word sense outcomes warm) h = solved_right words told old new (run.Solved word sense outcomes warm) h
+caused_are_right words told risen old new (run.Branched word sense outcomes) h = branched_right words told old new (run.Branched word sense outcomes) h
 caused_are_right words told risen old new (run.Trial size outcomes) h = solved_right words told old new (run.Trial size outcomes) h
 caused_are_right words told risen old new (run.Filtered outcomes) h = filtered_right words told old new outcomes h
 caused_are_right words told risen old new (run.Certificates text stopped) (inl h) = (h.sections, h.text, certificate_right words told old new text stopped h)

@@ -6,7 +6,7 @@ use Rattle.std.specs.Io.KnownBytes.{Appends}
 use Rattle.dcx_report.specs.ReportText.{text_of}
 use Rattle.dcx_answer.specs.declared.stop.Stop.TheVariants.{Memory as StopMemory}
 use Rattle.dcx_report.specs.declared.run.Run.{Run}
-use Rattle.dcx_report.specs.declared.run.Run.TheVariants.{Usage, Refused, Checked, Solved, Certificates, Certified, CertRefused, Trial, Filtered, ReadFault, Memory}
+use Rattle.dcx_report.specs.declared.run.Run.TheVariants.{Usage, Refused, Checked, Solved, Branched, Certificates, Certified, CertRefused, Trial, Filtered, ReadFault, Memory}
 use Rattle.dcx_report.specs.declared.outcome.Outcome.{Outcome}
 use Rattle.dcx_report.specs.declared.outcome.OutcomeEnd.{OutcomeEnd}
 use Rattle.dcx_report.specs.declared.outcome.OutcomeEnd.TheVariants.{Answer, Stop}
@@ -14,6 +14,10 @@ use Rattle.dcx_answer.specs.declared.filter_stop.FilterStop.TheVariants.{Memory 
 use Rattle.dcx_report.specs.declared.filter_outcome.FilterEnd.{FilterEnd}
 use Rattle.dcx_report.specs.declared.filter_outcome.FilterEnd.TheVariants as filter
 use Rattle.dcx_report.specs.declared.filter_outcome.FilterOutcome.{FilterOutcome}
+use Rattle.dcx_branch.specs.declared.answer.BranchStop.TheVariants.{Memory as BranchMemory}
+use Rattle.dcx_report.specs.declared.whole_outcome.WholeEnd.{WholeEnd}
+use Rattle.dcx_report.specs.declared.whole_outcome.WholeEnd.TheVariants as whole
+use Rattle.dcx_report.specs.declared.whole_outcome.WholeOutcome.{WholeOutcome}
 use Rattle.dcx_top.specs.declared.ended.Ended.{Ended}
 
 -- the setting stopped
@@ -44,12 +48,27 @@ filter_wants_memory _ = false
 abbrev pub filters_status : List FilterOutcome → ℕ
 filters_status outcomes = if list_any (λ o. filter_wants_memory o.end) outcomes then 5 else (if list_any (λ o. is_filter_stop o.end) outcomes then 6 else 0)
 
+-- the same of a problem with variables that are to be whole
+abbrev pub is_whole_stop : WholeEnd → Bool
+is_whole_stop (whole.Whole answer) = false
+is_whole_stop (whole.Branch stop) = true
+is_whole_stop (whole.Stop stop) = true
+
+abbrev pub whole_wants_memory : WholeEnd → Bool
+whole_wants_memory (whole.Branch BranchMemory) = true
+whole_wants_memory (whole.Stop StopMemory) = true
+whole_wants_memory _ = false
+
+abbrev pub wholes_status : List WholeOutcome → ℕ
+wholes_status outcomes = if list_any (λ o. whole_wants_memory o.end) outcomes then 5 else (if list_any (λ o. is_whole_stop o.end) outcomes then 6 else 0)
+
 -- the status where the whole report is written
 abbrev pub status_of : Run → ℕ
 status_of Usage = 2
 status_of (Refused refusal) = 1
 status_of (Checked checked) = 0
 status_of (Solved word sense outcomes warm) = outcomes_status outcomes
+status_of (Branched word sense outcomes) = wholes_status outcomes
 status_of (Certificates text stopped) = if stopped then 6 else 0
 status_of (Certified sections) = 0
 status_of (CertRefused section fault) = 7

@@ -12,16 +12,18 @@ use Rattle.dcx_front.specs.declared.checked.Checked.{Checked}
 use Rattle.dcx_front.specs.Checks.{IsFoundOf}
 use Rattle.dcx_report.specs.declared.outcome.Outcome.{Outcome}
 use Rattle.dcx_report.specs.declared.filter_outcome.FilterOutcome.{FilterOutcome}
+use Rattle.dcx_report.specs.declared.whole_outcome.WholeOutcome.{WholeOutcome}
 use Rattle.dcx_report.specs.declared.run.Run.{Run}
 use Rattle.dcx_report.specs.declared.run.Run.TheVariants as run
 use Rattle.dcx_words.specs.Commands.{Command, command_of}
 use Rattle.dcx_outcomes.specs.Right.{AreRight}
 use Rattle.dcx_outcomes.specs.FilterLaws.{AreRightFilters}
+use Rattle.dcx_outcomes.specs.WholeLaws.{AreRightWholes}
 use Rattle.dcx_sections.specs.declared.section.Section.{Section}
 use Rattle.dcx_sections.specs.declared.section.Sections.{Sections}
 use Rattle.dcx_cert_lines.specs.CertText.{cert_text}
 use Rattle.dcx_certificates.specs.Checking.{is_cert, AreShown}
-use Rattle.dcx_top.specs.Commands.{IsScriptOf, AreSettingsOf, TellsOutcomes}
+use Rattle.dcx_top.specs.Commands.{IsScriptOf, AreSettingsOf, TellsOutcomes, TellsWholes}
 
 -- The script of the command spells what stands for this work: a problem with its settings. The rules accept the problem, and it is
 -- convex at every fitting setting.
@@ -54,6 +56,19 @@ pub record IsRightlySolved (words : List (List ℕ)) (told : Option Files) (r : 
   pub warm : Option ℕ
   pub tells : TellsOutcomes command work.problem.sense outcomes warm r
   pub right : AreRight work.problem settings outcomes
+
+-- Each answer of the run is right for the accepted problem with its marks, at its setting: a feasible point whose marked entries are
+-- whole, such that no other one has a smaller minimized objective, or that there is no such point; and a tree shows it, by multipliers at
+-- its leaves.
+pub record IsRightlyBranched (words : List (List ℕ)) (told : Option Files) (r : Run) : Type 0 where
+  pub command : Command
+  pub work : Work
+  pub accepted : IsAcceptedWork words told command work
+  pub settings : List Pairs
+  pub asked : AreSettingsOf told command work settings
+  pub outcomes : List WholeOutcome
+  pub tells : TellsWholes command work.problem.sense outcomes r
+  pub right : AreRightWholes work.problem settings outcomes
 
 -- Whatever is found of the constraints of the accepted problem is right at its setting: a feasible point; or constraints that no point of
 -- the domain keeps together, as multipliers show, each with a point that keeps all the others.
@@ -88,6 +103,7 @@ IsRightRun words told (run.Certified n) = IsRightCount words told n
 IsRightRun words told (run.CertRefused section fault) = ⊤
 IsRightRun words told (run.Checked c) = IsRightlyFound words told c
 IsRightRun words told (run.Solved word sense outcomes warm) = IsRightlySolved words told (run.Solved word sense outcomes warm)
+IsRightRun words told (run.Branched word sense outcomes) = IsRightlyBranched words told (run.Branched word sense outcomes)
 IsRightRun words told (run.Trial size outcomes) = IsRightlySolved words told (run.Trial size outcomes)
 IsRightRun words told (run.Filtered outcomes) = IsRightlyFiltered words told outcomes
 IsRightRun words told run.Usage = ⊤

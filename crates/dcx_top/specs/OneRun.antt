@@ -4,12 +4,14 @@ use Rattle.dcx_host.specs.Faults.{Rose}
 use Rattle.dcx_host.specs.Files.{Files}
 use Rattle.dcx_report.specs.declared.outcome.Outcome.{Outcome}
 use Rattle.dcx_report.specs.declared.filter_outcome.FilterOutcome.{FilterOutcome}
+use Rattle.dcx_report.specs.declared.whole_outcome.WholeOutcome.{WholeOutcome}
 use Rattle.dcx_report.specs.declared.run.Run.{Run}
 use Rattle.dcx_report.specs.declared.run.Run.TheVariants as run
 use Rattle.dcx_front.specs.declared.accepted.Accepted.{Accepted}
 use Rattle.dcx_words.specs.Commands.{Command, check, solve, resolve, certificate, certify, migrate, trial, iis, command_of}
 use Rattle.dcx_outcomes.specs.Laws.{AreOneFound}
 use Rattle.dcx_outcomes.specs.FilterLaws.{AreAlikeFilters}
+use Rattle.dcx_outcomes.specs.WholeLaws.{AreAlikeWholes}
 use Rattle.dcx_sections.specs.declared.section.Sections.{Sections}
 use Rattle.dcx_cert_lines.specs.CertText.{cert_text}
 use Rattle.dcx_certificates.specs.Laws.{AreAlike as AreAlikeSections}
@@ -23,6 +25,7 @@ IsAnswered run.Usage = ⊤
 IsAnswered (run.Refused r) = ⊤
 IsAnswered (run.Checked c) = ⊤
 IsAnswered (run.Solved word sense outcomes warm) = ⊤
+IsAnswered (run.Branched word sense outcomes) = ⊤
 IsAnswered (run.Certificates text stopped) = ⊤
 IsAnswered (run.Certified n) = ⊤
 IsAnswered (run.CertRefused section fault) = ⊤
@@ -34,6 +37,10 @@ IsAnswered (run.Filtered outcomes) = ⊤
 -- never does, as many of them are counted.
 abbrev pub AreAlikeOver : List (List ℕ) → Files → List Outcome → Option ℕ → List Outcome → Option ℕ → Type 0
 AreAlikeOver words files os m qs n = (command : Command) (a : Accepted) → command_of words ≡ Some command → GivesProblem (Some files) command a → AreOneFound a.work.problem os m qs n
+
+-- and so are those of a problem with variables that are to be whole, but for their trees
+abbrev pub AreAlikeWholesOver : List (List ℕ) → Files → List WholeOutcome → List WholeOutcome → Type 0
+AreAlikeWholesOver words files os qs = (command : Command) (a : Accepted) → command_of words ≡ Some command → GivesProblem (Some files) command a → AreAlikeWholes a.work.problem os qs
 
 -- and so is what the filter finds of its constraints, or what stops it
 abbrev pub AreAlikeFiltersOver : List (List ℕ) → Files → List FilterOutcome → List FilterOutcome → Type 0
@@ -57,6 +64,7 @@ AreOneText files (iis script settings limit) a b = ⊥
 -- two runs that tell the same
 abbrev pub AreOneRun : List (List ℕ) → Files → Run → Run → Type 0
 AreOneRun words files (run.Solved word sense os m) (run.Solved other way qs n) = (word ≡ other) × (sense ≡ way) × AreAlikeOver words files os m qs n
+AreOneRun words files (run.Branched word sense os) (run.Branched other way qs) = (word ≡ other) × (sense ≡ way) × AreAlikeWholesOver words files os qs
 AreOneRun words files (run.Trial size os) (run.Trial other qs) = (size ≡ other) × AreAlikeOver words files os None qs None
 AreOneRun words files (run.Certificates a stopped) (run.Certificates b halted) = (stopped ≡ halted) × ((command : Command) × (command_of words ≡ Some command) × AreOneText files command a b)
 AreOneRun words files (run.Filtered os) (run.Filtered qs) = AreAlikeFiltersOver words files os qs

@@ -12,8 +12,10 @@ use Rattle.dcx_front.specs.Checks.{IsFoundOf}
 use Rattle.dcx_front.specs.Accepts.{Gives}
 use Rattle.dcx_report.specs.declared.outcome.Outcome.{Outcome}
 use Rattle.dcx_report.specs.declared.filter_outcome.FilterOutcome.{FilterOutcome}
+use Rattle.dcx_report.specs.declared.whole_outcome.WholeOutcome.{WholeOutcome}
 use Rattle.dcx_report.specs.declared.run.Run.{Run}
 use Rattle.dcx_report.specs.declared.run.Run.TheVariants as run
+use Rattle.dcx_report.specs.declared.run.Word.{Word}
 use Rattle.dcx_report.specs.declared.run.Word.TheVariants as word
 use Rattle.dcx_words.specs.Commands.{Command, check, resolve, certificate, certify, migrate, iis, command_of}
 use Rattle.dcx_words.specs.Laws.{is_warm_command}
@@ -21,16 +23,17 @@ use Rattle.dcx_overlay.specs.Settings.{AreTrialSettings}
 use Rattle.dcx_outcomes.specs.Outcomes.{Counts}
 use Rattle.dcx_outcomes.specs.Warm.{AreFound}
 use Rattle.dcx_outcomes.specs.Filters.{AreFilterOutcomes}
+use Rattle.dcx_outcomes.specs.Wholes.{AreWholeOutcomes}
 use Rattle.dcx_sections.specs.declared.fault.CertFault.{CertFault}
 use Rattle.dcx_sections.specs.declared.section.Sections.{Sections}
 use Rattle.dcx_cert_lines.specs.CertText.{cert_text}
 use Rattle.dcx_certificates.specs.Sections.{StopsSomewhere, IsCertificateAt}
 use Rattle.dcx_certificates.specs.Checking.{is_cert, ArePassed, IsFirstRefused}
 use Rattle.dcx_certificates.specs.Migrating.{IsMigrated}
-use Rattle.dcx_top.specs.Commands.{IsScriptOf, script_name, settings_name, certificate_name, AreOfFile, AreSettingsOf, limit_of, TellsOutcomes}
+use Rattle.dcx_top.specs.Commands.{IsScriptOf, script_name, settings_name, certificate_name, AreOfFile, AreSettingsOf, limit_of, TellsOutcomes, TellsWholes}
 use Rattle.dcx_top.specs.declared.solving.Task.{Task}
 use Rattle.dcx_top.specs.declared.solving.Task.TheVariants as tasks
-use Rattle.dcx_top.specs.Whole.{HasNoWhole, IsRefusedForWhole, IsSolving, whole_number}
+use Rattle.dcx_top.specs.Whole.{HasNoWhole, HasWhole, IsRefusedForWhole, RefusesWhole, Takes}
 use Rattle.dcx_top.specs.Files.{RefusesScript, RefusesSettings, IsLong, IsRefusedIn, IsNotHad, EndsAt, IsMisread, HasTextOf, ReadsCertificate}
 
 -- ---- scripts
@@ -63,6 +66,21 @@ pub record IsSolvedRun (words : List (List ℕ)) (told : Option Files) (old new 
   pub warm : Option ℕ
   pub are : AreFound (is_warm_command command) accepted.work.problem (limit_of command) settings outcomes warm
   pub tells : TellsOutcomes command accepted.work.problem.sense outcomes warm r
+  pub steps : Counts accepted.work.problem (length settings) old new
+
+-- a problem with a variable that is to be whole is solved by branch and bound at the settings of a command: its outcomes are told, and so
+-- many steps were counted
+pub record IsBranchedRun (words : List (List ℕ)) (told : Option Files) (old new : ℕ) (r : Run) : Type 0 where
+  pub command : Command
+  pub form : command_of words ≡ Some command
+  pub accepted : Accepted
+  pub problem : GivesProblem told command accepted
+  pub marked : HasWhole accepted.work.problem.tree
+  pub settings : List Pairs
+  pub asked : AreSettingsOf told command accepted.work settings
+  pub outcomes : List WholeOutcome
+  pub are : AreWholeOutcomes accepted.work.problem (limit_of command) settings outcomes
+  pub tells : TellsWholes command accepted.work.problem.sense outcomes r
   pub steps : Counts accepted.work.problem (length settings) old new
 
 -- ---- constraints that are filtered
@@ -150,15 +168,26 @@ pub data IsCertRefusedRun (words : List (List ℕ)) (told : Option Files) (secti
   misread : (command : Command) (files : HasCertificate words told command) → IsMisread told files.name files.accepted.work.problem (length files.settings) section f → IsCertRefusedRun words told section f
   failed : (command : Command) (sections : Sections) (reads : ReadsSections words told command sections) → IsFirstRefused reads.files.accepted.work.problem reads.files.settings sections.list section f → IsCertRefusedRun words told section f
 
--- no variable is to be whole, and the run is one of these; or it refuses the script for the first one with this number, and no step is
--- counted
-abbrev pub OrWhole : ℕ → Problem → (Run → Type 0) → ℕ → ℕ → Run → Type 0
-OrWhole number p Next old new r = (HasNoWhole p.tree × Next r) ⊎ ((t : Refusal) × IsRefusedForWhole number p.tree t × (r ≡ run.Refused t) × (new ≡ old))
+-- the run is one of these, where no variable is to be whole if that is refused; or it refuses the script for the first one, and no step
+-- is counted
+abbrev pub OrWhole : Type 0 → Problem → (Run → Type 0) → ℕ → ℕ → Run → Type 0
+OrWhole Refuses p Next old new r = ((Refuses → HasNoWhole p.tree) × Next r) ⊎ (Refuses × (t : Refusal) × IsRefusedForWhole p.tree t × (r ≡ run.Refused t) × (new ≡ old))
 
 -- a problem is solved at settings, warm or not, and its outcomes are told so; want of memory is free
 abbrev pub SolvesAt : Bool → Problem → ℕ → List Pairs → (List Outcome → Option ℕ → Run) → ℕ → ℕ → Run → Type 0
 SolvesAt warm p limit settings tells old new r =
     (r ≡ run.Memory) ⊎ ((outcomes : List Outcome) × (count : Option ℕ) × AreFound warm p limit settings outcomes count × Counts p (length settings) old new × (r ≡ tells outcomes count))
+
+-- a problem is solved by branch and bound at settings, and its outcomes are told so; want of memory is free
+abbrev pub BranchesAt : Problem → ℕ → List Pairs → (List WholeOutcome → Run) → ℕ → ℕ → Run → Type 0
+BranchesAt p limit settings tells old new r =
+    (r ≡ run.Memory) ⊎ ((outcomes : List WholeOutcome) × AreWholeOutcomes p limit settings outcomes × Counts p (length settings) old new × (r ≡ tells outcomes))
+
+-- it is solved so where a variable is to be whole, and else as ever
+abbrev pub AnswersAt : Word → Problem → ℕ → List Pairs → ℕ → ℕ → Run → Type 0
+AnswersAt word p limit settings old new r =
+    (HasNoWhole p.tree × SolvesAt false p limit settings (λ os count. run.Solved word p.sense os count) old new r)
+    ⊎ (HasWhole p.tree × BranchesAt p limit settings (λ os. run.Branched word p.sense os) old new r)
 
 -- the trial problem is solved at its two settings; want of memory is free
 abbrev pub TriesAt : Work → ℕ → ℕ → ℕ → ℕ → Run → Type 0
@@ -182,19 +211,19 @@ FromFile told risen work name At old new r =
 
 -- an accepted problem is solved at the settings of a file, its certificate is told there, or its constraints are filtered there
 abbrev pub DoesAt : Task → Work → ℕ → List Pairs → ℕ → ℕ → Run → Type 0
-DoesAt (tasks.Resolve warm) work limit settings old new r = SolvesAt warm work.problem limit settings (λ os count. run.Solved word.Setting work.problem.sense os count) old new r
+DoesAt (tasks.Resolve false) work limit settings old new r = AnswersAt word.Setting work.problem limit settings old new r
+DoesAt (tasks.Resolve true) work limit settings old new r = SolvesAt true work.problem limit settings (λ os count. run.Solved word.Setting work.problem.sense os count) old new r
 DoesAt tasks.Certificate work limit settings old new r = CertifiesAt work.problem limit settings old new r
 DoesAt tasks.Filter work limit settings old new r = FiltersAt work.problem limit settings old new r
 
 abbrev pub DoesFrom : Option Files → Type 0 → Task → Work → List ℕ → ℕ → ℕ → ℕ → Run → Type 0
 DoesFrom told risen task work name limit old new r = FromFile told risen work name (DoesAt task work limit) old new r
 
--- the number of the refusal where a variable is to be whole
-abbrev pub task_number : Task → ℕ
-task_number (tasks.Resolve false) = 12
-task_number (tasks.Resolve true) = 34
-task_number tasks.Certificate = 34
-task_number tasks.Filter = 34
+-- a problem with a variable that is to be whole is refused
+abbrev pub task_refuses : Task → Bool
+task_refuses (tasks.Resolve warm) = warm
+task_refuses tasks.Certificate = true
+task_refuses tasks.Filter = true
 
 -- the command that asks for it
 abbrev pub command_for : Task → (script settings : List ℕ) → ℕ → Command
@@ -221,18 +250,18 @@ pub record GivesSections (told : Option Files) (script name file : List ℕ) (p 
 -- one of the files ends the run: the script, a variable that is to be whole, the settings file, or the certificate; want of memory is free
 pub data EndsFiles (told : Option Files) (risen : Type 0) (script name file : List ℕ) (r : Run) : Type 0 where
   at_script : EndsAt told risen Script script RefusesScript r → EndsFiles told risen script name file r
-  at_whole : (a : Accepted) (bytes : List ℕ) (t : Refusal) → IsTold told script bytes → Gives bytes (Ok a) → IsRefusedForWhole 34 a.work.problem.tree t → r ≡ run.Refused t → EndsFiles told risen script name file r
+  at_whole : (a : Accepted) (bytes : List ℕ) (t : Refusal) → IsTold told script bytes → Gives bytes (Ok a) → IsRefusedForWhole a.work.problem.tree t → r ≡ run.Refused t → EndsFiles told risen script name file r
   at_settings : (a : Accepted) (bytes : List ℕ) → IsTold told script bytes → Gives bytes (Ok a) → HasNoWhole a.work.problem.tree → EndsAt told risen Settings name RefusesSettings r → EndsFiles told risen script name file r
   at_certificate : (a : Accepted) (settings : List Pairs) → GivesSettings told script name a settings → ReadsCertificate told risen file a.work.problem (length settings) (Err r) → EndsFiles told risen script name file r
   at_memory : r ≡ run.Memory → EndsFiles told risen script name file r
 
--- a file of a command is refused: its script, for its length, for what stands in it, or, where its problem is to be solved, for a
--- variable that is to be whole; or else its settings file; or else its certificate, for its length
+-- a file of a command is refused: its script, for its length, for what stands in it, or for a variable that is to be whole where the
+-- command refuses that; or else its settings file; or else its certificate, for its length
 pub data IsRefusedRun (words : List (List ℕ)) (told : Option Files) (r : Refusal) : Type 0 where
   long_script : (command : Command) (name : List ℕ) → command_of words ≡ Some command → script_name command ≡ Some name → IsLong told Script name r → IsRefusedRun words told r
   bad_script : (command : Command) (bytes : List ℕ) → command_of words ≡ Some command → IsScriptOf told command bytes → RefusesScript bytes r → IsRefusedRun words told r
-  for_whole : (command : Command) (a : Accepted) → command_of words ≡ Some command → GivesProblem told command a → IsSolving command → IsRefusedForWhole (whole_number command) a.work.problem.tree r → IsRefusedRun words told r
-  bad_settings : (command : Command) (a : Accepted) (name : List ℕ) → command_of words ≡ Some command → GivesProblem told command a → HasNoWhole a.work.problem.tree → settings_name command ≡ Some name →
+  for_whole : (command : Command) (a : Accepted) → command_of words ≡ Some command → GivesProblem told command a → RefusesWhole command → IsRefusedForWhole a.work.problem.tree r → IsRefusedRun words told r
+  bad_settings : (command : Command) (a : Accepted) (name : List ℕ) → command_of words ≡ Some command → GivesProblem told command a → Takes command a.work.problem.tree → settings_name command ≡ Some name →
       IsLong told Settings name r ⊎ IsRefusedIn told name RefusesSettings r → IsRefusedRun words told r
   long_certificate : (command : Command) (files : HasCertificate words told command) → IsLong told Certificate files.name r → IsRefusedRun words told r
 
@@ -240,7 +269,7 @@ pub data IsRefusedRun (words : List (List ℕ)) (told : Option Files) (r : Refus
 -- settings, its certificate
 pub data IsReadFault (words : List (List ℕ)) (told : Option Files) (risen : Type 0) : Type 0 where
   no_script : (command : Command) (name : List ℕ) → command_of words ≡ Some command → script_name command ≡ Some name → IsNotHad told risen name → IsReadFault words told risen
-  no_settings : (command : Command) (a : Accepted) (name : List ℕ) → command_of words ≡ Some command → GivesProblem told command a → HasNoWhole a.work.problem.tree → settings_name command ≡ Some name → IsNotHad told risen name →
+  no_settings : (command : Command) (a : Accepted) (name : List ℕ) → command_of words ≡ Some command → GivesProblem told command a → Takes command a.work.problem.tree → settings_name command ≡ Some name → IsNotHad told risen name →
       IsReadFault words told risen
   no_certificate : (command : Command) (files : HasCertificate words told command) → IsNotHad told risen files.name → IsReadFault words told risen
 
@@ -251,6 +280,7 @@ Causes words told risen old new run.Usage = (command_of words ≡ None) × (new 
 Causes words told risen old new (run.Refused r) = IsRefusedRun words told r × (new ≡ old)
 Causes words told risen old new (run.Checked c) = IsChecked words told c × (new ≡ old)
 Causes words told risen old new (run.Solved word sense outcomes warm) = IsSolvedRun words told old new (run.Solved word sense outcomes warm)
+Causes words told risen old new (run.Branched word sense outcomes) = IsBranchedRun words told old new (run.Branched word sense outcomes)
 Causes words told risen old new (run.Certificates text stopped) = AreBytesOf words told old new text stopped
 Causes words told risen old new (run.Certified n) = IsCertifiedRun words told n × (new ≡ old)
 Causes words told risen old new (run.CertRefused section fault) = IsCertRefusedRun words told section fault × (new ≡ old)

@@ -12,7 +12,7 @@ use Rattle.dcx_words.specs.Commands.{Command, command_of}
 use Rattle.dcx_front.specs.declared.refusal.RefusalSource.TheVariants.{Certificate}
 use Rattle.dcx_top.specs.Commands.{IsScriptOf, settings_name, certificate_name}
 use Rattle.dcx_top.specs.Files.{most_bytes}
-use Rattle.dcx_top.specs.Whole.{IsWholeAt, HasNoWhole, IsSolving}
+use Rattle.dcx_top.specs.Whole.{IsWholeAt, RefusesWhole, Takes}
 use Rattle.dcx_top.specs.OneRun.{IsAnswered}
 
 abbrev pub IsRefusal : Run → Type 0
@@ -20,6 +20,7 @@ IsRefusal (run.Refused r) = ⊤
 IsRefusal run.Usage = ⊥
 IsRefusal (run.Checked c) = ⊥
 IsRefusal (run.Solved word sense outcomes warm) = ⊥
+IsRefusal (run.Branched word sense outcomes) = ⊥
 IsRefusal (run.Certificates text stopped) = ⊥
 IsRefusal (run.Certified n) = ⊥
 IsRefusal (run.CertRefused section fault) = ⊥
@@ -31,6 +32,7 @@ IsRefusal run.Memory = ⊥
 abbrev pub IsAcceptance : Run → Type 0
 IsAcceptance (run.Checked c) = ⊤
 IsAcceptance (run.Solved word sense outcomes warm) = ⊤
+IsAcceptance (run.Branched word sense outcomes) = ⊤
 IsAcceptance (run.Certificates text stopped) = ⊤
 IsAcceptance (run.Certified n) = ⊤
 IsAcceptance (run.CertRefused section fault) = ⊤
@@ -64,18 +66,18 @@ pub record IsLongCertificate (command : Command) (certificate : List ℕ) : Type
   pub asked : certificate_name command ≡ Some name
   pub long : most_bytes Certificate < length certificate
 
--- the script is at fault, or its problem, which is to be solved, has a variable that is to be whole, or the settings file is at fault,
--- or the certificate is too long
+-- the script is at fault, or its problem has a variable that is to be whole where the command refuses that, or the settings file is at
+-- fault, or the certificate is too long
 pub data AreAtFault (command : Command) (script settings certificate : List ℕ) : Type 0 where
   bad_script : IsAtFault script → AreAtFault command script settings certificate
-  has_whole : (h : IsWithoutFault script) → IsSolving command → (i : ℕ) → IsWholeAt h.work.problem.tree i → AreAtFault command script settings certificate
+  has_whole : (h : IsWithoutFault script) → RefusesWhole command → (i : ℕ) → IsWholeAt h.work.problem.tree i → AreAtFault command script settings certificate
   bad_settings : IsWithoutFault script → AreFaulty command settings → AreAtFault command script settings certificate
   long_certificate : IsWithoutFault script → AreFaultless command settings → IsLongCertificate command certificate → AreAtFault command script settings certificate
 
 -- nothing is
 pub record AreWithoutFault (command : Command) (script settings certificate : List ℕ) : Type 0 where
   pub no_script_fault : IsWithoutFault script
-  pub no_whole : IsSolving command → HasNoWhole no_script_fault.work.problem.tree
+  pub no_whole : Takes command no_script_fault.work.problem.tree
   pub no_settings_fault : AreFaultless command settings
   pub not_long : ¬ IsLongCertificate command certificate
 

@@ -1,4 +1,4 @@
--- Variables whose entries are to be whole: a problem that has one is checked, and not solved.
+-- Variables whose entries are to be whole: which commands take a problem that has one, and how the others refuse it.
 use Rattle.std.specs.Prelude.{◌≡◌, ◌≢◌, ⊤, ℕ, ◌<◌, true, false, List, Some}
 use Rattle.dcx_shape.specs.declared.place.Place.{Place}
 use Rattle.dcx_arena.specs.Nodes.{call_at, place_at}
@@ -21,38 +21,35 @@ pub record IsWholeAt (nodes : List Node) (i : ℕ) : Type 0 where
 abbrev pub HasNoWhole : List Node → Type 0
 HasNoWhole nodes = (i : ℕ) → ¬ IsWholeAt nodes i
 
+abbrev pub HasWhole : List Node → Type 0
+HasWhole nodes = (i : ℕ) × IsWholeAt nodes i
+
 -- it is the first one
 pub record IsFirstWhole (nodes : List Node) (i : ℕ) : Type 0 where
   pub is : IsWholeAt nodes i
   pub before : (j : ℕ) → j < i → ¬ IsWholeAt nodes j
 
--- the script is refused for the first one, with this number, where it stands
-pub record IsRefusedForWhole (number : ℕ) (nodes : List Node) (r : Refusal) : Type 0 where
+-- the script is refused for the first one, where it stands
+pub record IsRefusedForWhole (nodes : List Node) (r : Refusal) : Type 0 where
   pub node : ℕ
   pub first : IsFirstWhole nodes node
   pub place : Place
   pub stands : place_at nodes node ≡ Some place
-  pub refusal : IsRefusedAs Script number place Nothing r
+  pub refusal : IsRefusedAs Script 34 place Nothing r
 
--- the command solves the problem of its script, checks what shows its answers, or filters its constraints
-abbrev pub IsSolving : Command → Type 0
-IsSolving (check script) = ⊥
-IsSolving (solve script limit) = ⊤
-IsSolving (resolve script settings limit warm) = ⊤
-IsSolving (certificate script settings limit) = ⊤
-IsSolving (certify script settings cert) = ⊤
-IsSolving (migrate script settings cert) = ⊤
-IsSolving (trial size limit) = ⊤
-IsSolving (iis script settings limit) = ⊤
+-- the command refuses such a problem: it solves from what earlier settings left, tells or checks what shows answers, filters constraints,
+-- or tries
+abbrev pub RefusesWhole : Command → Type 0
+RefusesWhole (check script) = ⊥
+RefusesWhole (solve script limit) = ⊥
+RefusesWhole (resolve script settings limit false) = ⊥
+RefusesWhole (resolve script settings limit true) = ⊤
+RefusesWhole (certificate script settings limit) = ⊤
+RefusesWhole (certify script settings cert) = ⊤
+RefusesWhole (migrate script settings cert) = ⊤
+RefusesWhole (trial size limit) = ⊤
+RefusesWhole (iis script settings limit) = ⊤
 
--- the number of the refusal: what the command does isn't offered with such variables, or it has no meaning with them
-abbrev pub whole_number : Command → ℕ
-whole_number (check script) = 12
-whole_number (solve script limit) = 12
-whole_number (resolve script settings limit false) = 12
-whole_number (resolve script settings limit true) = 34
-whole_number (certificate script settings limit) = 34
-whole_number (certify script settings cert) = 34
-whole_number (migrate script settings cert) = 34
-whole_number (trial size limit) = 12
-whole_number (iis script settings limit) = 34
+-- the command takes the problem of these nodes
+abbrev pub Takes : Command → List Node → Type 0
+Takes command nodes = RefusesWhole command → HasNoWhole nodes

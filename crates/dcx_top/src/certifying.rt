@@ -92,7 +92,7 @@ fn read_all<L: Library>(
     ensures same { L.told library.new ≡ L.told library.old }
 {
     let accepted = read_script(alloc, script, library)?;
-    if let Some(refusal) = refuse_whole(&accepted.work.problem, 34) {
+    if let Some(refusal) = refuse_whole(&accepted.work.problem) {
         return Err(Run::Refused(refusal));
     }
     match read_settings(alloc, settings, library) {

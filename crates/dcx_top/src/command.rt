@@ -9,6 +9,7 @@
 //! | the usage line comes exactly where the words are no plain form | `usage` |
 //! | the report's text or a front of it is written, with its status | `reports` |
 //! | a `resolve` with `--warm` answers each setting from the columns that the settings before it left, and counts these | `causes` |
+//! | a problem with variables that are to be whole is solved by branch and bound: a whole optimum, or that there is no whole point, with the number of nodes of the run | `headline`, `causes` |
 //! | an `iis` tells of each setting a feasible point, or the filter's set with a point for each member that keeps the others | `headline`, `causes` |
 //! | no file changes | `same` |
 ghost use Rattle.std.specs.Prelude.{◌≡◌, ◌↔◌, map, string_bytes, None};
@@ -19,7 +20,7 @@ ghost use Rattle.dcx_top.specs.Runs.{Causes};
 ghost use Rattle.dcx_top.specs.Headline.{IsRightRun};
 ghost use Rattle.dcx_top.specs.OneRun.{IsOnlyRun};
 ghost use Rattle.dcx_top.specs.Verdicts.{IsRightVerdict};
-ghost use Rattle.dcx_top.specs.Ended.{Reports, outcomes_status as outcomes_status_of, filters_status as filters_status_of, status_of, is_stop, wants_memory, is_filter_stop, filter_wants_memory};
+ghost use Rattle.dcx_top.specs.Ended.{Reports, outcomes_status as outcomes_status_of, filters_status as filters_status_of, wholes_status as wholes_status_of, status_of, is_stop, wants_memory, is_filter_stop, filter_wants_memory, is_whole_stop, whole_wants_memory};
 
 use crate::certifying::{certify, migrate};
 use crate::checking::check;
@@ -28,7 +29,10 @@ use crate::solving::{Task, resolve, solve, trial};
 use crate::write::write_all;
 use dcx_answer::Stop;
 use dcx_host::{Library, Sink, SinkFault};
-use dcx_report::{FilterEnd, FilterOutcome, FilterStop, Outcome, OutcomeEnd, Run, report_text};
+use dcx_report::{
+    BranchStop, FilterEnd, FilterOutcome, FilterStop, Outcome, OutcomeEnd, Run, WholeEnd,
+    WholeOutcome, report_text,
+};
 use dcx_steps::Steps;
 use dcx_words::{Form, plain_form};
 use std::alloc::Global;
@@ -158,6 +162,38 @@ fn filters_status(outcomes: &[FilterOutcome]) -> u8
     }
 }
 
+/// Whether a setting at which a problem with variables that are to be whole is solved stopped.
+fn has_whole_stop(outcomes: &[WholeOutcome]) -> bool
+    ensures { result ≡ list_any (λ o. is_whole_stop o.end) outcomes.now }
+{
+    outcomes.iter().any(|outcome| matches!(&outcome.end, WholeEnd::Branch(_) | WholeEnd::Stop(_)))
+}
+
+/// Whether one stopped for want of memory.
+fn has_whole_want(outcomes: &[WholeOutcome]) -> bool
+    ensures { result ≡ list_any (λ o. whole_wants_memory o.end) outcomes.now }
+{
+    outcomes.iter().any(|outcome| {
+        matches!(
+            &outcome.end,
+            WholeEnd::Branch(BranchStop::Memory) | WholeEnd::Stop(Stop::Memory)
+        )
+    })
+}
+
+/// The status of outcomes at which a problem with variables that are to be whole is solved.
+fn wholes_status(outcomes: &[WholeOutcome]) -> u8
+    ensures { result ≡ wholes_status_of outcomes.now }
+{
+    if has_whole_want(outcomes) {
+        5
+    } else if has_whole_stop(outcomes) {
+        6
+    } else {
+        0
+    }
+}
+
 /// The status of a run whose whole report is written.
 fn status(run: &Run) -> u8
     ensures { result ≡ status_of run.now }
@@ -167,6 +203,7 @@ fn status(run: &Run) -> u8
         Run::Refused(_) => 1,
         Run::Checked(_) => 0,
         Run::Solved { outcomes, .. } => outcomes_status(outcomes.as_slice()),
+        Run::Branched { outcomes, .. } => wholes_status(outcomes.as_slice()),
         Run::Certificates { stopped: true, .. } => 6,
         Run::Certificates { stopped: false, .. } => 0,
         Run::Certified { .. } => 0,

@@ -1,6 +1,6 @@
-//! A problem is solved: at the settings of its script's solves, at those of a file, or at the two of the trial; or its certificate is
-//! written at those of a file, or its constraints are filtered there.
-ghost use Rattle.std.specs.Prelude.{◌≡◌, ◌⊎◌, ◌≤◌, false, ℕ, List, Some};
+//! A problem is solved: at the settings of its script's solves, at those of a file, or at the two of the trial, by branch and bound
+//! where it has a variable that is to be whole; or its certificate is written at those of a file, or its constraints are filtered there.
+ghost use Rattle.std.specs.Prelude.{◌≡◌, ◌⊎◌, ◌≤◌, ⊤, true, false, ℕ, List, Some, IsTrue, MatchOption};
 ghost use Rattle.std.specs.declared.option.Option.{Option};
 ghost use Rattle.dcx_settings.specs.Grammar.{Every};
 ghost use Rattle.dcx_point.specs.Pairs.{Pairs};
@@ -12,15 +12,16 @@ ghost use Rattle.dcx_front.specs.Accepts.{IsJudged};
 ghost use Rattle.dcx_words.specs.Commands.{solve as solves, trial as tries, command_of};
 ghost use Rattle.dcx_overlay.specs.Settings.{AreLaidOver};
 ghost use Rattle.dcx_host.specs.Files.{Files};
-ghost use Rattle.dcx_top.specs.Runs.{OrWhole, SolvesAt, CertifiesAt, FiltersAt, TriesAt, DoesAt, DoesFrom, task_number, command_for, Causes};
+ghost use Rattle.dcx_top.specs.Whole.{HasNoWhole, IsRefusedForWhole};
+ghost use Rattle.dcx_top.specs.Runs.{OrWhole, SolvesAt, BranchesAt, AnswersAt, CertifiesAt, FiltersAt, TriesAt, DoesAt, DoesFrom, task_refuses, command_for, Causes};
 
 use crate::certifying::written;
 use crate::files::{ended, read_script, read_settings};
-use crate::whole::refuse_whole;
+use crate::whole::{has_whole, refuse_whole};
 use dcx_certificates::certificate;
-use dcx_front::{Accepted, accept};
+use dcx_front::{Accepted, Refusal, accept};
 use dcx_host::Library;
-use dcx_outcomes::{filter_outcomes, outcomes};
+use dcx_outcomes::{filter_outcomes, outcomes, whole_outcomes};
 use dcx_overlay::{all_laid_over, trial_settings};
 use dcx_point::Setting;
 use dcx_report::{Run, Word};
@@ -73,6 +74,52 @@ fn solved_at<S: Ledger>(
     }
 }
 
+/// An accepted problem with a variable that is to be whole is solved at settings.
+fn branched_at<S: Ledger>(
+    alloc: Global,
+    problem: Problem,
+    verdict: Verdict,
+    settings: &[Setting],
+    word: Word,
+    limit: u64,
+    steps: &mut Steps<S>,
+) -> Run
+    requires accepted { IsAccepted problem }
+    requires verdict { IsVerdictOf problem verdict }
+    ensures { BranchesAt problem limit settings.now (λ os. Run.Branched word problem.sense os) steps.old steps.new result }
+{
+    let sense = problem.sense;
+    match whole_outcomes(alloc, problem, verdict, settings, limit, steps) {
+        Ok(outcomes) => Run::Branched {
+            word,
+            sense,
+            outcomes,
+        },
+        Err(_) => Run::Memory,
+    }
+}
+
+/// An accepted problem is solved at settings, by branch and bound where a variable is to be whole.
+fn answered_at<S: Ledger>(
+    alloc: Global,
+    problem: Problem,
+    verdict: Verdict,
+    settings: &[Setting],
+    word: Word,
+    limit: u64,
+    steps: &mut Steps<S>,
+) -> Run
+    requires accepted { IsAccepted problem }
+    requires verdict { IsVerdictOf problem verdict }
+    ensures { AnswersAt word problem limit settings.now steps.old steps.new result }
+{
+    if has_whole(&problem) {
+        branched_at(alloc, problem, verdict, settings, word, limit, steps)
+    } else {
+        solved_at(alloc, problem, verdict, settings, word, limit, false, steps)
+    }
+}
+
 /// The certificate of an accepted problem at settings.
 fn certified_at<S: Ledger>(
     alloc: Global,
@@ -119,21 +166,17 @@ fn solve_events<S: Ledger>(
     steps: &mut Steps<S>,
 ) -> Run
     requires { IsJudged accepted.work.problem accepted.verdict }
-    ensures { OrWhole 12 accepted.work.problem (SolvesAt false accepted.work.problem limit accepted.work.events (λ os count. Run.Solved Word.Solve accepted.work.problem.sense os count) steps.old steps.new) steps.old steps.new result }
+    ensures { AnswersAt Word.Solve accepted.work.problem limit accepted.work.events steps.old steps.new result }
 {
-    if let Some(refusal) = refuse_whole(&accepted.work.problem, 12) {
-        return Run::Refused(refusal);
-    }
     let Accepted { work, verdict } = accepted;
     let events = work.events;
-    solved_at(
+    answered_at(
         alloc,
         work.problem,
         verdict,
         events.as_slice(),
         Word::Solve,
         limit,
-        false,
         steps,
     )
 }
@@ -157,14 +200,23 @@ fn do_lines<S: Ledger>(
     };
     let problem = work.problem;
     match task {
-        Task::Resolve { warm } => solved_at(
+        Task::Resolve { warm: false } => answered_at(
             alloc,
             problem,
             verdict,
             &settings,
             Word::Setting,
             limit,
-            warm,
+            steps,
+        ),
+        Task::Resolve { warm: true } => solved_at(
+            alloc,
+            problem,
+            verdict,
+            &settings,
+            Word::Setting,
+            limit,
+            true,
             steps,
         ),
         Task::Certificate => certified_at(alloc, problem, verdict, &settings, limit, steps),
@@ -181,9 +233,9 @@ fn solve_trial<S: Ledger>(
     steps: &mut Steps<S>,
 ) -> Run
     requires { IsJudged accepted.work.problem accepted.verdict }
-    ensures { OrWhole 12 accepted.work.problem (TriesAt accepted.work size limit steps.old steps.new) steps.old steps.new result }
+    ensures { OrWhole ⊤ accepted.work.problem (TriesAt accepted.work size limit steps.old steps.new) steps.old steps.new result }
 {
-    if let Some(refusal) = refuse_whole(&accepted.work.problem, 12) {
+    if let Some(refusal) = refuse_whole(&accepted.work.problem) {
         return Run::Refused(refusal);
     }
     let Accepted { work, verdict } = accepted;
@@ -216,13 +268,24 @@ pub(crate) fn solve<L: Library, S: Ledger>(
     }
 }
 
-/// The number of the refusal of a script that has a variable that is to be whole.
-fn whole_refusal(task: Task) -> u8
-    ensures { result ≡ task_number task }
+/// Whether a problem with a variable that is to be whole is refused.
+fn refuses_whole(task: Task) -> bool
+    ensures { result ≡ task_refuses task }
 {
     match task {
-        Task::Resolve { warm: false } => 12,
-        Task::Resolve { warm: true } | Task::Certificate | Task::Filter => 34,
+        Task::Resolve { warm } => warm,
+        Task::Certificate | Task::Filter => true,
+    }
+}
+
+/// The refusal of a script that has a variable that is to be whole, where that is refused.
+fn whole_refusal(problem: &Problem, task: Task) -> Option<Refusal>
+    ensures { MatchOption result (IsTrue (task_refuses task) → HasNoWhole problem.now.tree) (λ r. IsTrue (task_refuses task) × IsRefusedForWhole problem.now.tree r) }
+{
+    if refuses_whole(task) {
+        refuse_whole(problem)
+    } else {
+        None
     }
 }
 
@@ -237,11 +300,11 @@ fn do_file<L: Library, S: Ledger>(
     steps: &mut Steps<S>,
 ) -> Run
     requires { IsJudged accepted.work.problem accepted.verdict }
-    ensures run { OrWhole (task_number task) accepted.work.problem (DoesFrom (L.told library.old) (Rose (L.faults library.old) (L.faults library.new)) task accepted.work settings.now limit steps.old steps.new) steps.old steps.new result }
+    ensures run { OrWhole (IsTrue (task_refuses task)) accepted.work.problem (DoesFrom (L.told library.old) (Rose (L.faults library.old) (L.faults library.new)) task accepted.work settings.now limit steps.old steps.new) steps.old steps.new result }
     ensures same { L.told library.new ≡ L.told library.old }
     ensures never_falls { L.faults library.old ≤ L.faults library.new }
 {
-    if let Some(refusal) = refuse_whole(&accepted.work.problem, whole_refusal(task)) {
+    if let Some(refusal) = whole_refusal(&accepted.work.problem, task) {
         return Run::Refused(refusal);
     }
     match read_settings(alloc, settings, library) {

@@ -1,7 +1,6 @@
-//! Variables whose entries are to be whole: a problem that has one is checked, and not solved.
+//! Variables whose entries are to be whole: whether a problem has one, and how it is refused where that isn't offered.
 ghost use Rattle.std.specs.Prelude.{◌↔◌, ◌≢◌, ◌<◌, length, IsTrue, MatchOption};
-ghost use Rattle.dcx_front.specs.Refusals.{is_refusal};
-ghost use Rattle.dcx_top.specs.Whole.{IsWholeAt, HasNoWhole, IsFirstWhole, IsRefusedForWhole};
+ghost use Rattle.dcx_top.specs.Whole.{IsWholeAt, HasNoWhole, HasWhole, IsFirstWhole, IsRefusedForWhole};
 
 use dcx_front::{Carried, Refusal, RefusalSource};
 use dcx_tree::{Call, NodeId, Problem, Tree, Variable, Whole};
@@ -36,15 +35,21 @@ fn first_whole(tree: &Tree) -> Option<NodeId>
     None
 }
 
-/// The refusal, with this number, of a script whose problem has a variable that is to be whole, at the place of the first one.
-pub(crate) fn refuse_whole(problem: &Problem, number: u8) -> Option<Refusal>
-    requires { IsTrue (is_refusal number Carried.Nothing) }
-    ensures { MatchOption result (HasNoWhole problem.now.tree) (IsRefusedForWhole number problem.now.tree) }
+/// Whether a problem has such a variable.
+pub(crate) fn has_whole(problem: &Problem) -> bool
+    ensures { IsTrue result ↔ HasWhole problem.now.tree }
+{
+    matches!(first_whole(&problem.tree), Some(_))
+}
+
+/// The refusal of a script whose problem has a variable that is to be whole, at the place of the first one.
+pub(crate) fn refuse_whole(problem: &Problem) -> Option<Refusal>
+    ensures { MatchOption result (HasNoWhole problem.now.tree) (IsRefusedForWhole problem.now.tree) }
 {
     let node = first_whole(&problem.tree)?;
     Some(Refusal {
         source: RefusalSource::Script,
-        number,
+        number: 34,
         place: problem.tree.place(node),
         carried: Carried::Nothing,
     })

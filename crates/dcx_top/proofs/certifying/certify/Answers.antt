@@ -10,7 +10,7 @@ use Rattle.dcx_top.proofs.certifying.certify.Goals as goal
 pub returns-in-Err-clause-causes : goal.returns-in-Err-clause-causes
 returns-in-Err-clause-causes g c = λ words steps form.
     files_end words (g.L.Library.told c.args.library.now) (Rose (g.L.Library.faults c.args.library.now) (g.L.Library.faults c.read_all.new.library)) (certify c.args.script.now c.args.settings.now c.args.certificate.now) form
-    c.args.script.now c.args.settings.now c.args.certificate.now refl refl refl tt (λ b h. h) (λ w s h. h) refl steps c.in-Err.run' c.in-Err.ensures.ends
+    c.args.script.now c.args.settings.now c.args.certificate.now refl refl refl tt (λ b h. h) (λ w s h. h) steps c.in-Err.run' c.in-Err.ensures.ends
 
 pub check_sections-requires-clause-few : goal.check_sections-requires-clause-few
 check_sections-requires-clause-few g c =

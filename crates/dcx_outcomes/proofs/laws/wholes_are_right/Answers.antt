@@ -1,0 +1,5 @@
+use Rattle.dcx_outcomes.proofs.WholeEnds as holds
+use Rattle.dcx_outcomes.proofs.laws.wholes_are_right.Goals as goal
+
+pub returns : goal.returns
+returns c = holds.wholes_are_right

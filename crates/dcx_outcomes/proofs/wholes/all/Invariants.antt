@@ -1,0 +1,13 @@
+-- The outcomes of the settings so far, and their steps.
+use Rattle.std.proofs.Common.{◌≡◌, ◌+◌, ◌*◌, ◌≤◌, length, take}
+use Rattle.dcx_cache.specs.Programs.{HasMap}
+use Rattle.dcx_outcomes.specs.Wholes.{AreWholeOutcomes}
+use Rattle.dcx_outcomes.proofs.wholes.all.Given as goal
+
+abbrev pub invariant-loop-setting : goal.invariant-loop-setting
+invariant-loop-setting g l = record {
+  outcomes : AreWholeOutcomes l.initial.session.problem l.limit (take l.setting-index l.settings) l.outcomes.items;
+  same : l.session.problem ≡ l.initial.session.problem;
+  counted : HasMap l.initial.session.problem → l.steps ≡ l.initial.steps;
+  few : l.steps ≤ l.initial.steps + l.setting-index * length l.initial.session.problem.tree;
+}

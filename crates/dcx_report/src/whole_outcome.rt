@@ -1,0 +1,59 @@
+//! How each setting of a run ends at which a problem with marked variables is solved.
+ghost use Rattle.std.specs.Prelude.{◌≡◌, is_some};
+ghost use Rattle.dcx_report.specs.NodeStops.{whole_names_node};
+
+use crate::{BranchStop, Stop, WholeAnswer};
+use dcx_shape::Place;
+use std::marker::Model;
+
+/// A setting has a whole answer, or it is stopped.
+#[derive(Drop)]
+pub enum WholeEnd {
+    /// A whole optimum, or that there is no whole point.
+    Whole(WholeAnswer),
+    /// The run of nodes has no answer, for this reason.
+    Branch(BranchStop),
+    /// The setting has no program, for this reason.
+    Stop(Stop),
+}
+
+/// How a setting ends.
+#[derive(Drop)]
+pub struct WholeOutcome {
+    /// Its answer, or why it has none.
+    pub end: WholeEnd,
+    /// The place of the node that the setting's stop names, where it names one.
+    pub place: Option<Place>,
+    ghost placed: { is_some place ≡ whole_names_node end },
+}
+
+/// The outcome of each setting, in order.
+#[derive(Drop)]
+pub struct WholeOutcomes {
+    items: Vec<WholeOutcome>,
+}
+
+impl Model for WholeOutcomes {
+    ghost use Rattle.std.specs.Prelude.{List};
+    ghost use Rattle.dcx_report.specs.declared.whole_outcome.WholeOutcome.{WholeOutcome};
+
+    ghost Value = { List WholeOutcome };
+
+    ghost view = { λ o. o.items.items };
+}
+
+impl WholeOutcomes {
+    /// The list with these items. Takes no memory.
+    pub fn from_vec(items: Vec<WholeOutcome>) -> WholeOutcomes
+        ensures { result ≡ items.items }
+    {
+        WholeOutcomes { items }
+    }
+
+    /// The items of the list.
+    pub fn as_slice(&self) -> &[WholeOutcome]
+        ensures { result.now ≡ self.now }
+    {
+        self.items.as_slice()
+    }
+}
