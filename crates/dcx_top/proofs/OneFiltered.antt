@@ -1,10 +1,10 @@
 -- Two runs at which constraints are filtered are one.
-use Rattle.std.proofs.Common.{◌≡◌, ℕ, List, Option, Some, sym, subst}
+use Rattle.std.proofs.Common.{◌≡◌, ℕ, List, Some, sym, subst}
 use Rattle.dcx_point.specs.Pairs.{Pairs}
 use Rattle.dcx_host.specs.Files.{Files}
 use Rattle.dcx_front.specs.declared.accepted.Accepted.{Accepted}
 use Rattle.dcx_report.specs.declared.filter_outcome.FilterOutcome.{FilterOutcome}
-use Rattle.dcx_words.specs.Commands.{Command, iis, command_of}
+use Rattle.dcx_words.specs.Commands.{Command, iis}
 use Rattle.dcx_outcomes.specs.Filters.{AreFilterOutcomes}
 use Rattle.dcx_outcomes.specs.FilterLaws.{AreAlikeFilters}
 use Rattle.dcx_outcomes.proofs.FilterEnds.{filters_are_one}

@@ -1,6 +1,6 @@
 //! A problem is solved: at the settings of its script's solves, at those of a file, or at the two of the trial, by branch and bound
 //! where it has a variable that is to be whole; or its certificate is written at those of a file, or its constraints are filtered there.
-ghost use Rattle.std.specs.Prelude.{◌≡◌, ◌⊎◌, ◌≤◌, ⊤, true, false, ℕ, List, Some, IsTrue, MatchOption};
+ghost use Rattle.std.specs.Prelude.{◌≡◌, ◌⊎◌, ◌≤◌, ⊤, ℕ, List, Some, IsTrue, MatchOption};
 ghost use Rattle.std.specs.declared.option.Option.{Option};
 ghost use Rattle.dcx_settings.specs.Grammar.{Every};
 ghost use Rattle.dcx_point.specs.Pairs.{Pairs};

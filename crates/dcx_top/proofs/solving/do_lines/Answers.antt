@@ -16,7 +16,7 @@ returns-in-Certificate g c =
     inr (
       c.in-Ok.settings.items,
       subst (λ l. AreLaidOver c.args.accepted.work.last l c.in-Ok.settings.items) c.as_slice.ensures c.in-Ok.ensures,
-      task_certified c.args.accepted.work c.args.limit c.in-Ok.settings.items c.deref.result.now c.args.task c.args.steps.now c.certified_at.new.steps c.certified_at.result c.in-Certificate.is c.deref.ensures.value c.certified_at.ensures,
+      task_certified c.args.accepted.work c.args.limit c.in-Ok.settings.items c.deref-in-Certificate.result.now c.args.task c.args.steps.now c.certified_at.new.steps c.certified_at.result c.in-Certificate.is c.deref-in-Certificate.ensures.value c.certified_at.ensures,
     )
 
 pub returns : goal.returns
@@ -24,5 +24,5 @@ returns g c =
     inr (
       c.in-Ok.settings.items,
       subst (λ l. AreLaidOver c.args.accepted.work.last l c.in-Ok.settings.items) c.as_slice.ensures c.in-Ok.ensures,
-      task_filtered c.args.accepted.work c.args.limit c.in-Ok.settings.items c.deref.result.now c.args.task c.args.steps.now c.filtered_at.new.steps c.filtered_at.result c.in-Filter.is c.deref.ensures.value c.filtered_at.ensures,
+      task_filtered c.args.accepted.work c.args.limit c.in-Ok.settings.items c.deref-in-Filter.result.now c.args.task c.args.steps.now c.filtered_at.new.steps c.filtered_at.result c.in-Filter.is c.deref-in-Filter.ensures.value c.filtered_at.ensures,
     )
