@@ -1,5 +1,5 @@
 -- Variables that are to be whole, among the nodes of a tree.
-use Rattle.std.proofs.Common.{◌≡◌, ◌≢◌, ◌↔◌, IsTrue, ℕ, ◌<◌, ◌≤◌, List, length, Bool, true, false, Some, refl, sym, ap, subst, ◌∙◌, arith}
+use Rattle.std.proofs.Common.{◌≡◌, ◌≢◌, ◌↔◌, IsTrue, ℕ, ◌<◌, ◌≤◌, List, length, Bool, true, false, Some, sym, ap, subst, ◌∙◌, arith}
 use Rattle.std.proofs.lemmas.Option.{none-some, slice_get_past}
 use Rattle.std.specs.Prelude.{option_map}
 use Rattle.dcx_arena.specs.Nodes.{call_at}
@@ -8,7 +8,7 @@ use Rattle.dcx_call.specs.declared.attribute.Whole.TheVariants.{Not}
 use Rattle.dcx_call.specs.declared.call.Call.{Call}
 use Rattle.dcx_call.specs.declared.call.Call.TheVariants as calls
 use Rattle.dcx_tree.specs.Nodes.{Node}
-use Rattle.dcx_top.specs.Whole.{IsWholeAt, HasNoWhole, HasWhole, IsFirstWhole}
+use Rattle.dcx_top.specs.Whole.{IsWholeAt, HasNoWhole, HasWhole}
 
 same_variable : (v w : Variable) → Some (calls.Variable v) ≡ Some (calls.Variable w) → v ≡ w
 same_variable v w e = cc
@@ -34,9 +34,6 @@ pub none_whole : (nodes : List Node) (n : ℕ) → length nodes ≤ n → ((j : 
 none_whole nodes n le h i k = let l = whole_within nodes i k in h i (omega (arith, l, le)) k
 
 -- whether there is one
-pub some_whole : (nodes : List Node) (i : ℕ) → IsFirstWhole nodes i → IsTrue true ↔ HasWhole nodes
-some_whole nodes i h = (λ t. (i, h.is), λ k. refl)
-
 pub no_whole : (nodes : List Node) → HasNoWhole nodes → IsTrue false ↔ HasWhole nodes
 no_whole nodes h = (λ t. let e : false ≡ true = t in absurd (cc), λ k. absurd (h k.0 k.1))
 

@@ -1,5 +1,5 @@
 -- Two runs that solve by branch and bound are one, and none is a run that solves otherwise.
-use Rattle.std.proofs.Common.{◌≡◌, ℕ, true, false, List, Option, Some, refl, sym, ap, subst}
+use Rattle.std.proofs.Common.{◌≡◌, ℕ, true, false, List, Some, refl, sym, ap, subst}
 use Rattle.dcx_point.specs.Pairs.{Pairs}
 use Rattle.dcx_tree.specs.declared.constraint.Sense.{Sense}
 use Rattle.dcx_host.specs.Files.{Files}

@@ -12,7 +12,7 @@ use Rattle.dcx_sections.specs.declared.fault.CertFault.{CertFault}
 use Rattle.dcx_report.specs.declared.filter_outcome.FilterOutcome.{FilterOutcome}
 use Rattle.dcx_report.specs.declared.run.Run.{Run}
 use Rattle.dcx_report.specs.declared.run.Run.TheVariants as run
-use Rattle.dcx_words.specs.Commands.{Command, check, migrate, iis, command_of}
+use Rattle.dcx_words.specs.Commands.{check, migrate, command_of}
 use Rattle.dcx_top.specs.Runs.{GivesProblem, IsChecked, IsSolvedRun, IsBranchedRun, IsFilteredRun, AreBytesOf, IsCertifiedRun, IsCertRefusedRun, IsRefusedRun, Causes}
 use Rattle.dcx_top.specs.OneRun.{IsAnswered, AreOneRun, IsOnlyRun}
 use Rattle.dcx_top.proofs.OneFiltered.{filtered_once}

@@ -168,10 +168,13 @@ pub data IsCertRefusedRun (words : List (List ℕ)) (told : Option Files) (secti
   misread : (command : Command) (files : HasCertificate words told command) → IsMisread told files.name files.accepted.work.problem (length files.settings) section f → IsCertRefusedRun words told section f
   failed : (command : Command) (sections : Sections) (reads : ReadsSections words told command sections) → IsFirstRefused reads.files.accepted.work.problem reads.files.settings sections.list section f → IsCertRefusedRun words told section f
 
--- the run is one of these, where no variable is to be whole if that is refused; or it refuses the script for the first one, and no step
--- is counted
+-- the run refuses the script for the first variable that is to be whole, and no step is counted
+abbrev pub RefusedForWhole : Problem → ℕ → ℕ → Run → Type 0
+RefusedForWhole p old new r = (t : Refusal) × IsRefusedForWhole p.tree t × (r ≡ run.Refused t) × (new ≡ old)
+
+-- the run is one of these, where no variable is to be whole if that is refused; or it refuses the script
 abbrev pub OrWhole : Type 0 → Problem → (Run → Type 0) → ℕ → ℕ → Run → Type 0
-OrWhole Refuses p Next old new r = ((Refuses → HasNoWhole p.tree) × Next r) ⊎ (Refuses × (t : Refusal) × IsRefusedForWhole p.tree t × (r ≡ run.Refused t) × (new ≡ old))
+OrWhole Refuses p Next old new r = ((Refuses → HasNoWhole p.tree) × Next r) ⊎ (Refuses × RefusedForWhole p old new r)
 
 -- a problem is solved at settings, warm or not, and its outcomes are told so; want of memory is free
 abbrev pub SolvesAt : Bool → Problem → ℕ → List Pairs → (List Outcome → Option ℕ → Run) → ℕ → ℕ → Run → Type 0
@@ -188,6 +191,11 @@ abbrev pub AnswersAt : Word → Problem → ℕ → List Pairs → ℕ → ℕ �
 AnswersAt word p limit settings old new r =
     (HasNoWhole p.tree × SolvesAt false p limit settings (λ os count. run.Solved word p.sense os count) old new r)
     ⊎ (HasWhole p.tree × BranchesAt p limit settings (λ os. run.Branched word p.sense os) old new r)
+
+-- it is solved at the settings of a file, warm or not
+abbrev pub ResolvesAt : Bool → Problem → ℕ → List Pairs → ℕ → ℕ → Run → Type 0
+ResolvesAt false p limit settings old new r = AnswersAt word.Setting p limit settings old new r
+ResolvesAt true p limit settings old new r = SolvesAt true p limit settings (λ os count. run.Solved word.Setting p.sense os count) old new r
 
 -- the trial problem is solved at its two settings; want of memory is free
 abbrev pub TriesAt : Work → ℕ → ℕ → ℕ → ℕ → Run → Type 0
@@ -211,8 +219,7 @@ FromFile told risen work name At old new r =
 
 -- an accepted problem is solved at the settings of a file, its certificate is told there, or its constraints are filtered there
 abbrev pub DoesAt : Task → Work → ℕ → List Pairs → ℕ → ℕ → Run → Type 0
-DoesAt (tasks.Resolve false) work limit settings old new r = AnswersAt word.Setting work.problem limit settings old new r
-DoesAt (tasks.Resolve true) work limit settings old new r = SolvesAt true work.problem limit settings (λ os count. run.Solved word.Setting work.problem.sense os count) old new r
+DoesAt (tasks.Resolve warm) work limit settings old new r = ResolvesAt warm work.problem limit settings old new r
 DoesAt tasks.Certificate work limit settings old new r = CertifiesAt work.problem limit settings old new r
 DoesAt tasks.Filter work limit settings old new r = FiltersAt work.problem limit settings old new r
 

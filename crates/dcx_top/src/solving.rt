@@ -1,6 +1,6 @@
 //! A problem is solved: at the settings of its script's solves, at those of a file, or at the two of the trial, by branch and bound
 //! where it has a variable that is to be whole; or its certificate is written at those of a file, or its constraints are filtered there.
-ghost use Rattle.std.specs.Prelude.{◌≡◌, ◌⊎◌, ◌≤◌, ⊤, true, false, ℕ, List, Some, IsTrue, MatchOption};
+ghost use Rattle.std.specs.Prelude.{◌≡◌, ◌⊎◌, ◌≤◌, ⊤, ℕ, List, Some, IsTrue, MatchOption};
 ghost use Rattle.std.specs.declared.option.Option.{Option};
 ghost use Rattle.dcx_settings.specs.Grammar.{Every};
 ghost use Rattle.dcx_point.specs.Pairs.{Pairs};
@@ -13,7 +13,7 @@ ghost use Rattle.dcx_words.specs.Commands.{solve as solves, trial as tries, comm
 ghost use Rattle.dcx_overlay.specs.Settings.{AreLaidOver};
 ghost use Rattle.dcx_host.specs.Files.{Files};
 ghost use Rattle.dcx_top.specs.Whole.{HasNoWhole, IsRefusedForWhole};
-ghost use Rattle.dcx_top.specs.Runs.{OrWhole, SolvesAt, BranchesAt, AnswersAt, CertifiesAt, FiltersAt, TriesAt, DoesAt, DoesFrom, task_refuses, command_for, Causes};
+ghost use Rattle.dcx_top.specs.Runs.{OrWhole, SolvesAt, BranchesAt, AnswersAt, ResolvesAt, CertifiesAt, FiltersAt, TriesAt, DoesAt, DoesFrom, task_refuses, command_for, Causes};
 
 use crate::certifying::written;
 use crate::files::{ended, read_script, read_settings};
@@ -120,6 +120,44 @@ fn answered_at<S: Ledger>(
     }
 }
 
+/// An accepted problem is solved at the settings of a file, where `warm` says so from the columns that the settings before left.
+fn resolved_at<S: Ledger>(
+    alloc: Global,
+    problem: Problem,
+    verdict: Verdict,
+    settings: &[Setting],
+    limit: u64,
+    warm: bool,
+    steps: &mut Steps<S>,
+) -> Run
+    requires accepted { IsAccepted problem }
+    requires verdict { IsVerdictOf problem verdict }
+    ensures { ResolvesAt warm problem limit settings.now steps.old steps.new result }
+{
+    if warm {
+        solved_at(
+            alloc,
+            problem,
+            verdict,
+            settings,
+            Word::Setting,
+            limit,
+            true,
+            steps,
+        )
+    } else {
+        answered_at(
+            alloc,
+            problem,
+            verdict,
+            settings,
+            Word::Setting,
+            limit,
+            steps,
+        )
+    }
+}
+
 /// The certificate of an accepted problem at settings.
 fn certified_at<S: Ledger>(
     alloc: Global,
@@ -200,24 +238,8 @@ fn do_lines<S: Ledger>(
     };
     let problem = work.problem;
     match task {
-        Task::Resolve { warm: false } => answered_at(
-            alloc,
-            problem,
-            verdict,
-            &settings,
-            Word::Setting,
-            limit,
-            steps,
-        ),
-        Task::Resolve { warm: true } => solved_at(
-            alloc,
-            problem,
-            verdict,
-            &settings,
-            Word::Setting,
-            limit,
-            true,
-            steps,
+        Task::Resolve { warm } => resolved_at(
+            alloc, problem, verdict, &settings, limit, warm, steps,
         ),
         Task::Certificate => certified_at(alloc, problem, verdict, &settings, limit, steps),
         Task::Filter => filtered_at(alloc, problem, verdict, &settings, limit, steps),

@@ -5,7 +5,7 @@ use Rattle.dcx_top.proofs.Endings.{lines_done}
 use Rattle.dcx_top.proofs.solving.do_file.Goals as goal
 
 pub returns-in-Some-clause-run : goal.returns-in-Some-clause-run
-returns-in-Some-clause-run g c = inr (c.in-Some.ensures.0, c.in-Some.refusal, c.in-Some.ensures.1, refl, refl)
+returns-in-Some-clause-run g c = inr (c.in-Some.ensures.0, (c.in-Some.refusal, c.in-Some.ensures.1, refl, refl))
 
 pub do_lines-requires-clause-full : goal.do_lines-requires-clause-full
 do_lines-requires-clause-full g c = let (bytes, there, spelled) = c.in-Ok.ensures.reads in items_full_in bytes c.in-Ok.lines spelled

@@ -8,7 +8,7 @@ returns-in-Resolve g c =
     inr (
       c.in-Ok.settings.items,
       subst (λ l. AreLaidOver c.args.accepted.work.last l c.in-Ok.settings.items) c.as_slice.ensures c.in-Ok.ensures,
-      task_resolved c.args.accepted.work c.args.limit c.in-Ok.settings.items c.deref.result.now c.args.task c.in-Resolve.warm c.args.steps.now c.solved_at.new.steps c.solved_at.result c.in-Resolve.is c.deref.ensures.value c.solved_at.ensures,
+      task_resolved c.args.accepted.work c.args.limit c.in-Ok.settings.items c.deref.result.now c.args.task c.in-Resolve.warm c.args.steps.now c.resolved_at.new.steps c.resolved_at.result c.in-Resolve.is c.deref.ensures.value c.resolved_at.ensures,
     )
 
 pub returns-in-Certificate : goal.returns-in-Certificate
