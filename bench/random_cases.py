@@ -1,8 +1,9 @@
-"""Writes worked cases of scripts drawn at random, with what the reference answers: `random_cases.py SEED COUNT [LINES [iis|whole]]`.
+"""Writes worked cases of scripts drawn at random, with what the reference answers: `random_cases.py SEED COUNT [LINES [iis|whole|range]]`.
 
 A script that is refused is drawn anew, and so is one with no number but 0 to tell. About half of the cases have settings. LINES is how long a report may be.
 With `iis` they are cases of that word, with more constraints, and at some setting of each no point keeps them all. With `whole` some variables are boolean or
-integer, all of them have bounds, and some setting of each has more than one node.
+integer, all of them have bounds, and some setting of each has more than one node. With `range` they are cases of that word, of a parameter that most often
+stands beside the variables, and some setting of each has a span.
 The reference shows of each answer that it is right; the program of `crates/dcx_cases`, given the file, tells where dcx differs.
 """
 import random
@@ -37,12 +38,18 @@ def array(shape):
 
 
 class Model:
-    """A script that is drawn: its variables and parameters with their shapes. If it is whole, each variable has bounds, and most are to be whole."""
+    """A script that is drawn: its variables and parameters with their shapes.
 
-    def __init__(self, is_whole=False):
-        self.lines, self.variables, self.parameters, self.is_whole = [], [], [], is_whole
+    If it is whole, each variable has bounds, and most are to be whole. A parameter that moves stands beside variables, and is a number.
+    """
+
+    def __init__(self, is_whole=False, moves=False):
+        self.lines, self.variables, self.parameters, self.is_whole, self.moves = [], [], [], is_whole, moves
         for name in "xyz"[: random.randint(1, 3)]:
             self.variable(name)
+        if moves:
+            self.lines.append(f"m = cp.Parameter({pick('', '', 'nonneg=True', 'nonpos=True')})")
+            self.parameters.append(("m", ""))
         for name in "pqr"[: random.randint(0, 2)]:
             self.parameter(name)
 
@@ -77,6 +84,8 @@ class Model:
         text, shape = self.leaf()
         if random.random() < 0.4:
             text = f"{pick(*SCALING)}*{text}"
+        if self.moves and random.random() < 0.4:
+            return f"({text} {pick('+ m', '- m', '+ 2*m', '- m/3', '+ (1 - m)')})", shape
         if random.random() < 0.3 and self.parameters:
             name, size = pick(*self.parameters)
             text = pick(f"{name}*{text}" if size == "" else f"cp.multiply({name}, {text})", f"({text} - {name})")
@@ -118,7 +127,7 @@ class Model:
     def constraint(self):
         if random.random() < 0.5:
             text, shape = self.affine()
-            return f"{text} {pick('<=', '>=', '>=', '<=', '==')} {array(shape)}"
+            return f"{text} {pick('<=', '>=', '>=', '<=', '==')} {pick('m', array(shape)) if self.moves else array(shape)}"
         text, shape = self.curved()
         other = pick(*(name for name, size in self.parameters if size == ""), number(), self.affine()[0] if shape == "" else array(shape))
         return f"{text} {pick('<=', '>=')} {other}"
@@ -152,23 +161,34 @@ def tells_something(report):
     return re.search(r"^(var|dual|ray) .* = .*[1-9]", report, re.MULTILINE) is not None
 
 
-def drawn(most, is_filtered, is_whole):
+WORDS = {word: "resolve model.py settings.txt" for word in (None, "whole")}
+WORDS |= {"iis": "iis model.py settings.txt", "range": "range model.py settings.txt m"}
+
+
+def is_wanted(word, report):
+    """Whether the report has what cases of the word are drawn for."""
+    if word == "range":
+        return re.search(r" from (\S+) to (?!none)| from (?!none)", report) is not None
+    if word == "iis" and "infeasible" not in report:
+        return False
+    if word == "whole" and not re.search(r"^nodes ([2-9]|1[0-9])", report, re.MULTILINE):
+        return False
+    return tells_something(report)
+
+
+def drawn(most, word):
     """A case: its words, files, status and report."""
     while True:
-        model = Model(is_whole)
-        script = model.script(2, 6) if is_filtered else model.script()
+        model = Model(word == "whole", word == "range")
+        script = model.script(2, 6) if word == "iis" else model.script()
         files = {"model.py": IMPORTS + "\n".join(script).encode() + b"\n"}
         words = "solve model.py"
-        settings = [model.setting() for _ in range(random.randint(1, 4))] if model.reached() else ["{}"] * is_filtered
+        settings = [model.setting() for _ in range(random.randint(1, 4))] if model.reached() else ["{}"] * (word == "iis")
         if settings:
-            words = "iis model.py settings.txt" if is_filtered else "resolve model.py settings.txt"
+            words = WORDS[word]
             files["settings.txt"] = "\n".join(settings).encode() + b"\n"
         status, report = run(words.split(), files.__getitem__)
-        if is_filtered and "infeasible" not in report:
-            continue
-        if is_whole and not re.search(r"^nodes ([2-9]|1[0-9])", report, re.MULTILINE):
-            continue
-        if status in (0, 6) and report.count("\n") <= most and tells_something(report):
+        if status in (0, 6) and report.count("\n") <= most and is_wanted(word, report):
             return words, script, settings, status, report
 
 
@@ -176,7 +196,7 @@ def main(seed, count, most=40, word=None):
     random.seed(int(seed))
     print(f"# Scripts drawn at random from the seed {seed}, answered by bench/reference.py, which shows that each answer is right.")
     for _ in range(int(count)):
-        words, script, settings, status, report = drawn(int(most), word == "iis", word == "whole")
+        words, script, settings, status, report = drawn(int(most), word)
         print(f"\ncase {words}\nfile model.py\nimports", *(f"| {line}" for line in script), sep="\n")
         if settings:
             print("file settings.txt", *(f"| {line}" for line in settings), sep="\n")
@@ -184,6 +204,6 @@ def main(seed, count, most=40, word=None):
 
 
 if __name__ == "__main__":
-    if len(sys.argv) not in (3, 4, 5) or sys.argv[4:] not in ([], ["iis"], ["whole"]):
+    if len(sys.argv) not in (3, 4, 5) or sys.argv[4:] not in ([], ["iis"], ["whole"], ["range"]):
         raise SystemExit(__doc__)
     main(*sys.argv[1:])

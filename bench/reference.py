@@ -1,6 +1,6 @@
 """What dcx answers, worked out in Python from the written rules: a second reading of them that shares no code with the program.
 
-    reference.py WORDS           runs the words `check`, `solve`, `resolve`, `trial` and `iis` as dcx does, with its report and its status
+    reference.py WORDS           runs the words `check`, `solve`, `resolve`, `trial`, `iis` and `range` as dcx does, with its report and its status
     reference.py --cases FILE..  runs files of worked cases, tells each one that differs, and last how many there were
 """
 import sys

@@ -8,6 +8,7 @@ from .elaborate import elaborate
 from .faults import Refused, Stopped
 from .filtering import Filter
 from .grammar import parse
+from .ranging import Ranging, test_ranged
 from .rules import Verdict
 from .session import Session
 from .settings import parse_settings
@@ -15,7 +16,7 @@ from .tokens import text_of, tokens_of
 from .values import Array
 
 MOST_PIVOTS = 200_000
-OPERANDS = {"check": 1, "solve": 1, "resolve": 2, "certificate": 2, "certify": 3, "trial": 1, "migrate": 3, "iis": 2}
+OPERANDS = {"check": 1, "solve": 1, "resolve": 2, "certificate": 2, "certify": 3, "trial": 1, "migrate": 3, "iis": 2, "range": 3}
 WITHOUT_LIMIT = ("check", "certify", "migrate")
 
 
@@ -123,6 +124,17 @@ def filtered_of(accepted, settings, limit):
     return ends
 
 
+def ranged_of(session, settings, name, limit):
+    """How far the parameter may move at each setting, or what stops it."""
+    ends = []
+    for setting in settings:
+        try:
+            ends.append(Ranging(session, setting, name, limit).found())
+        except Stopped as stop:
+            ends.append(stop)
+    return ends
+
+
 def laid_over(last, line):
     """A line of the settings file over the setting at the script's end."""
     setting = dict(last)
@@ -146,7 +158,13 @@ def run_command(command, operands, limit, warm, fetch):
     if command == "solve":
         ends = ends_of(accepted, accepted.events, limit)
         return status_of(ends), report.solved(accepted.problem, "solve", ends)
+    if command == "range":
+        session = Session(accepted.problem, accepted.verdict)
+        test_ranged(session, operands[2])
     settings = [laid_over(accepted.last, line) for line in settings_of(fetch(operands[1]))]
+    if command == "range":
+        ends = ranged_of(session, settings, operands[2], limit)
+        return status_of(ends), report.ranged(accepted.problem, operands[2], ends)
     if command == "resolve" and warm:
         ends, count = warm_ends_of(accepted, settings, limit)
         return status_of(ends), report.solved(accepted.problem, "setting", ends) + f"warm {count}\n"

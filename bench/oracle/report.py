@@ -5,7 +5,7 @@ from .numbers import number
 
 USAGE = (
     "usage: dcx check SCRIPT | solve SCRIPT | resolve SCRIPT SETTINGS | certificate SCRIPT SETTINGS | certify SCRIPT SETTINGS CERT | "
-    "trial N | migrate SCRIPT SETTINGS CERT | iis SCRIPT SETTINGS\n"
+    "trial N | migrate SCRIPT SETTINGS CERT | range SCRIPT SETTINGS PARAM | iis SCRIPT SETTINGS\n"
 )
 SIGNS = {(True, True): "zero", (True, False): "nonneg", (False, True): "nonpos", (False, False): "unknown"}
 
@@ -87,6 +87,21 @@ def filtered(problem, ends):
             lines.append(f"setting {k} infeasible constraints {' '.join(str(c + 1) for c in end.members)}\n")
             for c, point in zip(end.members, end.points):
                 lines.append(f"without {c + 1}\n" + arrays(problem, "var", point))
+    return "".join(lines) + answered(ends)
+
+
+def ranged(problem, name, ends):
+    """The lines of how far a parameter may move at each setting, or what stops it."""
+    lines = []
+    for k, end in enumerate(ends, 1):
+        if isinstance(end, Stopped):
+            lines.append(outcome(problem, "setting", k, end))
+        elif end.kind != "optimal":
+            lines.append(f"setting {k} {end.kind}\n")
+        else:
+            low, high = ("none" if e is None else number(e) for e in (end.low, end.high))
+            value, slope = users(problem, end.constant), users(problem, end.slope)
+            lines.append(f"setting {k} range {name} from {low} to {high} value {value} slope {slope}\n")
     return "".join(lines) + answered(ends)
 
 

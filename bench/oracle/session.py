@@ -141,9 +141,13 @@ class Session:
         return [[0 if u is None else unknowns[u] for u in layout.entries[n]] for _, n in self.problem.variables]
 
     def duals(self, reading):
+        return self.spread(reading.multiplier)
+
+    def spread(self, multiplier):
+        """Multipliers of the constraints' rows, by constraint."""
         result, at = [], 0
         for constraint in self.problem.constraints:
             count = shapes.size(constraint.shape)
-            result.append([reading.multiplier(at + i) for i in range(count)])
+            result.append([multiplier(at + i) for i in range(count)])
             at += count
         return result

@@ -2,15 +2,16 @@
 use Rattle.std.specs.Prelude.{ℕ, Bool, ◌&&◌, ◌||◌, ◌==◌, nat_lt, nat_le, List, [], ◌∷◌, codes, unwrap_or}
 use Rattle.std.specs.Map.{lookup}
 use Rattle.dcx_front.specs.declared.refusal.Carried.{Carried}
-use Rattle.dcx_front.specs.declared.refusal.Carried.TheVariants.{Nothing, Count, Rule, Passes}
+use Rattle.dcx_front.specs.declared.refusal.Carried.TheVariants.{Nothing, Count, Rule, Passes, NotRanged}
 
 -- There is a refusal of this number that says this. 18 says what was counted, 19 the rule that is
--- broken, 20 the operation that passes, and the others, 34 among them, nothing.
+-- broken, 20 the operation that passes, 35 why a parameter has no range, and the others, 34 among them, nothing.
 abbrev pub is_refusal : ℕ → Carried → Bool
 is_refusal number Nothing = (nat_le 1 number && nat_lt number 18) || (number == 34)
 is_refusal number (Count what count) = number == 18
 is_refusal number (Rule rule) = number == 19
 is_refusal number (Passes passes) = number == 20
+is_refusal number (NotRanged fault) = number == 35
 
 -- each refusal's number and name
 abbrev pub refusal_names : List (ℕ × List ℕ)
@@ -36,6 +37,7 @@ refusal_names =
     ∷ (19, codes "NotDcp")
     ∷ (20, codes "PlainWide")
     ∷ (34, codes "WholeVariable")
+    ∷ (35, codes "NotRanged")
     ∷ []
 
 -- the name of the refusal of this number

@@ -4,6 +4,7 @@ ghost use Rattle.dcx_front.specs.Refusals.{is_refusal};
 
 use dcx_arena::Count;
 use dcx_frac::Passes;
+use dcx_ranged::NotRanged;
 use dcx_rules::Rule;
 use dcx_shape::Place;
 
@@ -34,6 +35,8 @@ pub enum Carried {
     Rule(Rule),
     /// The operation on plain numbers that passes 128 bits.
     Passes(Passes),
+    /// Why the parameter that is asked for has no range.
+    NotRanged(NotRanged),
 }
 
 /// Why a file is refused, and where.

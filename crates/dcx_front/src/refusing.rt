@@ -33,6 +33,7 @@ fn name_of(number: u8) -> &'static [u8]
         19 => b"NotDcp",
         20 => b"PlainWide",
         34 => b"WholeVariable",
+        35 => b"NotRanged",
         _ => b"",
     }
 }

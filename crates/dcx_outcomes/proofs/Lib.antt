@@ -8,3 +8,4 @@ pub mod Warm
 pub mod Counting
 pub mod FilterEnds
 pub mod WholeEnds
+pub mod RangeEnds

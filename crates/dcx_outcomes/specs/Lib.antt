@@ -7,3 +7,5 @@ pub mod Filters
 pub mod FilterLaws
 pub mod Wholes
 pub mod WholeLaws
+pub mod Ranges
+pub mod RangeLaws

@@ -1,5 +1,6 @@
 //! What holds of all outcomes. There is no code: each clause is a statement about all of them.
 ghost use Rattle.dcx_outcomes.specs.FilterLaws.{FiltersAreRight, FiltersAreOne};
+ghost use Rattle.dcx_outcomes.specs.RangeLaws.{RangeIsTold, RangesAreRight, RangesAreOne};
 ghost use Rattle.dcx_outcomes.specs.Laws.{OutcomesAreRight, OutcomesAreOne, WarmOutcomesAreRight, WarmOutcomesAgree, WarmOutcomesAreOne};
 ghost use Rattle.dcx_outcomes.specs.WholeLaws.{WholesAreRight, WholesAreOne};
 
@@ -48,4 +49,19 @@ pub fn wholes_are_right()
 /// Settings have one list of outcomes of a problem with marked variables; want of memory is free.
 pub fn wholes_are_one()
     ensures { WholesAreOne }
+{}
+
+/// One thing stands against the range of a parameter, and nothing does where it has one.
+pub fn range_is_told()
+    ensures { RangeIsTold }
+{}
+
+/// Whatever is told of a parameter's range at settings is right at its setting, which fits.
+pub fn ranges_are_right()
+    ensures { RangesAreRight }
+{}
+
+/// Settings have one list of what is told of a parameter's range, or of its stops; want of memory is free.
+pub fn ranges_are_one()
+    ensures { RangesAreOne }
 {}

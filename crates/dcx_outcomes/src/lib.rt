@@ -14,6 +14,10 @@
 //! | a problem with marked variables is solved at each setting, in order: how the run of nodes over a session's program ends, of at most 10,000 nodes | `whole_outcomes`, `specs/Wholes.antt`: `AreWholeOutcomes` |
 //! | each answer among them is a whole optimum, or that there is no whole point, at its setting, which fits, with a tree that shows it | `laws::wholes_are_right` |
 //! | settings have one list of them; want of memory is free | `laws::wholes_are_one` |
+//! | one thing stands against the range of a parameter, and nothing where it has one | `laws::range_is_told`, `specs/Ranges.antt`: `HasRange`, `LacksRange` |
+//! | the range of a parameter is told at each setting, in order: for a session's program, or what stops it; no step is counted | `range_outcomes`, `specs/Ranges.antt`: `AreRangeOutcomes` |
+//! | whatever is told of it is right for the problem at its setting, which fits | `laws::ranges_are_right` |
+//! | settings have one list of what is told of it, or of stops; want of memory is free | `laws::ranges_are_one` |
 //! | a problem that has a map is reduced once for all settings, another one at most once more at each | `outcomes`, `filter_outcomes`, `whole_outcomes`: `counted` |
 #![tactic(auto)]
 
@@ -21,8 +25,10 @@ mod filters;
 mod finding;
 pub mod laws;
 mod outcome;
+mod ranges;
 mod wholes;
 
 pub use filters::filter_outcomes;
 pub use finding::{Found, outcomes};
+pub use ranges::range_outcomes;
 pub use wholes::whole_outcomes;

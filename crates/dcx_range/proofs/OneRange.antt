@@ -27,10 +27,10 @@ use Rattle.dcx_solved.proofs.OneSolution.{stops_are_one}
 use Rattle.dcx_graph.specs.Program.{Program}
 use Rattle.dcx_graph.specs.Answers.{rows_of}
 use Rattle.dcx_range.specs.declared.asked.Asked.{Asked}
-use Rattle.dcx_range.specs.declared.span.Ranged.{Ranged}
-use Rattle.dcx_range.specs.declared.span.Ranged.TheVariants.{Span, Infeasible, Unbounded}
-use Rattle.dcx_range.specs.declared.stop.RangeStop.{RangeStop}
-use Rattle.dcx_range.specs.declared.stop.RangeStop.TheVariants as stops
+use Rattle.dcx_ranged.specs.declared.ranged.Ranged.{Ranged}
+use Rattle.dcx_ranged.specs.declared.ranged.Ranged.TheVariants.{Span, Infeasible, Unbounded}
+use Rattle.dcx_ranged.specs.declared.stop.RangeStop.{RangeStop}
+use Rattle.dcx_ranged.specs.declared.stop.RangeStop.TheVariants as stops
 use Rattle.dcx_range.specs.Parameters.{IsNumber}
 use Rattle.dcx_range.specs.Operations.{operations}
 use Rattle.dcx_range.specs.Range.{IsKnown, formed, RangeGives}

@@ -43,9 +43,9 @@ use Rattle.dcx_graph.proofs.Correct.{affine_are_known}
 use Rattle.dcx_range.specs.declared.rates.Rate.{Rate}
 use Rattle.dcx_range.specs.declared.ends.Ends.{Ends}
 use Rattle.dcx_range.specs.declared.asked.Asked.{Asked}
-use Rattle.dcx_range.specs.declared.span.Ranged.{Ranged}
-use Rattle.dcx_range.specs.declared.stop.RangeStop.{RangeStop}
-use Rattle.dcx_range.specs.declared.stop.RangeStop.TheVariants as stops
+use Rattle.dcx_ranged.specs.declared.ranged.Ranged.{Ranged}
+use Rattle.dcx_ranged.specs.declared.stop.RangeStop.{RangeStop}
+use Rattle.dcx_ranged.specs.declared.stop.RangeStop.TheVariants as stops
 use Rattle.dcx_range.specs.Coefficients.{coefficient_of, HasConstants}
 use Rattle.dcx_range.specs.Parameters.{scales, IsNumber, IsRanged}
 use Rattle.dcx_range.specs.Stops.{StopsAt, IsOfRun, IsToldAs}

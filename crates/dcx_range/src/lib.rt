@@ -22,12 +22,9 @@ mod finding;
 pub mod laws;
 mod numbers;
 mod rates;
-mod span;
 mod standing;
-mod stop;
 mod told;
 
+pub use dcx_ranged::{NotRanged, RangeStop, Ranged};
 pub use finding::range;
-pub use span::Ranged;
-pub use stop::RangeStop;
-pub use told::{NotRanged, ranged};
+pub use told::ranged;

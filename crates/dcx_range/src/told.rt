@@ -7,26 +7,9 @@ ghost use Rattle.dcx_range.specs.Parameters.{place_of, scales, IsNumber, IsFault
 use crate::standing::{scales_row, scales_unknown};
 use dcx_graph::Reduced;
 use dcx_linear::ParamForm;
+use dcx_ranged::NotRanged;
 use dcx_shape::{Name, Sides};
 use dcx_tree::{Parameter, Problem};
-use thiserror::Error;
-
-/// Why a parameter has no range.
-#[derive(Clone, Copy, Debug, PartialEq, Eq, Error)]
-pub enum NotRanged {
-    /// The problem reaches no parameter of this name.
-    #[error("the problem has no such parameter")]
-    Unknown,
-    /// The parameter is an array with sides.
-    #[error("the parameter isn't a number")]
-    Shape,
-    /// There is no program with affine coefficients.
-    #[error("the problem has no program with affine coefficients")]
-    Map,
-    /// The parameter stands in the coefficient of an unknown.
-    #[error("the parameter stands in a coefficient")]
-    Coefficient,
-}
 
 /// The position of the parameter with this name, in order of declaration.
 pub(crate) fn place_of(parameters: &[Parameter], name: &Name) -> Option<usize>

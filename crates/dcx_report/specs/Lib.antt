@@ -6,6 +6,7 @@ pub mod Negated
 pub mod NodeStops
 pub mod OutcomeText
 pub mod Pieces
+pub mod RangeText
 pub mod RefusalText
 pub mod ReportText
 pub mod SameText

@@ -9,6 +9,8 @@ use Rattle.dcx_report.specs.declared.filter_outcome.FilterEnd.{FilterEnd}
 use Rattle.dcx_report.specs.declared.filter_outcome.FilterEnd.TheVariants as filter
 use Rattle.dcx_report.specs.declared.whole_outcome.WholeEnd.{WholeEnd}
 use Rattle.dcx_report.specs.declared.whole_outcome.WholeEnd.TheVariants as whole
+use Rattle.dcx_report.specs.declared.range_outcome.RangeEnd.{RangeEnd}
+use Rattle.dcx_report.specs.declared.range_outcome.RangeEnd.TheVariants as range
 
 -- a zero divisor, or an operation at a node that passes
 abbrev pub stop_names_node : Stop → Bool
@@ -29,3 +31,8 @@ abbrev pub whole_names_node : WholeEnd → Bool
 whole_names_node (whole.Whole answer) = false
 whole_names_node (whole.Branch stop) = false
 whole_names_node (whole.Stop stop) = stop_names_node stop
+
+abbrev pub range_names_node : RangeEnd → Bool
+range_names_node (range.Ranged ranged) = false
+range_names_node (range.Range stop) = false
+range_names_node (range.Stop stop) = stop_names_node stop

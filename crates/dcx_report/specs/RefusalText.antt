@@ -9,6 +9,8 @@ use Rattle.dcx_arena.specs.declared.fault.Count.{Count}
 use Rattle.dcx_arena.specs.declared.fault.Count.TheVariants.{Nodes, Entries, Items, Steps, Events}
 use Rattle.dcx_rules.specs.declared.fault.Rule.{Rule}
 use Rattle.dcx_rules.specs.declared.fault.Rule.TheVariants.{Composition, Minimize, Maximize, Equal, AtMost}
+use Rattle.dcx_ranged.specs.declared.not_ranged.NotRanged.{NotRanged}
+use Rattle.dcx_ranged.specs.declared.not_ranged.NotRanged.TheVariants.{Unknown, Shape, Map, Coefficient}
 use Rattle.dcx_report.specs.Pieces.{place_text, passes_text}
 use Rattle.dcx_front.specs.Refusals.{refusal_name}
 
@@ -34,12 +36,20 @@ rule_text Maximize = codes "maximize"
 rule_text Equal = codes "equal"
 rule_text AtMost = codes "at_most"
 
+-- why a parameter has no range
+unfoldable pub not_ranged_text : NotRanged → List ℕ
+not_ranged_text Unknown = codes "unknown"
+not_ranged_text Shape = codes "shape"
+not_ranged_text Map = codes "map"
+not_ranged_text Coefficient = codes "coefficient"
+
 -- what stands behind the place
 unfoldable pub carried_text : Carried → List ℕ
 carried_text carried.Nothing = []
 carried_text (carried.Count what count) = codes " " ++ count_text what ++ codes " " ++ decimal count
 carried_text (carried.Rule rule) = codes " rule " ++ rule_text rule
 carried_text (carried.Passes passes) = passes_text passes
+carried_text (carried.NotRanged fault) = codes " " ++ not_ranged_text fault
 
 -- refused SOURCE NUMBER NAME at PLACE, and what the refusal carries
 unfoldable pub refusal_text : Refusal → List ℕ

@@ -3,7 +3,7 @@ ghost use Rattle.std.specs.Prelude.{◌≡◌, ◌++◌, IfSome, slice_get, OnOk
 ghost use Rattle.std.specs.List.{flat_map};
 ghost use Rattle.dcx_lines.specs.Lines.{number_line, named_line, dual_line};
 ghost use Rattle.dcx_report.specs.Negated.{negated};
-ghost use Rattle.dcx_report.specs.AnswerText.{user_number, var_lines, ray_lines, dual_lines, answer_text};
+ghost use Rattle.dcx_report.specs.AnswerText.{user_number as user_number_of, var_lines, ray_lines, dual_lines, answer_text};
 
 use crate::{Answer, Sense};
 use dcx_atom::Array;
@@ -19,20 +19,27 @@ fn turned(number: Frac) -> Frac
     number.neg()
 }
 
-/// Appends a line of a word and a number of the minimized objective, as the user's objective has it.
+/// A number of the minimized objective, as the user's objective has it.
 #[tactic(auto, unfolding(crate::specs::AnswerText::user_number))]
+pub(crate) fn user_number(sense: Sense, number: Frac) -> Frac
+    ensures { result ≡ user_number_of sense number }
+{
+    match sense {
+        Sense::Minimize => number,
+        Sense::Maximize => turned(number),
+    }
+}
+
+/// Appends a line of a word and a number of the minimized objective, as the user's objective has it.
 pub(crate) fn put_user_line(
     out: &mut Vec<u8>,
     word: &[u8],
     sense: Sense,
     number: Frac,
 ) -> Result<(), AllocError>
-    ensures { OnOk result (out.new.items ≡ out.old.items ++ number_line word.now (user_number sense number)) }
+    ensures { OnOk result (out.new.items ≡ out.old.items ++ number_line word.now (user_number_of sense number)) }
 {
-    match sense {
-        Sense::Minimize => put_number_line(out, word, number),
-        Sense::Maximize => put_number_line(out, word, turned(number)),
-    }
+    put_number_line(out, word, user_number(sense, number))
 }
 
 /// Appends the line of pair `i`, where there is one, under a word.

@@ -8,9 +8,10 @@
 //! | a refused certificate is told with its section, the check that fails there, and what that carries | `cert_refused_text` of `specs/CertifiedText.antt` |
 //! | a line behind the outcomes counts the settings that are answered and those that are stopped | `count_line` of `specs/OutcomeText.antt` |
 //! | constraints that no point keeps together are told by their numbers, each with a point that keeps the others | `filter_lines` of `specs/FilterText.antt` |
+//! | of a parameter it is told from where to where it may move, and the line that the user's objective goes along | `range_lines` of `specs/RangeText.antt` |
 //! | a whole answer is told with the number of nodes of its run | `whole_text` of `specs/WholeText.antt` |
 //! | a last line counts the outcomes that were found warm, where that was wanted | `warm_line` of `specs/OutcomeText.antt` |
-//! | an outcome has a place exactly where its stop names a node | `Outcome`, `FilterOutcome`, `WholeOutcome`, `names_node` of `specs/NodeStops.antt` |
+//! | an outcome has a place exactly where its stop names a node | `Outcome`, `FilterOutcome`, `RangeOutcome`, `WholeOutcome`, `names_node` of `specs/NodeStops.antt` |
 //! | two runs over one problem without marked variables with the same report have the same answers | `laws::same_text_same_answers` |
 #![tactic(auto)]
 
@@ -23,6 +24,8 @@ pub mod laws;
 mod outcome;
 mod outcomes;
 mod pieces;
+mod range_lines;
+mod range_outcome;
 mod refusal_line;
 mod report;
 mod run;
@@ -34,11 +37,13 @@ mod whole_outcome;
 pub use dcx_answer::{Answer, FilterStop, Filtered, Stop};
 pub use dcx_branch::{BranchStop, WholeAnswer};
 pub use dcx_front::Refusal;
+pub use dcx_ranged::{RangeStop, Ranged};
 pub use dcx_sections::CertFault;
 pub use dcx_tree::Sense;
 pub use filter_outcome::{FilterEnd, FilterOutcome, FilterOutcomes};
 pub use outcome::{Outcome, OutcomeEnd};
 pub use outcomes::Outcomes;
+pub use range_outcome::{RangeEnd, RangeOutcome, RangeOutcomes};
 pub use report::report_text;
 pub use run::{Run, Word};
 pub use whole_outcome::{WholeEnd, WholeOutcome, WholeOutcomes};

@@ -1,12 +1,13 @@
 //! Appends the line of a refusal.
 ghost use Rattle.std.specs.Prelude.{◌≡◌, ◌++◌, OnOk};
-ghost use Rattle.dcx_report.specs.RefusalText.{source_text, count_text, rule_text, carried_text, refusal_text};
+ghost use Rattle.dcx_report.specs.RefusalText.{source_text, count_text, rule_text, not_ranged_text, carried_text, refusal_text};
 
 use crate::Refusal;
 use crate::pieces::{put_passes, put_place};
 use dcx_arena::Count;
 use dcx_front::{Carried, RefusalSource};
 use dcx_lines::{put_bytes, put_number};
+use dcx_ranged::NotRanged;
 use dcx_rules::Rule;
 use std::alloc::AllocError;
 
@@ -50,6 +51,19 @@ fn word_of_rule(rule: Rule) -> &'static [u8]
     }
 }
 
+/// The word for why a parameter has no range.
+#[tactic(auto, unfolding(crate::specs::RefusalText::not_ranged_text))]
+fn word_of_fault(fault: NotRanged) -> &'static [u8]
+    ensures { result.now ≡ not_ranged_text fault }
+{
+    match fault {
+        NotRanged::Unknown => b"unknown",
+        NotRanged::Shape => b"shape",
+        NotRanged::Map => b"map",
+        NotRanged::Coefficient => b"coefficient",
+    }
+}
+
 /// Appends what a refusal carries, behind its place.
 #[tactic(auto, unfolding(crate::specs::RefusalText::carried_text))]
 fn put_carried(out: &mut Vec<u8>, carried: &Carried) -> Result<(), AllocError>
@@ -68,6 +82,10 @@ fn put_carried(out: &mut Vec<u8>, carried: &Carried) -> Result<(), AllocError>
             put_bytes(out, word_of_rule(*rule))
         }
         Carried::Passes(passes) => put_passes(out, passes),
+        Carried::NotRanged(fault) => {
+            put_bytes(out, b" ")?;
+            put_bytes(out, word_of_fault(*fault))
+        }
     }
 }
 

@@ -7,6 +7,7 @@ use crate::answer_lines::put_answer;
 use crate::certified_lines::{put_cert_refused, put_certified};
 use crate::check_lines::put_checked;
 use crate::filter_lines::{put_filter_counts, put_filters};
+use crate::range_lines::{put_range_counts, put_ranges};
 use crate::refusal_line::put_refusal;
 use crate::stop_line::put_stopped;
 use crate::trial_lines::put_trial;
@@ -142,7 +143,7 @@ fn put_warm(out: &mut Vec<u8>, warm: Option<u32>) -> Result<(), AllocError>
 
 /// The commands, with their operands.
 const USAGE: &[u8] =
-    b"usage: dcx check SCRIPT | solve SCRIPT | resolve SCRIPT SETTINGS | certificate SCRIPT SETTINGS | certify SCRIPT SETTINGS CERT | trial N | migrate SCRIPT SETTINGS CERT | iis SCRIPT SETTINGS\n";
+    b"usage: dcx check SCRIPT | solve SCRIPT | resolve SCRIPT SETTINGS | certificate SCRIPT SETTINGS | certify SCRIPT SETTINGS CERT | trial N | migrate SCRIPT SETTINGS CERT | range SCRIPT SETTINGS PARAM | iis SCRIPT SETTINGS\n";
 
 /// Appends the report of a run.
 #[tactic(auto, unfolding(crate::specs::ReportText::text_of))]
@@ -181,6 +182,14 @@ fn put_run(out: &mut Vec<u8>, run: &Run) -> Result<(), AllocError>
         Run::Filtered { outcomes } => {
             put_filters(out, outcomes.as_slice())?;
             put_filter_counts(out, outcomes.as_slice())
+        }
+        Run::Ranged {
+            parameter,
+            sense,
+            outcomes,
+        } => {
+            put_ranges(out, parameter, *sense, outcomes.as_slice())?;
+            put_range_counts(out, outcomes.as_slice())
         }
         Run::ReadFault => put_bytes(out, b"fault read\n"),
         Run::Memory => put_bytes(out, b"want of memory\n"),

@@ -1,9 +1,9 @@
 //! How a run ends.
 
-use crate::{FilterOutcomes, Outcomes, Refusal, Sense, WholeOutcomes};
+use crate::{FilterOutcomes, Outcomes, RangeOutcomes, Refusal, Sense, WholeOutcomes};
 use dcx_front::Checked;
 use dcx_sections::CertFault;
-use dcx_shape::Bytes;
+use dcx_shape::{Bytes, Name};
 
 /// The word that a run's outcomes stand under.
 #[derive(Clone, Copy, Debug, PartialEq, Eq)]
@@ -73,6 +73,15 @@ pub enum Run {
     Filtered {
         /// The outcomes, in order.
         outcomes: FilterOutcomes,
+    },
+    /// How far a parameter of the problem may move was told, or stopped, at each setting.
+    Ranged {
+        /// The parameter's name.
+        parameter: Name,
+        /// Which way the script's objective goes.
+        sense: Sense,
+        /// The outcomes, in order.
+        outcomes: RangeOutcomes,
     },
     /// A file could not be had.
     ReadFault,

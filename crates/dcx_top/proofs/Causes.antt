@@ -33,16 +33,18 @@ use Rattle.dcx_report.specs.declared.run.Run.{Run}
 use Rattle.dcx_report.specs.declared.run.Run.TheVariants as run
 use Rattle.dcx_report.specs.declared.run.Word.{Word}
 use Rattle.dcx_report.specs.declared.run.Word.TheVariants as word
-use Rattle.dcx_words.specs.Commands.{Command, check, solve, resolve, certify, migrate, trial, command_of}
+use Rattle.dcx_words.specs.Commands.{Command, check, solve, resolve, certify, migrate, trial, range, command_of}
 use Rattle.dcx_words.specs.Laws.{is_warm_command}
 use Rattle.dcx_trial.specs.Trial.{trial_text}
-use Rattle.dcx_top.specs.Commands.{IsScriptOf, script_name, settings_name, certificate_name, AreOfFile, AreSettingsOf, limit_of, TellsOutcomes, TellsWholes}
+use Rattle.dcx_top.specs.Commands.{IsScriptOf, script_name, settings_name, certificate_name, parameter_name, AreOfFile, AreSettingsOf, limit_of, TellsOutcomes, TellsWholes}
 use Rattle.dcx_top.specs.Files.{run_of, RefusesScript, RefusesSettings, EndsAt, refused_at, HasTextOf, ReadsCertificate}
 use Rattle.dcx_top.proofs.Reading.{told_fault}
+use Rattle.dcx_top.specs.NoRange.{AllowsRange}
+use Rattle.dcx_top.proofs.Named.{unasked, allowed, allowed_reading}
 use Rattle.dcx_top.specs.Whole.{HasNoWhole, HasWhole, IsRefusedForWhole, RefusesWhole, Takes}
 use Rattle.dcx_top.specs.declared.solving.Task.{Task}
 use Rattle.dcx_top.specs.declared.solving.Task.TheVariants as tasks
-use Rattle.dcx_top.specs.Runs.{GivesProblem, IsSolvedRun, IsBranchedRun, OrWhole, SolvesAt, BranchesAt, AnswersAt, TriesAt, CertifiesAt, FiltersAt, DoesAt, DoesFrom, task_refuses, command_for, GivesSettings, GivesSections, EndsFiles, at_script, at_whole, at_settings, at_certificate, at_memory, HasCertificate, ReadsSections, HasPassed, misread, failed, long_script, bad_script, for_whole, bad_settings, long_certificate, no_script, no_settings, no_certificate, Causes}
+use Rattle.dcx_top.specs.Runs.{GivesProblem, IsSolvedRun, IsBranchedRun, OrWhole, SolvesAt, BranchesAt, AnswersAt, TriesAt, CertifiesAt, FiltersAt, DoesAt, DoesFrom, task_refuses, command_for, GivesSettings, GivesSections, EndsFiles, at_script, at_whole, at_settings, at_certificate, at_memory, HasCertificate, ReadsSections, HasPassed, misread, failed, long_script, bad_script, for_whole, for_range, bad_settings, long_certificate, no_script, no_settings, no_certificate, CountsAtMostBeginning, RangesFrom, lacking, ending, ranging, wanting, Causes}
 
 pub judged_of : (bytes : List ℕ) (a : Accepted) → Gives bytes (Ok a) → IsJudged a.work.problem a.verdict
 judged_of bytes a g = (acceptance bytes a g).judged
@@ -51,9 +53,9 @@ module _ (words : List (List ℕ)) (told : Option Files) (risen : Type 0) (comma
   -- ---- the script ends the run
   pub script_ends : (name : List ℕ) (n : ℕ) (r : Run) → script_name command ≡ Some name → ((bytes : List ℕ) → IsTold told name bytes → IsScriptOf told command bytes) → EndsAt told risen Script name RefusesScript r →
       Causes words told risen n n r
-  script_ends name n run.ReadFault is of h = (no_script command name form is h, refl)
-  script_ends name n (run.Refused r) is of (inl long) = (long_script command name form is long, refl)
-  script_ends name n (run.Refused r) is of (inr (bytes, there, h)) = (bad_script command bytes form (of bytes there) h, refl)
+  script_ends name n run.ReadFault is of h = (no_script command name form is h, inl refl)
+  script_ends name n (run.Refused r) is of (inl long) = (long_script command name form is long, inl refl)
+  script_ends name n (run.Refused r) is of (inr (bytes, there, h)) = (bad_script command bytes form (of bytes there) h, inl refl)
   script_ends name n run.Memory is of h = tt
   script_ends name n run.Usage is of h = absurd h
   script_ends name n (run.Checked c) is of h = absurd h
@@ -64,32 +66,36 @@ module _ (words : List (List ℕ)) (told : Option Files) (risen : Type 0) (comma
   script_ends name n (run.CertRefused section fault) is of h = absurd h
   script_ends name n (run.Trial size outcomes) is of h = absurd h
   script_ends name n (run.Filtered outcomes) is of h = absurd h
+  script_ends name n (run.Ranged parameter sense outcomes) is of h = absurd h
 
   -- a script that is made, and not fetched
   pub made_ends : (bytes : List ℕ) (n : ℕ) (fault : FrontFault) → IsScriptOf told command bytes → Gives bytes (Err fault) → Causes words told risen n n (run_of fault)
-  made_ends bytes n (front.Refused r) of h = (bad_script command bytes form of h, refl)
+  made_ends bytes n (front.Refused r) of h = (bad_script command bytes form of h, inl refl)
   made_ends bytes n front.Memory of h = tt
 
   module _ (a : Accepted) (gives : GivesProblem told command a) where
     -- ---- a variable that is to be whole ends it
     pub whole_ends : (old new : ℕ) (r : Run) → RefusesWhole command → (t : Refusal) × IsRefusedForWhole a.work.problem.tree t × (r ≡ run.Refused t) × (new ≡ old) → Causes words told risen old new r
     whole_ends old new r solving (t, h, e, same) =
-        subst (Causes words told risen old new) (sym e) (for_whole command a form gives solving h, same)
+        subst (Causes words told risen old new) (sym e) (for_whole command a form gives solving h, inl same)
 
     -- ---- the settings file ends it
-    pub settings_end : (taken : Takes command a.work.problem.tree) (name : List ℕ) (n : ℕ) (r : Run) → settings_name command ≡ Some name → EndsAt told risen Settings name RefusesSettings r → Causes words told risen n n r
-    settings_end taken name n run.ReadFault is h = (no_settings command a name form gives taken is h, refl)
-    settings_end taken name n (run.Refused r) is h = (bad_settings command a name form gives taken is h, refl)
-    settings_end taken name n run.Memory is h = tt
-    settings_end taken name n run.Usage is h = absurd h
-    settings_end taken name n (run.Checked c) is h = absurd h
-    settings_end taken name n (run.Solved word sense outcomes warm) is h = absurd h
-    settings_end taken name n (run.Branched word sense outcomes) is h = absurd h
-    settings_end taken name n (run.Certificates text stopped) is h = absurd h
-    settings_end taken name n (run.Certified sections) is h = absurd h
-    settings_end taken name n (run.CertRefused section fault) is h = absurd h
-    settings_end taken name n (run.Trial size outcomes) is h = absurd h
-    settings_end taken name n (run.Filtered outcomes) is h = absurd h
+    -- behind the steps of a session's beginning, where one was begun
+    pub settings_end : (taken : Takes command a.work.problem.tree) (allows : AllowsRange command a.work.problem) (name : List ℕ) (old new : ℕ) (r : Run) → CountsAtMostBeginning words told old new → settings_name command ≡ Some name →
+        EndsAt told risen Settings name RefusesSettings r → Causes words told risen old new r
+    settings_end taken allows name old new run.ReadFault steps is h = (no_settings command a name form gives taken allows is h, steps)
+    settings_end taken allows name old new (run.Refused r) steps is h = (bad_settings command a name form gives taken allows is h, steps)
+    settings_end taken allows name old new run.Memory steps is h = tt
+    settings_end taken allows name old new run.Usage steps is h = absurd h
+    settings_end taken allows name old new (run.Checked c) steps is h = absurd h
+    settings_end taken allows name old new (run.Solved word sense outcomes warm) steps is h = absurd h
+    settings_end taken allows name old new (run.Branched word sense outcomes) steps is h = absurd h
+    settings_end taken allows name old new (run.Certificates text stopped) steps is h = absurd h
+    settings_end taken allows name old new (run.Certified sections) steps is h = absurd h
+    settings_end taken allows name old new (run.CertRefused section fault) steps is h = absurd h
+    settings_end taken allows name old new (run.Trial size outcomes) steps is h = absurd h
+    settings_end taken allows name old new (run.Filtered outcomes) steps is h = absurd h
+    settings_end taken allows name old new (run.Ranged parameter sense outcomes) steps is h = absurd h
 
     -- ---- the problem is solved
     module _ (settings : List Pairs) (asked : AreSettingsOf told command a.work settings) (tells : List Outcome → Option ℕ → Run)
@@ -156,8 +162,8 @@ module _ (words : List (List ℕ)) (told : Option Files) (risen : Type 0) (comma
   }
 
   certificate_ends : (a : Accepted) (settings : List Pairs) (n : ℕ) (r : Run) → GivesSettings told script name a settings → ReadsCertificate told risen file a.work.problem (length settings) (Err r) → Causes words told risen n n r
-  certificate_ends a settings n run.ReadFault g h = (no_certificate command (has_certificate a settings g) h, refl)
-  certificate_ends a settings n (run.Refused r) g (inl long) = (long_certificate command (has_certificate a settings g) long, refl)
+  certificate_ends a settings n run.ReadFault g h = (no_certificate command (has_certificate a settings g) h, inl refl)
+  certificate_ends a settings n (run.Refused r) g (inl long) = (long_certificate command (has_certificate a settings g) long, inl refl)
   certificate_ends a settings n (run.Refused r) g (inr (bytes, there, h)) = absurd h
   certificate_ends a settings n (run.CertRefused section fault) g h = (misread command (has_certificate a settings g) h, refl)
   certificate_ends a settings n run.Memory g h = tt
@@ -169,12 +175,13 @@ module _ (words : List (List ℕ)) (told : Option Files) (risen : Type 0) (comma
   certificate_ends a settings n (run.Certified sections) g h = absurd h
   certificate_ends a settings n (run.Trial size outcomes) g h = absurd h
   certificate_ends a settings n (run.Filtered outcomes) g h = absurd h
+  certificate_ends a settings n (run.Ranged parameter sense outcomes) g h = absurd h
 
   -- one of the files ends the run
   pub files_end : (n : ℕ) (r : Run) → EndsFiles told risen script name file r → Causes words told risen n n r
   files_end n r (at_script h) = script_ends words told risen command form script n r scripted of h
   files_end n r (at_whole a bytes t there gives h e) = whole_ends words told risen command form a (record { bytes = bytes; are_of = of bytes there; gives = gives }) n n r refuses (t, h, e, refl)
-  files_end n r (at_settings a bytes there gives free h) = settings_end words told risen command form a (record { bytes = bytes; are_of = of bytes there; gives = gives }) (λ refusing. free) name n r set h
+  files_end n r (at_settings a bytes there gives free h) = settings_end words told risen command form a (record { bytes = bytes; are_of = of bytes there; gives = gives }) (λ refusing. free) (allowed_reading command a.work.problem file named) name n n r (inl refl) set h
   files_end n r (at_certificate a settings g h) = certificate_ends a settings n r g h
   files_end n r (at_memory e) = subst (Causes words told risen n n) (sym e) tt
 
@@ -252,6 +259,11 @@ task_settings : (task : Task) (script name : List ℕ) (limit : ℕ) → setting
 task_settings (tasks.Resolve warm) script name limit = refl
 task_settings tasks.Certificate script name limit = refl
 task_settings tasks.Filter script name limit = refl
+
+task_unasked : (task : Task) (script name : List ℕ) (limit : ℕ) → parameter_name (command_for task script name limit) ≡ None
+task_unasked (tasks.Resolve warm) script name limit = refl
+task_unasked tasks.Certificate script name limit = refl
+task_unasked tasks.Filter script name limit = refl
 
 -- a task refuses a problem with a variable that is to be whole where its command does
 task_refused : (task : Task) (script name : List ℕ) (limit : ℕ) → IsTrue (task_refuses task) → RefusesWhole (command_for task script name limit)
@@ -338,9 +350,53 @@ module _ (words : List (List ℕ)) (told : Option Files) (risen : Type 0) where
       by : OrWhole (IsTrue (task_refuses task)) a.work.problem (DoesFrom told risen task a.work name limit old new) old new r → Causes words told risen old new r
       by (inl (free, inl (settings, are, k))) = does_at task script name bytes limit a settings old new r form there gives free are k
       by (inl (free, inr (k, same))) =
-          subst (λ n. Causes words told risen old n r) (sym same)
-          (settings_end words told risen (command_for task script name limit) form a problem (task_takes task script name limit a.work.problem free) name old r (task_settings task script name limit) k)
+          settings_end words told risen (command_for task script name limit) form a problem (task_takes task script name limit a.work.problem free)
+          (unasked (command_for task script name limit) a.work.problem (task_unasked task script name limit)) name old new r (inl same) (task_settings task script name limit) k
       by (inr (refuses, k)) = whole_ends words told risen (command_for task script name limit) form a problem old new r (task_refused task script name limit refuses) k
+
+  -- ---- the range of a parameter
+  begun : (script name parameter bytes : List ℕ) (limit : ℕ) (a : Accepted) (old new : ℕ) → command_of words ≡ Some (range script name parameter limit) → IsTold told script bytes → Gives bytes (Ok a) → HasNoWhole a.work.problem.tree →
+      Counts a.work.problem 0 old new → CountsAtMostBeginning words told old new
+  begun script name parameter bytes limit a old new form there gives continuous steps = inr (record {
+    script = script;
+    name = name;
+    parameter = parameter;
+    limit = limit;
+    form = form;
+    accepted = a;
+    problem = record { bytes = bytes; are_of = there; gives = gives };
+    continuous = continuous;
+    steps = steps;
+  })
+
+  pub ranged : (script name parameter bytes : List ℕ) (limit : ℕ) (a : Accepted) (old new : ℕ) (r : Run) → command_of words ≡ Some (range script name parameter limit) → IsTold told script bytes → Gives bytes (Ok a) →
+      OrWhole ⊤ a.work.problem (RangesFrom told risen a.work name parameter limit old new) old new r → Causes words told risen old new r
+  ranged script name parameter bytes limit a old new r form there gives (inr (refuses, h)) =
+      whole_ends words told risen (range script name parameter limit) form a (record { bytes = bytes; are_of = there; gives = gives }) old new r tt h
+  ranged script name parameter bytes limit a old new r form there gives (inl (free, lacking t h e steps)) =
+      subst (Causes words told risen old new) (sym e)
+      (for_range (range script name parameter limit) a parameter form (record { bytes = bytes; are_of = there; gives = gives }) (free tt) refl h, begun script name parameter bytes limit a old new form there gives (free tt) steps)
+  ranged script name parameter bytes limit a old new r form there gives (inl (free, ending has h steps)) =
+      let command = range script name parameter limit in
+      settings_end words told risen command form a (record { bytes = bytes; are_of = there; gives = gives }) free (allowed command a.work.problem parameter refl has) name old new r
+      (begun script name parameter bytes limit a old new form there gives (free tt) steps) refl h
+  ranged script name parameter bytes limit a old new r form there gives (inl (free, ranging has settings outcomes asked are e steps)) =
+      subst (Causes words told risen old new) (sym e) (record {
+        script = script;
+        name = name;
+        limit = limit;
+        form = form;
+        accepted = a;
+        problem = record { bytes = bytes; are_of = there; gives = gives };
+        continuous = free tt;
+        ranged = has;
+        settings = settings;
+        asked = asked;
+        are = are;
+        sense_is = refl;
+        steps = steps.mapped (has.map, has.is_map);
+      })
+  ranged script name parameter bytes limit a old new r form there gives (inl (free, wanting e)) = subst (Causes words told risen old new) (sym e) tt
 
   pub certified : (script name file : List ℕ) (p : Problem) (settings : List Pairs) (sections : Sections) (list : List Section) (n certs : ℕ) → command_of words ≡ Some (certify script name file) →
       GivesSections told script name file p settings sections → list ≡ sections.list → ArePassed p settings list → certs ≡ count_by is_cert list → Causes words told risen n n (run.Certified certs)

@@ -1,5 +1,6 @@
 -- How a file ends a run: where its bytes aren't had, or where they are refused.
-use Rattle.std.proofs.Common.{◌≡◌, ◌⊎◌, inl, inr, ℕ, List, Option, Err, refl, sym, subst}
+use Rattle.std.specs.Prelude.{⊤}
+use Rattle.std.proofs.Common.{◌≡◌, ◌↔◌, ◌⊎◌, inl, inr, ℕ, ◌+◌, ◌≤◌, Bool, IsTrue, List, length, Option, Err, refl, sym, ap, ◌∙◌, subst, arith}
 use Rattle.dcx_tokens.specs.declared.fault.ReadFault.{ReadFault}
 use Rattle.dcx_tokens.specs.declared.fault.ReadFault.TheVariants as reads
 use Rattle.dcx_host.specs.Files.{Files, IsTold}
@@ -17,8 +18,13 @@ use Rattle.dcx_report.specs.declared.run.Run.{Run}
 use Rattle.dcx_report.specs.declared.run.Run.TheVariants as run
 use Rattle.dcx_top.specs.Files.{run_of, RefusesScript, RefusesSettings, EndsAt}
 use Rattle.dcx_overlay.specs.Settings.{AreLaidOver}
+use Rattle.dcx_tree.specs.declared.problem.Problem.{Problem}
+use Rattle.dcx_report.specs.declared.range_outcome.RangeOutcome.{RangeOutcome}
+use Rattle.dcx_cache.specs.Programs.{HasMap}
+use Rattle.dcx_outcomes.specs.Outcomes.{Counts}
+use Rattle.dcx_outcomes.specs.Ranges.{HasRange, AreRangeOutcomes}
 use Rattle.dcx_top.specs.Whole.{HasNoWhole}
-use Rattle.dcx_top.specs.Runs.{OrWhole, FromFile}
+use Rattle.dcx_top.specs.Runs.{OrWhole, FromFile, RangesFrom, lacking, ending, ranging, wanting}
 
 -- a file whose bytes aren't had ends the run, whatever its bytes would be refused for
 pub ends_before : (told : Option Files) (risen : Type 0) (source : RefusalSource) (name : List ℕ) (Refuses : List ℕ → Refusal → Type 0) (r : Run) → EndsAt told risen source name (λ _ _. ⊥) r → EndsAt told risen source name Refuses r
@@ -35,6 +41,7 @@ ends_before told risen source name Refuses (run.Certified n) h = absurd h
 ends_before told risen source name Refuses (run.CertRefused section fault) h = absurd h
 ends_before told risen source name Refuses (run.Trial size outcomes) h = absurd h
 ends_before told risen source name Refuses (run.Filtered outcomes) h = absurd h
+ends_before told risen source name Refuses (run.Ranged parameter sense outcomes) h = absurd h
 
 -- a file whose bytes are had and refused ends it
 ends_behind : (told : Option Files) (risen : Type 0) (source : RefusalSource) (name bytes : List ℕ) (Refuses : List ℕ → Refusal → Type 0) (fault : FrontFault) → IsTold told name bytes → ((r : Refusal) → fault ≡ front.Refused r → Refuses bytes r) →
@@ -85,6 +92,7 @@ ends_rising told risen rose source name Refuses (run.Certified n) more h = absur
 ends_rising told risen rose source name Refuses (run.CertRefused section fault) more h = absurd h
 ends_rising told risen rose source name Refuses (run.Trial size outcomes) more h = absurd h
 ends_rising told risen rose source name Refuses (run.Filtered outcomes) more h = absurd h
+ends_rising told risen rose source name Refuses (run.Ranged parameter sense outcomes) more h = absurd h
 
 module _ (Refuses : Type 0) (work : Work) (name : List ℕ) (At : List Pairs → ℕ → ℕ → Run → Type 0) (old new : ℕ) (r : Run) where
   pub from_file_rising : (told : Option Files) (risen rose : Type 0) → (risen → rose) → OrWhole Refuses work.problem (FromFile told risen work name At old new) old new r → OrWhole Refuses work.problem (FromFile told rose work name At old new) old new r
@@ -104,3 +112,33 @@ module _ (Refuses : Type 0) (work : Work) (name : List ℕ) (At : List Pairs →
   lines_done told risen bytes lines continuous there spelled (inl (e, same)) = inl (continuous, inr (subst (EndsAt told risen Settings name RefusesSettings) (sym e) tt, same))
   lines_done told risen bytes lines continuous there spelled (inr (settings, laid, h)) =
       inl (continuous, inl (settings, record { bytes = bytes; are_told = there; lines = lines; spelled = spelled; laid = laid }, h))
+
+-- ---- ranges
+module _ (work : Work) (name parameter : List ℕ) (limit old new : ℕ) (r : Run) where
+  ranges_rising : (told : Option Files) (risen rose : Type 0) → (risen → rose) → RangesFrom told risen work name parameter limit old new r → RangesFrom told rose work name parameter limit old new r
+  ranges_rising told risen rose more (lacking t h e steps) = lacking t h e steps
+  ranges_rising told risen rose more (ending has h steps) = ending has (ends_rising told risen rose Settings name RefusesSettings r more h) steps
+  ranges_rising told risen rose more (ranging has settings outcomes asked are e steps) = ranging has settings outcomes asked are e steps
+  ranges_rising told risen rose more (wanting e) = wanting e
+
+  -- the files that are told are the same after a part
+  pub ranges_moved : (was told : Option Files) (risen rose : Type 0) → was ≡ told → (risen → rose) → OrWhole ⊤ work.problem (RangesFrom was risen work name parameter limit old new) old new r →
+      OrWhole ⊤ work.problem (RangesFrom told rose work name parameter limit old new) old new r
+  ranges_moved was told risen rose same more (inl (continuous, h)) = inl (continuous, ranges_rising told risen rose more (subst (λ t. RangesFrom t risen work name parameter limit old new r) same h))
+  ranges_moved was told risen rose same more (inr h) = inr h
+
+-- the steps of a session's beginning
+pub begun_counts : (p : Problem) (cached : Bool) (old new : ℕ) → (IsTrue cached → new ≡ old + length p.tree) → (IsTrue cached ↔ HasMap p) → new ≤ old + length p.tree → Counts p 0 old new
+begun_counts p cached old new counted exact few = record { mapped = λ h. counted (exact.1 h); anew = omega (arith, few) }
+
+-- the range is told at the lines of a settings file
+pub lines_ranged : (told : Option Files) (risen : Type 0) (work : Work) (name parameter bytes : List ℕ) (lines : List (List SettingItem)) (limit old mid new : ℕ) (r : Run) (p : Problem) (last : Pairs) → work.problem ≡ p → work.last ≡ last →
+    HasRange p parameter → IsTold told name bytes → SpellSettings bytes lines → Counts work.problem 0 old mid →
+    (r ≡ run.Memory)
+    ⊎ ((settings : List Pairs) × (outcomes : List RangeOutcome) × AreLaidOver last lines settings × AreRangeOutcomes p parameter limit settings outcomes × (r ≡ run.Ranged parameter p.sense outcomes) × (new ≡ mid)) →
+    RangesFrom told risen work name parameter limit old new r
+lines_ranged told risen work name parameter bytes lines limit old mid new r p last same ends has there spelled steps (inl e) = wanting e
+lines_ranged told risen work name parameter bytes lines limit old mid new r p last same ends has there spelled steps (inr (settings, outcomes, laid, are, e, still)) =
+    ranging (subst (λ (z : Problem). HasRange z parameter) (sym same) has) settings outcomes
+    (record { bytes = bytes; are_told = there; lines = lines; spelled = spelled; laid = subst (λ (s : Pairs). AreLaidOver s lines settings) (sym ends) laid })
+    (subst (λ (z : Problem). AreRangeOutcomes z parameter limit settings outcomes) (sym same) are) (e ∙ ap (λ (z : Problem). run.Ranged parameter z.sense outcomes) (sym same)) (subst (Counts work.problem 0 old) (sym still) steps)

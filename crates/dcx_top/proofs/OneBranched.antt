@@ -8,7 +8,7 @@ use Rattle.dcx_report.specs.declared.whole_outcome.WholeOutcome.{WholeOutcome}
 use Rattle.dcx_report.specs.declared.run.Run.{Run}
 use Rattle.dcx_report.specs.declared.run.Run.TheVariants as run
 use Rattle.dcx_report.specs.declared.run.Word.TheVariants as word
-use Rattle.dcx_words.specs.Commands.{Command, check, solve, resolve, certificate, certify, migrate, trial, iis, command_of}
+use Rattle.dcx_words.specs.Commands.{Command, check, solve, resolve, certificate, certify, migrate, trial, iis, range, command_of}
 use Rattle.dcx_outcomes.specs.Wholes.{AreWholeOutcomes}
 use Rattle.dcx_outcomes.specs.WholeLaws.{AreAlikeWholes}
 use Rattle.dcx_outcomes.proofs.WholeEnds.{wholes_are_one}
@@ -40,6 +40,7 @@ module _ (words : List (List ℕ)) (files : Files) where
   tell_one (migrate script name cert) sense os qs r s h k alike = absurd h
   tell_one (trial size limit) sense os qs r s h k alike = absurd h
   tell_one (iis script name limit) sense os qs r s h k alike = absurd h
+  tell_one (range script name parameter limit) sense os qs r s h k alike = absurd h
 
   -- the outcomes of one problem at the same settings
   alike_at : (command : Command) (a : Accepted) (ss ts : List Pairs) (os qs : List WholeOutcome) → AreSettingsOf (Some files) command a.work ss → AreSettingsOf (Some files) command a.work ts →

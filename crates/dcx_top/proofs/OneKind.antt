@@ -8,10 +8,11 @@ use Rattle.dcx_sections.specs.declared.fault.CertFault.{CertFault}
 use Rattle.dcx_report.specs.declared.outcome.Outcome.{Outcome}
 use Rattle.dcx_report.specs.declared.filter_outcome.FilterOutcome.{FilterOutcome}
 use Rattle.dcx_report.specs.declared.whole_outcome.WholeOutcome.{WholeOutcome}
+use Rattle.dcx_report.specs.declared.range_outcome.RangeOutcome.{RangeOutcome}
 use Rattle.dcx_report.specs.declared.run.Run.{Run}
-use Rattle.dcx_words.specs.Commands.{Command, check, solve, resolve, certificate, certify, migrate, trial, iis, command_of}
+use Rattle.dcx_words.specs.Commands.{Command, check, solve, resolve, certificate, certify, migrate, trial, iis, range, command_of}
 use Rattle.dcx_top.specs.Commands.{certificate_name, TellsOutcomes, TellsWholes}
-use Rattle.dcx_top.specs.Runs.{IsChecked, IsSolvedRun, IsBranchedRun, IsFilteredRun, IsCertificateRun, IsMigrateRun, IsCertifiedRun, IsCertRefusedRun, misread, failed}
+use Rattle.dcx_top.specs.Runs.{IsChecked, IsSolvedRun, IsBranchedRun, IsFilteredRun, IsRangedRun, IsCertificateRun, IsMigrateRun, IsCertifiedRun, IsCertRefusedRun, misread, failed}
 use Rattle.dcx_top.proofs.Refusals.{same_command}
 
 -- what a command does with its problem
@@ -22,6 +23,7 @@ pub data Kind : Type 0 where
   certifies : Kind
   migrates : Kind
   filters : Kind
+  ranges : Kind
 
 abbrev pub kind_of : Command → Kind
 kind_of (check script) = checks
@@ -32,6 +34,7 @@ kind_of (certify script name cert) = certifies
 kind_of (migrate script name cert) = migrates
 kind_of (trial size limit) = solves
 kind_of (iis script name limit) = filters
+kind_of (range script name parameter limit) = ranges
 
 -- it reads a certificate
 pub data Reads (k : Kind) : Type 0 where
@@ -47,6 +50,7 @@ kind_told (certify script name cert) sense os count r h = absurd h
 kind_told (migrate script name cert) sense os count r h = absurd h
 kind_told (trial size limit) sense os count r h = refl
 kind_told (iis script name limit) sense os count r h = absurd h
+kind_told (range script name parameter limit) sense os count r h = absurd h
 
 kind_branched : (c : Command) (sense : Sense) (os : List WholeOutcome) (r : Run) → TellsWholes c sense os r → kind_of c ≡ solves
 kind_branched (check script) sense os r h = absurd h
@@ -58,6 +62,7 @@ kind_branched (certify script name cert) sense os r h = absurd h
 kind_branched (migrate script name cert) sense os r h = absurd h
 kind_branched (trial size limit) sense os r h = absurd h
 kind_branched (iis script name limit) sense os r h = absurd h
+kind_branched (range script name parameter limit) sense os r h = absurd h
 
 kind_read : (c : Command) (name : List ℕ) → certificate_name c ≡ Some name → Reads (kind_of c)
 kind_read (check script) name h = absurd (none-some name h)
@@ -68,6 +73,7 @@ kind_read (certify script file cert) name h = to_certify refl
 kind_read (migrate script file cert) name h = to_migrate refl
 kind_read (trial size limit) name h = absurd (none-some name h)
 kind_read (iis script file limit) name h = absurd (none-some name h)
+kind_read (range script file parameter limit) name h = absurd (none-some name h)
 
 -- kinds differ
 pub checks_solves : checks ≡ solves → ⊥
@@ -115,6 +121,24 @@ filters_certifies e = cc
 pub filters_migrates : filters ≡ migrates → ⊥
 filters_migrates e = cc
 
+pub checks_ranges : checks ≡ ranges → ⊥
+checks_ranges e = cc
+
+pub solves_ranges : solves ≡ ranges → ⊥
+solves_ranges e = cc
+
+pub filters_ranges : filters ≡ ranges → ⊥
+filters_ranges e = cc
+
+pub ranges_writes : ranges ≡ writes → ⊥
+ranges_writes e = cc
+
+pub ranges_certifies : ranges ≡ certifies → ⊥
+ranges_certifies e = cc
+
+pub ranges_migrates : ranges ≡ migrates → ⊥
+ranges_migrates e = cc
+
 pub none_read : (k l : Kind) → k ≡ l → (l ≡ certifies → ⊥) → (l ≡ migrates → ⊥) → Reads k → ⊥
 none_read k l e f g (to_certify c) = f (sym e ∙ c)
 none_read k l e f g (to_migrate m) = g (sym e ∙ m)
@@ -149,6 +173,9 @@ module _ (words : List (List ℕ)) (files : Files) where
 
   pub ask_filters : (old new : ℕ) (os : List FilterOutcome) → IsFilteredRun words (Some files) old new os → Asks words filters
   ask_filters old new os h = record { command = iis h.script h.name h.limit; form = h.form; kind = refl }
+
+  pub ask_ranges : (old new : ℕ) (name : List ℕ) (sense : Sense) (os : List RangeOutcome) → IsRangedRun words (Some files) old new name sense os → Asks words ranges
+  ask_ranges old new name sense os h = record { command = range h.script h.name name h.limit; form = h.form; kind = refl }
 
   pub ask_writes : (old new : ℕ) (bytes : List ℕ) (stopped : Bool) → IsCertificateRun words (Some files) old new bytes stopped → Asks words writes
   ask_writes old new bytes stopped h = record { command = certificate h.script h.name h.limit; form = h.form; kind = refl }

@@ -11,12 +11,14 @@ use Rattle.dcx_sections.specs.declared.section.Sections.{Sections}
 use Rattle.dcx_report.specs.declared.outcome.Outcome.{Outcome}
 use Rattle.dcx_report.specs.declared.filter_outcome.FilterOutcome.{FilterOutcome}
 use Rattle.dcx_report.specs.declared.whole_outcome.WholeOutcome.{WholeOutcome}
+use Rattle.dcx_report.specs.declared.range_outcome.RangeOutcome.{RangeOutcome}
 use Rattle.dcx_report.specs.declared.run.Run.{Run}
-use Rattle.dcx_words.specs.Commands.{Command, check, solve, resolve, certificate, certify, migrate, trial, iis, command_of}
+use Rattle.dcx_words.specs.Commands.{Command, check, solve, resolve, certificate, certify, migrate, trial, iis, range, command_of}
 use Rattle.dcx_top.specs.Commands.{certificate_name, TellsOutcomes, TellsWholes}
 use Rattle.dcx_top.specs.Files.{most_bytes}
-use Rattle.dcx_top.specs.Runs.{IsChecked, IsSolvedRun, IsBranchedRun, IsFilteredRun, IsCertificateRun, HasCertificate, ReadsSections, IsMigrateRun, IsCertifiedRun, IsCertRefusedRun, misread, failed, IsRefusedRun, long_script, bad_script, for_whole, bad_settings, long_certificate}
+use Rattle.dcx_top.specs.Runs.{IsChecked, IsSolvedRun, IsBranchedRun, IsFilteredRun, IsRangedRun, IsCertificateRun, HasCertificate, ReadsSections, IsMigrateRun, IsCertifiedRun, IsCertRefusedRun, misread, failed, IsRefusedRun, long_script, bad_script, for_whole, for_range, bad_settings, long_certificate}
 use Rattle.dcx_top.specs.Whole.{RefusesWhole}
+use Rattle.dcx_top.proofs.Named.{unasked, allowed, allowed_reading, tells_no_parameter, wholes_no_parameter}
 use Rattle.dcx_top.proofs.Refusals.{refuses, one_refused, IsShort, never_refused, never_refused_check}
 
 -- a command whose outcomes are told has no certificate
@@ -29,6 +31,7 @@ tells_none (certify script name cert) sense os count r h = absurd h
 tells_none (migrate script name cert) sense os count r h = absurd h
 tells_none (trial size limit) sense os count r h = refl
 tells_none (iis script name limit) sense os count r h = absurd h
+tells_none (range script name parameter limit) sense os count r h = absurd h
 
 -- nor has one that solves by branch and bound, and it takes any problem
 pub wholes_none : (command : Command) (sense : Sense) (os : List WholeOutcome) (r : Run) → TellsWholes command sense os r → certificate_name command ≡ None
@@ -41,6 +44,7 @@ wholes_none (certify script name cert) sense os r h = absurd h
 wholes_none (migrate script name cert) sense os r h = absurd h
 wholes_none (trial size limit) sense os r h = absurd h
 wholes_none (iis script name limit) sense os r h = absurd h
+wholes_none (range script name parameter limit) sense os r h = absurd h
 
 pub wholes_taken : (command : Command) (sense : Sense) (os : List WholeOutcome) (r : Run) → TellsWholes command sense os r → ¬ RefusesWhole command
 wholes_taken (check script) sense os r h t = h
@@ -52,6 +56,7 @@ wholes_taken (certify script name cert) sense os r h t = h
 wholes_taken (migrate script name cert) sense os r h t = h
 wholes_taken (trial size limit) sense os r h t = h
 wholes_taken (iis script name limit) sense os r h t = h
+wholes_taken (range script name parameter limit) sense os r h t = h
 
 module _ (words : List (List ℕ)) (files : Files) where
   short_of_none : (command : Command) → certificate_name command ≡ None → IsShort files command
@@ -65,7 +70,8 @@ module _ (words : List (List ℕ)) (files : Files) where
   command_of_refused r (long_script c name e is long) = (c, e)
   command_of_refused r (bad_script c bytes e of h) = (c, e)
   command_of_refused r (for_whole c a e g solving h) = (c, e)
-  command_of_refused r (bad_settings c a name e g free is h) = (c, e)
+  command_of_refused r (for_range c a name e g free is h) = (c, e)
+  command_of_refused r (bad_settings c a name e g free allows is h) = (c, e)
   command_of_refused r (long_certificate c f long) = (c, f.form)
 
   pub refused_once : (r t : Refusal) → IsRefusedRun words (Some files) r → IsRefusedRun words (Some files) t → r ≡ t
@@ -79,28 +85,34 @@ module _ (words : List (List ℕ)) (files : Files) where
 
   pub refused_or_solved : (r : Refusal) (old new : ℕ) (s : Run) → IsRefusedRun words (Some files) r → IsSolvedRun words (Some files) old new s → ⊥
   refused_or_solved r old new s h k =
-      never_refused files k.command k.accepted k.settings r k.problem (λ refusing. k.continuous) k.asked (short_of_none k.command (tells_none k.command k.accepted.work.problem.sense k.outcomes k.warm s k.tells)) (refuses words files k.command k.form r h)
+      never_refused files k.command k.accepted k.settings r k.problem (λ refusing. k.continuous) (unasked k.command k.accepted.work.problem (tells_no_parameter k.command k.accepted.work.problem.sense k.outcomes k.warm s k.tells)) k.asked (short_of_none k.command (tells_none k.command k.accepted.work.problem.sense k.outcomes k.warm s k.tells)) (refuses words files k.command k.form r h)
 
   pub refused_or_branched : (r : Refusal) (old new : ℕ) (s : Run) → IsRefusedRun words (Some files) r → IsBranchedRun words (Some files) old new s → ⊥
   refused_or_branched r old new s h k =
       let sense = k.accepted.work.problem.sense in
-      never_refused files k.command k.accepted k.settings r k.problem (λ refusing. absurd (wholes_taken k.command sense k.outcomes s k.tells refusing)) k.asked
+      never_refused files k.command k.accepted k.settings r k.problem (λ refusing. absurd (wholes_taken k.command sense k.outcomes s k.tells refusing))
+      (unasked k.command k.accepted.work.problem (wholes_no_parameter k.command sense k.outcomes s k.tells)) k.asked
       (short_of_none k.command (wholes_none k.command sense k.outcomes s k.tells)) (refuses words files k.command k.form r h)
 
   pub refused_or_written : (r : Refusal) (old new : ℕ) (bytes : List ℕ) (stopped : Bool) → IsRefusedRun words (Some files) r → IsCertificateRun words (Some files) old new bytes stopped → ⊥
   refused_or_written r old new bytes stopped h k =
       let command = certificate k.script k.name k.limit in
-      never_refused files command k.accepted k.settings r k.problem (λ refusing. k.continuous) k.asked (short_of_none command refl) (refuses words files command k.form r h)
+      never_refused files command k.accepted k.settings r k.problem (λ refusing. k.continuous) (unasked command k.accepted.work.problem refl) k.asked (short_of_none command refl) (refuses words files command k.form r h)
 
   pub refused_or_filtered : (r : Refusal) (old new : ℕ) (os : List FilterOutcome) → IsRefusedRun words (Some files) r → IsFilteredRun words (Some files) old new os → ⊥
   refused_or_filtered r old new os h k =
       let command = iis k.script k.name k.limit in
-      never_refused files command k.accepted k.settings r k.problem (λ refusing. k.continuous) k.asked (short_of_none command refl) (refuses words files command k.form r h)
+      never_refused files command k.accepted k.settings r k.problem (λ refusing. k.continuous) (unasked command k.accepted.work.problem refl) k.asked (short_of_none command refl) (refuses words files command k.form r h)
+
+  pub refused_or_ranged : (r : Refusal) (old new : ℕ) (name : List ℕ) (sense : Sense) (os : List RangeOutcome) → IsRefusedRun words (Some files) r → IsRangedRun words (Some files) old new name sense os → ⊥
+  refused_or_ranged r old new name sense os h k =
+      let command = range k.script k.name name k.limit in
+      never_refused files command k.accepted k.settings r k.problem (λ refusing. k.continuous) (allowed command k.accepted.work.problem name refl k.ranged) k.asked (short_of_none command refl) (refuses words files command k.form r h)
 
   -- ---- runs that read a certificate
   refused_or_files : (r : Refusal) (command : Command) (f : HasCertificate words (Some files) command) (bytes : List ℕ) → files f.name ≡ Some bytes → length bytes ≤ most_bytes Certificate → IsRefusedRun words (Some files) r → ⊥
   refused_or_files r command f bytes there few h =
-      never_refused files command f.accepted f.settings r f.problem (λ refusing. f.continuous) f.asked (short_of command f.name bytes f.named there few) (refuses words files command f.form r h)
+      never_refused files command f.accepted f.settings r f.problem (λ refusing. f.continuous) (allowed_reading command f.accepted.work.problem f.name f.named) f.asked (short_of command f.name bytes f.named there few) (refuses words files command f.form r h)
 
   refused_or_read : (r : Refusal) (command : Command) (sections : Sections) → IsRefusedRun words (Some files) r → ReadsSections words (Some files) command sections → ⊥
   refused_or_read r command sections h k = refused_or_files r command k.files k.has.bytes k.has.are_told k.has.few h

@@ -10,12 +10,15 @@ use Rattle.dcx_front.specs.Checks.{IsFoundOf}
 use Rattle.dcx_front.proofs.OneCheck.{one_found}
 use Rattle.dcx_sections.specs.declared.fault.CertFault.{CertFault}
 use Rattle.dcx_report.specs.declared.filter_outcome.FilterOutcome.{FilterOutcome}
+use Rattle.dcx_report.specs.declared.range_outcome.RangeOutcome.{RangeOutcome}
+use Rattle.dcx_tree.specs.declared.constraint.Sense.{Sense}
 use Rattle.dcx_report.specs.declared.run.Run.{Run}
 use Rattle.dcx_report.specs.declared.run.Run.TheVariants as run
 use Rattle.dcx_words.specs.Commands.{check, migrate, command_of}
-use Rattle.dcx_top.specs.Runs.{GivesProblem, IsChecked, IsSolvedRun, IsBranchedRun, IsFilteredRun, AreBytesOf, IsCertifiedRun, IsCertRefusedRun, IsRefusedRun, Causes}
+use Rattle.dcx_top.specs.Runs.{GivesProblem, IsChecked, IsSolvedRun, IsBranchedRun, IsFilteredRun, IsRangedRun, AreBytesOf, IsCertifiedRun, IsCertRefusedRun, IsRefusedRun, Causes}
 use Rattle.dcx_top.specs.OneRun.{IsAnswered, AreOneRun, IsOnlyRun}
 use Rattle.dcx_top.proofs.OneFiltered.{filtered_once}
+use Rattle.dcx_top.proofs.OneRanged.{ranged_once}
 use Rattle.dcx_top.proofs.Refusals.{one_problem, same_command}
 use Rattle.dcx_top.proofs.OneKind.{
   Kind,
@@ -25,6 +28,7 @@ use Rattle.dcx_top.proofs.OneKind.{
   certifies,
   migrates,
   filters,
+  ranges,
   Asks,
   checks_solves,
   checks_writes,
@@ -41,12 +45,19 @@ use Rattle.dcx_top.proofs.OneKind.{
   filters_writes,
   filters_certifies,
   filters_migrates,
+  checks_ranges,
+  solves_ranges,
+  filters_ranges,
+  ranges_writes,
+  ranges_certifies,
+  ranges_migrates,
   same_kind,
   not_reading,
   ask_checks,
   ask_solves,
   ask_branches,
   ask_filters,
+  ask_ranges,
   ask_writes,
   ask_migrates,
   ask_certifies,
@@ -54,7 +65,7 @@ use Rattle.dcx_top.proofs.OneKind.{
 }
 use Rattle.dcx_top.proofs.OneSolved.{solved_once}
 use Rattle.dcx_top.proofs.OneBranched.{solved_or_branched, branched_once}
-use Rattle.dcx_top.proofs.OneRefusal.{command_of_refused, refused_once, refused_or_checked, refused_or_solved, refused_or_branched, refused_or_filtered, refused_or_written, refused_or_migrated, refused_or_certified, refused_or_cert_refused}
+use Rattle.dcx_top.proofs.OneRefusal.{command_of_refused, refused_once, refused_or_checked, refused_or_solved, refused_or_branched, refused_or_filtered, refused_or_ranged, refused_or_written, refused_or_migrated, refused_or_certified, refused_or_cert_refused}
 use Rattle.dcx_top.proofs.OneCertificate.{written_once, migrated_once, certified_once, cert_refused_once, certified_or_refused, migrated_or_refused}
 
 module _ (words : List (List ℕ)) (files : Files) where
@@ -150,6 +161,29 @@ module _ (words : List (List ℕ)) (files : Files) where
     filtered_or_cert_refused : (section : ℕ) (f : CertFault) → IsCertRefusedRun words (Some files) section f → ⊥
     filtered_or_cert_refused section f k = not_reading words files filters filters_certifies filters_migrates filter_asks (ask_reading words files section f k)
 
+  -- ---- ranged, beside runs of other kinds
+  module _ (was now : ℕ) (name : List ℕ) (sense : Sense) (os : List RangeOutcome) (h : IsRangedRun words (Some files) was now name sense os) where
+    range_asks : Asks words ranges
+    range_asks = ask_ranges words files was now name sense os h
+
+    ranged_or_checked : (c : Checked) → IsChecked words (Some files) c → ⊥
+    ranged_or_checked c k = checks_ranges (same_kind words files checks ranges (ask_checks words files c k) range_asks)
+
+    ranged_or_solved : Asks words solves → ⊥
+    ranged_or_solved asks = solves_ranges (same_kind words files solves ranges asks range_asks)
+
+    ranged_or_filtered : (old new : ℕ) (qs : List FilterOutcome) → IsFilteredRun words (Some files) old new qs → ⊥
+    ranged_or_filtered old new qs k = filters_ranges (same_kind words files filters ranges (ask_filters words files old new qs k) range_asks)
+
+    ranged_or_bytes : (old new : ℕ) (bytes : List ℕ) (stopped : Bool) → AreBytesOf words (Some files) old new bytes stopped → ⊥
+    ranged_or_bytes old new bytes stopped k = bytes_or_other old new bytes stopped ranges ranges_writes ranges_migrates k range_asks
+
+    ranged_or_certified : (n : ℕ) → IsCertifiedRun words (Some files) n → ⊥
+    ranged_or_certified n k = ranges_certifies (same_kind words files ranges certifies range_asks (ask_certifies words files n k))
+
+    ranged_or_cert_refused : (section : ℕ) (f : CertFault) → IsCertRefusedRun words (Some files) section f → ⊥
+    ranged_or_cert_refused section f k = not_reading words files ranges ranges_certifies ranges_migrates range_asks (ask_reading words files section f k)
+
   -- ---- all runs
   module _ (rose : Type 0) (was now : ℕ) where
     of_usage : (s : Run) → command_of words ≡ None → Causes words (Some files) rose was now s → IsAnswered s → AreOneRun words files run.Usage s
@@ -163,6 +197,7 @@ module _ (words : List (List ℕ)) (files : Files) where
     of_usage (run.CertRefused m f) h k j = absurd (none_cert_refused m f h k.0)
     of_usage (run.Trial n os) h k j = absurd (not_asked solves h (ask_solves words files was now (run.Trial n os) k))
     of_usage (run.Filtered os) h k j = absurd (not_asked filters h (ask_filters words files was now os k))
+    of_usage (run.Ranged name sense os) h k j = absurd (not_asked ranges h (ask_ranges words files was now name sense os k))
     of_usage run.ReadFault h k j = absurd j
     of_usage run.Memory h k j = absurd j
 
@@ -177,6 +212,7 @@ module _ (words : List (List ℕ)) (files : Files) where
     of_refused r (run.CertRefused m f) h k j = absurd (refused_or_cert_refused words files r m f h k.0)
     of_refused r (run.Trial n os) h k j = absurd (refused_or_solved words files r was now (run.Trial n os) h k)
     of_refused r (run.Filtered os) h k j = absurd (refused_or_filtered words files r was now os h k)
+    of_refused r (run.Ranged name sense os) h k j = absurd (refused_or_ranged words files r was now name sense os h k)
     of_refused r run.ReadFault h k j = absurd j
     of_refused r run.Memory h k j = absurd j
 
@@ -191,6 +227,7 @@ module _ (words : List (List ℕ)) (files : Files) where
     of_checked c (run.CertRefused m f) h k j = absurd (checked_or_cert_refused c m f h k.0)
     of_checked c (run.Trial n os) h k j = absurd (checked_or_solved c h (ask_solves words files was now (run.Trial n os) k))
     of_checked c (run.Filtered os) h k j = absurd (filtered_or_checked was now os k c h)
+    of_checked c (run.Ranged name sense os) h k j = absurd (ranged_or_checked was now name sense os k c h)
     of_checked c run.ReadFault h k j = absurd j
     of_checked c run.Memory h k j = absurd j
 
@@ -205,6 +242,7 @@ module _ (words : List (List ℕ)) (files : Files) where
     of_solved old new r (run.CertRefused m f) h k j = absurd (solved_or_cert_refused (ask_solves words files old new r h) m f k.0)
     of_solved old new r (run.Trial n os) h k j = solved_once words files old new was now r (run.Trial n os) h k
     of_solved old new r (run.Filtered os) h k j = absurd (filtered_or_solved was now os k (ask_solves words files old new r h))
+    of_solved old new r (run.Ranged name sense os) h k j = absurd (ranged_or_solved was now name sense os k (ask_solves words files old new r h))
     of_solved old new r run.ReadFault h k j = absurd j
     of_solved old new r run.Memory h k j = absurd j
 
@@ -219,6 +257,7 @@ module _ (words : List (List ℕ)) (files : Files) where
     of_branched old new r (run.CertRefused m f) h k j = absurd (solved_or_cert_refused (ask_branches words files old new r h) m f k.0)
     of_branched old new r (run.Trial n os) h k j = absurd (solved_or_branched words files was now old new (run.Trial n os) r k h)
     of_branched old new r (run.Filtered os) h k j = absurd (filtered_or_solved was now os k (ask_branches words files old new r h))
+    of_branched old new r (run.Ranged name sense os) h k j = absurd (ranged_or_solved was now name sense os k (ask_branches words files old new r h))
     of_branched old new r run.ReadFault h k j = absurd j
     of_branched old new r run.Memory h k j = absurd j
 
@@ -233,6 +272,7 @@ module _ (words : List (List ℕ)) (files : Files) where
     of_bytes old new b s (run.CertRefused m f) h k j = absurd (bytes_or_cert_refused old new b s m f h k.0)
     of_bytes old new b s (run.Trial n os) h k j = absurd (solved_or_bytes (ask_solves words files was now (run.Trial n os) k) old new b s h)
     of_bytes old new b s (run.Filtered os) h k j = absurd (filtered_or_bytes was now os k old new b s h)
+    of_bytes old new b s (run.Ranged name sense os) h k j = absurd (ranged_or_bytes was now name sense os k old new b s h)
     of_bytes old new b s run.ReadFault h k j = absurd j
     of_bytes old new b s run.Memory h k j = absurd j
 
@@ -247,6 +287,7 @@ module _ (words : List (List ℕ)) (files : Files) where
     of_certified n (run.CertRefused m f) h k j = absurd (certified_or_refused words files n m f h k.0)
     of_certified n (run.Trial m os) h k j = absurd (solved_or_certified (ask_solves words files was now (run.Trial m os) k) n h)
     of_certified n (run.Filtered os) h k j = absurd (filtered_or_certified was now os k n h)
+    of_certified n (run.Ranged name sense os) h k j = absurd (ranged_or_certified was now name sense os k n h)
     of_certified n run.ReadFault h k j = absurd j
     of_certified n run.Memory h k j = absurd j
 
@@ -261,6 +302,7 @@ module _ (words : List (List ℕ)) (files : Files) where
     of_cert_refused m f (run.CertRefused n g) h k j = cert_refused_once words files m n f g h k.0
     of_cert_refused m f (run.Trial n os) h k j = absurd (solved_or_cert_refused (ask_solves words files was now (run.Trial n os) k) m f h)
     of_cert_refused m f (run.Filtered os) h k j = absurd (filtered_or_cert_refused was now os k m f h)
+    of_cert_refused m f (run.Ranged name sense os) h k j = absurd (ranged_or_cert_refused was now name sense os k m f h)
     of_cert_refused m f run.ReadFault h k j = absurd j
     of_cert_refused m f run.Memory h k j = absurd j
 
@@ -275,8 +317,25 @@ module _ (words : List (List ℕ)) (files : Files) where
     of_filtered old new os (run.CertRefused m f) h k j = absurd (filtered_or_cert_refused old new os h m f k.0)
     of_filtered old new os (run.Trial n qs) h k j = absurd (filtered_or_solved old new os h (ask_solves words files was now (run.Trial n qs) k))
     of_filtered old new os (run.Filtered qs) h k j = filtered_once words files old new was now os qs h k
+    of_filtered old new os (run.Ranged name sense qs) h k j = absurd (ranged_or_filtered was now name sense qs k old new os h)
     of_filtered old new os run.ReadFault h k j = absurd j
     of_filtered old new os run.Memory h k j = absurd j
+
+    of_ranged : (old new : ℕ) (name : List ℕ) (sense : Sense) (os : List RangeOutcome) (s : Run) → IsRangedRun words (Some files) old new name sense os → Causes words (Some files) rose was now s → IsAnswered s →
+        AreOneRun words files (run.Ranged name sense os) s
+    of_ranged old new name sense os run.Usage h k j = absurd (not_asked ranges k.0 (ask_ranges words files old new name sense os h))
+    of_ranged old new name sense os (run.Refused t) h k j = absurd (refused_or_ranged words files t old new name sense os k.0 h)
+    of_ranged old new name sense os (run.Checked d) h k j = absurd (ranged_or_checked old new name sense os h d k.0)
+    of_ranged old new name sense os (run.Solved w z qs u) h k j = absurd (ranged_or_solved old new name sense os h (ask_solves words files was now (run.Solved w z qs u) k))
+    of_ranged old new name sense os (run.Branched w z qs) h k j = absurd (ranged_or_solved old new name sense os h (ask_branches words files was now (run.Branched w z qs) k))
+    of_ranged old new name sense os (run.Certificates b s) h k j = absurd (ranged_or_bytes old new name sense os h was now b s k)
+    of_ranged old new name sense os (run.Certified n) h k j = absurd (ranged_or_certified old new name sense os h n k.0)
+    of_ranged old new name sense os (run.CertRefused m f) h k j = absurd (ranged_or_cert_refused old new name sense os h m f k.0)
+    of_ranged old new name sense os (run.Trial n qs) h k j = absurd (ranged_or_solved old new name sense os h (ask_solves words files was now (run.Trial n qs) k))
+    of_ranged old new name sense os (run.Filtered qs) h k j = absurd (ranged_or_filtered old new name sense os h was now qs k)
+    of_ranged old new name sense os (run.Ranged other way qs) h k j = ranged_once words files old new was now name other sense way os qs h k
+    of_ranged old new name sense os run.ReadFault h k j = absurd j
+    of_ranged old new name sense os run.Memory h k j = absurd j
 
     one : (risen : Type 0) (old new : ℕ) (r s : Run) → Causes words (Some files) risen old new r → Causes words (Some files) rose was now s → IsAnswered r → IsAnswered s → AreOneRun words files r s
     one risen old new run.Usage s h k i j = of_usage s h.0 k j
@@ -289,6 +348,7 @@ module _ (words : List (List ℕ)) (files : Files) where
     one risen old new (run.CertRefused m f) s h k i j = of_cert_refused m f s h.0 k j
     one risen old new (run.Trial n os) s h k i j = of_solved old new (run.Trial n os) s h k j
     one risen old new (run.Filtered os) s h k i j = of_filtered old new os s h k j
+    one risen old new (run.Ranged name sense os) s h k i j = of_ranged old new name sense os s h k j
     one risen old new run.ReadFault s h k i j = absurd i
     one risen old new run.Memory s h k i j = absurd i
 

@@ -6,7 +6,7 @@ use Rattle.dcx_host.specs.Files.{Files}
 use Rattle.dcx_elab.specs.declared.work.Work.{Work}
 use Rattle.dcx_settings.specs.File.{SpellSettings}
 use Rattle.dcx_settings.proofs.OneList.{settings_one}
-use Rattle.dcx_words.specs.Commands.{Command, check, solve, resolve, certificate, certify, migrate, trial, iis}
+use Rattle.dcx_words.specs.Commands.{Command, check, solve, resolve, certificate, certify, migrate, trial, iis, range}
 use Rattle.dcx_overlay.specs.Settings.{AreLaidOver}
 use Rattle.dcx_overlay.proofs.OneSetting.{settings_are_one}
 use Rattle.dcx_top.specs.Commands.{AreOfFile, AreSettingsOf}
@@ -27,3 +27,4 @@ module _ (files : Files) where
   one_settings (migrate script name cert) work ss ts h k = one_of_file name work.last ss ts h k
   one_settings (trial size limit) work ss ts h k = settings_are_one.trial work.last ss ts h k
   one_settings (iis script name limit) work ss ts h k = one_of_file name work.last ss ts h k
+  one_settings (range script name parameter limit) work ss ts h k = one_of_file name work.last ss ts h k

@@ -10,7 +10,7 @@ use Rattle.dcx_report.specs.declared.outcome.Outcome.{Outcome}
 use Rattle.dcx_report.specs.declared.run.Run.{Run}
 use Rattle.dcx_report.specs.declared.run.Run.TheVariants as run
 use Rattle.dcx_report.specs.declared.run.Word.TheVariants as word
-use Rattle.dcx_words.specs.Commands.{Command, check, solve, resolve, certificate, certify, migrate, trial, iis, command_of}
+use Rattle.dcx_words.specs.Commands.{Command, check, solve, resolve, certificate, certify, migrate, trial, iis, range, command_of}
 use Rattle.dcx_words.specs.Laws.{is_warm_command}
 use Rattle.dcx_outcomes.specs.Warm.{AreFound}
 use Rattle.dcx_outcomes.specs.Laws.{AreOneFound}
@@ -37,6 +37,7 @@ module _ (words : List (List ℕ)) (files : Files) where
   tell_one (certify script name cert) sense os qs m n r s without h k alike = absurd h
   tell_one (migrate script name cert) sense os qs m n r s without h k alike = absurd h
   tell_one (iis script name limit) sense os qs m n r s without h k alike = absurd h
+  tell_one (range script name parameter limit) sense os qs m n r s without h k alike = absurd h
   tell_one (trial size limit) sense os qs m n r s without h k alike =
       subst (λ (x : Run). AreOneRun words files x s) (sym h) (subst (λ (y : Run). AreOneRun words files (run.Trial size os) y) (sym k) (refl, without refl))
 

@@ -87,6 +87,7 @@ certificate_rising told risen rose name p count (run.Certified n) more h = absur
 certificate_rising told risen rose name p count (run.CertRefused section fault) more h = h
 certificate_rising told risen rose name p count (run.Trial size outcomes) more h = absurd h
 certificate_rising told risen rose name p count (run.Filtered outcomes) more h = absurd h
+certificate_rising told risen rose name p count (run.Ranged parameter sense outcomes) more h = absurd h
 
 -- ---- what it gives
 -- as many settings as lines

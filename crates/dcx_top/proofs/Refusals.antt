@@ -13,19 +13,27 @@ use Rattle.dcx_elab.specs.declared.work.Work.{Work}
 use Rattle.dcx_point.specs.Pairs.{Pairs}
 use Rattle.dcx_arena.specs.Nodes.{place_at}
 use Rattle.dcx_tree.specs.Nodes.{Node}
+use Rattle.dcx_tree.specs.declared.problem.Problem.{Problem}
+use Rattle.dcx_shape.specs.declared.place.Place.{Place}
+use Rattle.dcx_ranged.specs.declared.not_ranged.NotRanged.{NotRanged as Fault}
+use Rattle.dcx_ranged.specs.declared.not_ranged.NotRanged.TheVariants as faults
+use Rattle.dcx_outcomes.proofs.RangeEnds.{range_is_told}
 use Rattle.dcx_front.specs.declared.accepted.Accepted.{Accepted}
 use Rattle.dcx_front.specs.declared.fault.FrontFault.TheVariants as front
 use Rattle.dcx_front.specs.declared.refusal.Refusal.{Refusal}
-use Rattle.dcx_front.specs.declared.refusal.Carried.TheVariants.{Nothing}
+use Rattle.dcx_front.specs.declared.refusal.Carried.TheVariants.{Nothing, NotRanged}
 use Rattle.dcx_front.specs.declared.refusal.RefusalSource.TheVariants.{Script, Settings, Certificate}
 use Rattle.dcx_front.specs.Checks.{IsTooLong, IsRefusedAs}
 use Rattle.dcx_front.specs.Accepts.{Given, Gives, unread, Ending, refused, without_memory, IsRefusedBy, read_ending}
 use Rattle.dcx_front.proofs.OneAnswer.{one_answer}
 use Rattle.dcx_front.proofs.OneCheck.{one_refusal}
-use Rattle.dcx_words.specs.Commands.{Command, check, solve, resolve, certificate, certify, migrate, trial, iis, command_of}
-use Rattle.dcx_top.specs.Commands.{IsScriptOf, script_name, settings_name, certificate_name, AreOfFile, AreSettingsOf}
+use Rattle.dcx_words.specs.Commands.{Command, check, solve, resolve, certificate, certify, migrate, trial, iis, range, command_of}
+use Rattle.dcx_top.specs.Commands.{IsScriptOf, script_name, settings_name, certificate_name, parameter_name, AreOfFile, AreSettingsOf}
 use Rattle.dcx_top.specs.Files.{most_bytes, RefusesScript, RefusesSettings}
-use Rattle.dcx_top.specs.Runs.{GivesProblem, IsRefusedRun, long_script, bad_script, for_whole, bad_settings, long_certificate}
+use Rattle.dcx_top.specs.Runs.{GivesProblem, IsRefusedRun, long_script, bad_script, for_whole, for_range, bad_settings, long_certificate}
+use Rattle.dcx_top.specs.NoRange.{IsPlaceOf, IsRefusedForRange, AllowsRange}
+use Rattle.dcx_top.proofs.Named.{reads_no_parameter}
+use Rattle.dcx_top.proofs.Standing.{stands_once}
 use Rattle.dcx_top.specs.Whole.{HasNoWhole, IsFirstWhole, IsRefusedForWhole, RefusesWhole, Takes}
 
 -- ---- answers of the front
@@ -58,6 +66,7 @@ module _ (files : Files) where
   one_script (migrate script settings cert) b c h k = told_once script b c h k
   one_script (trial size limit) b c h k = h ∙ sym k
   one_script (iis script settings limit) b c h k = told_once script b c h k
+  one_script (range script settings parameter limit) b c h k = told_once script b c h k
 
   script_is : (command : Command) (name bytes : List ℕ) → script_name command ≡ Some name → files name ≡ Some bytes → IsScriptOf (Some files) command bytes
   script_is (check script) name bytes e h = subst (λ n. files n ≡ Some bytes) (sym (same_Some script name e)) h
@@ -68,6 +77,7 @@ module _ (files : Files) where
   script_is (migrate script settings cert) name bytes e h = subst (λ n. files n ≡ Some bytes) (sym (same_Some script name e)) h
   script_is (trial size limit) name bytes e h = absurd (none-some name e)
   script_is (iis script settings limit) name bytes e h = subst (λ n. files n ≡ Some bytes) (sym (same_Some script name e)) h
+  script_is (range script settings parameter limit) name bytes e h = subst (λ n. files n ≡ Some bytes) (sym (same_Some script name e)) h
 
   -- an accepted problem is one
   pub one_problem : (command : Command) (a b : Accepted) → GivesProblem (Some files) command a → GivesProblem (Some files) command b → a ≡ b
@@ -92,14 +102,16 @@ module _ (files : Files) where
   spelled_by (migrate script file cert) work settings name bytes are e h = spelled_in file work settings name bytes are e h
   spelled_by (trial size limit) work settings name bytes are e h = absurd (none-some name e)
   spelled_by (iis script file limit) work settings name bytes are e h = spelled_in file work settings name bytes are e h
+  spelled_by (range script file parameter limit) work settings name bytes are e h = spelled_in file work settings name bytes are e h
 
 -- ---- what is refused
--- the script, for what stands in it or for a variable that is to be whole, or else the settings file, or else the certificate for its
+-- the script, for what stands in it, for a variable that is to be whole or for a range that a parameter lacks, or else the settings file, or else the certificate for its
 -- length
 pub data Refuses (files : Files) (command : Command) (r : Refusal) : Type 0 where
   in_script : (bytes : List ℕ) → IsScriptOf (Some files) command bytes → RefusesScript bytes r → Refuses files command r
   in_problem : (a : Accepted) → GivesProblem (Some files) command a → RefusesWhole command → IsRefusedForWhole a.work.problem.tree r → Refuses files command r
-  in_settings : (a : Accepted) (name bytes : List ℕ) → GivesProblem (Some files) command a → Takes command a.work.problem.tree → settings_name command ≡ Some name → files name ≡ Some bytes → RefusesSettings bytes r → Refuses files command r
+  in_range : (a : Accepted) (name : List ℕ) → GivesProblem (Some files) command a → HasNoWhole a.work.problem.tree → parameter_name command ≡ Some name → IsRefusedForRange a.work.problem name r → Refuses files command r
+  in_settings : (a : Accepted) (name bytes : List ℕ) → GivesProblem (Some files) command a → Takes command a.work.problem.tree → AllowsRange command a.work.problem → settings_name command ≡ Some name → files name ≡ Some bytes → RefusesSettings bytes r → Refuses files command r
   in_length : (a : Accepted) (settings : List Pairs) (name bytes : List ℕ) → GivesProblem (Some files) command a → HasNoWhole a.work.problem.tree → AreSettingsOf (Some files) command a.work settings → certificate_name command ≡ Some name →
       files name ≡ Some bytes → most_bytes Certificate < length bytes → IsTooLong Certificate r → Refuses files command r
 
@@ -116,9 +128,10 @@ module _ (words : List (List ℕ)) (files : Files) (command : Command) (form : c
       of_command r c e (in_script bytes (script_is files c name bytes is there) (unread (reads.TooLong start_of_text.place) (no_script_text (more, refl)) long))
   refuses r (bad_script c bytes e of h) = of_command r c e (in_script bytes of h)
   refuses r (for_whole c a e g refusing h) = of_command r c e (in_problem a g refusing h)
-  refuses r (bad_settings c a name e g free is (inl (long, (bytes, there, more)))) =
-      of_command r c e (in_settings a name bytes g free is there (record { fault = reads.TooLong start_of_text.place; refused = no_settings_text (more, refl); told = long }))
-  refuses r (bad_settings c a name e g free is (inr (bytes, there, h))) = of_command r c e (in_settings a name bytes g free is there h)
+  refuses r (for_range c a name e g free is h) = of_command r c e (in_range a name g free is h)
+  refuses r (bad_settings c a name e g free allows is (inl (long, (bytes, there, more)))) =
+      of_command r c e (in_settings a name bytes g free allows is there (record { fault = reads.TooLong start_of_text.place; refused = no_settings_text (more, refl); told = long }))
+  refuses r (bad_settings c a name e g free allows is (inr (bytes, there, h))) = of_command r c e (in_settings a name bytes g free allows is there h)
   refuses r (long_certificate c f (long, (bytes, there, more))) = of_command r c f.form (in_length f.accepted f.settings f.name bytes f.problem f.continuous f.asked f.named there more long)
 
 -- the first variable that is to be whole is one
@@ -133,6 +146,20 @@ one_whole nodes r t h k =
     let node = one_first nodes h.node k.node h.first k.first in
     let place = same_Some h.place k.place (sym h.stands ∙ ap (place_at nodes) node ∙ k.stands) in
     one_refusal Script 34 k.place Nothing r t (subst (λ z. IsRefusedAs Script 34 z Nothing r) place h.refusal) k.refusal
+
+-- what a script is refused for, where a parameter has no range, is one, and so is its place
+one_place : (fault : Fault) (nodes : List Node) (name : List ℕ) (a b : Place) → IsPlaceOf fault nodes name a → IsPlaceOf fault nodes name b → a ≡ b
+one_place faults.Unknown nodes name a b h k = h ∙ sym k
+one_place faults.Shape nodes name a b h k = stands_once nodes name a b h k
+one_place faults.Map nodes name a b h k = stands_once nodes name a b h k
+one_place faults.Coefficient nodes name a b h k = stands_once nodes name a b h k
+
+one_lack : (p : Problem) (name : List ℕ) (r t : Refusal) → IsRefusedForRange p name r → IsRefusedForRange p name t → r ≡ t
+one_lack p name r t h k =
+    let fault = range_is_told.once p name h.fault k.fault h.lacks k.lacks in
+    let place = one_place k.fault p.tree name h.place k.place (subst (λ (f : Fault). IsPlaceOf f p.tree name h.place) fault h.stands) k.stands in
+    one_refusal Script 35 k.place (NotRanged k.fault) r t
+    (subst (λ z. IsRefusedAs Script 35 z (NotRanged k.fault) r) place (subst (λ (f : Fault). IsRefusedAs Script 35 h.place (NotRanged f) r) fault h.refusal)) k.refusal
 
 -- an ending is told by one refusal
 one_told : (e : Ending) (r t : Refusal) → IsRefusedBy Settings e r → IsRefusedBy Settings e t → r ≡ t
@@ -161,24 +188,45 @@ module _ (files : Files) (command : Command) where
       let (lines, spelled) = spelled_by files command work settings name bytes are is there in
       settings_apart bytes lines fault spelled h
 
+  -- a range that a parameter lacks
+  in_range_once : (a b : Accepted) (name other : List ℕ) (r t : Refusal) → GivesProblem (Some files) command a → GivesProblem (Some files) command b → parameter_name command ≡ Some name → parameter_name command ≡ Some other →
+      IsRefusedForRange a.work.problem name r → IsRefusedForRange b.work.problem other t → r ≡ t
+  in_range_once a b name other r t g i is also h k =
+      let here = subst (λ (x : Accepted). IsRefusedForRange x.work.problem name r) (one_problem files command a b g i) h in
+      one_lack b.work.problem other r t (subst (λ n. IsRefusedForRange b.work.problem n r) (same_Some name other (sym is ∙ also)) here) k
+
+  range_or_lack : (a b : Accepted) (name : List ℕ) (r : Refusal) → GivesProblem (Some files) command a → GivesProblem (Some files) command b → parameter_name command ≡ Some name → IsRefusedForRange a.work.problem name r → AllowsRange command b.work.problem → ⊥
+  range_or_lack a b name r g i is h allows =
+      let here = subst (λ (x : Accepted). IsRefusedForRange x.work.problem name r) (one_problem files command a b g i) h in
+      range_is_told.never_both b.work.problem name here.fault (allows name is) here.lacks
+
   pub one_refused : (r t : Refusal) → Refuses files command r → Refuses files command t → r ≡ t
   one_refused r t (in_script b of h) (in_script c also k) =
       same_refused r t (one_answer c (Err (front.Refused r)) (subst (λ x. RefusesScript x r) (one_script files command b c of also) h) (Err (front.Refused t)) k)
   one_refused r t (in_script b of h) (in_problem a g refusing k) = absurd (in_script_once a r b g of h)
-  one_refused r t (in_script b of h) (in_settings a name c g free is there k) = absurd (in_script_once a r b g of h)
+  one_refused r t (in_script b of h) (in_settings a name c g free allows is there k) = absurd (in_script_once a r b g of h)
   one_refused r t (in_script b of h) (in_length a settings name c g free asked named there more long) = absurd (in_script_once a r b g of h)
+  one_refused r t (in_script b of h) (in_range a name g free is k) = absurd (in_script_once a r b g of h)
+  one_refused r t (in_range a name g free is k) (in_script b of h) = absurd (in_script_once a t b g of h)
+  one_refused r t (in_range a name g free is h) (in_problem b i refusing k) = absurd (whole_or_free b a t i g k free)
+  one_refused r t (in_range a name g free is h) (in_range b other i unmarked also k) = in_range_once a b name other r t g i is also h k
+  one_refused r t (in_range a name g free is h) (in_settings b other c i unmarked allows known there k) = absurd (range_or_lack a b name r g i is h allows)
+  one_refused r t (in_range a name g free is h) (in_length b settings other c i unmarked asked named there more long) = absurd (reads_no_parameter command name other is named)
+  one_refused r t (in_problem a g refusing h) (in_range b name i free is k) = absurd (whole_or_free a b r g i h free)
+  one_refused r t (in_length b settings other c i free asked named there more long) (in_range a name g unmarked is h) = absurd (reads_no_parameter command name other is named)
+  one_refused r t (in_settings b other c i free allows known there k) (in_range a name g unmarked is h) = absurd (range_or_lack a b name t g i is h allows)
   one_refused r t (in_problem a g refusing k) (in_script b of h) = absurd (in_script_once a t b g of h)
   one_refused r t (in_problem a g refusing h) (in_problem b i also k) = in_problem_once a b r t g i h k
-  one_refused r t (in_problem a g refusing h) (in_settings b name c i taken is there k) = absurd (whole_or_free a b r g i h (taken refusing))
+  one_refused r t (in_problem a g refusing h) (in_settings b name c i taken allows is there k) = absurd (whole_or_free a b r g i h (taken refusing))
   one_refused r t (in_problem a g refusing h) (in_length b settings name c i free asked named there more long) = absurd (whole_or_free a b r g i h free)
   one_refused r t (in_length b settings name c i free asked named there more long) (in_script d of h) = absurd (in_script_once b t d i of h)
   one_refused r t (in_length b settings name c i free asked named there more long) (in_problem a g refusing h) = absurd (whole_or_free a b t g i h free)
-  one_refused r t (in_length b settings name c i free asked named there more long) (in_settings a other d g unmarked is here k) = absurd (settings_or_not b.work settings other d k.fault asked is here k.refused)
+  one_refused r t (in_length b settings name c i free asked named there more long) (in_settings a other d g unmarked allows is here k) = absurd (settings_or_not b.work settings other d k.fault asked is here k.refused)
   one_refused r t (in_length b settings name c i free asked named there more long) (in_length a others other d g unmarked also known here most such) = one_refusal Certificate 8 _ _ r t long such
-  one_refused r t (in_settings a other d g unmarked is here k) (in_length b settings name c i free asked named there more long) = absurd (settings_or_not b.work settings other d k.fault asked is here k.refused)
-  one_refused r t (in_settings a name c g free is there k) (in_script b of h) = absurd (in_script_once a t b g of h)
-  one_refused r t (in_settings b name c i taken is there k) (in_problem a g refusing h) = absurd (whole_or_free a b t g i h (taken refusing))
-  one_refused r t (in_settings a name b g free is there h) (in_settings d other c i unmarked also here k) =
+  one_refused r t (in_settings a other d g unmarked allows is here k) (in_length b settings name c i free asked named there more long) = absurd (settings_or_not b.work settings other d k.fault asked is here k.refused)
+  one_refused r t (in_settings a name c g free allows is there k) (in_script b of h) = absurd (in_script_once a t b g of h)
+  one_refused r t (in_settings b name c i taken allows is there k) (in_problem a g refusing h) = absurd (whole_or_free a b t g i h (taken refusing))
+  one_refused r t (in_settings a name b g free allows is there h) (in_settings d other c i unmarked permits also here k) =
       let same = one_settings name other b c is also there here in
       let fault = refused_one c h.fault k.fault (subst (λ x. IsRefused x h.fault) same h.refused) k.refused in
       one_told (read_ending k.fault) r t (subst (λ f. IsRefusedBy Settings (read_ending f) r) fault h.told) k.told
@@ -188,15 +236,17 @@ module _ (files : Files) (command : Command) where
   IsShort = (name bytes : List ℕ) → certificate_name command ≡ Some name → files name ≡ Some bytes → length bytes ≤ most_bytes Certificate
 
   -- nothing is refused where the problem is solved
-  pub never_refused : (a : Accepted) (settings : List Pairs) (r : Refusal) → GivesProblem (Some files) command a → Takes command a.work.problem.tree → AreSettingsOf (Some files) command a.work settings → IsShort → Refuses files command r → ⊥
-  never_refused a settings r g taken are short (in_script b of h) = in_script_once a r b g of h
-  never_refused a settings r g taken are short (in_problem b i refusing h) = whole_or_free b a r i g h (taken refusing)
-  never_refused a settings r g taken are short (in_settings d name bytes i also is there h) = settings_or_not a.work settings name bytes h.fault are is there h.refused
-  never_refused a settings r g taken are short (in_length d others name bytes i unmarked asked named there more long) = let few = short name bytes named there in omega (arith, few, more)
+  pub never_refused : (a : Accepted) (settings : List Pairs) (r : Refusal) → GivesProblem (Some files) command a → Takes command a.work.problem.tree → AllowsRange command a.work.problem → AreSettingsOf (Some files) command a.work settings → IsShort → Refuses files command r → ⊥
+  never_refused a settings r g taken allowed are short (in_script b of h) = in_script_once a r b g of h
+  never_refused a settings r g taken allowed are short (in_problem b i refusing h) = whole_or_free b a r i g h (taken refusing)
+  never_refused a settings r g taken allowed are short (in_range b name i unmarked is h) = range_or_lack b a name r i g is h allowed
+  never_refused a settings r g taken allowed are short (in_settings d name bytes i unmarked allows is there h) = settings_or_not a.work settings name bytes h.fault are is there h.refused
+  never_refused a settings r g taken allowed are short (in_length d others name bytes i unmarked asked named there more long) = let few = short name bytes named there in omega (arith, few, more)
 
 -- nor where it is checked
 pub never_refused_check : (files : Files) (script : List ℕ) (a : Accepted) (r : Refusal) → GivesProblem (Some files) (check script) a → Refuses files (check script) r → ⊥
 never_refused_check files script a r g (in_script b of h) = in_script_once files (check script) a r b g of h
 never_refused_check files script a r g (in_problem b i refusing h) = refusing
-never_refused_check files script a r g (in_settings d name bytes i free is there h) = none-some name is
+never_refused_check files script a r g (in_range d name i free is h) = none-some name is
+never_refused_check files script a r g (in_settings d name bytes i free allows is there h) = none-some name is
 never_refused_check files script a r g (in_length d settings name bytes i free asked named there more long) = none-some name named

@@ -1,23 +1,26 @@
 -- A run with its cause is right.
-use Rattle.std.proofs.Common.{◌≡◌, inl, inr, ℕ, Bool, List, Option, Some}
+use Rattle.std.proofs.Common.{◌≡◌, inl, inr, ℕ, Bool, List, Option, Some, refl}
 use Rattle.dcx_host.specs.Files.{Files}
 use Rattle.dcx_front.specs.declared.accepted.Accepted.{Accepted}
 use Rattle.dcx_front.proofs.OneVerdict.{acceptance}
 use Rattle.dcx_report.specs.declared.filter_outcome.FilterOutcome.{FilterOutcome}
+use Rattle.dcx_report.specs.declared.range_outcome.RangeOutcome.{RangeOutcome}
+use Rattle.dcx_tree.specs.declared.constraint.Sense.{Sense}
 use Rattle.dcx_report.specs.declared.run.Run.{Run}
 use Rattle.dcx_report.specs.declared.run.Run.TheVariants as run
-use Rattle.dcx_words.specs.Commands.{Command, check, certificate, certify, migrate, iis, command_of}
+use Rattle.dcx_words.specs.Commands.{Command, check, certificate, certify, migrate, iis, range, command_of}
 use Rattle.dcx_words.specs.Laws.{is_warm_command}
 use Rattle.dcx_outcomes.proofs.Warm.{found_are_right}
 use Rattle.dcx_outcomes.proofs.FilterEnds.{filters_are_right}
 use Rattle.dcx_outcomes.proofs.WholeEnds.{wholes_are_right}
+use Rattle.dcx_outcomes.proofs.RangeEnds.{ranges_are_right}
 use Rattle.dcx_sections.specs.declared.section.Section.{Section}
 use Rattle.dcx_sections.specs.declared.section.Sections.{Sections}
 use Rattle.dcx_certificates.specs.Checking.{AreShown}
 use Rattle.dcx_certificates.proofs.Shown.{sections_are_shown}
 use Rattle.dcx_top.specs.Commands.{limit_of}
-use Rattle.dcx_top.specs.Runs.{GivesProblem, IsSolvedRun, IsBranchedRun, IsFilteredRun, IsCertificateRun, HasCertificate, HasPassed, IsMigrateRun, Causes}
-use Rattle.dcx_top.specs.Headline.{IsAcceptedWork, IsRightlySolved, IsRightlyBranched, IsRightlyFiltered, IsRightlyShown, IsRightRun}
+use Rattle.dcx_top.specs.Runs.{GivesProblem, IsSolvedRun, IsBranchedRun, IsFilteredRun, IsRangedRun, IsCertificateRun, HasCertificate, HasPassed, IsMigrateRun, Causes}
+use Rattle.dcx_top.specs.Headline.{IsAcceptedWork, IsRightlySolved, IsRightlyBranched, IsRightlyFiltered, IsRightlyRanged, IsRightlyShown, IsRightRun}
 use Rattle.dcx_top.proofs.Passed.{passed_shown, migrated_shown}
 
 accepted_work : (words : List (List ℕ)) (told : Option Files) (command : Command) (a : Accepted) → command_of words ≡ Some command → GivesProblem told command a → IsAcceptedWork words told command a.work
@@ -67,6 +70,18 @@ filtered_right words told old new os h = record {
   right = filters_are_right h.accepted.work.problem h.limit h.settings os h.are;
 }
 
+ranged_right : (words : List (List ℕ)) (told : Option Files) (old new : ℕ) (name : List ℕ) (sense : Sense) (os : List RangeOutcome) → IsRangedRun words told old new name sense os → IsRightlyRanged words told name sense os
+ranged_right words told old new name sense os h = record {
+  command = range h.script h.name name h.limit;
+  work = h.accepted.work;
+  accepted = accepted_work words told (range h.script h.name name h.limit) h.accepted h.form h.problem;
+  named = refl;
+  sense_is = h.sense_is;
+  settings = h.settings;
+  asked = h.asked;
+  right = ranges_are_right h.accepted.work.problem name h.limit h.settings os h.are;
+}
+
 -- ---- certificates
 certificate_right : (words : List (List ℕ)) (told : Option Files) (old new : ℕ) (text : List ℕ) (stopped : Bool) (h : IsCertificateRun words told old new text stopped) → IsRightlyShown words told h.sections.list
 certificate_right words told old new text stopped h = let w = accepted_work words told (certificate h.script h.name h.limit) h.accepted h.form h.problem in record {
@@ -109,6 +124,7 @@ caused_are_right words told risen old new (run.Solved word sense outcomes warm) 
 caused_are_right words told risen old new (run.Branched word sense outcomes) h = branched_right words told old new (run.Branched word sense outcomes) h
 caused_are_right words told risen old new (run.Trial size outcomes) h = solved_right words told old new (run.Trial size outcomes) h
 caused_are_right words told risen old new (run.Filtered outcomes) h = filtered_right words told old new outcomes h
+caused_are_right words told risen old new (run.Ranged parameter sense outcomes) h = ranged_right words told old new parameter sense outcomes h
 caused_are_right words told risen old new (run.Certificates text stopped) (inl h) = (h.sections, h.text, certificate_right words told old new text stopped h)
 caused_are_right words told risen old new (run.Certificates text stopped) (inr (h, off, same)) = (h.migrated, h.text, migrate_right words told text h)
 caused_are_right words told risen old new (run.Certified n) (h, same) = (h.sections.list, h.count, passed_right words told (certify h.script h.settings h.name) h.sections h.passed)

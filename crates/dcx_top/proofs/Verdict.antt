@@ -19,19 +19,25 @@ use Rattle.dcx_elab.specs.declared.work.Work.{Work}
 use Rattle.dcx_front.proofs.OneAnswer.{one_work}
 use Rattle.dcx_front.proofs.OneVerdict.{apart, refused_for, acceptance}
 use Rattle.dcx_report.specs.declared.filter_outcome.FilterOutcome.{FilterOutcome}
+use Rattle.dcx_report.specs.declared.range_outcome.RangeOutcome.{RangeOutcome}
+use Rattle.dcx_tree.specs.declared.constraint.Sense.{Sense}
 use Rattle.dcx_report.specs.declared.run.Run.{Run}
 use Rattle.dcx_report.specs.declared.run.Run.TheVariants as run
 use Rattle.dcx_point.specs.Pairs.{Pairs}
 use Rattle.dcx_sections.specs.declared.section.Sections.{Sections}
-use Rattle.dcx_words.specs.Commands.{Command, check, certificate as certificate_command, certify, migrate, iis, command_of}
+use Rattle.dcx_words.specs.Commands.{Command, check, certificate as certificate_command, certify, migrate, iis, range, command_of}
 use Rattle.dcx_top.specs.Commands.{settings_name, certificate_name, AreSettingsOf}
 use Rattle.dcx_top.specs.Files.{most_bytes, RefusesScript}
 use Rattle.dcx_front.specs.declared.refusal.RefusalSource.TheVariants.{Certificate}
-use Rattle.dcx_top.specs.Runs.{GivesProblem, IsChecked, IsSolvedRun, IsBranchedRun, IsFilteredRun, IsCertificateRun, HasCertificate, ReadsSections, misread, failed, Causes}
+use Rattle.dcx_top.specs.Runs.{GivesProblem, IsChecked, IsSolvedRun, IsBranchedRun, IsFilteredRun, IsRangedRun, IsCertificateRun, HasCertificate, ReadsSections, misread, failed, Causes}
 use Rattle.dcx_top.specs.Whole.{IsWholeAt, RefusesWhole, Takes}
+use Rattle.dcx_outcomes.specs.Ranges.{LacksRange}
+use Rattle.dcx_outcomes.proofs.RangeEnds.{range_is_told}
+use Rattle.dcx_top.specs.NoRange.{AllowsRange}
+use Rattle.dcx_top.proofs.Named.{unasked, allowed, allowed_reading, tells_no_parameter, wholes_no_parameter}
 use Rattle.dcx_top.specs.OneRun.{IsAnswered}
-use Rattle.dcx_top.specs.Verdicts.{IsRefusal, IsAcceptance, Has, AreFaultless, AreAtFault, bad_script, has_whole, bad_settings, long_certificate, AreWithoutFault, IsVerdictOn, IsRightVerdict}
-use Rattle.dcx_top.proofs.Refusals.{one_script, spelled_by, same_command, Refuses, in_script, in_problem, in_settings, in_length, IsShort, refuses}
+use Rattle.dcx_top.specs.Verdicts.{IsRefusal, IsAcceptance, Has, AreFaultless, AreAtFault, bad_script, has_whole, lacks_range, bad_settings, long_certificate, AreWithoutFault, IsVerdictOn, IsRightVerdict}
+use Rattle.dcx_top.proofs.Refusals.{one_script, spelled_by, same_command, Refuses, in_script, in_problem, in_range, in_settings, in_length, IsShort, refuses}
 use Rattle.dcx_top.proofs.OneRefusal.{tells_none, wholes_none, wholes_taken}
 
 -- bytes spell one script
@@ -52,6 +58,9 @@ module _ (files : Files) (command : Command) (script settings certificate : List
   no_faults w (has_whole h refusing i is) =
       let same = one_work w.no_script_fault.script h.script (one_view script w.no_script_fault.script h.script w.no_script_fault.spelled h.spelled) w.no_script_fault.work h.work w.no_script_fault.stands_for h.stands_for in
       w.no_whole refusing i (subst (λ (x : Work). IsWholeAt x.problem.tree i) (sym same) is)
+  no_faults w (lacks_range h name is fault lacks) =
+      let same = one_work w.no_script_fault.script h.script (one_view script w.no_script_fault.script h.script w.no_script_fault.spelled h.spelled) w.no_script_fault.work h.work w.no_script_fault.stands_for h.stands_for in
+      range_is_told.never_both w.no_script_fault.work.problem name fault (w.no_lack name is) (subst (λ (x : Work). LacksRange x.problem name fault) (sym same) lacks)
   no_faults w (long_certificate o f long) = w.not_long long
   no_faults w (bad_settings o f) = let (lines, spelled) = w.no_settings_fault f.name f.asked in settings_apart settings lines f.fault spelled f.refused
 
@@ -61,15 +70,16 @@ module _ (files : Files) (command : Command) (script settings certificate : List
   at_fault : (r : Refusal) → Refuses files command r → AreAtFault command script settings certificate
   at_fault r (in_script bytes of h) = bad_script (refused_for script r (subst (λ b. RefusesScript b r) (one_script files command bytes script of has.is_script) h))
   at_fault r (in_problem a g refusing h) = has_whole (without_fault script a (accepted a g)) refusing h.node h.first.is
-  at_fault r (in_settings a name bytes g free is there h) =
+  at_fault r (in_range a name g free is h) = lacks_range (without_fault script a (accepted a g)) name is h.fault h.lacks
+  at_fault r (in_settings a name bytes g free allows is there h) =
       bad_settings (without_fault script a (accepted a g))
       (record { name = name; asked = is; fault = h.fault; refused = subst (λ b. IsRefused b h.fault) (same_Some bytes settings (sym there ∙ has.are_settings name is)) h.refused })
   at_fault r (in_length a others name bytes g free asked named there more long) =
       long_certificate (without_fault script a (accepted a g)) (λ name is. spelled_by files command a.work others name settings asked is (has.are_settings name is))
       (record { name = name; asked = named; long = subst (λ b. most_bytes Certificate < length b) (same_Some bytes certificate (sym there ∙ has.is_certificate name named)) more })
 
-  without : (a : Accepted) → GivesProblem (Some files) command a → Takes command a.work.problem.tree → AreFaultless command settings → IsShort files command → AreWithoutFault command script settings certificate
-  without a g taken f short = record { no_script_fault = without_fault script a (accepted a g); no_whole = taken; no_settings_fault = f; not_long = λ l. let few = short l.name certificate l.asked (has.is_certificate l.name l.asked) in omega (arith, few, l.long) }
+  without : (a : Accepted) → GivesProblem (Some files) command a → Takes command a.work.problem.tree → AllowsRange command a.work.problem → AreFaultless command settings → IsShort files command → AreWithoutFault command script settings certificate
+  without a g taken allows f short = record { no_script_fault = without_fault script a (accepted a g); no_whole = taken; no_lack = allows; no_settings_fault = f; not_long = λ l. let few = short l.name certificate l.asked (has.is_certificate l.name l.asked) in omega (arith, few, l.long) }
 
   refuses_so : (r : Refusal) → AreAtFault command script settings certificate → IsVerdictOn command script settings certificate (run.Refused r)
   refuses_so r f = record { refused = (λ t. f, λ q. tt); accepted = (λ t. absurd t, λ w. absurd (no_faults w f)) }
@@ -83,23 +93,25 @@ module _ (files : Files) (command : Command) (script settings certificate : List
 
   module _ (words : List (List ℕ)) (form : command_of words ≡ Some command) (risen : Type 0) (old new : ℕ) where
     -- the problem is solved, or its certificate is checked
-    goes_on : (r : Run) → IsAcceptance r → (IsRefusal r → ⊥) → (c : Command) → c ≡ command → (a : Accepted) (list : List Pairs) → GivesProblem (Some files) c a → Takes c a.work.problem.tree → AreSettingsOf (Some files) c a.work list →
+    goes_on : (r : Run) → IsAcceptance r → (IsRefusal r → ⊥) → (c : Command) → c ≡ command → (a : Accepted) (list : List Pairs) → GivesProblem (Some files) c a → Takes c a.work.problem.tree → AllowsRange c a.work.problem → AreSettingsOf (Some files) c a.work list →
         IsShort files command → IsVerdictOn command script settings certificate r
-    goes_on r i n c same a list gives taken asked short =
+    goes_on r i n c same a list gives taken permits asked short =
         let g = subst (λ d. GivesProblem (Some files) d a) same gives in
         let are = subst (λ d. AreSettingsOf (Some files) d a.work list) same asked in
-        accepts_so r i n (without a g (subst (λ d. Takes d a.work.problem.tree) same taken) (λ name is. spelled_by files command a.work list name settings are is (has.are_settings name is)) short)
+        let allows = subst (λ d. AllowsRange d a.work.problem) same permits in
+        accepts_so r i n (without a g (subst (λ d. Takes d a.work.problem.tree) same taken) allows (λ name is. spelled_by files command a.work list name settings are is (has.are_settings name is)) short)
 
     solved : (r : Run) → IsAcceptance r → (IsRefusal r → ⊥) → IsSolvedRun words (Some files) old new r → IsVerdictOn command script settings certificate r
     solved r i n h =
         let same = same_command words files command form h.command h.form in
-        goes_on r i n h.command same h.accepted h.settings h.problem (λ refusing. h.continuous) h.asked (short_without h.command same (tells_none h.command h.accepted.work.problem.sense h.outcomes h.warm r h.tells))
+        goes_on r i n h.command same h.accepted h.settings h.problem (λ refusing. h.continuous) (unasked h.command h.accepted.work.problem (tells_no_parameter h.command h.accepted.work.problem.sense h.outcomes h.warm r h.tells)) h.asked (short_without h.command same (tells_none h.command h.accepted.work.problem.sense h.outcomes h.warm r h.tells))
 
     branched : (r : Run) → IsAcceptance r → (IsRefusal r → ⊥) → IsBranchedRun words (Some files) old new r → IsVerdictOn command script settings certificate r
     branched r i n h =
         let same = same_command words files command form h.command h.form in
         let sense = h.accepted.work.problem.sense in
-        goes_on r i n h.command same h.accepted h.settings h.problem (λ refusing. absurd (wholes_taken h.command sense h.outcomes r h.tells refusing)) h.asked (short_without h.command same (wholes_none h.command sense h.outcomes r h.tells))
+        goes_on r i n h.command same h.accepted h.settings h.problem (λ refusing. absurd (wholes_taken h.command sense h.outcomes r h.tells refusing))
+        (unasked h.command h.accepted.work.problem (wholes_no_parameter h.command sense h.outcomes r h.tells)) h.asked (short_without h.command same (wholes_none h.command sense h.outcomes r h.tells))
 
     checked : (c : Checked) → IsChecked words (Some files) c → IsVerdictOn command script settings certificate (run.Checked c)
     checked c h =
@@ -107,19 +119,25 @@ module _ (files : Files) (command : Command) (script settings certificate : List
         let g = subst (λ c. GivesProblem (Some files) c h.accepted) same h.problem in
         let none : settings_name command ≡ None = subst (λ c. settings_name c ≡ None) same refl in
         let only : RefusesWhole command → ⊥ = subst (λ c. RefusesWhole c → ⊥) same (λ t. t) in
-        accepts_so (run.Checked c) tt (λ t. t) (without h.accepted g (λ refusing. absurd (only refusing)) (λ name is. absurd (none-some name (sym none ∙ is))) (short_without (check h.script) same refl))
+        accepts_so (run.Checked c) tt (λ t. t) (without h.accepted g (λ refusing. absurd (only refusing)) (subst (λ c. AllowsRange c h.accepted.work.problem) same (unasked (check h.script) h.accepted.work.problem refl)) (λ name is. absurd (none-some name (sym none ∙ is))) (short_without (check h.script) same refl))
 
     certificate_written : (text : List ℕ) (stopped : Bool) → IsCertificateRun words (Some files) old new text stopped → IsVerdictOn command script settings certificate (run.Certificates text stopped)
     certificate_written text stopped h =
         let c = certificate_command h.script h.name h.limit in
         let same = same_command words files command form c h.form in
-        goes_on (run.Certificates text stopped) tt (λ t. t) c same h.accepted h.settings h.problem (λ refusing. h.continuous) h.asked (short_without c same refl)
+        goes_on (run.Certificates text stopped) tt (λ t. t) c same h.accepted h.settings h.problem (λ refusing. h.continuous) (unasked c h.accepted.work.problem refl) h.asked (short_without c same refl)
 
     filtered : (os : List FilterOutcome) → IsFilteredRun words (Some files) old new os → IsVerdictOn command script settings certificate (run.Filtered os)
     filtered os h =
         let c = iis h.script h.name h.limit in
         let same = same_command words files command form c h.form in
-        goes_on (run.Filtered os) tt (λ t. t) c same h.accepted h.settings h.problem (λ refusing. h.continuous) h.asked (short_without c same refl)
+        goes_on (run.Filtered os) tt (λ t. t) c same h.accepted h.settings h.problem (λ refusing. h.continuous) (unasked c h.accepted.work.problem refl) h.asked (short_without c same refl)
+
+    ranged : (name : List ℕ) (sense : Sense) (os : List RangeOutcome) → IsRangedRun words (Some files) old new name sense os → IsVerdictOn command script settings certificate (run.Ranged name sense os)
+    ranged name sense os h =
+        let c = range h.script h.name name h.limit in
+        let same = same_command words files command form c h.form in
+        goes_on (run.Ranged name sense os) tt (λ t. t) c same h.accepted h.settings h.problem (λ refusing. h.continuous) (allowed c h.accepted.work.problem name refl h.ranged) h.asked (short_without c same refl)
 
     -- a certificate that is read isn't too long
     certificate_read : (r : Run) → IsAcceptance r → (IsRefusal r → ⊥) → (c : Command) (f : HasCertificate words (Some files) c) (bytes : List ℕ) → files f.name ≡ Some bytes → length bytes ≤ most_bytes Certificate →
@@ -130,7 +148,7 @@ module _ (files : Files) (command : Command) (script settings certificate : List
         let short : IsShort files command = (λ name other is here.
         let one = same_Some bytes other (sym there ∙ ap files (same_Some f.name name (sym named ∙ is)) ∙ here) in
         subst (λ b. length b ≤ most_bytes Certificate) one few) in
-        goes_on r i n c same f.accepted f.settings f.problem (λ refusing. f.continuous) f.asked short
+        goes_on r i n c same f.accepted f.settings f.problem (λ refusing. f.continuous) (allowed_reading c f.accepted.work.problem f.name f.named) f.asked short
 
     sections_read : (r : Run) → IsAcceptance r → (IsRefusal r → ⊥) → (c : Command) (sections : Sections) → ReadsSections words (Some files) c sections → IsVerdictOn command script settings certificate r
     sections_read r i n c sections h = certificate_read r i n c h.files h.has.bytes h.has.are_told h.has.few
@@ -148,6 +166,7 @@ module _ (files : Files) (command : Command) (script settings certificate : List
     verdict_on (run.CertRefused section fault) (failed c sections h first, same) i = sections_read (run.CertRefused section fault) tt (λ t. t) c sections h
     verdict_on (run.Trial n os) h i = solved (run.Trial n os) tt (λ t. t) h
     verdict_on (run.Filtered os) h i = filtered os h
+    verdict_on (run.Ranged name sense os) h i = ranged name sense os h
     verdict_on run.ReadFault h i = absurd i
     verdict_on run.Memory h i = absurd i
 

@@ -11,7 +11,7 @@ use Rattle.dcx_report.specs.declared.whole_outcome.WholeOutcome.{WholeOutcome}
 use Rattle.dcx_report.specs.declared.run.Run.{Run}
 use Rattle.dcx_report.specs.declared.run.Run.TheVariants as run
 use Rattle.dcx_report.specs.declared.run.Word.TheVariants as word
-use Rattle.dcx_words.specs.Commands.{Command, check, solve, resolve, certificate, certify, migrate, trial, iis}
+use Rattle.dcx_words.specs.Commands.{Command, check, solve, resolve, certificate, certify, migrate, trial, iis, range}
 use Rattle.dcx_trial.specs.Trial.{trial_text}
 use Rattle.dcx_overlay.specs.Settings.{AreLaidOver, AreTrialSettings}
 
@@ -26,6 +26,7 @@ IsScriptOf told (certify script settings cert) bytes = IsTold told script bytes
 IsScriptOf told (migrate script settings cert) bytes = IsTold told script bytes
 IsScriptOf told (trial size limit) bytes = bytes ≡ trial_text size
 IsScriptOf told (iis script settings limit) bytes = IsTold told script bytes
+IsScriptOf told (range script settings parameter limit) bytes = IsTold told script bytes
 
 -- the file that the script is read from
 abbrev pub script_name : Command → Option (List ℕ)
@@ -37,6 +38,7 @@ script_name (certify script settings cert) = Some script
 script_name (migrate script settings cert) = Some script
 script_name (trial size limit) = None
 script_name (iis script settings limit) = Some script
+script_name (range script settings parameter limit) = Some script
 
 -- the file that settings are read from
 abbrev pub settings_name : Command → Option (List ℕ)
@@ -48,6 +50,7 @@ settings_name (certify script settings cert) = Some settings
 settings_name (migrate script settings cert) = Some settings
 settings_name (trial size limit) = None
 settings_name (iis script settings limit) = Some settings
+settings_name (range script settings parameter limit) = Some settings
 
 -- the file that a certificate is read from
 abbrev pub certificate_name : Command → Option (List ℕ)
@@ -59,6 +62,19 @@ certificate_name (certify script settings cert) = Some cert
 certificate_name (migrate script settings cert) = Some cert
 certificate_name (trial size limit) = None
 certificate_name (iis script settings limit) = None
+certificate_name (range script settings parameter limit) = None
+
+-- the parameter whose range is asked for
+abbrev pub parameter_name : Command → Option (List ℕ)
+parameter_name (check script) = None
+parameter_name (solve script limit) = None
+parameter_name (resolve script settings limit warm) = None
+parameter_name (certificate script settings limit) = None
+parameter_name (certify script settings cert) = None
+parameter_name (migrate script settings cert) = None
+parameter_name (trial size limit) = None
+parameter_name (iis script settings limit) = None
+parameter_name (range script settings parameter limit) = Some parameter
 
 -- ---- the settings
 -- each line of the file, laid over a setting
@@ -79,6 +95,7 @@ AreSettingsOf told (certify script name cert) work settings = AreOfFile told nam
 AreSettingsOf told (migrate script name cert) work settings = AreOfFile told name work.last settings
 AreSettingsOf told (trial size limit) work settings = AreTrialSettings work.last settings
 AreSettingsOf told (iis script name limit) work settings = AreOfFile told name work.last settings
+AreSettingsOf told (range script name parameter limit) work settings = AreOfFile told name work.last settings
 
 -- the most pivots at a setting, or in each step there
 abbrev pub limit_of : Command → ℕ
@@ -90,6 +107,7 @@ limit_of (certify script settings cert) = 0
 limit_of (migrate script settings cert) = 0
 limit_of (trial size limit) = limit
 limit_of (iis script settings limit) = limit
+limit_of (range script settings parameter limit) = limit
 
 -- ---- the run
 -- the run tells these outcomes, with the count of the warm ones, if they are counted
@@ -102,6 +120,7 @@ TellsOutcomes (certify script settings cert) sense outcomes count r = ⊥
 TellsOutcomes (migrate script settings cert) sense outcomes count r = ⊥
 TellsOutcomes (trial size limit) sense outcomes count r = r ≡ run.Trial size outcomes
 TellsOutcomes (iis script settings limit) sense outcomes count r = ⊥
+TellsOutcomes (range script settings parameter limit) sense outcomes count r = ⊥
 
 -- the run tells these outcomes of a problem with variables that are to be whole
 abbrev pub TellsWholes : Command → Sense → List WholeOutcome → Run → Type 0
@@ -114,3 +133,4 @@ TellsWholes (certify script settings cert) sense outcomes r = ⊥
 TellsWholes (migrate script settings cert) sense outcomes r = ⊥
 TellsWholes (trial size limit) sense outcomes r = ⊥
 TellsWholes (iis script settings limit) sense outcomes r = ⊥
+TellsWholes (range script settings parameter limit) sense outcomes r = ⊥

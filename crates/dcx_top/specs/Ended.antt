@@ -6,7 +6,7 @@ use Rattle.std.specs.Io.KnownBytes.{Appends}
 use Rattle.dcx_report.specs.ReportText.{text_of}
 use Rattle.dcx_answer.specs.declared.stop.Stop.TheVariants.{Memory as StopMemory}
 use Rattle.dcx_report.specs.declared.run.Run.{Run}
-use Rattle.dcx_report.specs.declared.run.Run.TheVariants.{Usage, Refused, Checked, Solved, Branched, Certificates, Certified, CertRefused, Trial, Filtered, ReadFault, Memory}
+use Rattle.dcx_report.specs.declared.run.Run.TheVariants.{Usage, Refused, Checked, Solved, Branched, Certificates, Certified, CertRefused, Trial, Filtered, Ranged, ReadFault, Memory}
 use Rattle.dcx_report.specs.declared.outcome.Outcome.{Outcome}
 use Rattle.dcx_report.specs.declared.outcome.OutcomeEnd.{OutcomeEnd}
 use Rattle.dcx_report.specs.declared.outcome.OutcomeEnd.TheVariants.{Answer, Stop}
@@ -18,6 +18,10 @@ use Rattle.dcx_branch.specs.declared.answer.BranchStop.TheVariants.{Memory as Br
 use Rattle.dcx_report.specs.declared.whole_outcome.WholeEnd.{WholeEnd}
 use Rattle.dcx_report.specs.declared.whole_outcome.WholeEnd.TheVariants as whole
 use Rattle.dcx_report.specs.declared.whole_outcome.WholeOutcome.{WholeOutcome}
+use Rattle.dcx_ranged.specs.declared.stop.RangeStop.TheVariants.{Memory as RangeMemory}
+use Rattle.dcx_report.specs.declared.range_outcome.RangeEnd.{RangeEnd}
+use Rattle.dcx_report.specs.declared.range_outcome.RangeEnd.TheVariants as range
+use Rattle.dcx_report.specs.declared.range_outcome.RangeOutcome.{RangeOutcome}
 use Rattle.dcx_top.specs.declared.ended.Ended.{Ended}
 
 -- the setting stopped
@@ -62,6 +66,20 @@ whole_wants_memory _ = false
 abbrev pub wholes_status : List WholeOutcome → ℕ
 wholes_status outcomes = if list_any (λ o. whole_wants_memory o.end) outcomes then 5 else (if list_any (λ o. is_whole_stop o.end) outcomes then 6 else 0)
 
+-- the same where the range of a parameter is told
+abbrev pub is_range_stop : RangeEnd → Bool
+is_range_stop (range.Ranged ranged) = false
+is_range_stop (range.Range stop) = true
+is_range_stop (range.Stop stop) = true
+
+abbrev pub range_wants_memory : RangeEnd → Bool
+range_wants_memory (range.Range RangeMemory) = true
+range_wants_memory (range.Stop StopMemory) = true
+range_wants_memory _ = false
+
+abbrev pub ranges_status : List RangeOutcome → ℕ
+ranges_status outcomes = if list_any (λ o. range_wants_memory o.end) outcomes then 5 else (if list_any (λ o. is_range_stop o.end) outcomes then 6 else 0)
+
 -- the status where the whole report is written
 abbrev pub status_of : Run → ℕ
 status_of Usage = 2
@@ -74,6 +92,7 @@ status_of (Certified sections) = 0
 status_of (CertRefused section fault) = 7
 status_of (Trial size outcomes) = outcomes_status outcomes
 status_of (Filtered outcomes) = filters_status outcomes
+status_of (Ranged parameter sense outcomes) = ranges_status outcomes
 status_of ReadFault = 3
 status_of Memory = 5
 

@@ -76,6 +76,7 @@ EndsAt told risen source name Refuses (run.Certified n) = ⊥
 EndsAt told risen source name Refuses (run.CertRefused section fault) = ⊥
 EndsAt told risen source name Refuses (run.Trial size outcomes) = ⊥
 EndsAt told risen source name Refuses (run.Filtered outcomes) = ⊥
+EndsAt told risen source name Refuses (run.Ranged parameter sense outcomes) = ⊥
 
 -- what a script in a file gives
 abbrev pub ReadsScript : Option Files → Type 0 → List ℕ → Result Accepted Run → Type 0

@@ -13,17 +13,20 @@ use Rattle.dcx_front.specs.Checks.{IsFoundOf}
 use Rattle.dcx_report.specs.declared.outcome.Outcome.{Outcome}
 use Rattle.dcx_report.specs.declared.filter_outcome.FilterOutcome.{FilterOutcome}
 use Rattle.dcx_report.specs.declared.whole_outcome.WholeOutcome.{WholeOutcome}
+use Rattle.dcx_report.specs.declared.range_outcome.RangeOutcome.{RangeOutcome}
+use Rattle.dcx_tree.specs.declared.constraint.Sense.{Sense}
 use Rattle.dcx_report.specs.declared.run.Run.{Run}
 use Rattle.dcx_report.specs.declared.run.Run.TheVariants as run
 use Rattle.dcx_words.specs.Commands.{Command, command_of}
 use Rattle.dcx_outcomes.specs.Right.{AreRight}
 use Rattle.dcx_outcomes.specs.FilterLaws.{AreRightFilters}
 use Rattle.dcx_outcomes.specs.WholeLaws.{AreRightWholes}
+use Rattle.dcx_outcomes.specs.RangeLaws.{AreRightRanges}
 use Rattle.dcx_sections.specs.declared.section.Section.{Section}
 use Rattle.dcx_sections.specs.declared.section.Sections.{Sections}
 use Rattle.dcx_cert_lines.specs.CertText.{cert_text}
 use Rattle.dcx_certificates.specs.Checking.{is_cert, AreShown}
-use Rattle.dcx_top.specs.Commands.{IsScriptOf, AreSettingsOf, TellsOutcomes, TellsWholes}
+use Rattle.dcx_top.specs.Commands.{IsScriptOf, parameter_name, AreSettingsOf, TellsOutcomes, TellsWholes}
 
 -- The script of the command spells what stands for this work: a problem with its settings. The rules accept the problem, and it is
 -- convex at every fitting setting.
@@ -80,6 +83,18 @@ pub record IsRightlyFiltered (words : List (List ℕ)) (told : Option Files) (ou
   pub asked : AreSettingsOf told command work settings
   pub right : AreRightFilters work.problem settings outcomes
 
+-- Whatever is told of the parameter of the accepted problem is right at its setting: at each fitting setting that differs by a value of the
+-- parameter in the span alone some point and some multipliers show that the problem has the value on the line.
+pub record IsRightlyRanged (words : List (List ℕ)) (told : Option Files) (parameter : List ℕ) (sense : Sense) (outcomes : List RangeOutcome) : Type 0 where
+  pub command : Command
+  pub work : Work
+  pub accepted : IsAcceptedWork words told command work
+  pub named : parameter_name command ≡ Some parameter
+  pub sense_is : sense ≡ work.problem.sense
+  pub settings : List Pairs
+  pub asked : AreSettingsOf told command work settings
+  pub right : AreRightRanges work.problem parameter settings outcomes
+
 -- Each section of the certificate is empty or shows the answer of the accepted problem at its setting.
 pub record IsRightlyShown (words : List (List ℕ)) (told : Option Files) (list : List Section) : Type 0 where
   pub command : Command
@@ -106,6 +121,7 @@ IsRightRun words told (run.Solved word sense outcomes warm) = IsRightlySolved wo
 IsRightRun words told (run.Branched word sense outcomes) = IsRightlyBranched words told (run.Branched word sense outcomes)
 IsRightRun words told (run.Trial size outcomes) = IsRightlySolved words told (run.Trial size outcomes)
 IsRightRun words told (run.Filtered outcomes) = IsRightlyFiltered words told outcomes
+IsRightRun words told (run.Ranged parameter sense outcomes) = IsRightlyRanged words told parameter sense outcomes
 IsRightRun words told run.Usage = ⊤
 IsRightRun words told (run.Refused r) = ⊤
 IsRightRun words told run.ReadFault = ⊤

@@ -2,6 +2,7 @@
 pub mod Commands
 pub mod Files
 pub mod Whole
+pub mod NoRange
 pub mod Runs
 pub mod Headline
 pub mod OneRun

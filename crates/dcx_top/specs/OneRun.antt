@@ -8,10 +8,11 @@ use Rattle.dcx_report.specs.declared.whole_outcome.WholeOutcome.{WholeOutcome}
 use Rattle.dcx_report.specs.declared.run.Run.{Run}
 use Rattle.dcx_report.specs.declared.run.Run.TheVariants as run
 use Rattle.dcx_front.specs.declared.accepted.Accepted.{Accepted}
-use Rattle.dcx_words.specs.Commands.{Command, check, solve, resolve, certificate, certify, migrate, trial, iis, command_of}
+use Rattle.dcx_words.specs.Commands.{Command, check, solve, resolve, certificate, certify, migrate, trial, iis, range, command_of}
 use Rattle.dcx_outcomes.specs.Laws.{AreOneFound}
 use Rattle.dcx_outcomes.specs.FilterLaws.{AreAlikeFilters}
 use Rattle.dcx_outcomes.specs.WholeLaws.{AreAlikeWholes}
+use Rattle.dcx_outcomes.specs.RangeLaws.{AreAlikeRanges}
 use Rattle.dcx_sections.specs.declared.section.Sections.{Sections}
 use Rattle.dcx_cert_lines.specs.CertText.{cert_text}
 use Rattle.dcx_certificates.specs.Laws.{AreAlike as AreAlikeSections}
@@ -31,6 +32,7 @@ IsAnswered (run.Certified n) = ⊤
 IsAnswered (run.CertRefused section fault) = ⊤
 IsAnswered (run.Trial size outcomes) = ⊤
 IsAnswered (run.Filtered outcomes) = ⊤
+IsAnswered (run.Ranged parameter sense outcomes) = ⊤
 
 -- of the problem that a command's script gives, the outcomes are alike: the same answers, but for what their arrays hold past their
 -- ends, and the same stops; want of memory at a setting is free. Warm ones are alike until memory runs out at a setting, and where it
@@ -60,6 +62,7 @@ AreOneText files (resolve script settings limit warm) a b = ⊥
 AreOneText files (certify script settings cert) a b = ⊥
 AreOneText files (trial size limit) a b = ⊥
 AreOneText files (iis script settings limit) a b = ⊥
+AreOneText files (range script settings parameter limit) a b = ⊥
 
 -- two runs that tell the same
 abbrev pub AreOneRun : List (List ℕ) → Files → Run → Run → Type 0
@@ -68,6 +71,7 @@ AreOneRun words files (run.Branched word sense os) (run.Branched other way qs) =
 AreOneRun words files (run.Trial size os) (run.Trial other qs) = (size ≡ other) × AreAlikeOver words files os None qs None
 AreOneRun words files (run.Certificates a stopped) (run.Certificates b halted) = (stopped ≡ halted) × ((command : Command) × (command_of words ≡ Some command) × AreOneText files command a b)
 AreOneRun words files (run.Filtered os) (run.Filtered qs) = AreAlikeFiltersOver words files os qs
+AreOneRun words files (run.Ranged name sense os) (run.Ranged other way qs) = (name ≡ other) × (sense ≡ way) × AreAlikeRanges os qs
 AreOneRun words files r s = r ≡ s
 
 -- where the run is answered and files are told, each run with a cause tells the same

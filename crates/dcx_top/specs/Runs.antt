@@ -1,5 +1,5 @@
 -- Each run with its cause.
-use Rattle.std.specs.Prelude.{◌≡◌, ◌↔◌, IsTrue, Bool, true, false, ⊤, ℕ, ◌⊎◌, List, length, Option, Some, None, Ok, Err, count_by}
+use Rattle.std.specs.Prelude.{◌≡◌, ◌↔◌, IsTrue, Bool, true, false, ⊤, ℕ, ◌+◌, ◌⊎◌, List, length, Option, Some, None, Ok, Err, count_by}
 use Rattle.dcx_point.specs.Pairs.{Pairs}
 use Rattle.dcx_tree.specs.declared.problem.Problem.{Problem}
 use Rattle.dcx_host.specs.Files.{Files, IsTold}
@@ -13,27 +13,31 @@ use Rattle.dcx_front.specs.Accepts.{Gives}
 use Rattle.dcx_report.specs.declared.outcome.Outcome.{Outcome}
 use Rattle.dcx_report.specs.declared.filter_outcome.FilterOutcome.{FilterOutcome}
 use Rattle.dcx_report.specs.declared.whole_outcome.WholeOutcome.{WholeOutcome}
+use Rattle.dcx_report.specs.declared.range_outcome.RangeOutcome.{RangeOutcome}
+use Rattle.dcx_tree.specs.declared.constraint.Sense.{Sense}
 use Rattle.dcx_report.specs.declared.run.Run.{Run}
 use Rattle.dcx_report.specs.declared.run.Run.TheVariants as run
 use Rattle.dcx_report.specs.declared.run.Word.{Word}
 use Rattle.dcx_report.specs.declared.run.Word.TheVariants as word
-use Rattle.dcx_words.specs.Commands.{Command, check, resolve, certificate, certify, migrate, iis, command_of}
+use Rattle.dcx_words.specs.Commands.{Command, check, resolve, certificate, certify, migrate, iis, range, command_of}
 use Rattle.dcx_words.specs.Laws.{is_warm_command}
 use Rattle.dcx_overlay.specs.Settings.{AreTrialSettings}
 use Rattle.dcx_outcomes.specs.Outcomes.{Counts}
 use Rattle.dcx_outcomes.specs.Warm.{AreFound}
 use Rattle.dcx_outcomes.specs.Filters.{AreFilterOutcomes}
 use Rattle.dcx_outcomes.specs.Wholes.{AreWholeOutcomes}
+use Rattle.dcx_outcomes.specs.Ranges.{HasRange, AreRangeOutcomes}
 use Rattle.dcx_sections.specs.declared.fault.CertFault.{CertFault}
 use Rattle.dcx_sections.specs.declared.section.Sections.{Sections}
 use Rattle.dcx_cert_lines.specs.CertText.{cert_text}
 use Rattle.dcx_certificates.specs.Sections.{StopsSomewhere, IsCertificateAt}
 use Rattle.dcx_certificates.specs.Checking.{is_cert, ArePassed, IsFirstRefused}
 use Rattle.dcx_certificates.specs.Migrating.{IsMigrated}
-use Rattle.dcx_top.specs.Commands.{IsScriptOf, script_name, settings_name, certificate_name, AreOfFile, AreSettingsOf, limit_of, TellsOutcomes, TellsWholes}
+use Rattle.dcx_top.specs.Commands.{IsScriptOf, script_name, settings_name, certificate_name, parameter_name, AreOfFile, AreSettingsOf, limit_of, TellsOutcomes, TellsWholes}
 use Rattle.dcx_top.specs.declared.solving.Task.{Task}
 use Rattle.dcx_top.specs.declared.solving.Task.TheVariants as tasks
 use Rattle.dcx_top.specs.Whole.{HasNoWhole, HasWhole, IsRefusedForWhole, RefusesWhole, Takes}
+use Rattle.dcx_top.specs.NoRange.{IsRefusedForRange, AllowsRange}
 use Rattle.dcx_top.specs.Files.{RefusesScript, RefusesSettings, IsLong, IsRefusedIn, IsNotHad, EndsAt, IsMisread, HasTextOf, ReadsCertificate}
 
 -- ---- scripts
@@ -98,6 +102,40 @@ pub record IsFilteredRun (words : List (List ℕ)) (told : Option Files) (old ne
   pub asked : AreOfFile told name accepted.work.last settings
   pub are : AreFilterOutcomes accepted.work.problem limit settings outcomes
   pub steps : Counts accepted.work.problem (length settings) old new
+
+-- ---- ranges
+-- the parameter of a problem without variables that are to be whole has a range, which is told at the settings of a file with these
+-- outcomes, and a step was counted for each node
+pub record IsRangedRun (words : List (List ℕ)) (told : Option Files) (old new : ℕ) (parameter : List ℕ) (sense : Sense) (outcomes : List RangeOutcome) : Type 0 where
+  pub script : List ℕ
+  pub name : List ℕ
+  pub limit : ℕ
+  pub form : command_of words ≡ Some (range script name parameter limit)
+  pub accepted : Accepted
+  pub problem : GivesProblem told (range script name parameter limit) accepted
+  pub continuous : HasNoWhole accepted.work.problem.tree
+  pub ranged : HasRange accepted.work.problem parameter
+  pub settings : List Pairs
+  pub asked : AreOfFile told name accepted.work.last settings
+  pub are : AreRangeOutcomes accepted.work.problem parameter limit settings outcomes
+  pub sense_is : sense ≡ accepted.work.problem.sense
+  pub steps : new ≡ old + length accepted.work.problem.tree
+
+-- a session of the accepted problem of a `range`, which has no variable that is to be whole, was begun: its steps were counted
+pub record BeginsRange (words : List (List ℕ)) (told : Option Files) (old new : ℕ) : Type 0 where
+  pub script : List ℕ
+  pub name : List ℕ
+  pub parameter : List ℕ
+  pub limit : ℕ
+  pub form : command_of words ≡ Some (range script name parameter limit)
+  pub accepted : Accepted
+  pub problem : GivesProblem told (range script name parameter limit) accepted
+  pub continuous : HasNoWhole accepted.work.problem.tree
+  pub steps : Counts accepted.work.problem 0 old new
+
+-- no step was counted, or those of a session that a `range` begins before it is refused or its settings file is fetched
+abbrev pub CountsAtMostBeginning : List (List ℕ) → Option Files → ℕ → ℕ → Type 0
+CountsAtMostBeginning words told old new = (new ≡ old) ⊎ BeginsRange words told old new
 
 -- ---- certificates
 -- a problem without variables that are to be whole is solved at the settings of a file, these are the bytes of the certificate of its
@@ -212,6 +250,15 @@ abbrev pub FiltersAt : Problem → ℕ → List Pairs → ℕ → ℕ → Run �
 FiltersAt p limit settings old new r =
     (r ≡ run.Memory) ⊎ ((outcomes : List FilterOutcome) × AreFilterOutcomes p limit settings outcomes × Counts p (length settings) old new × (r ≡ run.Filtered outcomes))
 
+-- what a problem with a session gives, whose beginning is counted: the parameter has no range, and the script is refused; or it has one, and
+-- the settings file ends the run, or the range is told at its settings; want of memory is free
+pub data RangesFrom (told : Option Files) (risen : Type 0) (work : Work) (name parameter : List ℕ) (limit old new : ℕ) (r : Run) : Type 0 where
+  lacking : (t : Refusal) → IsRefusedForRange work.problem parameter t → r ≡ run.Refused t → Counts work.problem 0 old new → RangesFrom told risen work name parameter limit old new r
+  ending : HasRange work.problem parameter → EndsAt told risen Settings name RefusesSettings r → Counts work.problem 0 old new → RangesFrom told risen work name parameter limit old new r
+  ranging : HasRange work.problem parameter → (settings : List Pairs) (outcomes : List RangeOutcome) → AreOfFile told name work.last settings → AreRangeOutcomes work.problem parameter limit settings outcomes →
+      r ≡ run.Ranged parameter work.problem.sense outcomes → Counts work.problem 0 old new → RangesFrom told risen work name parameter limit old new r
+  wanting : r ≡ run.Memory → RangesFrom told risen work name parameter limit old new r
+
 -- the settings of a file give this run, or the file ends it, and no step is counted
 abbrev pub FromFile : Option Files → Type 0 → Work → List ℕ → (List Pairs → ℕ → ℕ → Run → Type 0) → ℕ → ℕ → Run → Type 0
 FromFile told risen work name At old new r =
@@ -263,12 +310,15 @@ pub data EndsFiles (told : Option Files) (risen : Type 0) (script name file : Li
   at_memory : r ≡ run.Memory → EndsFiles told risen script name file r
 
 -- a file of a command is refused: its script, for its length, for what stands in it, or for a variable that is to be whole where the
--- command refuses that; or else its settings file; or else its certificate, for its length
+-- command refuses that; or, where the range of a parameter is asked for, for what stands against that; or else its settings file; or else
+-- its certificate, for its length
 pub data IsRefusedRun (words : List (List ℕ)) (told : Option Files) (r : Refusal) : Type 0 where
   long_script : (command : Command) (name : List ℕ) → command_of words ≡ Some command → script_name command ≡ Some name → IsLong told Script name r → IsRefusedRun words told r
   bad_script : (command : Command) (bytes : List ℕ) → command_of words ≡ Some command → IsScriptOf told command bytes → RefusesScript bytes r → IsRefusedRun words told r
   for_whole : (command : Command) (a : Accepted) → command_of words ≡ Some command → GivesProblem told command a → RefusesWhole command → IsRefusedForWhole a.work.problem.tree r → IsRefusedRun words told r
-  bad_settings : (command : Command) (a : Accepted) (name : List ℕ) → command_of words ≡ Some command → GivesProblem told command a → Takes command a.work.problem.tree → settings_name command ≡ Some name →
+  for_range : (command : Command) (a : Accepted) (name : List ℕ) → command_of words ≡ Some command → GivesProblem told command a → HasNoWhole a.work.problem.tree → parameter_name command ≡ Some name → IsRefusedForRange a.work.problem name r →
+      IsRefusedRun words told r
+  bad_settings : (command : Command) (a : Accepted) (name : List ℕ) → command_of words ≡ Some command → GivesProblem told command a → Takes command a.work.problem.tree → AllowsRange command a.work.problem → settings_name command ≡ Some name →
       IsLong told Settings name r ⊎ IsRefusedIn told name RefusesSettings r → IsRefusedRun words told r
   long_certificate : (command : Command) (files : HasCertificate words told command) → IsLong told Certificate files.name r → IsRefusedRun words told r
 
@@ -276,7 +326,7 @@ pub data IsRefusedRun (words : List (List ℕ)) (told : Option Files) (r : Refus
 -- settings, its certificate
 pub data IsReadFault (words : List (List ℕ)) (told : Option Files) (risen : Type 0) : Type 0 where
   no_script : (command : Command) (name : List ℕ) → command_of words ≡ Some command → script_name command ≡ Some name → IsNotHad told risen name → IsReadFault words told risen
-  no_settings : (command : Command) (a : Accepted) (name : List ℕ) → command_of words ≡ Some command → GivesProblem told command a → Takes command a.work.problem.tree → settings_name command ≡ Some name → IsNotHad told risen name →
+  no_settings : (command : Command) (a : Accepted) (name : List ℕ) → command_of words ≡ Some command → GivesProblem told command a → Takes command a.work.problem.tree → AllowsRange command a.work.problem → settings_name command ≡ Some name → IsNotHad told risen name →
       IsReadFault words told risen
   no_certificate : (command : Command) (files : HasCertificate words told command) → IsNotHad told risen files.name → IsReadFault words told risen
 
@@ -284,7 +334,7 @@ pub data IsReadFault (words : List (List ℕ)) (told : Option Files) (risen : Ty
 -- `new`. Want of memory alone is free.
 abbrev pub Causes : List (List ℕ) → Option Files → Type 0 → ℕ → ℕ → Run → Type 0
 Causes words told risen old new run.Usage = (command_of words ≡ None) × (new ≡ old)
-Causes words told risen old new (run.Refused r) = IsRefusedRun words told r × (new ≡ old)
+Causes words told risen old new (run.Refused r) = IsRefusedRun words told r × CountsAtMostBeginning words told old new
 Causes words told risen old new (run.Checked c) = IsChecked words told c × (new ≡ old)
 Causes words told risen old new (run.Solved word sense outcomes warm) = IsSolvedRun words told old new (run.Solved word sense outcomes warm)
 Causes words told risen old new (run.Branched word sense outcomes) = IsBranchedRun words told old new (run.Branched word sense outcomes)
@@ -293,5 +343,6 @@ Causes words told risen old new (run.Certified n) = IsCertifiedRun words told n 
 Causes words told risen old new (run.CertRefused section fault) = IsCertRefusedRun words told section fault × (new ≡ old)
 Causes words told risen old new (run.Trial size outcomes) = IsSolvedRun words told old new (run.Trial size outcomes)
 Causes words told risen old new (run.Filtered outcomes) = IsFilteredRun words told old new outcomes
-Causes words told risen old new run.ReadFault = IsReadFault words told risen × (new ≡ old)
+Causes words told risen old new (run.Ranged parameter sense outcomes) = IsRangedRun words told old new parameter sense outcomes
+Causes words told risen old new run.ReadFault = IsReadFault words told risen × CountsAtMostBeginning words told old new
 Causes words told risen old new run.Memory = ⊤

@@ -10,7 +10,10 @@ use Rattle.dcx_report.specs.declared.run.Run.{Run}
 use Rattle.dcx_report.specs.declared.run.Run.TheVariants as run
 use Rattle.dcx_words.specs.Commands.{Command, command_of}
 use Rattle.dcx_front.specs.declared.refusal.RefusalSource.TheVariants.{Certificate}
-use Rattle.dcx_top.specs.Commands.{IsScriptOf, settings_name, certificate_name}
+use Rattle.dcx_ranged.specs.declared.not_ranged.NotRanged.{NotRanged}
+use Rattle.dcx_outcomes.specs.Ranges.{LacksRange}
+use Rattle.dcx_top.specs.NoRange.{AllowsRange}
+use Rattle.dcx_top.specs.Commands.{IsScriptOf, settings_name, certificate_name, parameter_name}
 use Rattle.dcx_top.specs.Files.{most_bytes}
 use Rattle.dcx_top.specs.Whole.{IsWholeAt, RefusesWhole, Takes}
 use Rattle.dcx_top.specs.OneRun.{IsAnswered}
@@ -26,6 +29,7 @@ IsRefusal (run.Certified n) = ⊥
 IsRefusal (run.CertRefused section fault) = ⊥
 IsRefusal (run.Trial size outcomes) = ⊥
 IsRefusal (run.Filtered outcomes) = ⊥
+IsRefusal (run.Ranged parameter sense outcomes) = ⊥
 IsRefusal run.ReadFault = ⊥
 IsRefusal run.Memory = ⊥
 
@@ -38,6 +42,7 @@ IsAcceptance (run.Certified n) = ⊤
 IsAcceptance (run.CertRefused section fault) = ⊤
 IsAcceptance (run.Trial size outcomes) = ⊤
 IsAcceptance (run.Filtered outcomes) = ⊤
+IsAcceptance (run.Ranged parameter sense outcomes) = ⊤
 IsAcceptance run.Usage = ⊥
 IsAcceptance (run.Refused r) = ⊥
 IsAcceptance run.ReadFault = ⊥
@@ -66,11 +71,12 @@ pub record IsLongCertificate (command : Command) (certificate : List ℕ) : Type
   pub asked : certificate_name command ≡ Some name
   pub long : most_bytes Certificate < length certificate
 
--- the script is at fault, or its problem has a variable that is to be whole where the command refuses that, or the settings file is at
--- fault, or the certificate is too long
+-- the script is at fault, or its problem has a variable that is to be whole where the command refuses that, or no range for the parameter
+-- whose range is asked for, or the settings file is at fault, or the certificate is too long
 pub data AreAtFault (command : Command) (script settings certificate : List ℕ) : Type 0 where
   bad_script : IsAtFault script → AreAtFault command script settings certificate
   has_whole : (h : IsWithoutFault script) → RefusesWhole command → (i : ℕ) → IsWholeAt h.work.problem.tree i → AreAtFault command script settings certificate
+  lacks_range : (h : IsWithoutFault script) (name : List ℕ) → parameter_name command ≡ Some name → (fault : NotRanged) → LacksRange h.work.problem name fault → AreAtFault command script settings certificate
   bad_settings : IsWithoutFault script → AreFaulty command settings → AreAtFault command script settings certificate
   long_certificate : IsWithoutFault script → AreFaultless command settings → IsLongCertificate command certificate → AreAtFault command script settings certificate
 
@@ -78,6 +84,7 @@ pub data AreAtFault (command : Command) (script settings certificate : List ℕ)
 pub record AreWithoutFault (command : Command) (script settings certificate : List ℕ) : Type 0 where
   pub no_script_fault : IsWithoutFault script
   pub no_whole : Takes command no_script_fault.work.problem.tree
+  pub no_lack : AllowsRange command no_script_fault.work.problem
   pub no_settings_fault : AreFaultless command settings
   pub not_long : ¬ IsLongCertificate command certificate
 

@@ -10,7 +10,7 @@ use Rattle.dcx_front.specs.declared.refusal.Carried.TheVariants.{Nothing}
 use Rattle.dcx_front.specs.declared.refusal.Refusal.{Refusal}
 use Rattle.dcx_front.specs.declared.refusal.RefusalSource.TheVariants.{Script}
 use Rattle.dcx_front.specs.Checks.{IsRefusedAs}
-use Rattle.dcx_words.specs.Commands.{Command, check, solve, resolve, certificate, certify, migrate, trial, iis}
+use Rattle.dcx_words.specs.Commands.{Command, check, solve, resolve, certificate, certify, migrate, trial, iis, range}
 
 -- node i is a variable whose entries are to be whole
 pub record IsWholeAt (nodes : List Node) (i : ℕ) : Type 0 where
@@ -38,7 +38,7 @@ pub record IsRefusedForWhole (nodes : List Node) (r : Refusal) : Type 0 where
   pub refusal : IsRefusedAs Script 34 place Nothing r
 
 -- the command refuses such a problem: it solves from what earlier settings left, tells or checks what shows answers, filters constraints,
--- or tries
+-- tells the range of a parameter, or tries
 abbrev pub RefusesWhole : Command → Type 0
 RefusesWhole (check script) = ⊥
 RefusesWhole (solve script limit) = ⊥
@@ -49,6 +49,7 @@ RefusesWhole (certify script settings cert) = ⊤
 RefusesWhole (migrate script settings cert) = ⊤
 RefusesWhole (trial size limit) = ⊤
 RefusesWhole (iis script settings limit) = ⊤
+RefusesWhole (range script settings parameter limit) = ⊤
 
 -- the command takes the problem of these nodes
 abbrev pub Takes : Command → List Node → Type 0

@@ -9,6 +9,7 @@
 //! | the usage line comes exactly where the words are no plain form | `usage` |
 //! | the report's text or a front of it is written, with its status | `reports` |
 //! | a `resolve` with `--warm` answers each setting from the columns that the settings before it left, and counts these | `causes` |
+//! | a `range` tells of each setting how far the parameter may move, and the line that the value of the problem goes along meanwhile | `headline`, `causes` |
 //! | a problem with variables that are to be whole is solved by branch and bound: a whole optimum, or that there is no whole point, with the number of nodes of the run | `headline`, `causes` |
 //! | an `iis` tells of each setting a feasible point, or the filter's set with a point for each member that keeps the others | `headline`, `causes` |
 //! | no file changes | `same` |
@@ -20,18 +21,19 @@ ghost use Rattle.dcx_top.specs.Runs.{Causes};
 ghost use Rattle.dcx_top.specs.Headline.{IsRightRun};
 ghost use Rattle.dcx_top.specs.OneRun.{IsOnlyRun};
 ghost use Rattle.dcx_top.specs.Verdicts.{IsRightVerdict};
-ghost use Rattle.dcx_top.specs.Ended.{Reports, outcomes_status as outcomes_status_of, filters_status as filters_status_of, wholes_status as wholes_status_of, status_of, is_stop, wants_memory, is_filter_stop, filter_wants_memory, is_whole_stop, whole_wants_memory};
+ghost use Rattle.dcx_top.specs.Ended.{Reports, outcomes_status as outcomes_status_of, filters_status as filters_status_of, ranges_status as ranges_status_of, wholes_status as wholes_status_of, status_of, is_stop, wants_memory, is_filter_stop, filter_wants_memory, is_range_stop, range_wants_memory, is_whole_stop, whole_wants_memory};
 
 use crate::certifying::{certify, migrate};
 use crate::checking::check;
 use crate::ended::Ended;
+use crate::ranging::range;
 use crate::solving::{Task, resolve, solve, trial};
 use crate::write::write_all;
 use dcx_answer::Stop;
 use dcx_host::{Library, Sink, SinkFault};
 use dcx_report::{
-    BranchStop, FilterEnd, FilterOutcome, FilterStop, Outcome, OutcomeEnd, Run, WholeEnd,
-    WholeOutcome, report_text,
+    BranchStop, FilterEnd, FilterOutcome, FilterStop, Outcome, OutcomeEnd, RangeEnd, RangeOutcome,
+    RangeStop, Run, WholeEnd, WholeOutcome, report_text,
 };
 use dcx_steps::Steps;
 use dcx_words::{Form, plain_form};
@@ -98,6 +100,12 @@ fn answer<L: Library, S: Ledger>(
             settings,
             limit,
         } => resolve(alloc, script, settings, Task::Filter, limit, library, steps),
+        Form::Range {
+            script,
+            settings,
+            parameter,
+            limit,
+        } => range(alloc, script, settings, parameter, limit, library, steps),
     }
 }
 
@@ -194,6 +202,38 @@ fn wholes_status(outcomes: &[WholeOutcome]) -> u8
     }
 }
 
+/// Whether a setting at which a parameter's range is told stopped.
+fn has_range_stop(outcomes: &[RangeOutcome]) -> bool
+    ensures { result ≡ list_any (λ o. is_range_stop o.end) outcomes.now }
+{
+    outcomes.iter().any(|outcome| matches!(&outcome.end, RangeEnd::Range(_) | RangeEnd::Stop(_)))
+}
+
+/// Whether a setting at which a parameter's range is told stopped for want of memory.
+fn has_range_want(outcomes: &[RangeOutcome]) -> bool
+    ensures { result ≡ list_any (λ o. range_wants_memory o.end) outcomes.now }
+{
+    outcomes.iter().any(|outcome| {
+        matches!(
+            &outcome.end,
+            RangeEnd::Range(RangeStop::Memory) | RangeEnd::Stop(Stop::Memory)
+        )
+    })
+}
+
+/// The status of outcomes at which a parameter's range is told.
+fn ranges_status(outcomes: &[RangeOutcome]) -> u8
+    ensures { result ≡ ranges_status_of outcomes.now }
+{
+    if has_range_want(outcomes) {
+        5
+    } else if has_range_stop(outcomes) {
+        6
+    } else {
+        0
+    }
+}
+
 /// The status of a run whose whole report is written.
 fn status(run: &Run) -> u8
     ensures { result ≡ status_of run.now }
@@ -210,6 +250,7 @@ fn status(run: &Run) -> u8
         Run::CertRefused { .. } => 7,
         Run::Trial { outcomes, .. } => outcomes_status(outcomes.as_slice()),
         Run::Filtered { outcomes } => filters_status(outcomes.as_slice()),
+        Run::Ranged { outcomes, .. } => ranges_status(outcomes.as_slice()),
         Run::ReadFault => 3,
         Run::Memory => 5,
     }
@@ -218,7 +259,7 @@ fn status(run: &Run) -> u8
 /// All that the program does: it carries out the words and writes the report of the run to the sink.
 ///
 /// `words` are the words after the program's name. Files are fetched from `library`: the script first, the settings file once the
-/// script gives an accepted problem, and the certificate once the settings are read. `steps` counts the nodes that are reduced. Want of memory is the one free answer: as
+/// script gives an accepted problem, which for a `range` has a range for its parameter, and the certificate once the settings are read. `steps` counts the nodes that are reduced. Want of memory is the one free answer: as
 /// `Run::Memory`, as the stop of an outcome, or in place of the report, and each has the status 5.
 pub fn run<L: Library, K: Sink, S: Ledger>(
     alloc: Global,

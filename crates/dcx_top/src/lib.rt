@@ -1,6 +1,6 @@
 //! What the program does: it reads its words, fetches its files, checks or solves a problem, and writes a report and a status.
 //!
-//! One function a command: `checking`, `solving`, `certifying`; `files` has what reading a file gives, or the run that ends there.
+//! One function a command: `checking`, `solving`, `ranging`, `certifying`; `files` has what reading a file gives, or the run that ends there.
 #![tactic(auto)]
 
 mod certifying;
@@ -9,6 +9,8 @@ mod command;
 mod ended;
 mod files;
 pub mod laws;
+mod no_range;
+mod ranging;
 mod solving;
 mod whole;
 mod write;

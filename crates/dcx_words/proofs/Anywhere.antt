@@ -2,7 +2,7 @@
 use Rattle.std.proofs.Common.{◌≡◌, ℕ, Bool, true, false, cond, List, [], ◌∷◌, ◌++◌, Option, Some, None, option_map, option_and_then, refl, sym, ap, ◌∙◌}
 use Rattle.std.specs.Prelude.{nat_eq, bytes_eq, codes}
 use Rattle.std.specs.List.{list_any, starts_with}
-use Rattle.dcx_words.specs.Commands.{Command, check, solve, resolve, certificate, certify, migrate, trial, iis, Operands, limit_of, option_word, option_front, unlimited, put_before, limited, without_option, file_of, files_of, three_files_of, size_of, warm_files_of, limited_command, command_of}
+use Rattle.dcx_words.specs.Commands.{Command, check, solve, resolve, certificate, certify, migrate, trial, iis, range, Operands, limit_of, option_word, option_front, unlimited, put_before, limited, without_option, file_of, files_of, three_files_of, size_of, warm_files_of, limited_command, command_of}
 use Rattle.dcx_words.specs.Laws.{is_option, HasNoOption, with_limit, limited_by, OptionStandsAnywhere}
 use Rattle.dcx_words.proofs.Taking.{at_operand, put_twice}
 use Rattle.dcx_words.proofs.NoMinus.{option_of_minus, neither, none_in, file_operand, three_file_operands, none_with}
@@ -29,22 +29,23 @@ no_option (w ∷ ws) h =
 -- the operands with another limit
 relimited : (name : List ℕ) (words : List (List ℕ)) (m n : ℕ) (command : Command) → limited_command name (record { words = words; limit = m }) ≡ Some command
     → limited_command name (record { words = words; limit = n }) ≡ with_limit command n
-relimited name words m n command = by (bytes_eq name (codes "solve")) (bytes_eq name (codes "resolve")) (bytes_eq name (codes "certificate")) (bytes_eq name (codes "trial")) (bytes_eq name (codes "iis"))
+relimited name words m n command = by (bytes_eq name (codes "solve")) (bytes_eq name (codes "resolve")) (bytes_eq name (codes "certificate")) (bytes_eq name (codes "trial")) (bytes_eq name (codes "iis")) (bytes_eq name (codes "range"))
   where
     -- of what the operands are made, whatever the limit
     same : {X : Type 0} (form : X → ℕ → Command) (o : Option X) → ((x : X) → Some (form x n) ≡ with_limit (form x m) n) → option_map (λ x. form x m) o ≡ Some command → option_map (λ x. form x n) o ≡ with_limit command n
     same form None h e = cc
     same form (Some x) h e = let d : form x m ≡ command = cc in h x ∙ ap (λ c. with_limit c n) d
 
-    by : (a b c d i : Bool)
-        → cond a (option_map (λ script. solve script m) (file_of words)) (cond b (option_map (λ files. resolve files.0 files.1 m files.2) (warm_files_of words)) (cond c (option_map (λ files. certificate files.0 files.1 m) (files_of words)) (cond d (option_map (λ size. trial size m) (size_of words)) (cond i (option_map (λ files. iis files.0 files.1 m) (files_of words)) None)))) ≡ Some command
-        → cond a (option_map (λ script. solve script n) (file_of words)) (cond b (option_map (λ files. resolve files.0 files.1 n files.2) (warm_files_of words)) (cond c (option_map (λ files. certificate files.0 files.1 n) (files_of words)) (cond d (option_map (λ size. trial size n) (size_of words)) (cond i (option_map (λ files. iis files.0 files.1 n) (files_of words)) None)))) ≡ with_limit command n
-    by true b c d i e = same (λ script limit. solve script limit) (file_of words) (λ x. refl) e
-    by false true c d i e = same (λ files limit. resolve files.0 files.1 limit files.2) (warm_files_of words) (λ x. refl) e
-    by false false true d i e = same (λ files limit. certificate files.0 files.1 limit) (files_of words) (λ x. refl) e
-    by false false false true i e = same (λ size limit. trial size limit) (size_of words) (λ x. refl) e
-    by false false false false true e = same (λ files limit. iis files.0 files.1 limit) (files_of words) (λ x. refl) e
-    by false false false false false e = cc
+    by : (a b c d i r : Bool)
+        → cond a (option_map (λ script. solve script m) (file_of words)) (cond b (option_map (λ files. resolve files.0 files.1 m files.2) (warm_files_of words)) (cond c (option_map (λ files. certificate files.0 files.1 m) (files_of words)) (cond d (option_map (λ size. trial size m) (size_of words)) (cond i (option_map (λ files. iis files.0 files.1 m) (files_of words)) (cond r (option_map (λ files. range files.0 files.1 files.2 m) (three_files_of words)) None))))) ≡ Some command
+        → cond a (option_map (λ script. solve script n) (file_of words)) (cond b (option_map (λ files. resolve files.0 files.1 n files.2) (warm_files_of words)) (cond c (option_map (λ files. certificate files.0 files.1 n) (files_of words)) (cond d (option_map (λ size. trial size n) (size_of words)) (cond i (option_map (λ files. iis files.0 files.1 n) (files_of words)) (cond r (option_map (λ files. range files.0 files.1 files.2 n) (three_files_of words)) None))))) ≡ with_limit command n
+    by true b c d i r e = same (λ script limit. solve script limit) (file_of words) (λ x. refl) e
+    by false true c d i r e = same (λ files limit. resolve files.0 files.1 limit files.2) (warm_files_of words) (λ x. refl) e
+    by false false true d i r e = same (λ files limit. certificate files.0 files.1 limit) (files_of words) (λ x. refl) e
+    by false false false true i r e = same (λ size limit. trial size limit) (size_of words) (λ x. refl) e
+    by false false false false true r e = same (λ files limit. iis files.0 files.1 limit) (files_of words) (λ x. refl) e
+    by false false false false false true e = same (λ files limit. range files.0 files.1 files.2 limit) (three_files_of words) (λ x. refl) e
+    by false false false false false false e = cc
 
 -- all operands, with the limit that the text spells
 both_sides : (front back rest : List (List ℕ)) (text : List ℕ) → HasNoOption front → without_option rest ≡ limited text back → without_option (front ++ rest) ≡ limited text (front ++ back)

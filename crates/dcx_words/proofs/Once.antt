@@ -2,13 +2,13 @@
 use Rattle.std.proofs.Common.{◌≡◌, ℕ, ◌≤◌, Bool, true, false, cond, ◌||◌, List, [], ◌∷◌, length, drop, Option, Some, None, option_map, option_and_then, refl, sym, ap, ◌∙◌, subst, arith}
 use Rattle.std.specs.Prelude.{nat_eq, bytes_eq, codes}
 use Rattle.std.specs.List.{count_by, list_any, starts_with}
-use Rattle.dcx_words.specs.Commands.{Command, check, solve, resolve, certificate, certify, migrate, trial, iis, Operands, limit_of, option_word, option_front, put_before, limited, limited_by_next, without_option, without_warm, file_of, files_of, warm_files_of, three_files_of, size_of, limited_command}
+use Rattle.dcx_words.specs.Commands.{Command, check, solve, resolve, certificate, certify, migrate, trial, iis, range, Operands, limit_of, option_word, option_front, put_before, limited, limited_by_next, without_option, without_warm, file_of, files_of, warm_files_of, three_files_of, size_of, limited_command}
 use Rattle.dcx_words.specs.Laws.{is_option, HasNoOption, OptionStandsOnce}
 use Rattle.dcx_words.proofs.NoMinus.{option_of_minus, neither, first_counted, not_counted, none_counted, number_passes_none, file_operand, file_operands, three_file_operands, size_operand, beside_warm, kept}
 
 -- ---- operands
 pub operands : (name : List ℕ) (o : Operands) (command : Command) → limited_command name o ≡ Some command → HasNoOption o.words
-operands name o command = by (bytes_eq name (codes "solve")) (bytes_eq name (codes "resolve")) (bytes_eq name (codes "certificate")) (bytes_eq name (codes "trial")) (bytes_eq name (codes "iis"))
+operands name o command = by (bytes_eq name (codes "solve")) (bytes_eq name (codes "resolve")) (bytes_eq name (codes "certificate")) (bytes_eq name (codes "trial")) (bytes_eq name (codes "iis")) (bytes_eq name (codes "range"))
   where
     one : (f : Option (List ℕ)) → file_of o.words ≡ f → option_map (λ script. solve script o.limit) f ≡ Some command → HasNoOption o.words
     one None d e = cc
@@ -22,17 +22,22 @@ operands name o command = by (bytes_eq name (codes "solve")) (bytes_eq name (cod
     warm None d e = cc
     warm (Some files) d e = kept is_option refl o.words (file_operands is_option option_of_minus (without_warm o.words).0 (files.0, files.1) (beside_warm o.words files d).0)
 
+    three : (f : Option (List ℕ × List ℕ × List ℕ)) → three_files_of o.words ≡ f → option_map (λ files. range files.0 files.1 files.2 o.limit) f ≡ Some command → HasNoOption o.words
+    three None d e = cc
+    three (Some files) d e = three_file_operands is_option option_of_minus o.words files d
+
     size : (f : Option ℕ) → size_of o.words ≡ f → option_map (λ size. trial size o.limit) f ≡ Some command → HasNoOption o.words
     size None d e = cc
     size (Some n) d e = size_operand is_option option_of_minus o.words n d
 
-    by : (a b c d i : Bool) → cond a (option_map (λ script. solve script o.limit) (file_of o.words)) (cond b (option_map (λ files. resolve files.0 files.1 o.limit files.2) (warm_files_of o.words)) (cond c (option_map (λ files. certificate files.0 files.1 o.limit) (files_of o.words)) (cond d (option_map (λ size. trial size o.limit) (size_of o.words)) (cond i (option_map (λ files. iis files.0 files.1 o.limit) (files_of o.words)) None)))) ≡ Some command → HasNoOption o.words
-    by true b c d i e = one (file_of o.words) refl e
-    by false true c d i e = warm (warm_files_of o.words) refl e
-    by false false true d i e = two (λ files. certificate files.0 files.1 o.limit) (files_of o.words) refl e
-    by false false false true i e = size (size_of o.words) refl e
-    by false false false false true e = two (λ files. iis files.0 files.1 o.limit) (files_of o.words) refl e
-    by false false false false false e = cc
+    by : (a b c d i r : Bool) → cond a (option_map (λ script. solve script o.limit) (file_of o.words)) (cond b (option_map (λ files. resolve files.0 files.1 o.limit files.2) (warm_files_of o.words)) (cond c (option_map (λ files. certificate files.0 files.1 o.limit) (files_of o.words)) (cond d (option_map (λ size. trial size o.limit) (size_of o.words)) (cond i (option_map (λ files. iis files.0 files.1 o.limit) (files_of o.words)) (cond r (option_map (λ files. range files.0 files.1 files.2 o.limit) (three_files_of o.words)) None))))) ≡ Some command → HasNoOption o.words
+    by true b c d i r e = one (file_of o.words) refl e
+    by false true c d i r e = warm (warm_files_of o.words) refl e
+    by false false true d i r e = two (λ files. certificate files.0 files.1 o.limit) (files_of o.words) refl e
+    by false false false true i r e = size (size_of o.words) refl e
+    by false false false false true r e = two (λ files. iis files.0 files.1 o.limit) (files_of o.words) refl e
+    by false false false false false true e = three (three_files_of o.words) refl e
+    by false false false false false false e = cc
 
 -- ---- the count
 one_more : (w : List ℕ) (ws : List (List ℕ)) → count_by is_option ws ≡ 0 → count_by is_option (w ∷ ws) ≤ 1

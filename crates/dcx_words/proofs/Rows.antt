@@ -1,7 +1,7 @@
 -- Words that are a plain form, and words that are none.
 use Rattle.std.proofs.Common.{◌≡◌, [], ◌∷◌, true, false, refl, Some, None}
 use Rattle.std.specs.Prelude.{codes}
-use Rattle.dcx_words.specs.Commands.{check, solve, resolve, certificate, certify, migrate, trial, iis, command_of}
+use Rattle.dcx_words.specs.Commands.{check, solve, resolve, certificate, certify, migrate, trial, iis, range, command_of}
 
 -- ---- plain forms
 check_a_script : command_of (codes "check" ∷ codes "a.py" ∷ []) ≡ Some (check (codes "a.py"))
@@ -33,6 +33,12 @@ iis_with_the_usual_limit = refl
 
 iis_with_the_option : command_of (codes "iis" ∷ codes "a.py" ∷ codes "--max-pivots" ∷ codes "0" ∷ codes "q.txt" ∷ []) ≡ Some (iis (codes "a.py") (codes "q.txt") 0)
 iis_with_the_option = refl
+
+range_with_the_usual_limit : command_of (codes "range" ∷ codes "a.py" ∷ codes "q.txt" ∷ codes "p" ∷ []) ≡ Some (range (codes "a.py") (codes "q.txt") (codes "p") 200000)
+range_with_the_usual_limit = refl
+
+range_with_the_option : command_of (codes "range" ∷ codes "a.py" ∷ codes "--max-pivots=0" ∷ codes "q.txt" ∷ codes "p" ∷ []) ≡ Some (range (codes "a.py") (codes "q.txt") (codes "p") 0)
+range_with_the_option = refl
 
 option_before_the_operand : command_of (codes "solve" ∷ codes "--max-pivots" ∷ codes "0000000007" ∷ codes "a.py" ∷ []) ≡ Some (solve (codes "a.py") 7)
 option_before_the_operand = refl
@@ -94,6 +100,15 @@ certificate_of_three_files = refl
 
 iis_without_its_settings : command_of (codes "iis" ∷ codes "a.py" ∷ []) ≡ None
 iis_without_its_settings = refl
+
+range_without_its_parameter : command_of (codes "range" ∷ codes "a.py" ∷ codes "q.txt" ∷ []) ≡ None
+range_without_its_parameter = refl
+
+range_of_a_name_with_a_minus : command_of (codes "range" ∷ codes "a.py" ∷ codes "q.txt" ∷ codes "-p" ∷ []) ≡ None
+range_of_a_name_with_a_minus = refl
+
+range_of_no_name : command_of (codes "range" ∷ codes "a.py" ∷ codes "q.txt" ∷ [] ∷ []) ≡ None
+range_of_no_name = refl
 
 two_minus_before_the_operand : command_of (codes "solve" ∷ codes "--" ∷ codes "a.py" ∷ []) ≡ None
 two_minus_before_the_operand = refl

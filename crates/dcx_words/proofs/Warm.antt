@@ -3,7 +3,7 @@ use Rattle.std.proofs.Common.{◌≡◌, ℕ, ◌+◌, Bool, true, false, cond, 
 use Rattle.std.specs.Prelude.{nat_eq, bytes_eq, codes}
 use Rattle.std.specs.List.{count_by, list_any, starts_with}
 use Rattle.std.proofs.lemmas.Slice.Eq.{bytes_eq-Decides}
-use Rattle.dcx_words.specs.Commands.{Command, check, solve, resolve, certificate, certify, migrate, trial, iis, Operands, limit_of, option_word, option_front, put_before, limited, limited_by_next, without_option, warm_word, without_warm, file_of, files_of, warm_files_of, three_files_of, size_of, limited_command, command_of}
+use Rattle.dcx_words.specs.Commands.{Command, check, solve, resolve, certificate, certify, migrate, trial, iis, range, Operands, limit_of, option_word, option_front, put_before, limited, limited_by_next, without_option, warm_word, without_warm, file_of, files_of, warm_files_of, three_files_of, size_of, limited_command, command_of}
 use Rattle.dcx_words.specs.Laws.{is_option, is_warm, HasNoOption, warmed, is_warm_command, EndInOption, WarmStandsAnywhere, WarmStandsApart, WarmStandsOnce}
 use Rattle.dcx_words.proofs.NoMinus.{warm_of_minus, HasNone, neither, first_counted, not_counted, none_counted, not_none, none_in, number_passes_none, file_operand, file_operands, three_file_operands, size_operand, beside_warm, first_taken, none_with}
 use Rattle.dcx_words.proofs.Once.{operands, limited_words}
@@ -164,7 +164,7 @@ moves (w ∷ ws) back h = by (moves ws back) (bytes_eq w option_word) refl (star
 
 -- what the operands come to
 command_warmed : (name : List ℕ) (o p : Operands) (command : Command) → HasOneMore o p → limited_command name o ≡ Some command → limited_command name p ≡ warmed command
-command_warmed name o p command m = by (bytes_eq name (codes "solve")) (bytes_eq name (codes "resolve")) (bytes_eq name (codes "certificate")) (bytes_eq name (codes "trial")) (bytes_eq name (codes "iis"))
+command_warmed name o p command m = by (bytes_eq name (codes "solve")) (bytes_eq name (codes "resolve")) (bytes_eq name (codes "certificate")) (bytes_eq name (codes "trial")) (bytes_eq name (codes "iis")) (bytes_eq name (codes "range"))
   where
     none : {X : Type 0} (form was : X → Command) (f : List (List ℕ) → Option X) → f (m.front ++ warm_word ∷ m.back) ≡ None → ((x : X) → warmed (was x) ≡ None) → (r : Option X) → option_map was r ≡ Some command → option_map form (f p.words) ≡ warmed command
     none form was f h k None e = cc
@@ -181,15 +181,16 @@ command_warmed name o p command m = by (bytes_eq name (codes "solve")) (bytes_eq
         ∙ files_warmed m.front m.back x p.limit (ap warm_files_of (sym m.is) ∙ d)
         ∙ ap (λ n. warmed (resolve x.0 x.1 n x.2)) m.limit ∙ ap warmed c
 
-    by : (a b c d i : Bool)
-        → cond a (option_map (λ script. solve script o.limit) (file_of o.words)) (cond b (option_map (λ files. resolve files.0 files.1 o.limit files.2) (warm_files_of o.words)) (cond c (option_map (λ files. certificate files.0 files.1 o.limit) (files_of o.words)) (cond d (option_map (λ size. trial size o.limit) (size_of o.words)) (cond i (option_map (λ files. iis files.0 files.1 o.limit) (files_of o.words)) None)))) ≡ Some command
-        → cond a (option_map (λ script. solve script p.limit) (file_of p.words)) (cond b (option_map (λ files. resolve files.0 files.1 p.limit files.2) (warm_files_of p.words)) (cond c (option_map (λ files. certificate files.0 files.1 p.limit) (files_of p.words)) (cond d (option_map (λ size. trial size p.limit) (size_of p.words)) (cond i (option_map (λ files. iis files.0 files.1 p.limit) (files_of p.words)) None)))) ≡ warmed command
-    by true b c d i e = none (λ script. solve script p.limit) (λ script. solve script o.limit) file_of (no_file m.front m.back) (λ x. refl) (file_of o.words) e
-    by false true c d i e = files (warm_files_of o.words) refl e
-    by false false true d i e = none (λ files. certificate files.0 files.1 p.limit) (λ files. certificate files.0 files.1 o.limit) files_of (no_files m.front m.back) (λ x. refl) (files_of o.words) e
-    by false false false true i e = none (λ size. trial size p.limit) (λ size. trial size o.limit) size_of (no_size m.front m.back) (λ x. refl) (size_of o.words) e
-    by false false false false true e = none (λ files. iis files.0 files.1 p.limit) (λ files. iis files.0 files.1 o.limit) files_of (no_files m.front m.back) (λ x. refl) (files_of o.words) e
-    by false false false false false e = cc
+    by : (a b c d i r : Bool)
+        → cond a (option_map (λ script. solve script o.limit) (file_of o.words)) (cond b (option_map (λ files. resolve files.0 files.1 o.limit files.2) (warm_files_of o.words)) (cond c (option_map (λ files. certificate files.0 files.1 o.limit) (files_of o.words)) (cond d (option_map (λ size. trial size o.limit) (size_of o.words)) (cond i (option_map (λ files. iis files.0 files.1 o.limit) (files_of o.words)) (cond r (option_map (λ files. range files.0 files.1 files.2 o.limit) (three_files_of o.words)) None))))) ≡ Some command
+        → cond a (option_map (λ script. solve script p.limit) (file_of p.words)) (cond b (option_map (λ files. resolve files.0 files.1 p.limit files.2) (warm_files_of p.words)) (cond c (option_map (λ files. certificate files.0 files.1 p.limit) (files_of p.words)) (cond d (option_map (λ size. trial size p.limit) (size_of p.words)) (cond i (option_map (λ files. iis files.0 files.1 p.limit) (files_of p.words)) (cond r (option_map (λ files. range files.0 files.1 files.2 p.limit) (three_files_of p.words)) None))))) ≡ warmed command
+    by true b c d i r e = none (λ script. solve script p.limit) (λ script. solve script o.limit) file_of (no_file m.front m.back) (λ x. refl) (file_of o.words) e
+    by false true c d i r e = files (warm_files_of o.words) refl e
+    by false false true d i r e = none (λ files. certificate files.0 files.1 p.limit) (λ files. certificate files.0 files.1 o.limit) files_of (no_files m.front m.back) (λ x. refl) (files_of o.words) e
+    by false false false true i r e = none (λ size. trial size p.limit) (λ size. trial size o.limit) size_of (no_size m.front m.back) (λ x. refl) (size_of o.words) e
+    by false false false false true r e = none (λ files. iis files.0 files.1 p.limit) (λ files. iis files.0 files.1 o.limit) files_of (no_files m.front m.back) (λ x. refl) (files_of o.words) e
+    by false false false false false true e = none (λ files. range files.0 files.1 files.2 p.limit) (λ files. range files.0 files.1 files.2 o.limit) three_files_of (no_three_files m.front m.back) (λ x. refl) (three_files_of o.words) e
+    by false false false false false false e = cc
 
 pub warm_stands_anywhere : WarmStandsAnywhere
 warm_stands_anywhere name front back command h = by (bytes_eq name (codes "check")) (bytes_eq name (codes "certify")) (bytes_eq name (codes "migrate"))
@@ -317,7 +318,7 @@ taken_counted (w ∷ ws) o h = by (λ p. taken_counted ws p) (bytes_eq w option_
 
 -- of a command that takes the option
 operands_counted : (name : List ℕ) (o : Operands) (command : Command) → limited_command name o ≡ Some command → count_by is_warm o.words ≡ cond (is_warm_command command) 1 0
-operands_counted name o command = by (bytes_eq name (codes "solve")) (bytes_eq name (codes "resolve")) (bytes_eq name (codes "certificate")) (bytes_eq name (codes "trial")) (bytes_eq name (codes "iis"))
+operands_counted name o command = by (bytes_eq name (codes "solve")) (bytes_eq name (codes "resolve")) (bytes_eq name (codes "certificate")) (bytes_eq name (codes "trial")) (bytes_eq name (codes "iis")) (bytes_eq name (codes "range"))
   where
     none : {X : Type 0} (form : X → Command) (f : List (List ℕ) → Option X) → ((words : List (List ℕ)) (x : X) → f words ≡ Some x → HasNone is_warm words) → ((x : X) → is_warm_command (form x) ≡ false)
         → (r : Option X) → f o.words ≡ r → option_map form r ≡ Some command → count_by is_warm o.words ≡ cond (is_warm_command command) 1 0
@@ -333,14 +334,15 @@ operands_counted name o command = by (bytes_eq name (codes "solve")) (bytes_eq n
         let p = beside_warm o.words x d in
         warm_counted o.words (file_operands is_warm warm_of_minus (without_warm o.words).0 (x.0, x.1) p.0) ∙ ap (λ b. cond b 1 0) p.1 ∙ ap (λ z. cond (is_warm_command z) 1 0) c
 
-    by : (a b c d i : Bool) → cond a (option_map (λ script. solve script o.limit) (file_of o.words)) (cond b (option_map (λ files. resolve files.0 files.1 o.limit files.2) (warm_files_of o.words)) (cond c (option_map (λ files. certificate files.0 files.1 o.limit) (files_of o.words)) (cond d (option_map (λ size. trial size o.limit) (size_of o.words)) (cond i (option_map (λ files. iis files.0 files.1 o.limit) (files_of o.words)) None)))) ≡ Some command
+    by : (a b c d i r : Bool) → cond a (option_map (λ script. solve script o.limit) (file_of o.words)) (cond b (option_map (λ files. resolve files.0 files.1 o.limit files.2) (warm_files_of o.words)) (cond c (option_map (λ files. certificate files.0 files.1 o.limit) (files_of o.words)) (cond d (option_map (λ size. trial size o.limit) (size_of o.words)) (cond i (option_map (λ files. iis files.0 files.1 o.limit) (files_of o.words)) (cond r (option_map (λ files. range files.0 files.1 files.2 o.limit) (three_files_of o.words)) None))))) ≡ Some command
         → count_by is_warm o.words ≡ cond (is_warm_command command) 1 0
-    by true b c d i e = none (λ script. solve script o.limit) file_of (file_operand is_warm warm_of_minus) (λ x. refl) (file_of o.words) refl e
-    by false true c d i e = files (warm_files_of o.words) refl e
-    by false false true d i e = none (λ files. certificate files.0 files.1 o.limit) files_of (file_operands is_warm warm_of_minus) (λ x. refl) (files_of o.words) refl e
-    by false false false true i e = none (λ size. trial size o.limit) size_of (size_operand is_warm warm_of_minus) (λ x. refl) (size_of o.words) refl e
-    by false false false false true e = none (λ files. iis files.0 files.1 o.limit) files_of (file_operands is_warm warm_of_minus) (λ x. refl) (files_of o.words) refl e
-    by false false false false false e = cc
+    by true b c d i r e = none (λ script. solve script o.limit) file_of (file_operand is_warm warm_of_minus) (λ x. refl) (file_of o.words) refl e
+    by false true c d i r e = files (warm_files_of o.words) refl e
+    by false false true d i r e = none (λ files. certificate files.0 files.1 o.limit) files_of (file_operands is_warm warm_of_minus) (λ x. refl) (files_of o.words) refl e
+    by false false false true i r e = none (λ size. trial size o.limit) size_of (size_operand is_warm warm_of_minus) (λ x. refl) (size_of o.words) refl e
+    by false false false false true r e = none (λ files. iis files.0 files.1 o.limit) files_of (file_operands is_warm warm_of_minus) (λ x. refl) (files_of o.words) refl e
+    by false false false false false true e = none (λ files. range files.0 files.1 files.2 o.limit) three_files_of (three_file_operands is_warm warm_of_minus) (λ x. refl) (three_files_of o.words) refl e
+    by false false false false false false e = cc
 
 pub warm_stands_once : WarmStandsOnce
 warm_stands_once name words command = by (bytes_eq name (codes "check")) (bytes_eq name (codes "certify")) (bytes_eq name (codes "migrate"))

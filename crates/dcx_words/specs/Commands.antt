@@ -16,6 +16,7 @@ pub data Command : Type 0 where
   migrate : (script settings cert : List ℕ) → Command
   trial : (size limit : ℕ) → Command
   iis : (script settings : List ℕ) (limit : ℕ) → Command
+  range : (script settings parameter : List ℕ) (limit : ℕ) → Command
 
 -- ---- numbers
 -- one digit or more, and not too many
@@ -80,7 +81,7 @@ without_warm [] = ([], false)
 without_warm (word ∷ words) = if bytes_eq word warm_word then (words, true) else (word ∷ (without_warm words).0, (without_warm words).1)
 
 -- ---- operands
--- a file operand isn't empty and doesn't begin with a minus
+-- a file operand isn't empty and doesn't begin with a minus; nor is or does the name of a parameter
 abbrev pub is_file : List ℕ → Bool
 is_file [] = false
 is_file (b ∷ bs) = not (b == 45)
@@ -95,7 +96,7 @@ abbrev pub files_of : List (List ℕ) → Option (List ℕ × List ℕ)
 files_of (first ∷ second ∷ []) = if is_file first && is_file second then Some (first, second) else None
 files_of words = None
 
--- three files
+-- three files, or two and the name of a parameter
 abbrev pub three_files_of : List (List ℕ) → Option (List ℕ × List ℕ × List ℕ)
 three_files_of (first ∷ second ∷ third ∷ []) = if is_file first && is_file second && is_file third then Some (first, second, third) else None
 three_files_of words = None
@@ -118,7 +119,8 @@ limited_command name o =
     else (if bytes_eq name (codes "certificate") then option_map (λ files. certificate files.0 files.1 o.limit) (files_of o.words)
     else (if bytes_eq name (codes "trial") then option_map (λ size. trial size o.limit) (size_of o.words)
     else (if bytes_eq name (codes "iis") then option_map (λ files. iis files.0 files.1 o.limit) (files_of o.words)
-    else None))))
+    else (if bytes_eq name (codes "range") then option_map (λ files. range files.0 files.1 files.2 o.limit) (three_files_of o.words)
+    else None)))))
 
 -- what the words ask for, where they are a plain form
 abbrev pub command_of : List (List ℕ) → Option Command
@@ -139,3 +141,4 @@ command_in (forms.Certify script settings cert) = certify script.now settings.no
 command_in (forms.Migrate script settings cert) = migrate script.now settings.now cert.now
 command_in (forms.Trial size limit) = trial size limit
 command_in (forms.Iis script settings limit) = iis script.now settings.now limit
+command_in (forms.Range script settings parameter limit) = range script.now settings.now parameter.now limit

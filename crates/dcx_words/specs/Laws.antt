@@ -1,7 +1,7 @@
 -- What the rules of the option and of `--warm` come to.
 use Rattle.std.specs.Prelude.{◌≡◌, ◌≤◌, ℕ, Bool, true, false, ◌||◌, if◌then◌else◌, nat_eq, List, [], ◌∷◌, ◌++◌, Option, None, Some, option_and_then, bytes_eq}
 use Rattle.std.specs.List.{count_by, list_any, starts_with}
-use Rattle.dcx_words.specs.Commands.{Command, check, solve, resolve, certificate, certify, migrate, trial, iis, limit_of, option_word, option_front, warm_word, command_of}
+use Rattle.dcx_words.specs.Commands.{Command, check, solve, resolve, certificate, certify, migrate, trial, iis, range, limit_of, option_word, option_front, warm_word, command_of}
 
 -- the word is the option, or begins with it and an equal sign
 abbrev pub is_option : List ℕ → Bool
@@ -20,6 +20,7 @@ with_limit (certify script settings cert) limit = None
 with_limit (migrate script settings cert) limit = None
 with_limit (trial size old) limit = Some (trial size limit)
 with_limit (iis script settings old) limit = Some (iis script settings limit)
+with_limit (range script settings parameter old) limit = Some (range script settings parameter limit)
 
 -- the same command, limited by the number that the text spells; no plain form where it spells none
 abbrev pub limited_by : List ℕ → Command → Option Command
@@ -54,6 +55,7 @@ warmed (certify script settings cert) = None
 warmed (migrate script settings cert) = None
 warmed (trial size limit) = None
 warmed (iis script settings limit) = None
+warmed (range script settings parameter limit) = None
 
 -- the words end with the option, whose number is the next word
 abbrev pub EndInOption : List (List ℕ) → Type 0
@@ -79,6 +81,7 @@ is_warm_command (certify script settings cert) = false
 is_warm_command (migrate script settings cert) = false
 is_warm_command (trial size limit) = false
 is_warm_command (iis script settings limit) = false
+is_warm_command (range script settings parameter limit) = false
 
 -- the words of a warm `resolve` have `--warm` once, and those of no other command have it
 abbrev pub WarmStandsOnce : Type 0

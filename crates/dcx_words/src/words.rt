@@ -1,6 +1,6 @@
 //! What the words of a command line ask for.
 ghost use Rattle.std.specs.Prelude.{◌∷◌, map, string_bytes, option_map, option_and_then};
-ghost use Rattle.dcx_words.specs.Commands.{check, solve, resolve, certificate, certify, migrate, trial, iis, file_of, files_of, warm_files_of, three_files_of, size_of, command_of, limited_command, without_option as without_option_of};
+ghost use Rattle.dcx_words.specs.Commands.{check, solve, resolve, certificate, certify, migrate, trial, iis, range, file_of, files_of, warm_files_of, three_files_of, size_of, command_of, limited_command, without_option as without_option_of};
 ghost use Rattle.dcx_words.specs.Around.{words_around, operands_around};
 ghost use Rattle.dcx_words.specs.Asked.{Asks};
 
@@ -54,6 +54,13 @@ pub enum Form<'a> {
     Iis {
         script: &'a str,
         settings: &'a str,
+        limit: u64,
+    },
+    /// How far a parameter of a script's problem may move is told at each of the settings, with so many pivots at most.
+    Range {
+        script: &'a str,
+        settings: &'a str,
+        parameter: &'a str,
         limit: u64,
     },
 }
@@ -149,6 +156,19 @@ fn iis_form<'a>(around: Around<'a>) -> Option<Form<'a>>
     })
 }
 
+/// What the telling of a parameter's range asks for.
+fn range_form<'a>(around: Around<'a>) -> Option<Form<'a>>
+    ensures { Asks (option_map (λ files. range files.0 files.1 files.2 around.entry.limit) (three_files_of (words_around around.entry))) result }
+{
+    let (script, settings, parameter) = around.three_files()?;
+    Some(Form::Range {
+        script,
+        settings,
+        parameter,
+        limit: around.limit,
+    })
+}
+
 /// The form of a command that takes the option.
 fn limited_form<'a>(name: &str, around: Around<'a>) -> Option<Form<'a>>
     ensures { Asks (limited_command name.now (operands_around around.entry)) result }
@@ -159,6 +179,7 @@ fn limited_form<'a>(name: &str, around: Around<'a>) -> Option<Form<'a>>
         "certificate" => certificate_form(around),
         "trial" => trial_form(around),
         "iis" => iis_form(around),
+        "range" => range_form(around),
         _ => None,
     }
 }
@@ -186,7 +207,7 @@ fn named_form<'a>(name: &str, words: &'a [String]) -> Option<Form<'a>>
 /// What the words ask for, where they are a plain form.
 ///
 /// The words are those behind the program's name: the name of a command, then its operands in order. `solve`,
-/// `resolve`, `certificate`, `trial` and `iis` may have the option `--max-pivots N`, or `--max-pivots=N`, once at any place
+/// `resolve`, `certificate`, `trial`, `iis` and `range` may have the option `--max-pivots N`, or `--max-pivots=N`, once at any place
 /// behind the name, and `resolve` the word `--warm` so.
 pub fn plain_form(words: &[String]) -> Option<Form<'_>>
     ensures { Asks (command_of (map string_bytes words.now)) result }

@@ -27,7 +27,7 @@ pub enum RangeStop {
 
 impl From<AllocError> for RangeStop {
     ghost use Rattle.std.specs.Prelude.{◌≡◌};
-    ghost use Rattle.dcx_range.specs.declared.stop.RangeStop.TheVariants.{Memory};
+    ghost use Rattle.dcx_ranged.specs.declared.stop.RangeStop.TheVariants.{Memory};
 
     ghost from_gives = { λ _ e. e ≡ Memory };
 
@@ -38,7 +38,7 @@ impl From<AllocError> for RangeStop {
 
 impl<T: Drop> From<AllocFailed<T>> for RangeStop {
     ghost use Rattle.std.specs.Prelude.{◌≡◌};
-    ghost use Rattle.dcx_range.specs.declared.stop.RangeStop.TheVariants.{Memory};
+    ghost use Rattle.dcx_ranged.specs.declared.stop.RangeStop.TheVariants.{Memory};
 
     ghost from_gives = { λ _ e. e ≡ Memory };
 

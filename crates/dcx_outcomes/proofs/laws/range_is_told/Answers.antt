@@ -1,0 +1,5 @@
+use Rattle.dcx_outcomes.proofs.RangeEnds as holds
+use Rattle.dcx_outcomes.proofs.laws.range_is_told.Goals as goal
+
+pub returns : goal.returns
+returns c = holds.range_is_told

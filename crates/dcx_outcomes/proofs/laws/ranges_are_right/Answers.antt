@@ -1,0 +1,5 @@
+use Rattle.dcx_outcomes.proofs.RangeEnds as holds
+use Rattle.dcx_outcomes.proofs.laws.ranges_are_right.Goals as goal
+
+pub returns : goal.returns
+returns c = holds.ranges_are_right

@@ -1,0 +1,59 @@
+//! How each setting of a run ends at which a parameter's range is told.
+ghost use Rattle.std.specs.Prelude.{◌≡◌, is_some};
+ghost use Rattle.dcx_report.specs.NodeStops.{range_names_node};
+
+use crate::{RangeStop, Ranged, Stop};
+use dcx_shape::Place;
+use std::marker::Model;
+
+/// A parameter's range is told at a setting, or it is stopped.
+#[derive(Drop)]
+pub enum RangeEnd {
+    /// This is told of the parameter.
+    Ranged(Ranged),
+    /// The range is not told, for this reason.
+    Range(RangeStop),
+    /// The setting has no program, for this reason.
+    Stop(Stop),
+}
+
+/// How a setting ends.
+#[derive(Drop)]
+pub struct RangeOutcome {
+    /// What is told, or why nothing is.
+    pub end: RangeEnd,
+    /// The place of the node that the setting's stop names, where it names one.
+    pub place: Option<Place>,
+    ghost placed: { is_some place ≡ range_names_node end },
+}
+
+/// The outcome of each setting, in order.
+#[derive(Drop)]
+pub struct RangeOutcomes {
+    items: Vec<RangeOutcome>,
+}
+
+impl Model for RangeOutcomes {
+    ghost use Rattle.std.specs.Prelude.{List};
+    ghost use Rattle.dcx_report.specs.declared.range_outcome.RangeOutcome.{RangeOutcome};
+
+    ghost Value = { List RangeOutcome };
+
+    ghost view = { λ o. o.items.items };
+}
+
+impl RangeOutcomes {
+    /// The list with these items. Takes no memory.
+    pub fn from_vec(items: Vec<RangeOutcome>) -> RangeOutcomes
+        ensures { result ≡ items.items }
+    {
+        RangeOutcomes { items }
+    }
+
+    /// The items of the list.
+    pub fn as_slice(&self) -> &[RangeOutcome]
+        ensures { result.now ≡ self.now }
+    {
+        self.items.as_slice()
+    }
+}
