@@ -4,7 +4,7 @@ use Rattle.std.proofs.lemmas.Option.{none-some, same_Some, slice_get-map}
 use Rattle.std.proofs.Math.Logic.{∥∥₁_elim}
 use Rattle.dcx_math.specs.Rational.{ℚ, whole, ◌+ℚ◌, ◌-ℚ◌, ◌*ℚ◌, ◌≤ℚ◌}
 use Rattle.dcx_math.proofs.Ring.{reads}
-use Rattle.dcx_math.proofs.Orders.{≤ℚ_refl, ≤ℚ_trans, ≤ℚ-from_≡, linear, +ℚ-≤ℚ, +ℚ-nonpositive, *ℚ-zero, <ℚ-not, whole-≤ℤ}
+use Rattle.dcx_math.proofs.Orders.{≤ℚ_refl, ≤ℚ_trans, ≤ℚ-from_≡, linear, +ℚ-nonpositive, *ℚ-zero, <ℚ-not, whole-≤ℤ}
 use Rattle.dcx_math.proofs.Products.{*ℚ-nonpositive, falls_below, zero-<ℚ-one}
 use Rattle.dcx_frac.specs.declared.fraction.Frac.{Frac}
 use Rattle.dcx_call.specs.declared.attribute.Whole.{Whole}

@@ -1,9 +1,8 @@
 -- The boxes that a run comes to: what their bounds are at entries that may be bounded, and that boolean entries are at most 1.
-use Rattle.std.proofs.Common.{◌≡◌, ℕ, Bool, true, false, ◌&&◌, if◌then◌else◌, nat_eq, List, Option, Some, refl, sym, ap, ◌∙◌, subst, arith}
+use Rattle.std.proofs.Common.{◌≡◌, ℕ, Bool, true, false, if◌then◌else◌, nat_eq, List, Option, Some, refl, sym, ap, ◌∙◌, subst, arith}
 use Rattle.std.specs.Prelude.{ℤ, pos, ◌≤ℤ◌, ◌<ℤ◌}
 use Rattle.std.proofs.lemmas.Int.{ints}
-use Rattle.std.proofs.lemmas.Bool.{lt-ltb}
-use Rattle.std.proofs.lemmas.Bool.Decides.{nat_tests}
+use Rattle.std.proofs.lemmas.Bool.{lt-ltb, eqb-true, and_parts}
 use Rattle.dcx_math.specs.Rational.{ℚ, whole, ◌≤ℚ◌, ◌<ℚ◌}
 use Rattle.dcx_math.proofs.Orders.{≤ℚ_trans, <ℚ-≤ℚ_trans, whole-≤ℤ}
 use Rattle.dcx_math.proofs.Products.{<ℚ-whole}
@@ -57,14 +56,6 @@ chosen : (c : Bool) (b d : Bounds) → (c ≡ true → IsAtMostOne b) → IsAtMo
 chosen true b d h k = h refl
 chosen false b d h k = k
 
--- the entry that a test tells
-equal : (a b : ℕ) → nat_eq a b ≡ true → a ≡ b
-equal a b h = grind (arith, nat_tests)
-
-both : (a b : Bool) → (a && b) ≡ true → (a ≡ true) × (b ≡ true)
-both true b h = (refl, h)
-both false b h = absurd (cc)
-
 at_bound : (o : Option ℤ) (m : ℤ) (y : ℚ) → o ≡ Some m → IsAtMost o y → y ≤ℚ whole m
 at_bound o m y e h = subst (λ (b : Option ℤ). IsAtMost b y) e h
 
@@ -79,8 +70,8 @@ at_most_nested p box k j n y kept above h q at e =
     let (m, up, low) = h q at e in
     chosen (is_entry k j q.variable q.entry) (record { lower = (box q.variable q.entry).lower; upper = Some n }) (box q.variable q.entry)
     (λ t.
-    let (a, b) = both (nat_eq q.variable k) (nat_eq q.entry j) t in
-    let there : (box k j).upper ≡ Some m = subst (λ i. (box i j).upper ≡ Some m) (equal q.variable k a) (subst (λ i. (box q.variable i).upper ≡ Some m) (equal q.entry j b) up) in
+    let (a, b) = and_parts (nat_eq q.variable k) (nat_eq q.entry j) t in
+    let there : (box k j).upper ≡ Some m = subst (λ i. (box i j).upper ≡ Some m) (eqb-true q.variable k a) (subst (λ i. (box q.variable i).upper ≡ Some m) (eqb-true q.entry j b) up) in
     (n, refl, less_than_one m n y above (at_bound (box k j).upper m y there kept) low))
     (h q at e)
 

@@ -1,7 +1,6 @@
 -- What an answer of a node's linear program shows of the problem: rows beside those of a reduced program.
-use Rattle.std.proofs.Common.{◌≡◌, ℕ, zero, suc, ◌+◌, arith, List, [], ◌∷◌, ◌++◌, length, map, Some, slice_get, refl, sym, ap, ap₂, ◌∙◌, subst, pos, zero-add, add-zero, append_assoc, IsTrue}
+use Rattle.std.proofs.Common.{◌≡◌, ℕ, suc, ◌+◌, arith, List, [], ◌∷◌, ◌++◌, length, map, Some, slice_get, refl, sym, ap, ap₂, ◌∙◌, subst, pos, zero-add, add-zero, append_assoc, IsTrue}
 use Rattle.std.proofs.lemmas.List.{map-append}
-use Rattle.std.proofs.lemmas.Option.{none-some}
 use Rattle.dcx_math.specs.Rational.{ℚ, whole, ◌+ℚ◌, ◌≤ℚ◌}
 use Rattle.dcx_math.proofs.Ring.{reads}
 use Rattle.dcx_math.proofs.Orders.{≤ℚ_refl, ≤ℚ_trans, ≤ℚ-from_≡, linear, +ℚ-≤ℚ, +ℚ-nonpositive, +ℚ_idr}

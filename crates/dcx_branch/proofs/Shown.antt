@@ -4,21 +4,16 @@ use Rattle.std.specs.Prelude.{Bool, false, ℤ, Result, sum_by, slice_range, opt
 use Rattle.std.specs.List.{All}
 use Rattle.std.proofs.lemmas.List.{length-map, length-take-le, length-drop}
 use Rattle.std.proofs.lemmas.Option.{none-some, same_Some, slice_get-map, slice_get_within}
-use Rattle.dcx_math.specs.Rational.{ℚ, whole, ◌+ℚ◌, ◌*ℚ◌, ◌≤ℚ◌}
-use Rattle.dcx_math.proofs.Sums.{rat_sum_below-same}
+use Rattle.dcx_math.specs.Rational.{ℚ, whole, ◌+ℚ◌, ◌≤ℚ◌}
 use Rattle.dcx_frac.specs.declared.fraction.Frac.{Frac}
 use Rattle.dcx_frac.specs.declared.fraction.Passes.{Passes}
 use Rattle.dcx_frac.specs.Frac.{value}
 use Rattle.dcx_frac.specs.Fits.{Fits}
 use Rattle.dcx_atom.specs.declared.array.Array.{Array}
-use Rattle.dcx_convex.specs.Nodes.{Point, Setting}
-use Rattle.dcx_convex.specs.Problems as problems
-use Rattle.dcx_convex.specs.Answers as answers
-use Rattle.dcx_convex.specs.Answers.{Multipliers, MayMultiply, weighed}
-use Rattle.dcx_convex.specs.Nodes as convex
+use Rattle.dcx_convex.specs.Nodes.{Setting}
+use Rattle.dcx_convex.specs.Answers.{Multipliers}
 use Rattle.dcx_tree.specs.declared.problem.Problem.{Problem}
 use Rattle.dcx_tree.specs.Meaning.{convex_problem, convex_constraint, IsFeasible, objective_at}
-use Rattle.dcx_tree.proofs.Lawful.{mapped}
 use Rattle.dcx_linear.specs.declared.row.RowKind.TheVariants.{AtMost}
 use Rattle.dcx_linear.specs.FormTerms.{Unknowns}
 use Rattle.dcx_linear.specs.Rows.{RowAt, LinearProgram, IsOptimal, IsInfeasible, IsUnbounded}
@@ -48,7 +43,7 @@ use Rattle.dcx_graph.specs.Program.{Program}
 use Rattle.dcx_graph.specs.Answers.{rows_of, IsReducedAt}
 use Rattle.dcx_graph.proofs.Slacks.{rows_enough, have_slacks, multiplier_is}
 use Rattle.dcx_whole.specs.Boxes.{Box}
-use Rattle.dcx_whole.specs.Trees.{Weight, all_exceeded, BoundsBelow, ShowsEmpty, penalty}
+use Rattle.dcx_whole.specs.Trees.{Weight, all_exceeded, BoundsBelow, ShowsEmpty}
 use Rattle.dcx_branch.specs.declared.bound.BoundAt.{BoundAt}
 use Rattle.dcx_branch.specs.declared.tree.BoundDual.{BoundDual}
 use Rattle.dcx_branch.specs.Rows.{bound_form, bound_row, bound_rows, node_rows}

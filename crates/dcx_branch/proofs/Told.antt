@@ -7,20 +7,12 @@ use Rattle.dcx_frac.specs.Frac.{value}
 use Rattle.dcx_convex.specs.Nodes.{Setting}
 use Rattle.dcx_tree.specs.declared.problem.Problem.{Problem}
 use Rattle.dcx_tree.specs.Meaning.{convex_constraint}
-use Rattle.dcx_tab.specs.declared.program.Program as tab
-use Rattle.dcx_tab.specs.Table.{Table}
 use Rattle.dcx_chained.specs.Tables.{table_of}
-use Rattle.dcx_lp_answer.specs.declared.answer.LpStatus.{LpStatus}
-use Rattle.dcx_lp_answer.specs.declared.answer.LpStatus.TheVariants as status
-use Rattle.dcx_lp_answer.specs.declared.answer.LpAnswer.{LpAnswer}
-use Rattle.dcx_lp_answer.specs.Right.{IsOneSided, IsRightAs}
-use Rattle.dcx_simplex.specs.declared.run.LpEnd.{LpEnd}
-use Rattle.dcx_simplex.specs.declared.run.LpEnd.TheVariants as ends
-use Rattle.dcx_simplex.specs.Reading.{IsRead}
 use Rattle.dcx_std.specs.Solutions.{row_at}
 use Rattle.dcx_std.proofs.ScaledProgram.{scaled_program}
 use Rattle.dcx_solved.specs.declared.solving.Solved.{Solved}
 use Rattle.dcx_solved.specs.Solved.{IsSolved}
+use Rattle.dcx_solved.proofs.Counts.{HasCounts, counts_of, one_sided}
 use Rattle.dcx_unknowns.specs.Layout.{constraint_rows}
 use Rattle.dcx_mapping.specs.Programs.{gap_rows, bound_row}
 use Rattle.dcx_postsolve.proofs.ColumnParts.{columns_tell}
@@ -31,24 +23,6 @@ use Rattle.dcx_branch.specs.declared.bound.BoundAt.{BoundAt}
 use Rattle.dcx_branch.specs.Rows.{bound_rows, node_rows}
 use Rattle.dcx_branch.specs.Taken.{HasNotes, TellsUnknowns}
 use Rattle.dcx_branch.proofs.Shown.{rows_counted}
-
--- ---- counts
--- an answer that is read has a note of each row and a number of each column
-record HasCounts (q : tab.Program) (a : LpAnswer) : Type 0 where
-  rows : length a.rows ≡ length q.rows
-  columns : length a.columns ≡ length q.columns
-
-counts_of : (q : tab.Program) (t : Table) (end : LpEnd) (a : LpAnswer) → IsRead q.rows q.columns t end a → HasCounts q a
-counts_of q t (ends.Optimal n) a h = record { rows = h.0.notes; columns = h.0.columns }
-counts_of q t (ends.Infeasible n) a h = record { rows = h.0.notes; columns = h.0.columns }
-counts_of q t (ends.Unbounded n c) a h = record { rows = h.0.notes; columns = h.0.columns }
-counts_of q t (ends.Wide n r c) a h = absurd h
-counts_of q t (ends.PivotLimit n) a h = absurd h
-
-one_sided : (t : LpStatus) (q : tab.Program) (a : LpAnswer) → IsRightAs t q a → IsOneSided q.columns (map value a.columns)
-one_sided status.Optimal q a r = r.one_sided
-one_sided status.Infeasible q a r = r.one_sided
-one_sided status.Unbounded q a r = r.one_sided
 
 -- the rows of constraints are among those of the program
 pub rows_there : (p : Problem) (s : Setting) (q : Program Frac) → IsReducedAt p s q → sum_by constraint_rows p.constraints ≤ length q.rows

@@ -28,7 +28,7 @@ all_at P [] i x all e = absurd (none-some x e)
 all_at P (p ∷ ps) zero x all e = subst (λ (z : List ℕ × Array). P z.0) (same_Some p x e) all.0
 all_at P (p ∷ ps) (suc i) x all e = all_at P ps i x all.1 e
 
-unlike : (a b : List ℕ) → same_name a b ≡ false → same_name b a ≡ false
+pub unlike : (a b : List ℕ) → same_name a b ≡ false → same_name b a ≡ false
 unlike a b e = same_name-false b a (λ f. true≢false (sym (same_name-refl a) ∙ ap (same_name a) (sym f) ∙ e))
 
 -- its array is that of its name

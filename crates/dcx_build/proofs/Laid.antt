@@ -1,6 +1,6 @@
 -- The rows of a program that reducing gives come from the constraints and then from the graphs, by node, result entry and row.
-use Rattle.std.proofs.Common.{◌≡◌, ℕ, zero, suc, ◌+◌, ◌<◌, Bool, true, false, List, [], ◌++◌, length, map, Option, Some, Result, Ok, Err, slice_get, slice_index_or, refl, sym, ap, ap₂, ◌∙◌, arith, length-append}
-use Rattle.std.proofs.lemmas.List.{length-map, map-append}
+use Rattle.std.proofs.Common.{◌≡◌, ℕ, ◌+◌, ◌<◌, Bool, true, false, List, [], ◌++◌, length, map, Option, Some, Result, Ok, Err, slice_get, slice_index_or, sym, ap, ap₂, ◌∙◌, arith, length-append}
+use Rattle.std.proofs.lemmas.List.{length-map}
 use Rattle.std.proofs.lemmas.Option.{slice_get-get_or}
 use Rattle.dcx_frac.specs.declared.fraction.Frac.{Frac}
 use Rattle.dcx_frac.specs.declared.fraction.Passes.{Passes}
@@ -29,6 +29,7 @@ use Rattle.dcx_entries.specs.Nodes.{Table, table_forms, numbers_in, number_entry
 use Rattle.dcx_entries.specs.Standing.{args_among}
 use Rattle.dcx_entries.specs.Kept as kept
 use Rattle.dcx_entries.proofs.Each.{some_before}
+use Rattle.dcx_formed.proofs.Lists.{joined_same, joined_none, map-joined}
 use Rattle.dcx_graph.specs.declared.origin.Origin.{Origin}
 use Rattle.dcx_graph.specs.declared.origin.Origin.TheVariants as origins
 use Rattle.dcx_graph.specs.Program.{Program, IsProgram, constraint_entries, entry_origin, graph_origin}
@@ -36,19 +37,6 @@ use Rattle.dcx_graph.proofs.Sizes.{rows-length}
 use Rattle.dcx_graph.proofs.Settings.{rows_at-length}
 use Rattle.dcx_build.specs.Origins.{entry_count, entry_rows, node_rows, graph_origins, IsLaidOut}
 use Rattle.dcx_build.specs.Laws.{ProgramsAreLaidOut}
-
--- ---- lists that are joined
-map-joined_below : {A B : Type 0} (g : A → B) (n : ℕ) (f : ℕ → List A) → map g (joined_below n f) ≡ joined_below n (λ j. map g (f j))
-map-joined_below g zero f = refl
-map-joined_below g (suc n) f = map-append g (joined_below n f) (f n) ∙ ap (λ l. l ++ map g (f n)) (map-joined_below g n f)
-
-joined_same : {A : Type 0} (n : ℕ) (f g : ℕ → List A) → ((j : ℕ) → j < n → f j ≡ g j) → joined_below n f ≡ joined_below n g
-joined_same zero f g h = refl
-joined_same (suc n) f g h = ap₂ ◌++◌ (joined_same n f g (λ j b. h j (omega (arith, b)))) (h n (omega arith))
-
-joined_empty : {A : Type 0} (n : ℕ) (f : ℕ → List A) → ((j : ℕ) → j < n → f j ≡ []) → joined_below n f ≡ []
-joined_empty zero f h = refl
-joined_empty (suc n) f h = ap₂ ◌++◌ (joined_empty n f (λ j b. h j (omega (arith, b)))) (h n (omega arith))
 
 module _ {C : Type 0} (of_number : Frac → C) (number_of : C → Option Frac) (Sums : C → C → Result C Passes → Type 0) (Changes : Change → C → Result C Passes → Type 0)
     (Reads : ℕ → List ℕ → ℕ → Pairs → C → Type 0) (rules : Rules) (p : Problem) (setting : Pairs) where
@@ -93,7 +81,7 @@ module _ {C : Type 0} (of_number : Frac → C) (number_of : C → Option Frac) (
     Given reduced = (j : ℕ) (e : EntryForms C) → slice_get es j ≡ Some e → NodeEntryBy of_number number_of Sums Changes Reads rules p setting reduced forms i n j (Ok e)
 
     mapped_rows : map graph_origin (kept.node_rows of_number i es) ≡ joined_below (length es) (λ j. map graph_origin (kept.entry_rows of_number i j (Here j)))
-    mapped_rows = map-joined_below graph_origin (length es) (λ j. kept.entry_rows of_number i j (Here j))
+    mapped_rows = map-joined graph_origin (length es) (λ j. kept.entry_rows of_number i j (Here j))
 
     node_origins : (reduced : Bool) → length es ≡ entries_of n.sides → Given reduced → map graph_origin (kept.node_rows of_number i es) ≡ node_rows p.tree i reduced (Some n)
     node_origins true size h =
@@ -103,7 +91,7 @@ module _ {C : Type 0} (of_number : Frac → C) (number_of : C → Option Frac) (
         ∙ ap (λ k. joined_below k (entry_rows p.tree i n)) size
     node_origins false size h =
         mapped_rows
-        ∙ joined_empty (length es) (λ j. map graph_origin (kept.entry_rows of_number i j (Here j)))
+        ∙ joined_none (length es) (λ j. map graph_origin (kept.entry_rows of_number i j (Here j)))
         (λ j b. entry_origins i j (Here j) 0 (number_count n.call (arg_sides p.tree n) (args_among of_number forms n.args) j (Here j) (h j (Here j) (slice_get-get_or es j (alone (zero_form of_number)) b))))
 
   -- ---- the rows of all nodes
@@ -120,7 +108,7 @@ module _ {C : Type 0} (of_number : Frac → C) (number_of : C → Option Frac) (
 
     pub graph_rows_are : map graph_origin (kept.graph_rows of_number table) ≡ graph_origins rules p
     graph_rows_are =
-        map-joined_below graph_origin (length table) (λ i. kept.node_rows of_number i (Own i))
+        map-joined graph_origin (length table) (λ i. kept.node_rows of_number i (Own i))
         ∙ ap (λ k. joined_below k (λ i. map graph_origin (kept.node_rows of_number i (Own i)))) formed.count
         ∙ joined_same (length p.tree) (λ i. map graph_origin (kept.node_rows of_number i (Own i))) (λ i. node_rows p.tree i (is_reduced rules p i) (slice_get p.tree i)) at_node
 

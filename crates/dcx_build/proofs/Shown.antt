@@ -1,11 +1,11 @@
 -- The parts of a certificate have the names and the shapes of the problem.
-use Rattle.std.proofs.Common.{◌≡◌, ℕ, zero, suc, true, false, cond, List, [], ◌∷◌, ◌++◌, map, Option, Some, None, option_map, refl, sym, ap, ap₂, ◌∙◌, subst}
+use Rattle.std.proofs.Common.{◌≡◌, ℕ, suc, true, false, cond, List, [], ◌∷◌, ◌++◌, map, Option, Some, None, option_map, refl, sym, ap, ap₂, ◌∙◌, subst}
 use Rattle.std.specs.Prelude.{slice_get}
-use Rattle.std.specs.List.{All, AllByRecursion, IsDistinct, flat_map}
+use Rattle.std.specs.List.{All, IsDistinct, flat_map}
 use Rattle.std.proofs.Props.{props}
 use Rattle.std.proofs.Math.Logic.{∥∥₁_elim}
 use Rattle.std.proofs.lemmas.List.Elements.{All-head, All-tail}
-use Rattle.std.proofs.lemmas.Option.{none-some, same_Some, slice_get-map, slice_get_within, get_or_from_slice_get}
+use Rattle.std.proofs.lemmas.Option.{same_Some, slice_get-map, slice_get_within, get_or_from_slice_get}
 use mathlib.Core.HLevel.{is_prop→PathP}
 use Rattle.dcx_frac.specs.declared.fraction.Frac.{Frac}
 use Rattle.dcx_shape.specs.declared.shape.Sides.{Sides}
@@ -14,7 +14,7 @@ use Rattle.dcx_shape.specs.Shape.{sides_of}
 use Rattle.dcx_shape.specs.Sides.{HasFewEntries}
 use Rattle.dcx_atom.specs.declared.array.Array.{Array}
 use Rattle.dcx_point.specs.Pairs.{Pairs, same_name, names_of, array_of}
-use Rattle.dcx_point.proofs.Puts.{same_name-refl, same_name-false}
+use Rattle.dcx_point.proofs.Puts.{same_name-refl}
 use Rattle.dcx_call.specs.declared.attribute.Variable.{Variable}
 use Rattle.dcx_call.specs.declared.attribute.Parameter.{Parameter}
 use Rattle.dcx_call.specs.Values.{HasArray}
@@ -24,11 +24,12 @@ use Rattle.dcx_tree.proofs.Sublists.{distinct_front, distinct_back}
 use Rattle.dcx_lp_answer.specs.declared.answer.LpStatus.{LpStatus}
 use Rattle.dcx_lp_answer.specs.declared.answer.RowNote.{RowNote}
 use Rattle.dcx_lines.specs.Shown.{variables_of, constraints_of}
+use Rattle.dcx_formed.proofs.Lists.{map-map, all_at}
 use Rattle.dcx_postsolve.specs.Points.{IsPointOf}
 use Rattle.dcx_postsolve.specs.Duals.{AreDuals}
 use Rattle.dcx_graph.specs.Fixed.{HaveArrays}
 use Rattle.dcx_build.specs.Built.{value_if, values_in}
-use Rattle.dcx_build.proofs.Copied.{value_of}
+use Rattle.dcx_build.proofs.Copied.{unlike, value_of}
 
 -- shapes with the same sides are equal
 one_shape : (a b : Shape) → sides_of a ≡ sides_of b → a ≡ b
@@ -49,14 +50,6 @@ parameters_distinct p = ∥∥₁_elim p.declared (hlevel props) (λ d. distinct
 abbrev HasShape : Pairs → List ℕ × Shape → Type 0
 HasShape ps e = (a : Array) × (array_of ps e.0 ≡ Some a) × (a.shape ≡ e.1)
 
-name_at : (P : List ℕ → Type 0) (names : List (List ℕ)) (i : ℕ) (name : List ℕ) → AllByRecursion P names → slice_get names i ≡ Some name → P name
-name_at P [] i name all e = absurd (none-some name e)
-name_at P (n ∷ names) zero name all e = subst P (same_Some n name e) all.0
-name_at P (n ∷ names) (suc i) name all e = name_at P names i name all.1 e
-
-apart : (a b : List ℕ) → same_name a b ≡ false → same_name b a ≡ false
-apart a b e = same_name-false b a (λ f. let t : true ≡ false = sym (same_name-refl a) ∙ ap (same_name a) (sym f) ∙ e in cc)
-
 -- arrays of these names and shapes
 shapes_are : (ps : Pairs) (es : List (List ℕ × Shape)) → IsDistinct same_name (names_of ps) → names_of ps ≡ map (λ e. e.0) es → ((i : ℕ) (e : List ℕ × Shape) → slice_get es i ≡ Some e → HasShape ps e) → variables_of ps ≡ es
 unfolding IsDistinct
@@ -73,12 +66,8 @@ shapes_are (p ∷ ps) (e ∷ es) d n h =
     (shapes_are ps es d.1 rest (λ i x stands.
     let (b, there, shaped) = h (suc i) x stands in
     let named : slice_get (names_of ps) i ≡ Some x.0 = ap (λ l. slice_get l i) rest ∙ slice_get-map (λ (x : List ℕ × Shape). x.0) es i ∙ ap (option_map (λ (x : List ℕ × Shape). x.0)) stands in
-    let t = apart p.0 x.0 (name_at (λ y. same_name p.0 y ≡ false) (names_of ps) i x.0 d.0 named) in
+    let t = unlike p.0 x.0 (all_at (λ y. same_name p.0 y ≡ false) (names_of ps) d.0 i x.0 named) in
     (b, ap (λ b. cond b (Some p.1) (array_of ps x.0)) (sym t) ∙ there, shaped)))
-
-map_map : {A B C : Type 0} (g : B → C) (f : A → B) (xs : List A) → map g (map f xs) ≡ map (λ x. g (f x)) xs
-map_map g f [] = refl
-map_map g f (x ∷ xs) = ap (λ ys. g (f x) ∷ ys) (map_map g f xs)
 
 -- the name and the shape of a variable
 abbrev shown_variable : Variable → List ℕ × Shape
@@ -93,7 +82,7 @@ module _ (vs : List Variable) (distinct : IsDistinct same_name (map (λ v. v.nam
 
   pub point_shown : variables_of point ≡ map shown_variable vs
   point_shown =
-      shapes_are point (map shown_variable vs) (subst (IsDistinct same_name) (sym of.names) distinct) (of.names ∙ sym (map_map (λ (e : List ℕ × Shape). e.0) shown_variable vs))
+      shapes_are point (map shown_variable vs) (subst (IsDistinct same_name) (sym of.names) distinct) (of.names ∙ sym (map-map shown_variable (λ (e : List ℕ × Shape). e.0) vs))
       (λ i e at. shaped_at i e (slice_get vs i) refl (sym (slice_get-map shown_variable vs i) ∙ at))
 
 -- ---- multipliers

@@ -1,5 +1,5 @@
 -- What is read from an answer of the session's rows is right for the problem.
-use Rattle.std.proofs.Common.{ℕ, [], Result, Ok, Err, IfOk, OnOk, sym, ◌∙◌}
+use Rattle.std.proofs.Common.{ℕ, [], Result, Ok, Err, IfOk, OnOk}
 use Rattle.dcx_frac.specs.declared.fraction.Frac.{Frac}
 use Rattle.dcx_point.specs.Pairs.{Pairs}
 use Rattle.dcx_convex.specs.Rules.{Plain, Parametrized}
@@ -9,15 +9,12 @@ use Rattle.dcx_answer.specs.declared.stop.Stop.{Stop}
 use Rattle.dcx_fit.specs.Fit.{FitsParameters}
 use Rattle.dcx_quotients.proofs.LawsHold.{formed_are_fitting}
 use Rattle.dcx_tab.specs.declared.program.Program as tab
-use Rattle.dcx_tab.specs.Table.{Table}
 use Rattle.dcx_lp_answer.specs.declared.answer.LpAnswer.{LpAnswer}
 use Rattle.dcx_lp_answer.specs.Right.{IsRight}
-use Rattle.dcx_simplex.specs.declared.run.LpEnd.{LpEnd}
-use Rattle.dcx_simplex.specs.declared.run.LpEnd.TheVariants as ends
-use Rattle.dcx_simplex.specs.Reading.{IsRead as IsReadAt}
 use Rattle.dcx_std.specs.IntegerRows.{IsMade}
 use Rattle.dcx_solved.specs.declared.solving.Solved.{Solved}
 use Rattle.dcx_solved.specs.Solved.{IsSolved}
+use Rattle.dcx_solved.proofs.Counts.{counts_of}
 use Rattle.dcx_graph.specs.Program.{Program}
 use Rattle.dcx_graph.specs.Reduced.{Reduction}
 use Rattle.dcx_graph.specs.Answers.{rows_of, HasParts, IsAnswered}
@@ -27,14 +24,6 @@ use Rattle.dcx_graph.proofs.Mapped.{read_right}
 use Rattle.dcx_cache.specs.Programs.{SessionGives, mapped, anew, IsProgramAt}
 use Rattle.dcx_cache.specs.Laws.{AnswersAreRight}
 use Rattle.dcx_cache.proofs.Arrays.{have_arrays}
-
--- ---- the parts of an answer that is read at a tableau
-parts_of : (q : tab.Program) (t : Table) (end : LpEnd) (a : LpAnswer) → IsReadAt q.rows q.columns t end a → HasParts q a
-parts_of q t (ends.Optimal n) a h = record { columns = h.0.columns; ray = λ e. absurd (let d = sym h.0.status ∙ e in cc); notes = h.0.notes }
-parts_of q t (ends.Infeasible n) a h = record { columns = h.0.columns; ray = λ e. absurd (let d = sym h.0.status ∙ e in cc); notes = h.0.notes }
-parts_of q t (ends.Unbounded n c) a h = record { columns = h.0.columns; ray = λ e. h.1.ray; notes = h.0.notes }
-parts_of q t (ends.Wide n r c) a h = absurd h
-parts_of q t (ends.PivotLimit n) a h = absurd h
 
 -- ---- a program of the session
 module _ (p : Problem) (setting : Pairs) (ok : IsAccepted p) (fits : FitsParameters p.parameters setting) where
@@ -79,7 +68,9 @@ module _ (p : Problem) (setting : Pairs) (ok : IsAccepted p) (fits : FitsParamet
 
   -- so can the answer of the run
   pub is_answered : (limit : ℕ) (q : Program Frac) (s : Solved) → SessionGives p setting (Ok q) → IsSolved limit (rows_of q) s → IsAnswered p (setting_of p setting) q s.answer
-  is_answered limit q s g h = answered_by q s.program s.answer g h.made (parts_of s.program _ h.solved.end s.answer h.solved.read) h.solved.right
+  is_answered limit q s g h =
+      let counts = counts_of s.program _ h.solved.end s.answer h.solved.read in
+      answered_by q s.program s.answer g h.made (record { columns = counts.columns; ray = counts.ray; notes = counts.rows }) h.solved.right
 
   -- and the setting fits
   pub is_fitting : (q : Program Frac) → SessionGives p setting (Ok q) → IsFitting p setting

@@ -17,9 +17,9 @@ use Rattle.dcx_lp_answer.specs.declared.answer.LpAnswer.{LpAnswer}
 use Rattle.dcx_lp_answer.specs.declared.answer.LpStatus.TheVariants as status
 use Rattle.dcx_simplex.specs.declared.run.LpEnd.TheVariants as ends
 use Rattle.dcx_simplex.specs.Readable.{IsReadable}
-use Rattle.dcx_simplex.specs.Reading.{IsReading, HasNoRay}
+use Rattle.dcx_simplex.specs.Reading.{IsReading}
 use Rattle.dcx_warm.specs.Install.{IsColumnList}
-use Rattle.dcx_warm.specs.Warm.{WarmEnds, NeverEnds, IsOptimalAt}
+use Rattle.dcx_warm.specs.Warm.{WarmEnds, IsOptimalAt}
 use Rattle.dcx_warm.proofs.Ending.{ends_optimal, is_right, is_readable, one_end, sound_first}
 use Rattle.dcx_std.specs.declared.stop.RowStop.{RowStop}
 use Rattle.dcx_std.specs.declared.stop.RowStop.TheVariants as rows
@@ -44,7 +44,7 @@ use Rattle.dcx_cache.specs.Programs.{SessionGives, HasMap, ProgramStops}
 use Rattle.dcx_cache.specs.Answers.{IsAnswerOf, Answers}
 use Rattle.dcx_cache.specs.Columns.{AreApart}
 use Rattle.dcx_cache.specs.Warm.{IsWarmRun, IsWarmSolved, IsWarmAnswer, IsWarm, NeverWarm, IsAnsweredBy, WarmAnswers, WarmAnswersAll, RunsWarm, SolvesWarm, ReadsBack, ReadsWarm}
-use Rattle.dcx_cache.specs.Laws.{WarmAnswersAreRight, WarmAnswersAgree, AnsweredStaysAnswered, AreOneWarmEnd, EndsWithMemory, IsOneStep, HasOneWarmEnd, AreOneWarmEnds, HaveOneWarmEnds}
+use Rattle.dcx_cache.specs.Laws.{WarmAnswersAreRight, WarmAnswersAgree, AnsweredStaysAnswered, HasOneWarmEnd, HaveOneWarmEnds}
 use Rattle.dcx_cache.proofs.Answered.{answered_by, is_fitting, answers_are_right}
 use Rattle.dcx_cache.proofs.OneEnd.{same_program, program_apart, same_answer, solved_by, unfit, memory_or, has_one_end}
 use Rattle.dcx_cache.proofs.Agreeing.{right_answers_agree}

@@ -31,6 +31,7 @@ use Rattle.dcx_tree.specs.Nodes.{Node, number_in, variable_attribute}
 use Rattle.dcx_tree.specs.Problems.{AreDeclared}
 use Rattle.dcx_tree.specs.Meaning.{names_in, IsInDomain}
 use Rattle.dcx_tree.proofs.Names.{found_in}
+use Rattle.dcx_tree.proofs.NodeValues.{number_past}
 use Rattle.dcx_unknowns.specs.Unknowns.{sides_in}
 use Rattle.dcx_unknowns.proofs.Domains.{number_is, to_domain}
 use Rattle.dcx_collect.specs.declared.collected.Reached.{Reached}
@@ -41,7 +42,7 @@ use Rattle.dcx_bound.proofs.Falling.{AreFalling}
 use Rattle.dcx_bound.proofs.Reaching.{listed}
 use Rattle.dcx_certified.specs.Families.{variable_by, variable_if, variable_numbers}
 use Rattle.dcx_certified.proofs.Scaling.{bounded_multiples}
-use Rattle.dcx_certified.proofs.Sums.{further_zero, past_end}
+use Rattle.dcx_certified.proofs.Sums.{further_zero}
 
 -- ---- an array for one variable alone
 picked : {i k : ℕ} → Dec (i ≡ k) → Numbers → Numbers
@@ -206,7 +207,7 @@ module _ (p : Problem) (d : AreDeclared p.tree p.variables p.parameters) where
     either_end cs m y =
         let f = λ (j : ℕ). number_at cs j *ℚ first_of m y j in
         let swap : length cs + m ≡ m + length cs = omega arith in
-        sym (further_zero (length cs) m f (λ j b. ap (λ z. z *ℚ first_of m y j) (past_end cs j b) ∙ zero-*ℚ _)) ∙ ap (λ n. rat_sum_below n f) swap
+        sym (further_zero (length cs) m f (λ j b. ap (λ z. z *ℚ first_of m y j) (number_past cs j b) ∙ zero-*ℚ _)) ∙ ap (λ n. rat_sum_below n f) swap
         ∙ further_zero m (length cs) f (λ j b. ap (λ z. number_at cs j *ℚ z) (first_past m y j b) ∙ *ℚ-zero _)
         ∙ rat_sum_below-same m _ _ (λ j b. ap (λ z. number_at cs j *ℚ z) (first_in m y j b))
 

@@ -1,8 +1,7 @@
 -- An answer of the rows of a program bounds its forms, and the multipliers of the rows of the graphs are at least 0.
-use Rattle.std.proofs.Common.{◌≡◌, ℕ, zero, suc, ◌+◌, ◌<◌, arith, true, false, List, [], ◌∷◌, length, map, Option, Some, None, option_map, slice_get, refl, sym, ap, ap₂, ◌∙◌, zero-add}
-use Rattle.std.specs.List.{flat_map, range_with_len}
+use Rattle.std.proofs.Common.{◌≡◌, ℕ, suc, ◌+◌, ◌<◌, arith, true, false, List, [], ◌∷◌, length, map, Some, option_map, slice_get, refl, sym, ap, ap₂, ◌∙◌, zero-add}
+use Rattle.std.specs.List.{range_with_len}
 use Rattle.std.proofs.lemmas.Option.{slice_get-map}
-use Rattle.std.proofs.lemmas.List.{length-append, length-map}
 use Rattle.dcx_math.specs.Rational.{ℚ, ◌+ℚ◌, ◌*ℚ◌, ◌≤ℚ◌}
 use Rattle.dcx_math.specs.Sums.{IsNonnegative}
 use Rattle.dcx_math.proofs.Orders.{≤ℚ_trans, ≤ℚ-from_≡, +ℚ_assoc}
@@ -17,18 +16,19 @@ use Rattle.dcx_convex.specs.Reductions.{Unknowns}
 use Rattle.dcx_convex.specs.Rules.{Rules}
 use Rattle.dcx_tree.specs.declared.constraint.Constraint.{Constraint}
 use Rattle.dcx_tree.specs.declared.problem.Problem.{Problem}
-use Rattle.dcx_tree.specs.Nodes.{Node}
 use Rattle.dcx_tree.specs.Meaning.{convex_constraint, convex_problem}
 use Rattle.dcx_linear.specs.Rows.{RowAt, LinearProgram, AreOfKinds, combined, combined_from, HaveSigns}
-use Rattle.dcx_unknowns.specs.Layout.{constraint_rows, is_reduced, unknown_kinds, rows_if, rows_at}
+use Rattle.dcx_unknowns.specs.Layout.{constraint_rows, unknown_kinds, rows_at}
 use Rattle.dcx_unknowns.proofs.Places.{in_right}
-use Rattle.dcx_reduced.specs.Equations.{Forms, row_number, numbers_if, graph_numbers, reduced_with}
+use Rattle.dcx_reduced.specs.Equations.{Forms, graph_numbers, reduced_with}
 use Rattle.dcx_reduced.proofs.Lists.{flat_first}
 use Rattle.dcx_reduced.proofs.OfKinds.{nonneg_from, nonpos_from}
+use Rattle.dcx_entries.proofs.Each.{some_before}
 use Rattle.dcx_mapping.specs.Programs.{gap_rows, bound_row, IsProgramOf, multipliers_of}
 use Rattle.dcx_mapping.proofs.Rows.{combined_append, combined_gaps}
 use Rattle.dcx_postsolve.specs.Laws.{AreSameMultipliers}
 use Rattle.dcx_certified.specs.Rows.{rows_until, BoundsForms}
+use Rattle.dcx_certified.proofs.Numbered.{same_place, numbers_at, numbers_at-length}
 
 -- ---- multipliers that are the same at the entries of the constraints
 weighed_same : (gap : convex.Constraint → ℕ → ℚ) (cs : List Constraint) (m n : Multipliers) → AreSameMultipliers cs m n → weighed gap (map convex_constraint cs) m ≡ weighed gap (map convex_constraint cs) n
@@ -36,21 +36,6 @@ weighed_same gap [] m n h = refl
 weighed_same gap (c ∷ cs) m n h =
     ap₂ ◌+ℚ◌ (rat_sum_below-same (constraint_rows c) _ _ (λ j b. ap (λ z. z *ℚ gap (convex_constraint c) j) (h 0 c refl j b)))
     (weighed_same gap cs (λ k. m (suc k)) (λ k. n (suc k)) (λ k d at j b. h (suc k) d at j b))
-
--- ---- lists
-same_place : {A B : Type 0} (f : ℕ → List A) (g : ℕ → List B) → ((i : ℕ) → length (f i) ≡ length (g i)) → (is : List ℕ) → length (flat_map f is) ≡ length (flat_map g is)
-same_place f g h [] = refl
-same_place f g h (i ∷ is) =
-    let a = length-append (f i) (flat_map f is) in
-    let b = length-append (g i) (flat_map g is) in
-    let c = h i in
-    let d = same_place f g h is in
-    omega (arith, a, b, c, d)
-
-some_before : {A : Type 0} (xs : List A) (k : ℕ) → k < length xs → (x : A) × (slice_get xs k ≡ Some x)
-some_before [] k b = absurd (omega (arith, b))
-some_before (x ∷ xs) zero b = (x, refl)
-some_before (x ∷ xs) (suc k) b = some_before xs k (omega (arith, b))
 
 module _ (rules : Rules) (p : Problem) (s : Setting) (forms : Forms) (l : LinearProgram) (is : IsProgramOf l (convex_problem p) (reduced_with rules p s forms)) (m : ℕ → ℚ) where
   -- the number of the first row of a graph
@@ -84,22 +69,15 @@ module _ (rules : Rules) (p : Problem) (s : Setting) (forms : Forms) (l : Linear
 
   -- ---- the rows of the graphs
   abbrev numbers : ℕ → List (Unknowns → ℚ)
-  numbers i = numbers_if rules p s forms i (slice_get p.tree i) (rows_at rules p i)
-
-  numbers_count : (i : ℕ) → length (numbers i) ≡ length (rows_at rules p i)
-  numbers_count i = by (slice_get p.tree i)
-    where
-      by : (o : Option Node) → length (numbers_if rules p s forms i o (rows_if p.tree (is_reduced rules p i) o)) ≡ length (rows_if p.tree (is_reduced rules p i) o)
-      by None = refl
-      by (Some n) = length-map (rows_if p.tree (is_reduced rules p i) (Some n)) (row_number rules p s forms i n)
+  numbers = numbers_at rules p s forms
 
   -- row q of node i, which is at most 0
   pub row_there : (i q : ℕ) → i < length p.tree → q < length (rows_at rules p i) → (row : Unknowns → ℚ) × (slice_get l.rows (first + (rows_until rules p i + q)) ≡ Some (bound_row row))
   row_there i q b c =
-      let (row, here) = some_before (numbers i) q (omega (arith, c, numbers_count i)) in
+      let (row, here) = some_before (numbers i) q (omega (arith, c, numbers_at-length rules p s forms i)) in
       let at = flat_first numbers (length p.tree) i q row b here in
       let moved : slice_get (graph_numbers rules p s forms) (rows_until rules p i + q) ≡ Some row =
-      ap (λ k. slice_get (graph_numbers rules p s forms) (k + q)) (sym (same_place numbers (rows_at rules p) numbers_count (range_with_len 0 i))) ∙ at in (
+      ap (λ k. slice_get (graph_numbers rules p s forms) (k + q)) (sym (same_place numbers (rows_at rules p) (numbers_at-length rules p s forms) (range_with_len 0 i))) ∙ at in (
         row,
         ap (λ rs. slice_get rs (first + (rows_until rules p i + q))) is.rows
             ∙ in_right (gap_rows forms (convex_problem p).constraints) bounds (rows_until rules p i + q)

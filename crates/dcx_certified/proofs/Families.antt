@@ -1,11 +1,9 @@
 -- Families are determined by the point and the unknowns, those of the first nodes by the first unknowns; and where their numbers stand.
-use Rattle.std.proofs.Common.{◌≡◌, ◌≢◌, ℕ, zero, suc, ◌+◌, ◌<◌, ◌≤◌, arith, Bool, true, false, nat_lt, if◌then◌else◌, List, map, length, get_or, All, refl, sym, ap, ap₂, ◌∙◌, subst, Option, Some, None, slice_get, pos}
+use Rattle.std.proofs.Common.{◌≡◌, ◌≢◌, ℕ, zero, suc, ◌+◌, ◌<◌, ◌≤◌, arith, List, map, length, get_or, refl, sym, ap, ap₂, ◌∙◌, subst, Option, Some, None, slice_get, pos}
 use Rattle.std.specs.Prelude.{option_map, unwrap_or}
 use native.Mathlib.Decide.{ℕ_discrete}
 use Rattle.std.proofs.Math.Path.{fun_ext}
-use Rattle.std.proofs.lemmas.Bool.{ltb-true, ltb-false}
-use Rattle.std.proofs.lemmas.List.{length-map}
-use Rattle.std.proofs.lemmas.Option.{slice_get-map, slice_get-get_or, get_or_from_slice_get, slice_get_within}
+use Rattle.std.proofs.lemmas.Option.{slice_get-map, slice_get-get_or}
 use Rattle.dcx_math.specs.Rational.{whole, ◌*ℚ◌}
 use Rattle.dcx_math.specs.Sums.{rat_sum_below}
 use Rattle.dcx_math.proofs.Sums.{rat_sum_below-same}
@@ -16,18 +14,16 @@ use Rattle.dcx_atom.specs.declared.array.Array.{Array}
 use Rattle.dcx_atom.specs.Arrays.{number_at}
 use Rattle.dcx_atom.specs.Rows.{Filling}
 use Rattle.dcx_arena.specs.Nodes.{AreNodes, IsNode, sides_at}
-use Rattle.dcx_convex.specs.Nodes.{Numbers, Setting, Point, first_of, arguments, zeros, value_by, value_at}
+use Rattle.dcx_convex.specs.Nodes.{Numbers, Setting, Point, first_of, arguments, value_by, value_at}
 use Rattle.dcx_convex.proofs.Told.{map-same, value_tells}
 use Rattle.dcx_call.specs.Calls.{shape_of}
 use Rattle.dcx_tree.specs.Nodes.{Names, Node, head_of, arg_sides, convex_node, convex_nodes}
 use Rattle.dcx_tree.specs.Values.{array_at}
 use Rattle.dcx_tree.proofs.Lawful.{tree_lawful}
 use Rattle.dcx_reduced.specs.Equations.{call_entry}
-use Rattle.dcx_collect.specs.Starts.{start_of, place_of}
-use Rattle.dcx_collect.proofs.Sharing.{past_end}
+use Rattle.dcx_collect.specs.Starts.{start_of}
 use Rattle.dcx_collect.proofs.Flat.{dot, dot-sum, flat, flat-place, by_nodes}
-use Rattle.dcx_collect.proofs.Bound.{number_of}
-use Rattle.dcx_collect.proofs.Points.{some_item, first_past, past_size}
+use Rattle.dcx_collect.proofs.Points.{some_item, first_past, past_size, End}
 use Rattle.dcx_certified.specs.Families.{IsFamily, call_rows, rows_if, rows_below}
 
 -- ---- unknowns that are changed at one node
@@ -62,41 +58,6 @@ pub node_sides : (nodes : List Node) (i : ℕ) (n : Node) → IsNode nodes i n �
 node_sides nodes i n at = ap (λ (o : Option Node). unwrap_or (option_map (λ (k : Node). k.sides) o) Scalar) at
 
 -- ---- where numbers stand
-some_there : {A : Type 0} (xs : List A) (k : ℕ) (d : A) → k < length xs → slice_get xs k ≡ None → ⊥
-some_there xs k d b h = let g = sym h ∙ slice_get-get_or xs k d b in cc
-
-among : (n : ℕ) (xs : List ℕ) (j a : ℕ) → All (λ i. i < n) xs → slice_get xs j ≡ Some a → a < n
-among n xs j a all h = subst (λ i. i < n) (get_or_from_slice_get xs j a 0 h) (all j 0 (slice_get_within xs j a h))
-
-none_past : (f : ℕ → Numbers) (xs : List ℕ) (j : ℕ) → slice_get xs j ≡ None → length (map f xs) ≤ j
-none_past f xs j h = by (nat_lt j (length xs)) refl
-  where
-    by : (t : Bool) → nat_lt j (length xs) ≡ t → length (map f xs) ≤ j
-    by true c = absurd (some_there xs j 0 (ltb-true j _ c) h)
-    by false c = omega (arith, length-map xs f, ltb-false j _ c)
-
--- arrays that are 0 past the ends of their nodes
-abbrev pub End : List Node → (ℕ → Numbers) → Type 0
-End nodes f = (i e : ℕ) → i < length nodes → entries_of (sides_at nodes i) ≤ e → f i e ≡ whole (pos 0)
-
--- what stands at the place of an argument's entry is its number
-pub argument_place : (nodes : List Node) (f : ℕ → Numbers) → End nodes f → (args : List ℕ) → All (λ a. a < length nodes) args → (k e : ℕ) →
-    number_of (flat nodes f) (place_of nodes (slice_get args k) e) ≡ arguments (map f args) k e
-argument_place nodes f ends args there k e = by (slice_get args k) refl
-  where
-    in_place : (a : ℕ) → a < length nodes → number_of (flat nodes f) (place_of nodes (Some a) e) ≡ f a e
-    in_place a b = inner (nat_lt e (entries_of (sides_at nodes a))) refl
-      where
-        inner : (t : Bool) → nat_lt e (entries_of (sides_at nodes a)) ≡ t → number_of (flat nodes f) (if t then Some (start_of nodes a + e) else None) ≡ f a e
-        inner true h = flat-place nodes f a e b (ltb-true e _ h)
-        inner false h = sym (ends a e b (ltb-false e _ h))
-
-    by : (o : Option ℕ) → slice_get args k ≡ o → number_of (flat nodes f) (place_of nodes o e) ≡ arguments (map f args) k e
-    by None h = ap (λ (v : Numbers). v e) (sym (past_end (map f args) k zeros (none_past f args k h)))
-    by (Some a) h =
-        in_place a (among (length nodes) args k a there h)
-        ∙ ap (λ (v : Numbers). v e) (sym (get_or_from_slice_get (map f args) k (f a) zeros (slice_get-map f args k ∙ ap (option_map f) h)))
-
 -- coefficients of the first nodes alone
 pub first_dots : (nodes : List Node) (i : ℕ) → i ≤ length nodes → (t : List Frac) → length t ≡ start_of nodes i → (f g : ℕ → Numbers) → ((k : ℕ) → k < i → f k ≡ g k) → dot t (flat nodes f) ≡ dot t (flat nodes g)
 first_dots nodes i b t count f g same = sums f ∙ rat_sum_below-same i _ _ (λ k l. ap (λ (v : Numbers). rat_sum_below (entries_of (sides_at nodes k)) (λ e. number_at t (start_of nodes k + e) *ℚ v e)) (same k l)) ∙ sym (sums g)

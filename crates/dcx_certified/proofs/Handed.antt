@@ -60,14 +60,14 @@ use Rattle.dcx_collect.proofs.Starting.{start_next, start_within}
 use Rattle.dcx_collect.proofs.Passing.{same_Ok}
 use Rattle.dcx_collect.proofs.Flat.{dot, flat}
 use Rattle.dcx_collect.proofs.Bound.{number_of, IsBefore, worth_of, below_dot, joined_dot, IsWorth}
-use Rattle.dcx_collect.proofs.Points.{first_in, place_before, own_is}
+use Rattle.dcx_collect.proofs.Points.{first_in, argument_place, place_before, own_is}
 use Rattle.dcx_collect.proofs.Worth.{linear_worth, products_worth_right, products_worth_left, quotients_worth}
 use Rattle.dcx_certified.specs.Demanded.{GiveFractions}
 use Rattle.dcx_certified.specs.Families.{IsFamily, AreFilled, AreWeighed, atom_rows, call_rows, rows_below, variable_if, variable_numbers}
 use Rattle.dcx_certified.proofs.Atoms.{atom_dual}
 use Rattle.dcx_certified.proofs.Scaling.{times_filling, balance_times, nothing_lowers}
 use Rattle.dcx_certified.proofs.Soft.{IsSoft, soft_entry, soft_entries}
-use Rattle.dcx_certified.proofs.Families.{changed, changed_itself, changed_other, argument_place, first_dots, ends, first_same, first_rows}
+use Rattle.dcx_certified.proofs.Families.{changed, changed_itself, changed_other, first_dots, ends, first_same, first_rows}
 
 -- the stop is an operation that passes
 abbrev pub IsPassing : CollectStop → Type 0

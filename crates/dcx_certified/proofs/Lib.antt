@@ -17,6 +17,7 @@ pub mod Cones
 pub mod Alone
 pub mod Checked
 pub mod LawsHold
+pub mod Numbered
 pub mod Lifting
 pub mod Rowwise
 pub mod Bounded

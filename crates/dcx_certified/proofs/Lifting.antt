@@ -4,7 +4,7 @@ use Rattle.std.specs.Prelude.{nat_lt}
 use Rattle.std.specs.List.{flat_map, range_with_len, list_all}
 use Rattle.std.proofs.Math.Path.{fun_ext}
 use Rattle.std.proofs.lemmas.Bool.{lt-ltb, le-ltb, and_parts, false≢true}
-use Rattle.std.proofs.lemmas.List.{length-append, length-map}
+use Rattle.std.proofs.lemmas.List.{length-map}
 use Rattle.std.proofs.lemmas.List.Elements.{All-cons, All-nil}
 use Rattle.std.proofs.lemmas.Option.{none-some, get_or_from_slice_get, slice_get_within}
 use Rattle.dcx_math.specs.Rational.{ℚ, whole}
@@ -18,7 +18,7 @@ use Rattle.dcx_atom.specs.Bounding.{free_kinds}
 use Rattle.dcx_point.specs.Pairs.{Pairs}
 use Rattle.dcx_arena.specs.Nodes.{IsNode, sides_at}
 use Rattle.dcx_convex.specs.Nodes as convex
-use Rattle.dcx_convex.specs.Nodes.{Numbers, Point, Setting, zeros, first_of, arguments, value_by}
+use Rattle.dcx_convex.specs.Nodes.{Numbers, Point, Setting, first_of, arguments}
 use Rattle.dcx_convex.specs.Rules.{Rules, Plain, Parametrized, Judgement, is_constant, judgement_by, judgement_at}
 use Rattle.dcx_convex.specs.Certificates.{is_fixed}
 use Rattle.dcx_convex.specs.Reductions.{Unknowns}
@@ -54,17 +54,9 @@ use Rattle.dcx_build.proofs.Fixed.{unfixed_is_reduced}
 use Rattle.dcx_bound.specs.Fixed.{AreFixedValues}
 use Rattle.dcx_bound.proofs.OneTable.{value_of_fixed}
 use Rattle.dcx_certified.specs.Families.{IsFamily, AreFilled}
+use Rattle.dcx_certified.proofs.Numbered.{same_place}
 
 -- ---- unknowns with given fillings
-same_place : {A B : Type 0} (f : ℕ → List A) (g : ℕ → List B) → ((i : ℕ) → length (f i) ≡ length (g i)) → (is : List ℕ) → length (flat_map f is) ≡ length (flat_map g is)
-same_place f g h [] = refl
-same_place f g h (i ∷ is) =
-    let a = length-append (f i) (flat_map f is) in
-    let b = length-append (g i) (flat_map g is) in
-    let c = h i in
-    let d = same_place f g h is in
-    omega (arith, a, b, c, d)
-
 module _ (rules : Rules) (p : Problem) (x : Point) (F : ℕ → Filling) where
   abbrev numbers_at : ℕ → List ℚ
   numbers_at i = taken (aux_at rules p i) (F i)

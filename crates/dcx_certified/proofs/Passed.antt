@@ -1,25 +1,24 @@
 -- The pass keeps a bound of the coefficients and the weighted rows, and breaks no condition: it ends, or stops at an operation that passes.
-use Rattle.std.proofs.Common.{◌≡◌, ℕ, zero, suc, ◌+◌, ◌<◌, ◌≤◌, arith, List, [], ◌∷◌, ◌++◌, map, length, get_or, take, drop, refl, sym, ap, ap₂, ◌∙◌, subst, Option, Some, None, Result, Ok, Err, IfOk, slice_get, pos}
-use Rattle.std.specs.Prelude.{option_map, unwrap_or}
+use Rattle.std.proofs.Common.{◌≡◌, ℕ, zero, suc, ◌+◌, ◌<◌, ◌≤◌, arith, List, [], ◌∷◌, ◌++◌, length, get_or, take, drop, refl, sym, ap, ap₂, ◌∙◌, subst, Option, Some, None, Result, Ok, Err, IfOk, slice_get, pos}
 use Rattle.std.proofs.lemmas.List.{length-take-le, take-append-drop, nil_from_length}
 use Rattle.dcx_math.specs.Rational.{ℚ, whole, ◌+ℚ◌, ◌*ℚ◌, ◌≤ℚ◌}
 use Rattle.dcx_math.specs.Sums.{rat_sum_below, rat_sum_by}
 use Rattle.dcx_math.proofs.Ring.{reads}
-use Rattle.dcx_math.proofs.Orders.{≤ℚ_refl, ≤ℚ-from_≡, +ℚ_idr, +ℚ-≤ℚ, linear}
-use Rattle.dcx_math.proofs.Sums.{rat_sum_below-same, rat_sum_by-++}
+use Rattle.dcx_math.proofs.Orders.{≤ℚ_refl, ≤ℚ-from_≡, +ℚ-≤ℚ, linear}
+use Rattle.dcx_math.proofs.Sums.{rat_sum_below-same}
 use Rattle.dcx_frac.specs.declared.fraction.Frac.{Frac}
 use Rattle.dcx_frac.specs.declared.fraction.Passes.{Passes}
 use Rattle.dcx_frac.specs.Frac.{value}
 use Rattle.dcx_shape.specs.Sides.{entries_of}
 use Rattle.dcx_atom.specs.declared.array.Array.{Array}
-use Rattle.dcx_atom.specs.Arrays.{number_at, list_below}
+use Rattle.dcx_atom.specs.Arrays.{number_at}
 use Rattle.dcx_atom.specs.Entrywise.{products_from}
 use Rattle.dcx_atom.specs.Rows.{Filling}
 use Rattle.dcx_atom.proofs.Duality.{no_filling}
 use Rattle.dcx_atom.proofs.Entrywise.{products_from-exact}
 use Rattle.dcx_atom.proofs.FormedSums.{value-zero_frac}
 use Rattle.dcx_affine.specs.declared.pairing.Pairing.TheVariants.{Times, MatTimes, Over}
-use Rattle.dcx_arena.specs.Nodes.{AreNodes, IsNode, call_at, args_at, entries_in}
+use Rattle.dcx_arena.specs.Nodes.{AreNodes, IsNode, entries_in}
 use Rattle.dcx_arena.specs.Nodes.{sides_at as sides_of_node}
 use Rattle.dcx_convex.specs.Nodes.{Numbers, Setting, Point}
 use Rattle.dcx_call.specs.declared.atoms.AtomCall.{AtomCall}
@@ -33,37 +32,16 @@ use Rattle.dcx_collect.specs.declared.collected.Reached.{Reached}
 use Rattle.dcx_collect.specs.declared.stop.CollectStop.{CollectStop}
 use Rattle.dcx_collect.specs.Shares.{frac_in, Share, with_shares}
 use Rattle.dcx_collect.specs.Starts.{start_of}
-use Rattle.dcx_collect.specs.Pass.{Kept, begin, or_passes, handed, with_below, with_total, counted, reached_by, reached_if, call_shares, shares_if, node_reached, node_shares, passed, step, then_on, pass_down}
+use Rattle.dcx_collect.specs.Pass.{Kept, begin, or_passes, handed, with_below, with_total, counted, reached_by, call_shares, node_reached, node_shares, passed, step, then_on, pass_down}
 use Rattle.dcx_collect.specs.Laws.{table_times, reached_times, MayHandOn, AreKnown}
 use Rattle.dcx_collect.proofs.Starting.{start_all}
 use Rattle.dcx_collect.proofs.Passing.{own_count, start_inside, shares_count}
+use Rattle.dcx_collect.proofs.Bounded.{sum_listed, shares_told, reached_told}
 use Rattle.dcx_collect.proofs.Flat.{frac_value, dot, dot-nil, dot-append, dot-sum, dot-table, flat, flat-place}
 use Rattle.dcx_certified.specs.Demanded.{GiveFractions}
 use Rattle.dcx_certified.specs.Families.{IsFamily, AreFilled, AreWeighed, rows_if, rows_below, variable_numbers}
 use Rattle.dcx_certified.proofs.Families.{node_there, node_sides}
 use Rattle.dcx_certified.proofs.Handed.{IsPassing, Everywhere, Before, AreFair, hands_all, linear_exact, times_exact, mat_times_exact, over_exact, variable_exact, atom_fair}
-
--- ---- sums
-sum_listed : {A : Type 0} (g : A → ℚ) (n : ℕ) (h : ℕ → A) → rat_sum_by g (list_below n h) ≡ rat_sum_below n (λ e. g (h e))
-sum_listed g zero h = refl
-sum_listed g (suc n) h = rat_sum_by-++ g (list_below n h) (h n ∷ []) ∙ ap₂ ◌+ℚ◌ (sum_listed g n h) (+ℚ_idr (g (h n)))
-
--- ---- the shares of a node by its call and its arguments
-abbrev shares_at : List Node → List (Option Array) → ℕ → Option Call → List ℕ → (cs ws : List Frac) → Result (List Share) CollectStop
-shares_at nodes values i None args cs ws = Ok []
-shares_at nodes values i (Some call) args cs ws = call_shares nodes values i call args (map (sides_of_node nodes) args) cs ws
-
-same_shares : (nodes : List Node) (values : List (Option Array)) (i : ℕ) (o : Option Call) (cs ws : List Frac) → shares_if nodes values i o cs ws ≡ shares_at nodes values i o (args_at nodes i) cs ws
-same_shares nodes values i None cs ws = refl
-same_shares nodes values i (Some call) cs ws = refl
-
-shares_told : (nodes : List Node) (values : List (Option Array)) (i : ℕ) (n : Node) (cs ws : List Frac) → IsNode nodes i n → node_shares nodes values i cs ws ≡ call_shares nodes values i n.call n.args (arg_sides nodes n) cs ws
-shares_told nodes values i n cs ws at =
-    same_shares nodes values i (call_at nodes i) cs ws
-    ∙ ap (λ (o : Option Node). shares_at nodes values i (option_map (λ (m : Node). m.call) o) (unwrap_or (option_map (λ (m : Node). m.args) o) []) cs ws) at
-
-reached_told : (nodes : List Node) (i : ℕ) (n : Node) (cs : List Frac) → IsNode nodes i n → node_reached nodes i cs ≡ reached_by i n.call cs
-reached_told nodes i n cs at = ap (λ (o : Option Node). reached_if i (option_map (λ (m : Node). m.call) o) cs) at
 
 -- ---- arithmetic of a bound
 known_moved : (v t r d o l : ℚ) → v ≤ℚ t +ℚ r +ℚ (d +ℚ o) +ℚ (l +ℚ whole (pos 0)) → v ≤ℚ (t +ℚ o) +ℚ r +ℚ d +ℚ l

@@ -14,8 +14,8 @@ use Rattle.dcx_atom.specs.declared.flags.Bend.TheVariants.{Convex, Concave}
 use Rattle.dcx_atom.specs.Arrays.{Entries}
 use Rattle.dcx_atom.specs.Signs.{HasSign, IsBeyond, shifted}
 use Rattle.dcx_convex.specs.Calls.{Call, IsLawful}
-use Rattle.dcx_convex.specs.Nodes.{Head, Variable, Parameter, Constant, Apply, Node, Numbers, Point, Setting, told, told_within, IsOrdered, zeros, first_of, arguments, value_by, value_at, ParameterKeeps, EachNode, IsInDomain, IsLawfulHead, AreLawful}
-use Rattle.dcx_convex.specs.Rules.{Plain, Judgement, is_constant, is_bent, no_argument, argument, bends, all_suit, is_bent_by, judgement_by, judgement_at}
+use Rattle.dcx_convex.specs.Nodes.{Head, Variable, Parameter, Constant, Apply, Node, Numbers, Point, Setting, IsOrdered, zeros, first_of, arguments, value_by, value_at, ParameterKeeps, EachNode, IsInDomain, IsLawfulHead, AreLawful}
+use Rattle.dcx_convex.specs.Rules.{Plain, Judgement, is_constant, is_bent, argument, bends, all_suit, is_bent_by, judgement_by, judgement_at}
 use Rattle.dcx_convex.specs.Certificates.{is_fixed, given_at}
 use Rattle.dcx_convex.proofs.Told.{value_tells, judgement_tells}
 use Rattle.dcx_convex.proofs.Arguments.{args_signed, fixed_argument_same}
@@ -25,7 +25,7 @@ use Rattle.dcx_convex.proofs.Convexity.{bent_is}
 use Rattle.dcx_recession.specs.Steepness.{taken_at, steep_by, steep_at}
 use Rattle.dcx_recession.specs.Rays.{HeadRecedes, Recedes, AreReceding}
 use Rattle.dcx_recession.proofs.Calls.{zero_shifted}
-use Rattle.dcx_recession.proofs.Told.{level, steep_tells}
+use Rattle.dcx_recession.proofs.Told.{none_fixed, level, steep_tells}
 use Rattle.dcx_certified.proofs.Level.{nothing, HeadStarts, AreStarting}
 use Rattle.dcx_certified.proofs.Taken.{taken_signed, taken_follow, kind_bends, taken_between, start_along, fixed_stands, along_taken, start_low}
 use Rattle.dcx_certified.proofs.Steep.{given_signed, steep_signed}
@@ -192,10 +192,6 @@ module _ (nodes : List Node) (ordered : IsOrdered nodes) (law : AreLawful nodes)
             (λ below. call_rest k low c lawful recedes starts bend g.0 g.1 j below) (beyond_same bend (no_move k))
 
   -- ---- all nodes
-  none_fixed : (i : ℕ) → slice_get nodes i ≡ None → IsTrue (is_fixed nodes i)
-  unfolding judgement_at
-  none_fixed i e = ap (λ (o : Option Node). (told no_argument (judgement_by Plain) (told_within no_argument (judgement_by Plain) nodes i) o).fixed) e
-
   node_rest : (i : ℕ) (n : Node) → slice_get nodes i ≡ Some n → IsFalse (is_fixed nodes i) → (f : ℕ → Numbers) → ((a : ℕ) → a < i → IsRest a (f a)) → (r : Numbers) × IsRest i r
   node_rest i n e loose f known = (
     rest_by i f known n.args (ordered i n e) n.head,
@@ -213,7 +209,7 @@ module _ (nodes : List Node) (ordered : IsOrdered nodes) (law : AreLawful nodes)
   one_rest i f known = by (is_fixed nodes i) refl
     where
       at : (o : Option Node) → slice_get nodes i ≡ o → IsFalse (is_fixed nodes i) → (r : Numbers) × IsRest i r
-      at None e loose = (given i, fixed_rest i (none_fixed i e))
+      at None e loose = (given i, fixed_rest i (none_fixed nodes i e))
       at (Some m) e loose = node_rest i m e loose f known
 
       by : (t : Bool) → is_fixed nodes i ≡ t → (r : Numbers) × IsRest i r

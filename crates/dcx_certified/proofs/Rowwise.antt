@@ -1,5 +1,5 @@
 -- The rows of the graphs of a program times their multipliers are at most the weighted rows of the nodes whose values aren't known.
-use Rattle.std.proofs.Common.{◌≡◌, ◌⊎◌, inl, inr, ℕ, zero, suc, ◌+◌, ◌<◌, arith, Bool, true, false, if◌then◌else◌, List, [], ◌∷◌, ◌++◌, length, map, Option, Some, None, slice_get, refl, sym, ap, ap₂, ◌∙◌, subst, pos}
+use Rattle.std.proofs.Common.{◌≡◌, ◌⊎◌, inl, inr, ℕ, zero, suc, ◌+◌, ◌<◌, arith, Bool, true, false, if◌then◌else◌, List, [], ◌∷◌, ◌++◌, length, map, Option, Some, None, refl, sym, ap, ap₂, ◌∙◌, subst, pos}
 use Rattle.std.specs.List.{flat_map, range_with_len}
 use Rattle.std.proofs.lemmas.Bool.{false≢true}
 use Rattle.std.proofs.lemmas.List.{length-append, length-map, map-append}
@@ -46,18 +46,10 @@ use Rattle.dcx_bound.specs.Fixed.{AreFixedValues}
 use Rattle.dcx_certified.specs.Families as families
 use Rattle.dcx_certified.specs.Families.{AreFilled, atom_rows}
 use Rattle.dcx_certified.specs.Rows.{rows_until, AreRowWeights}
+use Rattle.dcx_certified.proofs.Numbered.{same_place, numbers_at, numbers_at-length}
 use Rattle.dcx_certified.proofs.Lifting.{u, own_filling, filling_known, known_args, others_reduced, unknown_filling}
 
 -- ---- rows by nodes
-same_place : {A B : Type 0} (f : ℕ → List A) (g : ℕ → List B) → ((i : ℕ) → length (f i) ≡ length (g i)) → (is : List ℕ) → length (flat_map f is) ≡ length (flat_map g is)
-same_place f g h [] = refl
-same_place f g h (i ∷ is) =
-    let a = length-append (f i) (flat_map f is) in
-    let b = length-append (g i) (flat_map g is) in
-    let c = h i in
-    let d = same_place f g h is in
-    omega (arith, a, b, c, d)
-
 module _ (m : ℕ → ℚ) (w : Unknowns) where
   flat_from : (f : ℕ → List (Unknowns → ℚ)) (a n k : ℕ) → combined_from m k (map bound_row (flat_map f (range_with_len a n))) w
       ≡ rat_sum_below n (λ i. combined_from m (k + length (flat_map f (range_with_len a i))) (map bound_row (f (a + i))) w)
@@ -154,14 +146,7 @@ module _ (rules : Rules) (p : Problem) (setting : Pairs) (values : List (Option 
   U = u rules p setting values fixed forms all x dom t filled
 
   abbrev numbers : ℕ → List (Unknowns → ℚ)
-  numbers i = numbers_if rules p s forms i (slice_get p.tree i) (rows_at rules p i)
-
-  numbers_count : (i : ℕ) → length (numbers i) ≡ length (rows_at rules p i)
-  numbers_count i = by (slice_get p.tree i)
-    where
-      by : (o : Option Node) → length (numbers_if rules p s forms i o (rows_if p.tree (is_reduced rules p i) o)) ≡ length (rows_if p.tree (is_reduced rules p i) o)
-      by None = refl
-      by (Some n) = length-map (rows_if p.tree (is_reduced rules p i) (Some n)) (row_number rules p s forms i n)
+  numbers = numbers_at rules p s forms
 
   module _ (i : ℕ) (b : i < length p.tree) (n : Node) (at : IsNode p.tree i n) where
     abbrev k : ℕ
@@ -235,6 +220,6 @@ module _ (rules : Rules) (p : Problem) (setting : Pairs) (values : List (Option 
       ≤ℚ_trans (≤ℚ-from_≡ (flat_rows m U numbers (length p.tree) first))
       (rat_sum_below-monotone (length p.tree) _ _ (λ i b.
       let (n, at) = node_at p i b in
-      subst (λ z. combined_from m (first + z) (map bound_row (numbers i)) U ≤ℚ families.node_rows p.tree values weights (forms U) t i) (sym (same_place numbers (rows_at rules p) numbers_count (range_with_len 0 i)))
+      subst (λ z. combined_from m (first + z) (map bound_row (numbers i)) U ≤ℚ families.node_rows p.tree values weights (forms U) t i) (sym (same_place numbers (rows_at rules p) (numbers_at-length rules p s forms) (range_with_len 0 i)))
       (subst (λ o. combined_from m (first + rows_until rules p i) (map bound_row (numbers_if rules p s forms i o (rows_if p.tree (is_reduced rules p i) o))) U ≤ℚ families.rows_if p.tree (array_at values i) o (weights i) (forms U) (t i)) (sym at)
       (node_sum i b n at (is_reduced rules p i) refl n.call refl (array_at values i) refl))))

@@ -6,14 +6,14 @@ use Rattle.dcx_math.proofs.Orders.{≤ℚ_refl}
 use Rattle.dcx_shape.specs.declared.shape.Sides.{Sides}
 use Rattle.dcx_shape.specs.Sides.{entries_of}
 use Rattle.dcx_atom.specs.Signs.{HasSign, HaveSigns, unknown_sign}
-use Rattle.dcx_convex.specs.Nodes.{Attribute, Free, Nonneg, Nonpos, Symmetric, Diag, Head, Variable, Parameter, Constant, Apply, Node, Numbers, Point, Setting, told, told_within, IsOrdered, zeros, arguments, Keeps, VariableKeeps, ParameterKeeps, EachNode, IsInDomain, IsLawfulHead, AreLawful}
-use Rattle.dcx_convex.specs.Rules.{Plain, Judgement, attribute_sign, no_argument, argument, sign_by, judgement_by, judgement_at}
+use Rattle.dcx_convex.specs.Nodes.{Attribute, Free, Nonneg, Nonpos, Symmetric, Diag, Head, Variable, Parameter, Constant, Apply, Node, Numbers, Point, Setting, IsOrdered, zeros, arguments, Keeps, VariableKeeps, ParameterKeeps, EachNode, IsInDomain, IsLawfulHead, AreLawful}
+use Rattle.dcx_convex.specs.Rules.{Plain, Judgement, attribute_sign, argument, sign_by, judgement_at}
 use Rattle.dcx_convex.specs.Certificates.{is_fixed, given_at}
 use Rattle.dcx_convex.proofs.Told.{judgement_tells}
 use Rattle.dcx_convex.proofs.Arguments.{zero_signed, args_signed, count_of}
 use Rattle.dcx_convex.proofs.Signs.{value_signed, first_signed, keeps_signed}
 use Rattle.dcx_recession.specs.Steepness.{taken_at, steep_by, steep_at}
-use Rattle.dcx_recession.proofs.Told.{level, steep_tells}
+use Rattle.dcx_recession.proofs.Told.{none_fixed, level, steep_tells}
 use Rattle.dcx_certified.proofs.Taken.{taken_signed}
 
 -- ---- nothing is in the domain
@@ -68,10 +68,6 @@ module _ (nodes : List Node) (ordered : IsOrdered nodes) (law : AreLawful nodes)
         (taken_signed c.kind first signs (arguments (map given args)) (arguments (map steep args)) (args_signed judged given given_signed args) (steep_args args all)))
 
   -- ---- all nodes
-  none_fixed : (i : ℕ) → slice_get nodes i ≡ None → IsTrue (is_fixed nodes i)
-  unfolding judgement_at
-  none_fixed i e = ap (λ (o : Option Node). (told no_argument (judgement_by Plain) (told_within no_argument (judgement_by Plain) nodes i) o).fixed) e
-
   level_signed : (i : ℕ) → IsTrue (is_fixed nodes i) → IsSigned i
   level_signed i t j = subst (λ (z : Numbers). HasSign (judged i).sign (z j)) (sym (level nodes s d i t)) (zero_signed (judged i).sign)
 
@@ -86,7 +82,7 @@ module _ (nodes : List Node) (ordered : IsOrdered nodes) (law : AreLawful nodes)
   one_signed i known = by (is_fixed nodes i) refl
     where
       at : (o : Option Node) → slice_get nodes i ≡ o → IsFalse (is_fixed nodes i) → IsSigned i
-      at None e loose = level_signed i (none_fixed i e)
+      at None e loose = level_signed i (none_fixed nodes i e)
       at (Some m) e loose = node_signed i m e loose known
 
       by : (t : Bool) → is_fixed nodes i ≡ t → IsSigned i

@@ -1,10 +1,8 @@
 -- Sums over more indices than are needed.
-use Rattle.std.proofs.Common.{◌≡◌, ℕ, zero, suc, ◌+◌, ◌≤◌, arith, List, [], ◌∷◌, length, refl, ap, ap₂, ◌∙◌, pos}
+use Rattle.std.proofs.Common.{◌≡◌, ℕ, zero, suc, ◌+◌, ◌≤◌, arith, ap, ap₂, ◌∙◌, pos}
 use Rattle.dcx_math.specs.Rational.{whole, ◌+ℚ◌}
 use Rattle.dcx_math.specs.Sums.{rat_sum_below}
 use Rattle.dcx_math.proofs.Orders.{+ℚ_idr}
-use Rattle.dcx_frac.specs.declared.fraction.Frac.{Frac}
-use Rattle.dcx_atom.specs.Arrays.{number_at}
 use Rattle.dcx_convex.specs.Nodes.{Numbers}
 
 -- terms that are 0 from n on
@@ -13,8 +11,3 @@ further_zero n zero f h = let e : n + 0 ≡ n = omega arith in ap (λ k. rat_sum
 further_zero n (suc d) f h =
     let e : n + suc d ≡ suc (n + d) = omega arith in
     ap (λ k. rat_sum_below k f) e ∙ ap₂ ◌+ℚ◌ (further_zero n d f h) (h (n + d) (omega arith)) ∙ +ℚ_idr _
-
-pub past_end : (xs : List Frac) (j : ℕ) → length xs ≤ j → number_at xs j ≡ whole (pos 0)
-past_end [] j b = refl
-past_end (x ∷ xs) zero b = absurd (omega arith)
-past_end (x ∷ xs) (suc j) b = past_end xs j (omega arith)

@@ -1,5 +1,5 @@
 -- What each comparison of the code tells of its demand.
-use Rattle.std.proofs.Common.{◌≡◌, ◌⊎◌, inr, ℕ, zero, suc, ◌<◌, ◌≤◌, Bool, true, false, List, [], ◌∷◌, length, Option, Some, None, Result, MatchBool, refl, sym, ap, ap₂, ◌∙◌, subst, true≢false, arith, pos}
+use Rattle.std.proofs.Common.{◌≡◌, ◌⊎◌, inr, ℕ, zero, suc, ◌<◌, ◌≤◌, Bool, true, false, List, [], ◌∷◌, length, Option, Some, None, Result, MatchBool, refl, sym, ap, ap₂, ◌∙◌, subst, true≢false, pos}
 use Rattle.std.specs.List.{slice_get}
 use Rattle.std.proofs.lemmas.Option.{slice_get_within}
 use Rattle.dcx_math.specs.Rational.{ℚ, whole, rat_eq, rat_le, ◌≤ℚ◌, ◌<ℚ◌}
@@ -19,6 +19,7 @@ use Rattle.dcx_call.specs.Values.{given_by}
 use Rattle.dcx_tree.specs.declared.constraint.Kind.{Kind}
 use Rattle.dcx_tree.specs.declared.constraint.Kind.TheVariants.{AtMost}
 use Rattle.dcx_tree.specs.declared.constraint.Constraint.{Constraint}
+use Rattle.dcx_tree.proofs.NodeValues.{number_past}
 use Rattle.dcx_domain.specs.declared.point.Outside.{Outside}
 use Rattle.dcx_domain.specs.Points.{IsFirstOutside}
 use Rattle.dcx_domain.proofs.Comparisons.{at_most}
@@ -122,11 +123,6 @@ not_positive b nought x z e t h = <ℚ-not h (when_true b _ _ (at_most_zero b no
 
 -- ---- the numbers of an array, where there is one
 -- 0 past the end
-number_past : (xs : List Frac) (k : ℕ) → length xs ≤ k → number_at xs k ≡ whole (pos 0)
-number_past [] k b = refl
-number_past (x ∷ xs) zero b = absurd (omega arith)
-number_past (x ∷ xs) (suc k) b = number_past xs k (omega arith)
-
 pub zero_past : (xs : List Frac) (k : ℕ) (nought : Frac) → length xs ≤ k → value nought ≡ whole (pos 0) → value nought ≡ number_at xs k
 zero_past xs k nought le z = z ∙ sym (number_past xs k le)
 

@@ -55,7 +55,7 @@ use Rattle.dcx_collect.proofs.Points.{first_in, at_point, node_value, place_numb
 use Rattle.dcx_collect.proofs.Worth.{linear_worth, products_worth_right, products_worth_left, quotients_worth, slopes_worth}
 
 -- ---- sums
-sum_listed : {A : Type 0} (g : A → ℚ) (n : ℕ) (h : ℕ → A) → rat_sum_by g (list_below n h) ≡ rat_sum_below n (λ e. g (h e))
+pub sum_listed : {A : Type 0} (g : A → ℚ) (n : ℕ) (h : ℕ → A) → rat_sum_by g (list_below n h) ≡ rat_sum_below n (λ e. g (h e))
 sum_listed g zero h = refl
 sum_listed g (suc n) h = rat_sum_by-++ g (list_below n h) (h n ∷ []) ∙ ap₂ ◌+ℚ◌ (sum_listed g n h) (+ℚ_idr (g (h n)))
 
@@ -112,12 +112,12 @@ same_shares : (nodes : List Node) (values : List (Option Array)) (i : ℕ) (o : 
 same_shares nodes values i None cs ws = refl
 same_shares nodes values i (Some call) cs ws = refl
 
-shares_told : (nodes : List Node) (values : List (Option Array)) (i : ℕ) (n : Node) (cs ws : List Frac) → IsNode nodes i n → node_shares nodes values i cs ws ≡ call_shares nodes values i n.call n.args (arg_sides nodes n) cs ws
+pub shares_told : (nodes : List Node) (values : List (Option Array)) (i : ℕ) (n : Node) (cs ws : List Frac) → IsNode nodes i n → node_shares nodes values i cs ws ≡ call_shares nodes values i n.call n.args (arg_sides nodes n) cs ws
 shares_told nodes values i n cs ws at =
     same_shares nodes values i (call_at nodes i) cs ws
     ∙ ap (λ (o : Option Node). shares_at nodes values i (option_map (λ (m : Node). m.call) o) (unwrap_or (option_map (λ (m : Node). m.args) o) []) cs ws) at
 
-reached_told : (nodes : List Node) (i : ℕ) (n : Node) (cs : List Frac) → IsNode nodes i n → node_reached nodes i cs ≡ reached_by i n.call cs
+pub reached_told : (nodes : List Node) (i : ℕ) (n : Node) (cs : List Frac) → IsNode nodes i n → node_reached nodes i cs ≡ reached_by i n.call cs
 reached_told nodes i n cs at = ap (λ (o : Option Node). reached_if i (option_map (λ (m : Node). m.call) o) cs) at
 
 -- ---- one node

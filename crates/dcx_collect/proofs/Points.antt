@@ -2,15 +2,13 @@
 use Rattle.std.proofs.Common.{◌≡◌, ℕ, zero, suc, ◌+◌, ◌-◌, ◌<◌, ◌≤◌, arith, Bool, true, false, nat_lt, if◌then◌else◌, List, [], ◌∷◌, map, length, All, refl, sym, ap, ◌∙◌, subst, Option, Some, None, slice_get, pos}
 use Rattle.std.specs.Prelude.{option_map, unwrap_or}
 use Rattle.std.proofs.lemmas.Bool.{false≢true, lt-ltb, le-ltb, ltb-true, ltb-false}
-use Rattle.std.proofs.lemmas.List.{length-map}
+use Rattle.std.proofs.lemmas.List.{length-map, get_or_past}
 use Rattle.std.proofs.lemmas.Option.{same_Some, slice_get-map, slice_get-get_or, get_or_from_slice_get, slice_get_within}
 use Rattle.dcx_math.specs.Rational.{whole}
 use Rattle.dcx_shape.specs.declared.shape.Sides.{Sides}
 use Rattle.dcx_shape.specs.declared.shape.Sides.TheVariants.{Scalar}
 use Rattle.dcx_shape.specs.Shape.{sides_of}
 use Rattle.dcx_shape.specs.Sides.{entries_of}
-use Rattle.dcx_frac.specs.declared.fraction.Frac.{Frac}
-use Rattle.dcx_atom.specs.Arrays.{number_at}
 use Rattle.dcx_arena.specs.Nodes.{AreNodes, IsNode, sides_at}
 use Rattle.dcx_convex.specs.Nodes.{Numbers, Setting, Point, first_of, arguments, zeros, value_by, value_at}
 use Rattle.dcx_convex.proofs.Told.{value_tells}
@@ -26,7 +24,6 @@ use Rattle.dcx_tree.proofs.Lawful.{tree_lawful}
 use Rattle.dcx_tree.proofs.NodeValues.{number_past}
 use Rattle.dcx_collect.specs.Starts.{start_of, place_of}
 use Rattle.dcx_collect.proofs.Starting.{start_next}
-use Rattle.dcx_collect.proofs.Sharing.{past_end}
 use Rattle.dcx_collect.proofs.Flat.{flat, flat-place}
 use Rattle.dcx_collect.proofs.Bound.{number_of, IsBefore}
 
@@ -79,6 +76,28 @@ none_past f xs j h = by (nat_lt j (length xs)) refl
     by true c = absurd (some_there xs j 0 (ltb-true j _ c) h)
     by false c = omega (arith, length-map xs f, ltb-false j _ c)
 
+-- arrays that are 0 past the ends of their nodes
+abbrev pub End : List Node → (ℕ → Numbers) → Type 0
+End nodes f = (i e : ℕ) → i < length nodes → entries_of (sides_at nodes i) ≤ e → f i e ≡ whole (pos 0)
+
+-- what stands at the place of an argument's entry is its number
+pub argument_place : (nodes : List Node) (f : ℕ → Numbers) → End nodes f → (args : List ℕ) → All (λ a. a < length nodes) args → (k e : ℕ) →
+    number_of (flat nodes f) (place_of nodes (slice_get args k) e) ≡ arguments (map f args) k e
+argument_place nodes f ends args there k e = by (slice_get args k) refl
+  where
+    in_place : (a : ℕ) → a < length nodes → number_of (flat nodes f) (place_of nodes (Some a) e) ≡ f a e
+    in_place a b = inner (nat_lt e (entries_of (sides_at nodes a))) refl
+      where
+        inner : (t : Bool) → nat_lt e (entries_of (sides_at nodes a)) ≡ t → number_of (flat nodes f) (if t then Some (start_of nodes a + e) else None) ≡ f a e
+        inner true h = flat-place nodes f a e b (ltb-true e _ h)
+        inner false h = sym (ends a e b (ltb-false e _ h))
+
+    by : (o : Option ℕ) → slice_get args k ≡ o → number_of (flat nodes f) (place_of nodes o e) ≡ arguments (map f args) k e
+    by None h = ap (λ (v : Numbers). v e) (sym (get_or_past (map f args) k zeros (none_past f args k h)))
+    by (Some a) h =
+        in_place a (among (length nodes) args k a there h)
+        ∙ ap (λ (v : Numbers). v e) (sym (get_or_from_slice_get (map f args) k (f a) zeros (slice_get-map f args k ∙ ap (option_map f) h)))
+
 module _ (names : Names) (nodes : List Node) (are : AreNodes shape_of nodes) (s : Setting) (y : Point) where
   -- the value of each node
   abbrev pub at_point : ℕ → Numbers
@@ -98,20 +117,7 @@ module _ (names : Names) (nodes : List Node) (are : AreNodes shape_of nodes) (s 
 
   -- what stands at the place of an argument's entry is its value
   pub place_number : (args : List ℕ) → All (λ a. a < length nodes) args → (k e : ℕ) → number_of (flat nodes at_point) (place_of nodes (slice_get args k) e) ≡ arguments (map at_point args) k e
-  place_number args there k e = by (slice_get args k) refl
-    where
-      in_place : (a : ℕ) → a < length nodes → number_of (flat nodes at_point) (place_of nodes (Some a) e) ≡ at_point a e
-      in_place a b = inner (nat_lt e (entries_of (sides_at nodes a))) refl
-        where
-          inner : (t : Bool) → nat_lt e (entries_of (sides_at nodes a)) ≡ t → number_of (flat nodes at_point) (if t then Some (start_of nodes a + e) else None) ≡ at_point a e
-          inner true h = flat-place nodes at_point a e b (ltb-true e _ h)
-          inner false h = sym (vanishes a e b (ltb-false e _ h))
-
-      by : (o : Option ℕ) → slice_get args k ≡ o → number_of (flat nodes at_point) (place_of nodes o e) ≡ arguments (map at_point args) k e
-      by None h = ap (λ (v : Numbers). v e) (sym (past_end (map at_point args) k zeros (none_past at_point args k h)))
-      by (Some a) h =
-          in_place a (among (length nodes) args k a there h)
-          ∙ ap (λ (v : Numbers). v e) (sym (get_or_from_slice_get (map at_point args) k (at_point a) zeros (slice_get-map at_point args k ∙ ap (option_map at_point) h)))
+  place_number = argument_place nodes at_point vanishes
 
 -- ---- the places of arguments stand before their node
 starts_rise : (nodes : List Node) (a d : ℕ) → a + d ≤ length nodes → start_of nodes a ≤ start_of nodes (a + d)

@@ -9,12 +9,6 @@ use Rattle.dcx_atom.proofs.FormedSums.{take-next}
 use Rattle.dcx_collect.specs.Shares.{Share, with_share, with_shares}
 
 -- ---- numbers of a list
--- past the end the default stands
-pub past_end : {A : Type 0} (xs : List A) (i : ℕ) (d : A) → length xs ≤ i → get_or xs i d ≡ d
-past_end [] i d b = refl
-past_end (x ∷ xs) zero d b = absurd (omega arith)
-past_end (x ∷ xs) (suc i) d b = past_end xs i d (omega arith)
-
 -- within the list the default doesn't matter
 pub within_list : {A : Type 0} (xs : List A) (i : ℕ) (d x : A) → i < length xs → x ≡ get_or xs i x → x ≡ get_or xs i d
 within_list [] i d x b e = absurd (omega arith)

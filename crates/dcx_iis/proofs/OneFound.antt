@@ -1,5 +1,5 @@
 -- The filter finds one thing: the same members, with the same numbers.
-use Rattle.std.proofs.Common.{◌≡◌, ◌⊎◌, ℕ, zero, suc, ◌+◌, ◌<◌, ◌≤◌, arith, Bool, true, false, ◌||◌, if◌then◌else◌, IsTrue, List, [], ◌∷◌, ◌++◌, length, map, All, slice_index_or, inl, inr, refl, sym, ap, ◌∙◌, subst, add-zero, zero-add}
+use Rattle.std.proofs.Common.{◌≡◌, ◌⊎◌, ℕ, zero, suc, ◌+◌, ◌<◌, ◌≤◌, arith, Bool, true, false, ◌||◌, IsTrue, List, [], ◌∷◌, length, map, All, slice_index_or, inl, inr, refl, sym, ap, ◌∙◌, subst, add-zero, zero-add}
 use Rattle.std.specs.Prelude.{nat_eq}
 use Rattle.std.specs.List.{list_any, AllZip}
 use Rattle.std.proofs.lemmas.Bool.{false≢true, eq-eqb, eqb-true, cases_lt}
@@ -25,7 +25,7 @@ use Rattle.dcx_graph.specs.Answers.{IsPointRead, IsSamePoint}
 use Rattle.dcx_graph.proofs.OneReading.{same_point}
 use Rattle.dcx_answer.specs.declared.filtered.Filtered.{Filtered}
 use Rattle.dcx_answer.specs.declared.filtered.Filtered.TheVariants as filtered
-use Rattle.dcx_iis.specs.Sets.{ConstraintSet, every_constraint, set_of, KeepsSet}
+use Rattle.dcx_iis.specs.Sets.{ConstraintSet, every_constraint, set_of}
 use Rattle.dcx_iis.specs.Multipliers.{HasShapeOf}
 use Rattle.dcx_iis.specs.Steps.{kept_from, kept_of, program_of_set, step_set, IsReadIn, IsReadAt}
 use Rattle.dcx_iis.specs.Found.{IsFeasiblePoint, IsIrreducible, AreFound, IsRight, IsFound}

@@ -19,16 +19,10 @@ use Rattle.dcx_tree.specs.declared.problem.Problem.{Problem}
 use Rattle.dcx_tree.specs.Meaning.{point_of, IsInDomain, IsDomainPoint, IsInfeasible}
 use Rattle.dcx_linear.specs.FormTerms.{Unknowns}
 use Rattle.dcx_linear.specs.Rows.{IsSolution}
-use Rattle.dcx_tab.specs.declared.program.Program as tab
-use Rattle.dcx_tab.specs.Table.{Table}
 use Rattle.dcx_lp_answer.specs.declared.answer.LpStatus.{LpStatus}
 use Rattle.dcx_lp_answer.specs.declared.answer.LpStatus.TheVariants as status
-use Rattle.dcx_lp_answer.specs.declared.answer.LpAnswer.{LpAnswer}
 use Rattle.dcx_lp_answer.specs.declared.answer.RowNote.{RowNote}
-use Rattle.dcx_lp_answer.specs.Right.{multiplier_at, IsOneSided, IsRightAs}
-use Rattle.dcx_simplex.specs.declared.run.LpEnd.{LpEnd}
-use Rattle.dcx_simplex.specs.declared.run.LpEnd.TheVariants as ends
-use Rattle.dcx_simplex.specs.Reading.{IsRead as IsReadFrom}
+use Rattle.dcx_lp_answer.specs.Right.{multiplier_at}
 use Rattle.dcx_std.specs.Answers.{IsRightForRowsAs}
 use Rattle.dcx_std.specs.Solutions.{linear_program, unknowns_at}
 use Rattle.dcx_std.proofs.ScaledProgram.{scaled_program}
@@ -44,6 +38,7 @@ use Rattle.dcx_postsolve.proofs.DualLaws.{right_multiplier}
 use Rattle.dcx_postsolve.proofs.Alike.{arrays_are_points}
 use Rattle.dcx_postsolve.proofs.Carrying.{alike_value, domain_alike}
 use Rattle.dcx_solved.specs.declared.solving.Solved.{Solved}
+use Rattle.dcx_solved.proofs.Counts.{counts_of, one_sided}
 use Rattle.dcx_graph.specs.Program.{Program}
 use Rattle.dcx_graph.specs.Answers.{HasParts, TellUnknowns, IsPointRead}
 use Rattle.dcx_graph.proofs.Slacks.{rows_enough, have_slacks, multiplier_is}
@@ -54,14 +49,6 @@ use Rattle.dcx_iis.specs.Multipliers.{HasShapeOf, AreSpread}
 use Rattle.dcx_iis.specs.Runs.{IsStep}
 use Rattle.dcx_iis.proofs.Telling.{only, set_rows, solution_keeps, infeasible_only, only_impossible}
 use Rattle.dcx_iis.proofs.Spread.{spread_infeasible}
-
--- ---- the parts of an answer that is read at a tableau
-parts_of : (q : tab.Program) (t : Table) (end : LpEnd) (a : LpAnswer) → IsReadFrom q.rows q.columns t end a → HasParts q a
-parts_of q t (ends.Optimal n) a h = record { columns = h.0.columns; ray = λ e. absurd (let d = sym h.0.status ∙ e in cc); notes = h.0.notes }
-parts_of q t (ends.Infeasible n) a h = record { columns = h.0.columns; ray = λ e. absurd (let d = sym h.0.status ∙ e in cc); notes = h.0.notes }
-parts_of q t (ends.Unbounded n c) a h = record { columns = h.0.columns; ray = λ e. h.1.ray; notes = h.0.notes }
-parts_of q t (ends.Wide n r c) a h = absurd h
-parts_of q t (ends.PivotLimit n) a h = absurd h
 
 -- ---- points
 -- the point of unknowns whose arrays these are keeps what theirs does
@@ -98,19 +85,16 @@ duals_shaped t (c ∷ cs) notes (d ∷ ds) h = (h.0.shape, duals_shaped t cs (dr
 
 module _ (p : Problem) (q : Program Frac) (limit : ℕ) (set : ConstraintSet) (solved : Solved) (step : IsStep p q limit set solved) where
   parts : HasParts solved.program solved.answer
-  parts = parts_of solved.program _ step.is_solved.solved.end solved.answer step.is_solved.solved.read
+  parts =
+      let counts = counts_of solved.program _ step.is_solved.solved.end solved.answer step.is_solved.solved.read in
+      record { columns = counts.columns; ray = counts.ray; notes = counts.rows }
 
   tells : ColumnsTellUnknowns (program_of_set p q set) solved.program (map value solved.answer.columns)
   tells = columns_tell (program_of_set p q set) solved.program (map value solved.answer.columns) step.is_solved.made (length-map solved.answer.columns value ∙ parts.columns)
 
-  one_sided : (t : LpStatus) → IsRightAs t solved.program solved.answer → IsOneSided solved.program.columns (map value solved.answer.columns)
-  one_sided status.Optimal r = r.one_sided
-  one_sided status.Infeasible r = r.one_sided
-  one_sided status.Unbounded r = r.one_sided
-
   -- the columns of the answer tell unknowns
   pub columns_told : TellUnknowns q.kinds solved.answer.columns
-  columns_told = record { there = tells.there; one_sided = tells.one_sided (one_sided solved.answer.status step.is_solved.solved.right) }
+  columns_told = record { there = tells.there; one_sided = tells.one_sided (one_sided solved.answer.status solved.program solved.answer step.is_solved.solved.right) }
 
   right_rows : (t : LpStatus) → solved.answer.status ≡ t → IsRightForRowsAs t (program_of_set p q set) solved.program solved.answer
   right_rows t e =

@@ -1,9 +1,9 @@
 -- Where a parameter moves and the last basis stays feasible, the problem is optimal, with a value on a line.
-use Rattle.std.proofs.Common.{◌≡◌, ℕ, zero, suc, ◌<◌, Bool, true, false, List, [], ◌∷◌, length, map, get_or, Option, Some, None, option_map, Result, Ok, Err, slice_get, refl, sym, ap, ap₂, ◌∙◌, subst, arith, pos}
+use Rattle.std.proofs.Common.{◌≡◌, ℕ, zero, suc, ◌<◌, false, List, [], ◌∷◌, length, map, get_or, Option, Some, None, option_map, Result, Ok, Err, slice_get, refl, sym, ap, ap₂, ◌∙◌, subst, arith, pos}
 use Rattle.std.specs.List.{All}
-use Rattle.std.specs.Prelude.{◌||◌}
 use Rattle.std.specs.Option.{option_and_then, unwrap_or}
 use Rattle.std.proofs.Math.Path.{fun_ext}
+use Rattle.std.proofs.lemmas.Bool.{or_parts}
 use Rattle.std.proofs.lemmas.List.{length-map}
 use Rattle.std.proofs.lemmas.Option.{none-some, same_Some, slice_get-map, get_or_from_slice_get, slice_get_within}
 use Rattle.dcx_math.specs.Rational.{ℚ, whole, ◌+ℚ◌, ◌*ℚ◌}
@@ -37,8 +37,9 @@ use Rattle.dcx_linear.specs.FormTerms.{Unknowns}
 use Rattle.dcx_linear.specs.Forms.{linear_value}
 use Rattle.dcx_linear.specs.FormsAt.{frac_value, with_form, at_row, form_on_row, then_row, rows_at, form_at}
 use Rattle.dcx_linear.specs.Rows as rows
-use Rattle.dcx_linear.specs.Rows.{RowAt, LinearProgram}
+use Rattle.dcx_linear.specs.Rows.{RowAt}
 use Rattle.dcx_linear.proofs.SettingForms.{form_at-value}
+use Rattle.dcx_formed.proofs.Lists.{map-map}
 use Rattle.dcx_within.specs.Within.{IsKnown, IsKnownNumber, IsKnownTerm}
 use Rattle.dcx_std.specs.Solutions as solutions
 use Rattle.dcx_std.specs.Solutions.{linear_program}
@@ -70,11 +71,6 @@ coefficient_is k rows i row e =
     let f = λ (z : Row ParamForm). value (coefficient_of k z.form.constant) in
     get_or_from_slice_get (map f rows) i (f row) (whole (pos 0)) (slice_get-map f rows i ∙ ap (option_map f) e)
 
--- ---- lists
-map_twice : {A B C : Type 0} (f : B → C) (g : A → B) (xs : List A) → map f (map g xs) ≡ map (λ x. f (g x)) xs
-map_twice f g [] = refl
-map_twice f g (x ∷ xs) = ap (λ ys. f (g x) ∷ ys) (map_twice f g xs)
-
 -- a form where every unknown is 0
 nothing : {A : Type 0} (f : A → ℚ) (xs : List A) → rat_sum_by (λ x. f x *ℚ whole (pos 0)) xs ≡ whole (pos 0)
 nothing f [] = refl
@@ -88,10 +84,6 @@ number_there : (xs : List Frac) (j : ℕ) (x : Frac) → slice_get xs j ≡ Some
 number_there [] j x e = absurd (none-some x e)
 number_there (y ∷ xs) zero x e = ap value (same_Some y x e)
 number_there (y ∷ xs) (suc j) x e = number_there xs j x e
-
-either_false : (a b : Bool) → a || b ≡ false → (a ≡ false) × (b ≡ false)
-either_false true b e = cc
-either_false false b e = (refl, e)
 
 module _ (p : Problem) (setting : Pairs) (arrays : HaveArrays p setting) where
   abbrev names : List (List ℕ)
@@ -145,7 +137,7 @@ module _ (p : Problem) (setting : Pairs) (arrays : HaveArrays p setting) where
     rows_count = sym (length-map r.rows solutions.row_at) ∙ ap length rows_are ∙ length-map q.rows (row_at form_value (setting_of p setting))
 
     pub row_kinds : map (λ (x : Row Frac). x.kind) r.rows ≡ map (λ (x : Row ParamForm). x.kind) q.rows
-    row_kinds = sym (map_twice (λ (x : RowAt). x.kind) solutions.row_at r.rows) ∙ ap (map (λ (x : RowAt). x.kind)) rows_are ∙ map_twice (λ (x : RowAt). x.kind) (row_at form_value (setting_of p setting)) q.rows
+    row_kinds = sym (map-map solutions.row_at (λ (x : RowAt). x.kind) r.rows) ∙ ap (map (λ (x : RowAt). x.kind)) rows_are ∙ map-map (row_at form_value (setting_of p setting)) (λ (x : RowAt). x.kind) q.rows
 
     -- the constant of a row is its number there
     pub constant_same : (i : ℕ) (row : Row ParamForm) (fixed : Row Frac) → slice_get q.rows i ≡ Some row → slice_get r.rows i ≡ Some fixed → value fixed.form.constant ≡ form_value row.form.constant (setting_of p setting)
@@ -178,14 +170,14 @@ module _ (p : Problem) (setting : Pairs) (arrays : HaveArrays p setting) where
         let b = slice_get_within q.rows i row e in
         let at = get_or_from_slice_get q.rows i row row e in
         let holds = subst (λ (z : Row ParamForm). HoldsTerms z.form.constant.terms) at (sparse i row b) in
-        let none = subst (λ (z : Row ParamForm). scales_unknown k z.form ≡ false) at (none_at (λ (z : Row ParamForm). scales_unknown k z.form) q.rows (either_false (scales_row k q.rows) (scales_unknown k q.objective) free).0 i row b) in
+        let none = subst (λ (z : Row ParamForm). scales_unknown k z.form ≡ false) at (none_at (λ (z : Row ParamForm). scales_unknown k z.form) q.rows (or_parts (scales_row k q.rows) (scales_unknown k q.objective) free).0 i row b) in
         form_moves (setting_of p setting) t k differ row.form x holds (scalar_at row.form.constant (known.rows i row e).0) none
         ∙ ap (λ c. linear_value form_value row.form x (setting_of p setting) +ℚ c *ℚ moved (setting_of p setting) t k differ) (sym (coefficient_is k q.rows i row e))
 
     objective_moves : (x : Unknowns) → linear_value form_value q.objective x t ≡ linear_value form_value q.objective x (setting_of p setting) +ℚ value (coefficient_of k q.objective.constant) *ℚ moved (setting_of p setting) t k differ
     objective_moves x =
         form_moves (setting_of p setting) t k differ q.objective x sparse_cost (scalar_at q.objective.constant known.objective.0)
-        (either_false (scales_row k q.rows) (scales_unknown k q.objective) free).1
+        (or_parts (scales_row k q.rows) (scales_unknown k q.objective) free).1
 
     -- the constant of row i moves with it
     pub constant_moves : (i : ℕ) (row : Row ParamForm) → slice_get q.rows i ≡ Some row → form_value row.form.constant t ≡ form_value row.form.constant (setting_of p setting) +ℚ coefficient_at k q.rows i *ℚ moved (setting_of p setting) t k differ

@@ -1,8 +1,8 @@
 -- How affine numbers and forms move with one parameter, which stands in no coefficient of an unknown.
-use Rattle.std.proofs.Common.{◌≡◌, ◌≢◌, ℕ, ◌<◌, Bool, true, false, List, [], ◌∷◌, refl, sym, ap, ap₂, ◌∙◌, arith, pos, eq-eqb}
-use Rattle.std.specs.Prelude.{◌==◌, ◌||◌, if◌then◌else◌}
+use Rattle.std.proofs.Common.{◌≡◌, ◌≢◌, ℕ, ◌<◌, Bool, true, false, List, [], ◌∷◌, refl, sym, ap, ap₂, ◌∙◌, arith, pos}
+use Rattle.std.specs.Prelude.{◌==◌, if◌then◌else◌}
 use Rattle.std.specs.List.{All, list_any}
-use Rattle.std.proofs.lemmas.Bool.Decides.{nat_tests}
+use Rattle.std.proofs.lemmas.Bool.{eqb-true, eqb-false, or_parts}
 use Rattle.std.proofs.lemmas.List.Elements.{All-tail, All-head, All-cons, All-nil, All-weaker}
 use Rattle.dcx_math.specs.Rational.{ℚ, whole, ◌+ℚ◌, ◌-ℚ◌, ◌*ℚ◌}
 use Rattle.dcx_math.specs.Sums.{rat_sum_by}
@@ -24,19 +24,9 @@ use Rattle.dcx_range.specs.Coefficients.{coefficient_in, coefficient_of}
 use Rattle.dcx_range.specs.Interval.{DifferAt}
 
 -- ---- tests
-either_false : (a b : Bool) → a || b ≡ false → (a ≡ false) × (b ≡ false)
-either_false true b e = cc
-either_false false b e = (refl, e)
-
 pub none_at : {X : Type 0} (p : X → Bool) (xs : List X) → list_any p xs ≡ false → All (λ x. p x ≡ false) xs
 none_at p [] e = All-nil (λ x. p x ≡ false)
-none_at p (x ∷ xs) e = let b = either_false (p x) (list_any p xs) e in All-cons (λ y. p y ≡ false) x xs b.0 (none_at p xs b.1)
-
-same : (a b : ℕ) → (a == b) ≡ true → a ≡ b
-same a b h = grind (arith, nat_tests)
-
-apart : (a b : ℕ) → (a == b) ≡ false → a ≢ b
-apart a b h e = let t = eq-eqb a b e in cc
+none_at p (x ∷ xs) e = let b = or_parts (p x) (list_any p xs) e in All-cons (λ y. p y ≡ false) x xs b.0 (none_at p xs b.1)
 
 -- ---- numbers
 moved_first : (c a b r : ℚ) → c *ℚ b +ℚ r ≡ (c *ℚ a +ℚ r) +ℚ c *ℚ (b -ℚ a)
@@ -76,13 +66,13 @@ module _ (s t : Parameters) (k : ℕ) (differ : DifferAt k s t) where
     where
       by : (b : Bool) → (x.position == k) ≡ b → rat_sum_by (term_value t) ts ≡ rat_sum_by (term_value s) ts +ℚ value (coefficient_in k ts) *ℚ moved → term_value t x +ℚ rat_sum_by (term_value t) ts ≡ (term_value s x +ℚ rat_sum_by (term_value s) ts) +ℚ value (if b then x.coefficient else coefficient_in k ts) *ℚ moved
       by true e rest =
-          let p = same x.position k e in
+          let p = eqb-true x.position k e in
           let z = All-head (λ y. y.position ≡ k → y.entry ≡ 0) x ts zero p in
           ap₂ ◌+ℚ◌ (ap₂ (λ a b. value x.coefficient *ℚ t a b) p z) (unlisted ts (behind x ts p z rising.0 (All-tail (λ y. y.position ≡ k → y.entry ≡ 0) x ts zero)))
           ∙ moved_first (value x.coefficient) (s k 0) (t k 0) (rat_sum_by (term_value s) ts)
           ∙ ap (λ y. (y +ℚ rat_sum_by (term_value s) ts) +ℚ value x.coefficient *ℚ (t k 0 -ℚ s k 0)) (sym (ap₂ (λ a b. value x.coefficient *ℚ s a b) p z))
       by false e rest =
-          ap₂ ◌+ℚ◌ (term_same x (apart x.position k e)) rest
+          ap₂ ◌+ℚ◌ (term_same x (eqb-false x.position k e)) rest
           ∙ moved_later (term_value s x) (rat_sum_by (term_value s) ts) (value (coefficient_in k ts)) moved
 
   -- an affine number moves by the parameter's coefficient
@@ -93,7 +83,7 @@ module _ (s t : Parameters) (k : ℕ) (differ : DifferAt k s t) where
   pub number_stays : (f : ParamForm) → lists k f ≡ false → form_value f t ≡ form_value f s
   number_stays f e =
       ap (λ y. value f.constant +ℚ y)
-      (unlisted f.terms (All-weaker (λ x. (x.position == k) ≡ false) (λ x. x.position ≢ k) (λ x h. apart x.position k h) f.terms (none_at (λ x. x.position == k) f.terms e)))
+      (unlisted f.terms (All-weaker (λ x. (x.position == k) ≡ false) (λ x. x.position ≢ k) (λ x h. eqb-false x.position k h) f.terms (none_at (λ x. x.position == k) f.terms e)))
 
   -- a form moves with its constant
   pub form_moves : (f : Form ParamForm) (x : Unknowns) → HoldsTerms f.constant.terms → IsScalarAt k f.constant.terms → scales_unknown k f ≡ false

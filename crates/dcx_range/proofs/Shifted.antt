@@ -1,6 +1,7 @@
 -- A linear program whose rows and objective move by constants: its solutions, and the multipliers that bound it.
-use Rattle.std.proofs.Common.{◌≡◌, ℕ, zero, suc, ◌+◌, ◌<◌, List, [], ◌∷◌, length, Some, refl, sym, ap, ap₂, ◌∙◌, subst, arith, pos}
+use Rattle.std.proofs.Common.{◌≡◌, ℕ, zero, suc, ◌+◌, List, [], ◌∷◌, length, Some, refl, sym, ap, ap₂, ◌∙◌, subst, arith, pos}
 use Rattle.std.specs.Prelude.{slice_get}
+use Rattle.std.proofs.lemmas.Option.{slice_get_within}
 use Rattle.dcx_math.specs.Rational.{ℚ, whole, ◌+ℚ◌, ◌*ℚ◌, ◌≤ℚ◌}
 use Rattle.dcx_math.specs.Sums.{rat_sum_below}
 use Rattle.dcx_math.proofs.Orders.{linear}
@@ -8,6 +9,7 @@ use Rattle.dcx_math.proofs.Ring.{ring, reads}
 use Rattle.dcx_math.proofs.Sums.{rat_sum_below-first, rat_sum_below-same, rat_sum_below-+ℚ, rat_sum_below-*ℚ_right}
 use Rattle.dcx_linear.specs.FormTerms.{Unknowns}
 use Rattle.dcx_linear.specs.Rows.{RowAt, LinearProgram, AreOfKinds, IsSolution, IsOptimal, combined_from, combined}
+use Rattle.dcx_std.proofs.Solutions.{at_place}
 
 -- the number of row k, and 0 past the end
 abbrev pub number_in : List RowAt → Unknowns → ℕ → ℚ
@@ -35,23 +37,12 @@ pub record IsMoved (l n : LinearProgram) (c : ℕ → ℚ) (b t : ℚ) : Type 0 
   pub rows : (i : ℕ) (r s : RowAt) → slice_get l.rows i ≡ Some r → slice_get n.rows i ≡ Some s → (s.kind ≡ r.kind) × ((x : Unknowns) → s.number x ≡ r.number x +ℚ c i *ℚ t)
   pub objective : (x : Unknowns) → n.objective x ≡ l.objective x +ℚ b *ℚ t
 
--- a row that there is
-at_place : (xs : List RowAt) (i : ℕ) → i < length xs → (x : RowAt) × (slice_get xs i ≡ Some x)
-at_place [] i h = absurd (omega (arith, h))
-at_place (x ∷ xs) zero h = (x, refl)
-at_place (x ∷ xs) (suc i) h = at_place xs i (omega (arith, h))
-
-inside : (xs : List RowAt) (i : ℕ) (x : RowAt) → slice_get xs i ≡ Some x → i < length xs
-inside [] i x e = cc
-inside (y ∷ xs) zero x e = omega arith
-inside (y ∷ xs) (suc i) x e = let l = inside xs i x e in omega (arith, l)
-
 split : (m f c t : ℚ) → m *ℚ (f +ℚ c *ℚ t) ≡ m *ℚ f +ℚ (m *ℚ c) *ℚ t
 split m f c t = ring (m ∷ f ∷ c ∷ t ∷ []) (search reads depth 30) tt
 
 module _ (l n : LinearProgram) (c : ℕ → ℚ) (b t : ℚ) (is : IsMoved l n c b t) where
   pub source : (i : ℕ) (s : RowAt) → slice_get n.rows i ≡ Some s → (r : RowAt) × (slice_get l.rows i ≡ Some r)
-  source i s e = let k = inside n.rows i s e in let d = is.count in at_place l.rows i (omega (arith, k, d))
+  source i s e = let k = slice_get_within n.rows i s e in let d = is.count in at_place l.rows i (omega (arith, k, d))
 
   combined_moves : (m : ℕ → ℚ) (x : Unknowns) → combined n m x ≡ combined l m x +ℚ rat_sum_below (length l.rows) (λ k. m k *ℚ c k) *ℚ t
   combined_moves m x =

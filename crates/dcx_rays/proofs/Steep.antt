@@ -6,7 +6,6 @@ use Rattle.std.proofs.lemmas.Bool.{ltb-true, ltb-false}
 use Rattle.std.proofs.lemmas.Option.{same_Some}
 use Rattle.dcx_math.specs.Rational.{ℚ, whole, ◌+ℚ◌, ◌*ℚ◌, ◌/ℚ◌}
 use Rattle.dcx_math.specs.Sums.{rat_sum_by}
-use Rattle.dcx_frac.specs.declared.fraction.Frac.{Frac}
 use Rattle.dcx_frac.specs.declared.fraction.Passes.{Passes}
 use Rattle.dcx_shape.specs.declared.shape.Sides.{Sides}
 use Rattle.dcx_shape.specs.declared.shape.Shape.{Shape}
@@ -35,7 +34,7 @@ use Rattle.dcx_call.proofs.Entries.{stop_alike}
 use Rattle.dcx_tree.specs.declared.problem.Problem.{Problem}
 use Rattle.dcx_tree.specs.Nodes.{Node, number_in, head_of, arg_sides, convex_node}
 use Rattle.dcx_tree.specs.Meaning.{names_in, convex_problem, setting_of, point_of}
-use Rattle.dcx_tree.proofs.NodeValues.{sides_are}
+use Rattle.dcx_tree.proofs.NodeValues.{number_past, sides_are}
 use Rattle.dcx_recession.specs.Steepness.{steep_by}
 use Rattle.dcx_recession.proofs.Told.{level as steep_level}
 use Rattle.dcx_recession.proofs.LawsHold.{steepness_is_told}
@@ -44,11 +43,6 @@ use Rattle.dcx_rays.specs.Steepness.{is_fixed, fixed_value, steepness_at, value_
 use Rattle.dcx_rays.proofs.Known.{MayMove, IsTaken, ordered, convex_at, may_move, node_taken}
 
 -- ---- numbers
-number_past : (xs : List Frac) (j : ℕ) → length xs ≤ j → number_at xs j ≡ whole (pos 0)
-number_past [] j h = refl
-number_past (x ∷ xs) zero h = absurd (omega arith)
-number_past (x ∷ xs) (suc j) h = number_past xs j (omega arith)
-
 -- a number that is that of f below a size, and 0 from there on
 first_alike : (n : ℕ) (f : Numbers) (x : ℚ) (j : ℕ) → (j < n → x ≡ f j) → (n ≤ j → x ≡ whole (pos 0)) → x ≡ first_of n f j
 first_alike n f x j below past = by (nat_lt j n) refl

@@ -12,8 +12,8 @@ use Rattle.dcx_atom.specs.declared.flags.Bend.{Bend}
 use Rattle.dcx_atom.specs.Arrays.{Entries}
 use Rattle.dcx_atom.specs.Signs.{IsBeyond, shifted}
 use Rattle.dcx_convex.specs.Calls.{Kind, Nonlinear, Linear, Product, Quotient, Call, BendsBetween, IsLawful}
-use Rattle.dcx_convex.specs.Nodes.{Head, Variable, Parameter, Constant, Apply, Node, Numbers, Point, Setting, told, told_within, IsOrdered, zeros, first_of, arguments, value_by, value_at, ParameterKeeps, EachNode, IsInDomain, IsLawfulHead, AreLawful}
-use Rattle.dcx_convex.specs.Rules.{Plain, Judgement, is_constant, is_bent, no_argument, argument, bends, all_suit, is_bent_by, judgement_by, judgement_at}
+use Rattle.dcx_convex.specs.Nodes.{Head, Variable, Parameter, Constant, Apply, Node, Numbers, Point, Setting, IsOrdered, zeros, first_of, arguments, value_by, value_at, ParameterKeeps, EachNode, IsInDomain, IsLawfulHead, AreLawful}
+use Rattle.dcx_convex.specs.Rules.{Plain, Judgement, is_constant, is_bent, argument, bends, all_suit, is_bent_by, judgement_by, judgement_at}
 use Rattle.dcx_convex.specs.Certificates.{is_fixed, given_at}
 use Rattle.dcx_convex.proofs.Told.{value_tells, judgement_tells}
 use Rattle.dcx_convex.proofs.Arguments.{args_signed, fixed_argument_same}
@@ -23,7 +23,7 @@ use Rattle.dcx_convex.proofs.Convexity.{same_bend_is, bent_is, mixed_domain}
 use Rattle.dcx_recession.specs.Steepness.{taken_at, steep_by, steep_at}
 use Rattle.dcx_recession.specs.Rays.{BendsAlong, HeadRecedes, Recedes, AreReceding}
 use Rattle.dcx_recession.proofs.Calls.{one_combination, zero_shifted}
-use Rattle.dcx_recession.proofs.Told.{level, steep_tells}
+use Rattle.dcx_recession.proofs.Told.{none_fixed, level, steep_tells}
 
 -- the domain goes along with its rays
 pub shifted_domain : (nodes : List Node) (x d : Point) (k : ℚ) → IsNonnegative k → IsInDomain nodes x → IsInDomain nodes d → IsInDomain nodes (shifted x k d)
@@ -136,11 +136,6 @@ module _ (nodes : List Node) (ordered : IsOrdered nodes) (law : AreLawful nodes)
             first_along bend k c.size _ _ _ (call_along c lawful recedes bend f.0 f.1) j
 
   -- ---- all nodes
-  -- where there is no node, no variable is reached
-  none_fixed : (i : ℕ) → slice_get nodes i ≡ None → IsTrue (is_fixed nodes i)
-  unfolding judgement_at
-  none_fixed i e = ap (λ (o : Option Node). (told no_argument (judgement_by Plain) (told_within no_argument (judgement_by Plain) nodes i) o).fixed) e
-
   fixed_along : (i : ℕ) → IsTrue (is_fixed nodes i) → IsAlong i
   fixed_along i t = λ j bend b. beyond_same bend (ap (λ (z : Numbers). z j) (there_still i t))
 
@@ -158,7 +153,7 @@ module _ (nodes : List Node) (ordered : IsOrdered nodes) (law : AreLawful nodes)
   one_along i known = by (is_fixed nodes i) refl
     where
       at : (o : Option Node) → slice_get nodes i ≡ o → IsFalse (is_fixed nodes i) → IsAlong i
-      at None e loose = fixed_along i (none_fixed i e)
+      at None e loose = fixed_along i (none_fixed nodes i e)
       at (Some m) e loose = node_along i m e loose known
 
       by : (t : Bool) → is_fixed nodes i ≡ t → IsAlong i

@@ -1,11 +1,16 @@
 -- Steepness is what its rule tells of each node from that of its arguments, where these stand before the node.
 use Rattle.std.proofs.Common.{◌≡◌, inl, inr, ℕ, zero, suc, ◌<◌, arith, IsTrue, if◌then◌else◌, List, length, map, Option, Some, None, slice_get, refl, sym, ap, ◌∙◌}
 use Rattle.std.proofs.lemmas.Option.{slice_get_cases}
-use Rattle.dcx_convex.specs.Nodes.{Head, Variable, Parameter, Constant, Apply, Node, Numbers, Point, Setting, IsOrdered, zeros, first_of, arguments}
-use Rattle.dcx_convex.specs.Rules.{Plain, argument, judgement_at}
+use Rattle.dcx_convex.specs.Nodes.{Head, Variable, Parameter, Constant, Apply, Node, Numbers, Point, Setting, told, told_within, IsOrdered, zeros, first_of, arguments}
+use Rattle.dcx_convex.specs.Rules.{Plain, no_argument, argument, judgement_by, judgement_at}
 use Rattle.dcx_convex.specs.Certificates.{is_fixed, given_at}
 use Rattle.dcx_convex.proofs.Told.{map-same}
 use Rattle.dcx_recession.specs.Steepness.{taken_at, steep_by, steep_if, steep_from, steep_within, steep_at, AreSteep}
+
+-- where there is no node, no variable is reached
+pub none_fixed : (nodes : List Node) (i : ℕ) → slice_get nodes i ≡ None → IsTrue (is_fixed nodes i)
+unfolding judgement_at
+none_fixed nodes i e = ap (λ (o : Option Node). (told no_argument (judgement_by Plain) (told_within no_argument (judgement_by Plain) nodes i) o).fixed) e
 
 -- a node that reaches no variable is level
 pub level : (nodes : List Node) (s : Setting) (d : Point) (i : ℕ) → IsTrue (is_fixed nodes i) → steep_at nodes s d i ≡ zeros

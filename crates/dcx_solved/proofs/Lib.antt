@@ -1,4 +1,5 @@
 -- The lemmas.
+pub mod Counts
 pub mod Ends
 pub mod OneReading
 pub mod OneSolution

@@ -2,10 +2,11 @@
 use Rattle.std.proofs.Common.{◌≡◌, ℕ, Bool, true, false, cond, List, [], ◌∷◌, ◌++◌, Option, Some, None, option_map, option_and_then, refl, sym, ap, ◌∙◌}
 use Rattle.std.specs.Prelude.{nat_eq, bytes_eq, codes}
 use Rattle.std.specs.List.{list_any, starts_with}
+use Rattle.std.proofs.lemmas.Bool.{or_parts}
 use Rattle.dcx_words.specs.Commands.{Command, check, solve, resolve, certificate, certify, migrate, trial, iis, range, Operands, limit_of, option_word, option_front, unlimited, put_before, limited, without_option, file_of, files_of, three_files_of, size_of, warm_files_of, limited_command, command_of}
 use Rattle.dcx_words.specs.Laws.{is_option, HasNoOption, with_limit, limited_by, OptionStandsAnywhere}
 use Rattle.dcx_words.proofs.Taking.{at_operand, put_twice}
-use Rattle.dcx_words.proofs.NoMinus.{option_of_minus, neither, none_in, file_operand, three_file_operands, none_with}
+use Rattle.dcx_words.proofs.NoMinus.{option_of_minus, none_in, file_operand, three_file_operands, none_with}
 
 put_none : (o : Option Operands) → o ≡ option_map (put_before []) o
 put_none None = refl
@@ -15,15 +16,15 @@ put_none (Some o) = refl
 stand_before : (front rest : List (List ℕ)) → HasNoOption front → without_option (front ++ rest) ≡ option_map (put_before front) (without_option rest)
 stand_before [] rest h = put_none (without_option rest)
 stand_before (w ∷ ws) rest h =
-    let p = neither (is_option w) (list_any is_option ws) h in
-    let q = neither (bytes_eq w option_word) (starts_with nat_eq w option_front) p.0 in
+    let p = or_parts (is_option w) (list_any is_option ws) h in
+    let q = or_parts (bytes_eq w option_word) (starts_with nat_eq w option_front) p.0 in
     at_operand w (ws ++ rest) q.0 q.1 ∙ ap (option_map (put_before (w ∷ []))) (stand_before ws rest p.1) ∙ put_twice (w ∷ []) ws (without_option rest)
 
 no_option : (words : List (List ℕ)) → HasNoOption words → without_option words ≡ Some (unlimited words)
 no_option [] h = refl
 no_option (w ∷ ws) h =
-    let p = neither (is_option w) (list_any is_option ws) h in
-    let q = neither (bytes_eq w option_word) (starts_with nat_eq w option_front) p.0 in
+    let p = or_parts (is_option w) (list_any is_option ws) h in
+    let q = or_parts (bytes_eq w option_word) (starts_with nat_eq w option_front) p.0 in
     at_operand w ws q.0 q.1 ∙ ap (option_map (put_before (w ∷ []))) (no_option ws p.1)
 
 -- the operands with another limit

@@ -4,17 +4,12 @@ use Rattle.std.specs.Prelude.{nat_le, ◌==◌, option_map}
 use Rattle.std.specs.Char.{is_ascii_digit}
 use Rattle.std.specs.List.{list_all, list_any, count_by}
 use Rattle.std.specs.Str.Parse.{digits_value}
+use Rattle.std.proofs.lemmas.Bool.{and_parts, or_parts}
 use Rattle.std.proofs.lemmas.Bool.Decides.{nat_tests}
 use Rattle.std.proofs.lemmas.List.Sums.{sum_by-cons}
 use Rattle.std.proofs.lemmas.Slice.Eq.{bytes_eq-Decides}
 use Rattle.dcx_words.specs.Commands.{is_numeral, number_within, without_warm, file_of, files_of, warm_files_of, three_files_of, size_of, is_file, warm_word}
 use Rattle.dcx_words.specs.Laws.{is_option, is_warm}
-use Rattle.dcx_words.proofs.Numerals.{both}
-
-pub neither : (a b : Bool) → (a || b) ≡ false → (a ≡ false) × (b ≡ false)
-neither false false e = (refl, refl)
-neither false true e = cc
-neither true b e = cc
 
 -- a test that no word passes which begins with no minus
 pub record IsOfMinus (t : List ℕ → Bool) : Type 0 where
@@ -51,16 +46,16 @@ not_counted t w ws h = first_counted t w ws false h ∙ zero-add (count_by t ws)
 
 pub none_counted : (t : List ℕ → Bool) (words : List (List ℕ)) → HasNone t words → count_by t words ≡ 0
 none_counted t [] h = refl
-none_counted t (w ∷ ws) h = let p = neither (t w) (list_any t ws) h in not_counted t w ws p.0 ∙ none_counted t ws p.1
+none_counted t (w ∷ ws) h = let p = or_parts (t w) (list_any t ws) h in not_counted t w ws p.0 ∙ none_counted t ws p.1
 
 pub not_none : (t : List ℕ → Bool) (front back : List (List ℕ)) (word : List ℕ) → t word ≡ true → HasNone t (front ++ word ∷ back) → ⊥
-not_none t [] back word d e = let p = neither (t word) (list_any t back) e in cc
-not_none t (w ∷ ws) back word d e = not_none t ws back word d (neither (t w) (list_any t (ws ++ word ∷ back)) e).1
+not_none t [] back word d e = let p = or_parts (t word) (list_any t back) e in cc
+not_none t (w ∷ ws) back word d e = not_none t ws back word d (or_parts (t w) (list_any t (ws ++ word ∷ back)) e).1
 
 pub none_in : (t : List ℕ → Bool) (front back : List (List ℕ)) → HasNone t (front ++ back) → HasNone t front × HasNone t back
 none_in t [] back h = (refl, h)
 none_in t (w ∷ ws) back h =
-    let p = neither (t w) (list_any t (ws ++ back)) h in
+    let p = or_parts (t w) (list_any t (ws ++ back)) h in
     let q = none_in t ws back p.1 in
     (ap (λ b. b || list_any t ws) p.0 ∙ q.0, q.1)
 
@@ -83,12 +78,12 @@ module _ (t : List ℕ → Bool) (minus : IsOfMinus t) where
 
   digits_pass_none : (word : List ℕ) → list_all is_ascii_digit word ≡ true → t word ≡ false
   digits_pass_none [] h = minus.empty
-  digits_pass_none (b ∷ bs) h = minus.other b bs (digit_is_no_minus b (both _ _ h).0)
+  digits_pass_none (b ∷ bs) h = minus.other b bs (digit_is_no_minus b (and_parts _ _ h).0)
 
   pub number_passes_none : (longest least most n : ℕ) (word : List ℕ) → number_within longest least most word ≡ Some n → t word ≡ false
   number_passes_none longest least most n word h =
       let t = when_some (is_numeral longest word && nat_le least (digits_value 10 word) && nat_le (digits_value 10 word) most) (digits_value 10 word) n h in
-      digits_pass_none word (both _ _ (both _ _ (both _ _ t).0).0).1
+      digits_pass_none word (and_parts _ _ (and_parts _ _ (and_parts _ _ t).0).0).1
 
   alone : (word : List ℕ) → t word ≡ false → HasNone t (word ∷ [])
   alone word h = ap (λ b. b || false) h
@@ -114,7 +109,7 @@ module _ (t : List ℕ → Bool) (minus : IsOfMinus t) where
   file_operands (w ∷ v ∷ []) files h = by (is_file w && is_file v) refl h
     where
       by : (b : Bool) → (is_file w && is_file v) ≡ b → cond b (Some (w, v)) None ≡ Some files → HasNone t (w ∷ v ∷ [])
-      by true e d = let p = both _ _ e in pair w v (file_passes_none w p.0) (file_passes_none v p.1)
+      by true e d = let p = and_parts _ _ e in pair w v (file_passes_none w p.0) (file_passes_none v p.1)
       by false e d = cc
   file_operands (w ∷ v ∷ u ∷ ws) files h = cc
 
@@ -125,7 +120,7 @@ module _ (t : List ℕ → Bool) (minus : IsOfMinus t) where
   three_file_operands (w ∷ v ∷ u ∷ []) files h = by (is_file w && is_file v && is_file u) refl h
     where
       by : (b : Bool) → (is_file w && is_file v && is_file u) ≡ b → cond b (Some (w, v, u)) None ≡ Some files → HasNone t (w ∷ v ∷ u ∷ [])
-      by true e d = let p = both _ _ e in let q = both _ _ p.0 in triple w v u (file_passes_none w q.0) (file_passes_none v q.1) (file_passes_none u p.1)
+      by true e d = let p = and_parts _ _ e in let q = and_parts _ _ p.0 in triple w v u (file_passes_none w q.0) (file_passes_none v q.1) (file_passes_none u p.1)
       by false e d = cc
   three_file_operands (w ∷ v ∷ u ∷ s ∷ ws) files h = cc
 
@@ -158,7 +153,7 @@ kept t fails (w ∷ ws) h = by (kept t fails ws) (is_warm w) refl h
   where
     by : (HasNone t (without_warm ws).0 → HasNone t ws) → (b : Bool) → is_warm w ≡ b → HasNone t (first_taken w ws b).0 → HasNone t (w ∷ ws)
     by rest true e k = let same : w ≡ warm_word = (bytes_eq-Decides w warm_word).0 e in ap (λ b. b || list_any t ws) (ap t same ∙ fails) ∙ k
-    by rest false e k = let p = neither (t w) (list_any t (without_warm ws).0) k in ap (λ b. b || list_any t ws) p.0 ∙ rest p.1
+    by rest false e k = let p = or_parts (t w) (list_any t (without_warm ws).0) k in ap (λ b. b || list_any t ws) p.0 ∙ rest p.1
 
 -- ---- words of which one begins with a minus
 -- no operands are words of which one passes

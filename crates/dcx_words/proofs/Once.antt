@@ -2,9 +2,10 @@
 use Rattle.std.proofs.Common.{◌≡◌, ℕ, ◌≤◌, Bool, true, false, cond, ◌||◌, List, [], ◌∷◌, length, drop, Option, Some, None, option_map, option_and_then, refl, sym, ap, ◌∙◌, subst, arith}
 use Rattle.std.specs.Prelude.{nat_eq, bytes_eq, codes}
 use Rattle.std.specs.List.{count_by, list_any, starts_with}
+use Rattle.std.proofs.lemmas.Bool.{or_parts}
 use Rattle.dcx_words.specs.Commands.{Command, check, solve, resolve, certificate, certify, migrate, trial, iis, range, Operands, limit_of, option_word, option_front, put_before, limited, limited_by_next, without_option, without_warm, file_of, files_of, warm_files_of, three_files_of, size_of, limited_command}
 use Rattle.dcx_words.specs.Laws.{is_option, HasNoOption, OptionStandsOnce}
-use Rattle.dcx_words.proofs.NoMinus.{option_of_minus, neither, first_counted, not_counted, none_counted, number_passes_none, file_operand, file_operands, three_file_operands, size_operand, beside_warm, kept}
+use Rattle.dcx_words.proofs.NoMinus.{option_of_minus, first_counted, not_counted, none_counted, number_passes_none, file_operand, file_operands, three_file_operands, size_operand, beside_warm, kept}
 
 -- ---- operands
 pub operands : (name : List ℕ) (o : Operands) (command : Command) → limited_command name o ≡ Some command → HasNoOption o.words
@@ -72,7 +73,7 @@ once (w ∷ ws) o h k = by (λ rest. once ws rest) (bytes_eq w option_word) (sta
     operand more None d f e = cc
     operand more (Some rest) d f e =
         let words_are : o.words ≡ w ∷ rest.words = ap words_of (sym e) in
-        let p = neither (is_option w) (list_any is_option rest.words) (subst HasNoOption words_are k) in
+        let p = or_parts (is_option w) (list_any is_option rest.words) (subst HasNoOption words_are k) in
         let n = more rest d p.1 in
         omega (arith, not_counted is_option w ws f, n)
 

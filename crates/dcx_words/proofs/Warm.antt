@@ -2,10 +2,11 @@
 use Rattle.std.proofs.Common.{◌≡◌, ℕ, ◌+◌, Bool, true, false, cond, ◌||◌, List, [], ◌∷◌, ◌++◌, length, drop, Option, Some, None, option_map, option_and_then, refl, sym, ap, ◌∙◌, subst, arith, append_assoc}
 use Rattle.std.specs.Prelude.{nat_eq, bytes_eq, codes}
 use Rattle.std.specs.List.{count_by, list_any, starts_with}
+use Rattle.std.proofs.lemmas.Bool.{or_parts}
 use Rattle.std.proofs.lemmas.Slice.Eq.{bytes_eq-Decides}
 use Rattle.dcx_words.specs.Commands.{Command, check, solve, resolve, certificate, certify, migrate, trial, iis, range, Operands, limit_of, option_word, option_front, put_before, limited, limited_by_next, without_option, warm_word, without_warm, file_of, files_of, warm_files_of, three_files_of, size_of, limited_command, command_of}
 use Rattle.dcx_words.specs.Laws.{is_option, is_warm, HasNoOption, warmed, is_warm_command, EndInOption, WarmStandsAnywhere, WarmStandsApart, WarmStandsOnce}
-use Rattle.dcx_words.proofs.NoMinus.{warm_of_minus, HasNone, neither, first_counted, not_counted, none_counted, not_none, none_in, number_passes_none, file_operand, file_operands, three_file_operands, size_operand, beside_warm, first_taken, none_with}
+use Rattle.dcx_words.proofs.NoMinus.{warm_of_minus, HasNone, first_counted, not_counted, none_counted, not_none, none_in, number_passes_none, file_operand, file_operands, three_file_operands, size_operand, beside_warm, first_taken, none_with}
 use Rattle.dcx_words.proofs.Once.{operands, limited_words}
 
 no_file : (front back : List (List ℕ)) → file_of (front ++ warm_word ∷ back) ≡ None
@@ -24,7 +25,7 @@ no_size front back = none_with is_warm size_of front back warm_word (size_operan
 taken : (front back : List (List ℕ)) → HasNone is_warm front → without_warm (front ++ warm_word ∷ back) ≡ (front ++ back, true)
 taken [] back h = refl
 taken (w ∷ ws) back h =
-    let p = neither (is_warm w) (list_any is_warm ws) h in
+    let p = or_parts (is_warm w) (list_any is_warm ws) h in
     ap (first_taken w (ws ++ warm_word ∷ back)) p.0
     ∙ ap (λ (x : List (List ℕ) × Bool). (w ∷ x.0, x.1)) (taken ws back p.1)
 
@@ -63,7 +64,7 @@ warm_counted (w ∷ ws) h = by (warm_counted ws) (is_warm w) refl h
         first_counted is_warm w ws true e ∙ ap (λ n. 1 + n) (none_counted is_warm ws k)
         ∙ ap (λ b. cond (first_taken w ws b).1 1 0) (sym e)
     by rest false e k =
-        let p = neither (is_warm w) (list_any is_warm (without_warm ws).0) k in
+        let p = or_parts (is_warm w) (list_any is_warm (without_warm ws).0) k in
         not_counted is_warm w ws e ∙ rest p.1
         ∙ ap (λ b. cond (first_taken w ws b).1 1 0) (sym e)
 
@@ -237,7 +238,7 @@ apart (w ∷ ws) back o h k = by (apart ws back) (bytes_eq w option_word) (start
     operand others None d e = cc
     operand others (Some p) d e =
         let q = operands_eta (w ∷ p.words) p.limit o e in
-        others p d (neither (is_option w) (list_any is_option p.words) (subst HasNoOption q.0 k)).1
+        others p d (or_parts (is_option w) (list_any is_option p.words) (subst HasNoOption q.0 k)).1
 
     by : ((p : Operands) → without_option (rest ws) ≡ Some p → HasNoOption p.words → ⊥) → (a b : Bool) → cond a (limited_by_next (rest ws)) (cond b (limited (drop (length option_front) w) (rest ws)) (option_map (put_before (w ∷ [])) (without_option (rest ws)))) ≡ Some o → ⊥
     by others true b e = next ws e

@@ -1,5 +1,5 @@
 -- What is kept holds no column twice.
-use Rattle.std.proofs.Common.{◌≡◌, ℕ, List, Option, None, Result, IfOk, subst}
+use Rattle.std.proofs.Common.{◌≡◌, ℕ, List, Option, None, IfOk, subst}
 use Rattle.dcx_chained.specs.Tables.{table_of}
 use Rattle.dcx_cache.specs.Columns.{columns_after}
 use Rattle.dcx_cache.proofs.Basics.{renewed, still_apart}

@@ -1,5 +1,5 @@
 -- The run starts from the first tableau of the program.
-use Rattle.std.proofs.Common.{List, ℕ, refl, sym, subst}
+use Rattle.std.proofs.Common.{sym, subst}
 use Rattle.dcx_tab.specs.Table.{Table}
 use Rattle.dcx_tab.specs.First.{first_tableau}
 use Rattle.dcx_chained.specs.declared.chained.Chained.{Chained}

@@ -1,10 +1,37 @@
 -- What is answered is what is told of the run at the setting.
-use Rattle.std.proofs.Common.{subst}
+use Rattle.std.proofs.Common.{◌≡◌, ℕ, ◌≤◌, List, length, Ok, subst}
+use Rattle.dcx_frac.specs.declared.fraction.Frac.{Frac}
+use Rattle.dcx_point.specs.Pairs.{Pairs}
+use Rattle.dcx_tree.specs.declared.problem.Problem.{Problem}
+use Rattle.dcx_tree.specs.Meaning.{IsFitting}
+use Rattle.dcx_linear.specs.declared.param_form.ParamForm.{ParamForm}
+use Rattle.dcx_linear.specs.declared.form.Form.{Form}
+use Rattle.dcx_linear.specs.declared.row.Row.{Row}
+use Rattle.dcx_linear.specs.declared.row.UnknownKind.{UnknownKind}
+use Rattle.dcx_linear.specs.Widths.{form_width, rows_width}
+use Rattle.dcx_chained.specs.Tables.{table_of}
+use Rattle.dcx_lp_answer.specs.declared.answer.LpStatus.TheVariants as status
+use Rattle.dcx_simplex.proofs.Ended.{Shown}
+use Rattle.dcx_std.specs.GivenRows.{given}
+use Rattle.dcx_solved.specs.declared.solving.Solved.{Solved}
 use Rattle.dcx_solved.specs.Solved.{IsSolved, Stops}
+use Rattle.dcx_graph.specs.Program.{Program}
 use Rattle.dcx_graph.specs.Answers.{rows_of}
+use Rattle.dcx_graph.specs.Fixing.{FixGives}
 use Rattle.dcx_graph.proofs.Mapped.{known_of}
+use Rattle.dcx_range.specs.declared.asked.Asked.{Asked}
+use Rattle.dcx_range.specs.Parameters.{IsRanged}
+use Rattle.dcx_range.specs.Range.{IsMapOf, IsAsked}
 use Rattle.dcx_range.proofs.Ranges.{given_rows, of_run, has_few, rows_enough, shown, told_infeasible, told_unbounded, told_result, holds_result}
 use Rattle.dcx_range.proofs.finding.range.Goals as goal
+
+-- where the run of the rows that the program lends is optimal, its tableau can be read
+end_shown : (p : Problem) (s : Pairs) (name : List ℕ) (m : Program ParamForm) → IsMapOf p m → IsFitting p s → (r : Program Frac) → FixGives s m (Ok r) → IsRanged p m name →
+    (limit : ℕ) (kinds : List UnknownKind) (rows : List (Row Frac)) (objective : Form Frac) → kinds ≡ r.kinds → rows ≡ r.rows → objective ≡ r.objective → rows_width rows ≤ length kinds → form_width objective ≤ length kinds →
+    (x : Solved) → IsSolved limit (given kinds rows objective) x → x.answer.status ≡ status.Optimal → (asked : Asked) → IsAsked p s name asked → Shown x.program (table_of x.tableau)
+end_shown p s name m map fits r put ranged limit kinds rows objective same_kinds same_rows same_objective rows_known objective_known x solved optimal asked of =
+    shown p s name m map fits r put limit x (subst (λ g. IsSolved limit g x) (given_rows r kinds rows objective same_kinds same_rows same_objective) solved)
+    (known_of r kinds rows objective same_kinds same_rows same_objective rows_known objective_known) ranged optimal asked of
 
 pub run_stop-requires : goal.run_stop-requires
 run_stop-requires c =
@@ -34,45 +61,24 @@ span-requires-clause-rows c =
 
 pub span-requires-clause-count : goal.span-requires-clause-count
 span-requires-clause-count c =
-    let p = c.args.problem.now in
-    let m = c.args.map.now.program in
-    let r = c.args.program.now.program in
-    let s = c.args.setting.now in
-    let name = c.args.name.now in
-    let limit = c.args.limit in
     let lent = c.rows.result.now in
-    let same = given_rows r lent.kinds lent.rows lent.objective c.rows.ensures.kinds c.rows.ensures.rows c.rows.ensures.objective in
-    let is = subst (λ g. IsSolved limit g c.in-Ok.solved) same c.in-Ok.ensures.solved in
-    let known = known_of r lent.kinds lent.rows lent.objective c.rows.ensures.kinds c.rows.ensures.rows c.rows.ensures.objective lent.rows_known lent.objective_known in
-    (shown p s name m c.requires.map c.requires.fits r c.requires.program limit c.in-Ok.solved is known c.requires.ranged c.in-Optimal.is c.asked.result c.asked.ensures).rows
+    (end_shown c.args.problem.now c.args.setting.now c.args.name.now c.args.map.now.program c.requires.map c.requires.fits c.args.program.now.program c.requires.program c.requires.ranged
+    c.args.limit lent.kinds lent.rows lent.objective c.rows.ensures.kinds c.rows.ensures.rows c.rows.ensures.objective lent.rows_known lent.objective_known
+    c.in-Ok.solved c.in-Ok.ensures.solved c.in-Optimal.is c.asked.result c.asked.ensures).rows
 
 pub span-requires-clause-columns : goal.span-requires-clause-columns
 span-requires-clause-columns c =
-    let p = c.args.problem.now in
-    let m = c.args.map.now.program in
-    let r = c.args.program.now.program in
-    let s = c.args.setting.now in
-    let name = c.args.name.now in
-    let limit = c.args.limit in
     let lent = c.rows.result.now in
-    let same = given_rows r lent.kinds lent.rows lent.objective c.rows.ensures.kinds c.rows.ensures.rows c.rows.ensures.objective in
-    let is = subst (λ g. IsSolved limit g c.in-Ok.solved) same c.in-Ok.ensures.solved in
-    let known = known_of r lent.kinds lent.rows lent.objective c.rows.ensures.kinds c.rows.ensures.rows c.rows.ensures.objective lent.rows_known lent.objective_known in
-    (shown p s name m c.requires.map c.requires.fits r c.requires.program limit c.in-Ok.solved is known c.requires.ranged c.in-Optimal.is c.asked.result c.asked.ensures).columns
+    (end_shown c.args.problem.now c.args.setting.now c.args.name.now c.args.map.now.program c.requires.map c.requires.fits c.args.program.now.program c.requires.program c.requires.ranged
+    c.args.limit lent.kinds lent.rows lent.objective c.rows.ensures.kinds c.rows.ensures.rows c.rows.ensures.objective lent.rows_known lent.objective_known
+    c.in-Ok.solved c.in-Ok.ensures.solved c.in-Optimal.is c.asked.result c.asked.ensures).columns
 
 pub span-requires-clause-readable : goal.span-requires-clause-readable
 span-requires-clause-readable c =
-    let p = c.args.problem.now in
-    let m = c.args.map.now.program in
-    let r = c.args.program.now.program in
-    let s = c.args.setting.now in
-    let name = c.args.name.now in
-    let limit = c.args.limit in
     let lent = c.rows.result.now in
-    let same = given_rows r lent.kinds lent.rows lent.objective c.rows.ensures.kinds c.rows.ensures.rows c.rows.ensures.objective in
-    let is = subst (λ g. IsSolved limit g c.in-Ok.solved) same c.in-Ok.ensures.solved in
-    let known = known_of r lent.kinds lent.rows lent.objective c.rows.ensures.kinds c.rows.ensures.rows c.rows.ensures.objective lent.rows_known lent.objective_known in
-    (shown p s name m c.requires.map c.requires.fits r c.requires.program limit c.in-Ok.solved is known c.requires.ranged c.in-Optimal.is c.asked.result c.asked.ensures).readable
+    (end_shown c.args.problem.now c.args.setting.now c.args.name.now c.args.map.now.program c.requires.map c.requires.fits c.args.program.now.program c.requires.program c.requires.ranged
+    c.args.limit lent.kinds lent.rows lent.objective c.rows.ensures.kinds c.rows.ensures.rows c.rows.ensures.objective lent.rows_known lent.objective_known
+    c.in-Ok.solved c.in-Ok.ensures.solved c.in-Optimal.is c.asked.result c.asked.ensures).readable
 
 pub returns-in-Optimal-clause-given : goal.returns-in-Optimal-clause-given
 returns-in-Optimal-clause-given c =

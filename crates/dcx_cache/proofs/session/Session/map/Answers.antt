@@ -1,5 +1,5 @@
 -- The map that is lent is the one that is kept.
-use Rattle.std.proofs.Common.{MatchOption, option_copied, ap, subst, sym}
+use Rattle.std.proofs.Common.{MatchOption, ap, subst, sym}
 use Rattle.dcx_tree.specs.declared.problem.Problem.{Problem}
 use Rattle.dcx_cache.specs.Programs.{IsMapOf, HasMap}
 use Rattle.dcx_cache.specs.Sessions.{State, KeepsMap}

@@ -1,5 +1,5 @@
 -- The answer from what is kept, and what is kept after it.
-use Rattle.std.proofs.Common.{◌≡◌, ◌≢◌, ℕ, List, Option, Result, IfOk, IfErr, OnOk, OnErr, option_copied, refl, sym, ap, ◌∙◌, subst}
+use Rattle.std.proofs.Common.{◌≡◌, ◌≢◌, Result, IfOk, IfErr, OnOk, option_copied, refl, sym, ap, ◌∙◌, subst}
 use Rattle.dcx_tree.specs.declared.problem.Problem.{Problem}
 use Rattle.dcx_tree.specs.Meaning.{IsAccepted}
 use Rattle.dcx_answer.specs.declared.stop.Stop.{Stop}
