@@ -1,20 +1,13 @@
 -- The rows of a program that reducing gives come from the constraints and then from the graphs, by node, result entry and row.
-use Rattle.std.proofs.Common.{◌≡◌, ℕ, ◌+◌, ◌<◌, Bool, true, false, List, [], ◌++◌, length, map, Option, Some, Result, Ok, Err, slice_get, slice_index_or, sym, ap, ap₂, ◌∙◌, arith, length-append}
+use Rattle.std.proofs.Common.{◌≡◌, ℕ, ◌+◌, ◌<◌, Bool, true, false, List, [], ◌++◌, length, map, Option, Some, Result, Ok, slice_get, slice_index_or, sym, ap, ap₂, ◌∙◌, arith, length-append}
 use Rattle.std.proofs.lemmas.List.{length-map}
 use Rattle.std.proofs.lemmas.Option.{slice_get-get_or}
 use Rattle.dcx_frac.specs.declared.fraction.Frac.{Frac}
 use Rattle.dcx_frac.specs.declared.fraction.Passes.{Passes}
-use Rattle.dcx_shape.specs.declared.shape.Sides.{Sides}
 use Rattle.dcx_shape.specs.Sides.{entries_of}
-use Rattle.dcx_atom.specs.declared.stops.ValueStop.{ValueStop}
 use Rattle.dcx_atom.specs.Arrays.{list_below, joined_below}
 use Rattle.dcx_atom.proofs.BoundRows.{map-list_below}
-use Rattle.dcx_affine.specs.declared.pairing.Pair.{Pair}
 use Rattle.dcx_point.specs.Pairs.{Pairs}
-use Rattle.dcx_call.specs.declared.call.Call.{Call}
-use Rattle.dcx_call.specs.declared.call.Call.TheVariants as calls
-use Rattle.dcx_call.specs.Atoms.{atom_meaning}
-use Rattle.dcx_call.specs.Values.{given_by, entry_formed}
 use Rattle.dcx_convex.specs.Rules.{Rules, Plain, Parametrized}
 use Rattle.dcx_tree.specs.declared.problem.Problem.{Problem}
 use Rattle.dcx_tree.specs.Nodes.{Node, arg_sides}
@@ -22,10 +15,9 @@ use Rattle.dcx_linear.specs.declared.change.Change.{Change}
 use Rattle.dcx_linear.specs.declared.form.Form.{Form}
 use Rattle.dcx_unknowns.specs.Layout.{is_reduced, unknown_kinds}
 use Rattle.dcx_entries.specs.declared.entries.EntryForms.{EntryForms}
-use Rattle.dcx_entries.specs.declared.scaling.Scaling.{Scaling}
-use Rattle.dcx_entries.specs.Parts.{Arguments, zero_form}
-use Rattle.dcx_entries.specs.Entries.{alone, PairEntryBy}
-use Rattle.dcx_entries.specs.Nodes.{Table, table_forms, numbers_in, number_entry, NumberEntry, ReducedEntry, NodeEntryBy, AreFormed}
+use Rattle.dcx_entries.specs.Parts.{zero_form}
+use Rattle.dcx_entries.specs.Entries.{alone}
+use Rattle.dcx_entries.specs.Nodes.{Table, table_forms, NodeEntryBy, AreFormed}
 use Rattle.dcx_entries.specs.Standing.{args_among}
 use Rattle.dcx_entries.specs.Kept as kept
 use Rattle.dcx_entries.proofs.Each.{some_before}
@@ -33,6 +25,7 @@ use Rattle.dcx_formed.proofs.Lists.{joined_same, joined_none, map-joined}
 use Rattle.dcx_graph.specs.declared.origin.Origin.{Origin}
 use Rattle.dcx_graph.specs.declared.origin.Origin.TheVariants as origins
 use Rattle.dcx_graph.specs.Program.{Program, IsProgram, constraint_entries, entry_origin, graph_origin}
+use Rattle.dcx_graph.proofs.Counted.{number_rows, reduced_count}
 use Rattle.dcx_graph.proofs.Sizes.{rows-length}
 use Rattle.dcx_graph.proofs.Settings.{rows_at-length}
 use Rattle.dcx_build.specs.Origins.{entry_count, entry_rows, node_rows, graph_origins, IsLaidOut}
@@ -40,31 +33,6 @@ use Rattle.dcx_build.specs.Laws.{ProgramsAreLaidOut}
 
 module _ {C : Type 0} (of_number : Frac → C) (number_of : C → Option Frac) (Sums : C → C → Result C Passes → Type 0) (Changes : Change → C → Result C Passes → Type 0)
     (Reads : ℕ → List ℕ → ℕ → Pairs → C → Type 0) (rules : Rules) (p : Problem) (setting : Pairs) where
-  -- ---- how many rows an entry has
-  is_alone : {E : Type 0} (e : EntryForms C) (f : Form C) → ◌≡◌ {A = Result (EntryForms C) E} (Ok e) (Ok (alone f)) → length e.rows ≡ 0
-  is_alone e f h = let d : e ≡ alone f = cc in ap (λ (x : EntryForms C). length x.rows) d
-
-  number_alone : (e : EntryForms C) (r : Result Frac ValueStop) → Ok e ≡ number_entry of_number number_of Sums Changes Reads rules p setting r → length e.rows ≡ 0
-  number_alone e (Ok x) h = is_alone e _ h
-  number_alone e (Err stop) h = cc
-
-  number_count : (call : Call) (sides : List Sides) (args : Arguments C) (j : ℕ) (e : EntryForms C) → NumberEntry of_number number_of Sums Changes Reads rules p setting call sides args j (Ok e) → length e.rows ≡ 0
-  number_count call sides args j e h = number_alone e (entry_formed call (given_by setting) (given_by []) sides (numbers_in number_of args) j) h
-
-  pair_alone : (zero : Bool) (scaling : Scaling) (args : Arguments C) (pairs : List Pair) (j : ℕ) (e : EntryForms C) → PairEntryBy of_number number_of Sums Changes zero scaling args pairs j (Ok e) → length e.rows ≡ 0
-  pair_alone true scaling args pairs j e h = cc
-  pair_alone false scaling args pairs j e h = is_alone e h.0 h.2
-
-  reduced_count : (forms : List (List (Form C))) (i : ℕ) (n : Node) (call : Call) (j : ℕ) (e : EntryForms C) → ReducedEntry of_number number_of Sums Changes Reads rules p setting forms i n.args call (arg_sides p.tree n) j (Ok e) → length e.rows ≡ entry_count p.tree n call j
-  reduced_count forms i n (calls.Variable v) j e h = is_alone e _ h
-  reduced_count forms i n (calls.Parameter q) j e h = is_alone e _ h.2
-  reduced_count forms i n (calls.Constant x) j e h = number_count (calls.Constant x) (arg_sides p.tree n) (args_among of_number forms n.args) j e h
-  reduced_count forms i n (calls.Atom m) j e h =
-      let d : e ≡ record { form = h.0; rows = h.2.0 } = let q = h.2.2 in cc in
-      ap (λ (x : EntryForms C). length x.rows) d ∙ h.2.1.0 ∙ length-map ((atom_meaning m).rows (arg_sides p.tree n) j) _
-  reduced_count forms i n (calls.Linear l) j e h = is_alone e h.0 h.2
-  reduced_count forms i n (calls.Pairing q) j e h = pair_alone _ _ _ _ j e h
-
   -- ---- where they come from
   -- so many rows of an entry
   abbrev Origins : ℕ → ℕ → ℕ → List Origin
@@ -87,12 +55,12 @@ module _ {C : Type 0} (of_number : Frac → C) (number_of : C → Option Frac) (
     node_origins true size h =
         mapped_rows
         ∙ joined_same (length es) (λ j. map graph_origin (kept.entry_rows of_number i j (Here j))) (entry_rows p.tree i n)
-        (λ j b. entry_origins i j (Here j) (entry_count p.tree n n.call j) (reduced_count forms i n n.call j (Here j) (h j (Here j) (slice_get-get_or es j (alone (zero_form of_number)) b))))
+        (λ j b. entry_origins i j (Here j) (entry_count p.tree n n.call j) (reduced_count of_number number_of Sums Changes Reads rules p setting forms i n n.call j (Here j) (h j (Here j) (slice_get-get_or es j (alone (zero_form of_number)) b))))
         ∙ ap (λ k. joined_below k (entry_rows p.tree i n)) size
     node_origins false size h =
         mapped_rows
         ∙ joined_none (length es) (λ j. map graph_origin (kept.entry_rows of_number i j (Here j)))
-        (λ j b. entry_origins i j (Here j) 0 (number_count n.call (arg_sides p.tree n) (args_among of_number forms n.args) j (Here j) (h j (Here j) (slice_get-get_or es j (alone (zero_form of_number)) b))))
+        (λ j b. entry_origins i j (Here j) 0 (number_rows of_number number_of Sums Changes Reads rules p setting n.call (arg_sides p.tree n) (args_among of_number forms n.args) j (Here j) (h j (Here j) (slice_get-get_or es j (alone (zero_form of_number)) b))))
 
   -- ---- the rows of all nodes
   module _ (table : Table C) (formed : AreFormed of_number number_of Sums Changes Reads rules p setting (length p.tree) table) where

@@ -3,7 +3,6 @@ pub mod Arrays
 pub mod Maps
 pub mod Kept
 pub mod Answered
-pub mod Given
 pub mod Stopped
 pub mod OneEnd
 pub mod Agreeing

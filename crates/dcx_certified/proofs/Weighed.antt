@@ -44,6 +44,7 @@ use Rattle.dcx_graph.specs.declared.origin.Origin.TheVariants as origins
 use Rattle.dcx_graph.specs.Program.{Program, entry_origin, constraint_entries}
 use Rattle.dcx_graph.specs.Answers.{rows_of, IsAnswered}
 use Rattle.dcx_graph.proofs.AsLinear.{entry_at, all_constraints}
+use Rattle.dcx_graph.proofs.AtSetting.{number_there}
 use Rattle.dcx_build.specs.Origins.{entry_count, node_rows}
 use Rattle.dcx_build.specs.Weights.{graph_multiplier, note_of, node_multipliers}
 use Rattle.dcx_build.specs.Built.{AreWeightsIn}
@@ -55,7 +56,6 @@ use Rattle.dcx_certified.specs.Rows.{rows_until, AreRowWeights}
 use Rattle.dcx_certified.proofs.Answered.{first, row_there, rows_signed}
 use Rattle.dcx_certified.proofs.Bounded.{unfixed}
 use Rattle.dcx_certified.proofs.Noted.{constraints_other, node_note, weights_found}
-use Rattle.dcx_certified.proofs.Programs.{number_there}
 use Rattle.dcx_certified.proofs.Rowwise.{rows_count}
 
 -- ---- how many rows come from where

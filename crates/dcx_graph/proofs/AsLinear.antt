@@ -1,5 +1,5 @@
 -- The program of a problem is the linear program of the reduced program with the forms of the nodes.
-use Rattle.std.proofs.Common.{◌≡◌, ◌↔◌, ℕ, zero, suc, arith, List, [], ◌∷◌, ◌++◌, length, map, Option, Some, Result, Ok, slice_get, refl, sym, ap, ap₂, ◌∙◌, subst, pos, negsuc, lit<}
+use Rattle.std.proofs.Common.{◌≡◌, ◌↔◌, ℕ, suc, List, [], ◌∷◌, ◌++◌, map, Option, Result, Ok, refl, sym, ap, ap₂, ◌∙◌, subst, pos, negsuc, lit<}
 use Rattle.std.proofs.Math.Path.{fun_ext}
 use Rattle.std.proofs.lemmas.List.{map-append}
 use Rattle.dcx_math.specs.Rational.{ℚ, whole, ◌+ℚ◌, ◌-ℚ◌, ◌*ℚ◌, neg_ℚ}
@@ -14,6 +14,7 @@ use native.Mathlib.Nat.{eq-one_of_dvd-one}
 use Rattle.dcx_shape.specs.Shape.{sides_of}
 use Rattle.dcx_shape.specs.Sides.{entries_of}
 use Rattle.dcx_atom.specs.Arrays.{list_below}
+use Rattle.dcx_atom.proofs.BoundRows.{map-list_below}
 use Rattle.dcx_convex.specs.Nodes.{Setting, Numbers}
 use Rattle.dcx_convex.specs.Rules.{Rules}
 use Rattle.dcx_convex.specs.Problems.{minimized, objective_of}
@@ -39,23 +40,11 @@ use Rattle.dcx_reduced.proofs.OfKinds.{kinds_from, nonneg_from, nonpos_from}
 use Rattle.dcx_entries.specs.declared.formed.FormedRow.{FormedRow}
 use Rattle.dcx_entries.specs.Nodes.{Table, table_forms}
 use Rattle.dcx_entries.specs.Kept.{graph_rows}
-use Rattle.dcx_mapping.specs.Programs.{kind_of, gap_row, gap_rows, bound_row}
+use Rattle.dcx_formed.proofs.Lists.{maps_same}
+use Rattle.dcx_mapping.specs.Programs.{kind_of, gap_row, gap_rows, bound_row, IsProgramOf}
 use Rattle.dcx_graph.specs.declared.constraint.ConstraintEntry.{ConstraintEntry}
 use Rattle.dcx_graph.specs.Program.{Program, minus_one, row_kind, entries_in, entries_from, constraint_entries, form_at, Least, graph_row, EntryRow, EntryRows, Objective, IsProgram}
 use Rattle.dcx_graph.specs.AsLinear.{row_at, linear_at, IsReductionAt}
-
--- ---- lists
-pub map-list_below : {A B : Type 0} (f : A → B) (n : ℕ) (g : ℕ → A) → map f (list_below n g) ≡ list_below n (λ i. f (g i))
-map-list_below f zero g = refl
-map-list_below f (suc n) g = map-append f (list_below n g) (g n ∷ []) ∙ ap (λ xs. xs ++ f (g n) ∷ []) (map-list_below f n g)
-
--- two lists that are the same place by place, seen through functions
-same_by : {A B D : Type 0} (f : A → D) (g : B → D) (xs : List A) (ys : List B) → length xs ≡ length ys →
-    ((k : ℕ) (x : A) (y : B) → slice_get xs k ≡ Some x → slice_get ys k ≡ Some y → f x ≡ g y) → map f xs ≡ map g ys
-same_by f g [] [] e h = refl
-same_by f g [] (y ∷ ys) e h = absurd (omega (arith, e))
-same_by f g (x ∷ xs) [] e h = absurd (omega (arith, e))
-same_by f g (x ∷ xs) (y ∷ ys) e h = ap₂ ◌∷◌ (h 0 x y refl refl) (same_by f g xs ys (omega (arith, e)) (λ k a b s t. h (suc k) a b s t))
 
 less : (a b k : ℚ) → k ≡ whole (negsuc 0) → a +ℚ k *ℚ b ≡ a -ℚ b
 less a b k e = ap (λ z. a +ℚ z *ℚ b) e ∙ ring (a ∷ b ∷ []) (search reads depth 30) tt
@@ -75,7 +64,7 @@ module _ (forms : Unknowns → ℕ → Numbers) where
 
   one_constraint : (k : ℕ) (c : Constraint) → map entry_at (entries_in k c) ≡ list_below (entries_of (sides_of c.shape)) (gap_row forms (convex_constraint c))
   one_constraint k c =
-      map-list_below entry_at (entries_of (sides_of c.shape)) (λ e. record { constraint = k; entry = e; kind = row_kind c.kind; left = c.left; right = c.right })
+      map-list_below {A = ConstraintEntry} (entries_of (sides_of c.shape)) (λ e. record { constraint = k; entry = e; kind = row_kind c.kind; left = c.left; right = c.right }) entry_at
       ∙ ap (λ kind. list_below (entries_of (sides_of c.shape)) (λ e. let r : RowAt = record { kind = kind; number = λ u. forms u c.left.0 e -ℚ forms u c.right.0 e } in r)) (kind_same c.kind)
 
   pub all_constraints : (k : ℕ) (cs : List Constraint) → map entry_at (entries_from k cs) ≡ gap_rows forms (map convex_constraint cs)
@@ -112,7 +101,7 @@ module _ {C : Type 0} (of_number : Frac → C) (number_of : C → Option Frac) (
 
   rows_same : (xs : List ConstraintEntry) (rs : List (Row C)) → EntryRows of_number number_of Sums Changes fs xs (Ok rs) → map (row_at value_at params) rs ≡ map (entry_at forms) xs
   rows_same xs rs h =
-      same_by (row_at value_at params) (entry_at forms) rs xs h.0
+      maps_same (row_at value_at params) (entry_at forms) rs xs h.0
       (λ k r x at there. let own = h.1 k r at in let d : own.0 ≡ x = cc (own.1, there) in row_same x r (subst (λ y. EntryRow of_number number_of Sums Changes fs y (Ok r)) d own.2))
 
   objective_same : (sense : Sense) (f h : Form C) (u : Unknowns) → Least number_of Changes sense f (Ok h) → linear_value value_at h u params ≡ minimized (sense_of sense) (linear_value value_at f u params)
@@ -144,10 +133,8 @@ module _ {C : Type 0} (of_number : Frac → C) (number_of : C → Option Frac) (
         objective_same p.sense (form_at of_number fs p.objective.0 0) q.objective u
         (subst (λ gs. Objective of_number number_of Sums Changes p gs (Ok q.objective)) own is.objective_is)
 
+    pub program_of : IsProgramOf (linear_at value_at params q) (convex_problem p) (reduced_with rules p s forms)
+    program_of = record { assignments = assigned; rows = rows_are; objective = objective_is }
+
     pub is_reduction : IsReduction rules (convex_problem p) s (reduced_with rules p s forms) → IsReductionAt rules p s (linear_at value_at params q)
-    is_reduction h = record {
-      reduced = reduced_with rules p s forms;
-      reduction = h;
-      program = record { assignments = assigned; rows = rows_are; objective = objective_is };
-      point = λ u. refl;
-    }
+    is_reduction h = record { reduced = reduced_with rules p s forms; reduction = h; program = program_of; point = λ u. refl }

@@ -31,19 +31,22 @@ use Rattle.dcx_linear.specs.FormsAt.{frac_value, with_form, at_row, form_on_row,
 use Rattle.dcx_linear.specs.Rows.{RowAt, LinearProgram}
 use Rattle.dcx_linear.proofs.SettingForms.{form_at-value}
 use Rattle.dcx_within.specs.Within.{IsKnown, IsKnownNumber, IsKnownTerm}
-use Rattle.dcx_graph.specs.AsLinear.{row_at, IsReductionAt}
-use Rattle.dcx_graph.specs.Fixed.{HaveArrays, KnownAreListed, FixedAreReductions}
+use Rattle.dcx_std.proofs.Solutions.{at_place}
+use Rattle.dcx_graph.specs.Program.{Program}
+use Rattle.dcx_graph.specs.AsLinear.{row_at, linear_at, IsReductionAt}
+use Rattle.dcx_graph.specs.Fixing.{FixGives}
+use Rattle.dcx_graph.specs.Fixed.{IsKnownProgram, HaveArrays, KnownAreListed, FixedAreReductions}
 
 -- ---- arrays
-number_there : (xs : List Frac) (j : ℕ) (x : Frac) → slice_get xs j ≡ Some x → number_at xs j ≡ value x
+pub number_there : (xs : List Frac) (j : ℕ) (x : Frac) → slice_get xs j ≡ Some x → number_at xs j ≡ value x
 number_there [] j x e = absurd (none-some x e)
 number_there (y ∷ xs) zero x e = ap value (same_Some y x e)
 number_there (y ∷ xs) (suc j) x e = number_there xs j x e
 
-entry_there : (xs : List Frac) (j : ℕ) → j < length xs → (x : Frac) × (slice_get xs j ≡ Some x)
-entry_there [] j b = absurd (omega (arith, b))
-entry_there (x ∷ xs) zero b = (x, refl)
-entry_there (x ∷ xs) (suc j) b = entry_there xs j (omega (arith, b))
+-- a form that is told by its row is the form
+pub on_row : (n : ℕ) (r : Result (Form Frac) Passes) (g : Form Frac) → at_row n r ≡ Ok g → r ≡ Ok g
+on_row n (Ok f) g e = let d : f ≡ g = cc in ap Ok d
+on_row n (Err passes) g e = absurd cc
 
 module _ (p : Problem) (setting : Pairs) where
   abbrev names : List (List ℕ)
@@ -53,7 +56,7 @@ module _ (p : Problem) (setting : Pairs) where
   numbers = setting_of p setting
 
   -- the numbers of the setting stand for the parameters
-  stands_for : StandsFor names setting numbers
+  pub stands_for : StandsFor names setting numbers
   stands_for position name entry x named found =
       ap (λ n. given_by setting n entry) (get_or_from_slice_get names position name [] named) ∙ by (array_of setting name) found
     where
@@ -76,7 +79,7 @@ module _ (p : Problem) (setting : Pairs) where
         let size = get_or_from_slice_get (map (λ (r : Parameter). entries_of (sides_of r.shape)) p.parameters) t.position (entries_of (sides_of q.shape)) 0
         (slice_get-map (λ (r : Parameter). entries_of (sides_of r.shape)) p.parameters t.position ∙ ap (option_map (λ (r : Parameter). entries_of (sides_of r.shape))) at) in
         let inside : t.entry < length has.array.entries = let full = has.array.full in let sides = ap entries_of has.shape in let below = h.entry in omega (arith, full, sides, below, size) in
-        let (x, found) = entry_there has.array.entries t.entry inside in
+        let (x, found) = at_place has.array.entries t.entry inside in
         subst IsSome (sym (ap (option_and_then (array_entry t.entry)) (ap (array_of setting) (sym same) ∙ has.there) ∙ found)) refl
 
     number_listed : (c : ParamForm) → IsKnownNumber p c → IsListedBy setting c
@@ -87,17 +90,13 @@ module _ (p : Problem) (setting : Pairs) where
 
     -- ---- at the setting
     module _ (params : Parameters) where
-      form_same : (f : Form ParamForm) (g : Form Frac) (u : Unknowns) → IsKnown p f → form_at setting f ≡ Ok g → linear_value frac_value g u params ≡ linear_value form_value f u numbers
+      pub form_same : (f : Form ParamForm) (g : Form Frac) (u : Unknowns) → IsKnown p f → form_at setting f ≡ Ok g → linear_value frac_value g u params ≡ linear_value form_value f u numbers
       form_same f g u known e = form_at-value names setting numbers stands_for u f g e (form_named f known) (form_listed f known)
-
-      on_row : (n : ℕ) (r : Result (Form Frac) Passes) (g : Form Frac) → at_row n r ≡ Ok g → r ≡ Ok g
-      on_row n (Ok f) g e = let d : f ≡ g = cc in ap Ok d
-      on_row n (Err passes) g e = absurd cc
 
       row_same : (r : Row ParamForm) (g : Form Frac) → IsKnown p r.form → form_at setting r.form ≡ Ok g → row_at frac_value params (with_form r g) ≡ row_at form_value numbers r
       row_same r g known e = ap (λ (f : Unknowns → ℚ). let a : RowAt = record { kind = r.kind; number = f } in a) (fun_ext (λ u. form_same r.form g u known e))
 
-      rows_same : (n : ℕ) (rs : List (Row ParamForm)) (us : List (Row Frac)) → ((k : ℕ) (r : Row ParamForm) → slice_get rs k ≡ Some r → IsKnown p r.form) → rows_at setting n rs ≡ Ok us →
+      pub rows_same : (n : ℕ) (rs : List (Row ParamForm)) (us : List (Row Frac)) → ((k : ℕ) (r : Row ParamForm) → slice_get rs k ≡ Some r → IsKnown p r.form) → rows_at setting n rs ≡ Ok us →
           map (row_at frac_value params) us ≡ map (row_at form_value numbers) rs
       rows_same n [] us known e = let d : us ≡ [] = cc in ap (map (row_at frac_value params)) d
       rows_same n (r ∷ rs) us known e =
@@ -112,6 +111,14 @@ module _ (p : Problem) (setting : Pairs) where
           by (Ok g) (Err stop) f h q = absurd cc
           by (Err stop) rest f h q = absurd cc
 
+      -- the program at the setting is the same linear program
+      pub same_program : (q : Program ParamForm) (r : Program Frac) → IsKnownProgram p q → FixGives setting q (Ok r) → linear_at form_value numbers q ≡ linear_at frac_value params r
+      same_program q r known fixed =
+          ap₂ (λ (kinds : List UnknownKind) (rows : List RowAt). let l : LinearProgram = record { kinds = kinds; rows = rows; objective = λ u. linear_value form_value q.objective u numbers } in l)
+          (sym fixed.0.2) (sym (rows_same 0 q.rows r.rows known.rows fixed.0.0))
+          ∙ ap (λ (f : Unknowns → ℚ). let l : LinearProgram = record { kinds = r.kinds; rows = map (row_at frac_value params) r.rows; objective = f } in l)
+          (sym (fun_ext (λ u. form_same q.objective r.objective u known.objective (on_row (length q.rows) (form_at setting q.objective) r.objective fixed.0.1))))
+
 pub known_are_listed : KnownAreListed
 known_are_listed p setting q known arrays = record {
   rows = λ i d b. form_listed p setting arrays (get_or q.rows i d).form (known.rows i (get_or q.rows i d) (there q.rows i d b));
@@ -124,10 +131,4 @@ known_are_listed p setting q known arrays = record {
     there (x ∷ xs) (suc i) d b = there xs i d (omega (arith, b))
 
 pub fixed_are_reductions : FixedAreReductions
-fixed_are_reductions rules p setting q r params known arrays fixed is =
-    subst (IsReductionAt rules p (setting_of p setting))
-    (ap₂ (λ (kinds : List UnknownKind) (rows : List RowAt). let l : LinearProgram = record { kinds = kinds; rows = rows; objective = λ u. linear_value form_value q.objective u (setting_of p setting) } in l)
-    (sym fixed.0.2) (sym (rows_same p setting arrays params 0 q.rows r.rows known.rows fixed.0.0))
-    ∙ ap (λ (f : Unknowns → ℚ). let l : LinearProgram = record { kinds = r.kinds; rows = map (row_at frac_value params) r.rows; objective = f } in l)
-    (sym (fun_ext (λ u. form_same p setting arrays params q.objective r.objective u known.objective (on_row p setting arrays params (length q.rows) (form_at setting q.objective) r.objective fixed.0.1)))))
-    is
+fixed_are_reductions rules p setting q r params known arrays fixed is = subst (IsReductionAt rules p (setting_of p setting)) (same_program p setting arrays params q r known fixed) is

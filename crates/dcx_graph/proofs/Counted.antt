@@ -37,6 +37,15 @@ use Rattle.dcx_entries.proofs.Each.{some_before}
 abbrev placed_at : ℕ → Row → PlacedRow
 placed_at j row = record { entry = j; row = row }
 
+-- how many rows entry j of a node with this call has
+abbrev pub row_count : List Node → Node → Call → ℕ → ℕ
+row_count nodes n (calls.Variable v) j = 0
+row_count nodes n (calls.Parameter q) j = 0
+row_count nodes n (calls.Constant x) j = 0
+row_count nodes n (calls.Atom m) j = length ((atom_meaning m).rows (arg_sides nodes n) j)
+row_count nodes n (calls.Linear l) j = 0
+row_count nodes n (calls.Pairing q) j = 0
+
 -- ---- lists of the same length
 joined_alike : {A B : Type 0} (n : ℕ) (f : ℕ → List A) (g : ℕ → List B) → ((j : ℕ) → j < n → length (f j) ≡ length (g j)) → length (joined_below n f) ≡ length (joined_below n g)
 joined_alike zero f g h = refl
@@ -60,23 +69,14 @@ module _ {C : Type 0} (of_number : Frac → C) (number_of : C → Option Frac) (
   number_alone e (Ok x) h = is_alone e _ h
   number_alone e (Err stop) h = cc
 
-  number_rows : (call : Call) (sides : List Sides) (args : Arguments C) (j : ℕ) (e : EntryForms C) → NumberEntry of_number number_of Sums Changes Reads rules p setting call sides args j (Ok e) → length e.rows ≡ 0
+  pub number_rows : (call : Call) (sides : List Sides) (args : Arguments C) (j : ℕ) (e : EntryForms C) → NumberEntry of_number number_of Sums Changes Reads rules p setting call sides args j (Ok e) → length e.rows ≡ 0
   number_rows call sides args j e h = number_alone e (entry_formed call (given_by setting) (given_by []) sides (numbers_in number_of args) j) h
 
   pair_alone : (zero : Bool) (scaling : Scaling) (args : Arguments C) (pairs : List Pair) (j : ℕ) (e : EntryForms C) → PairEntryBy of_number number_of Sums Changes zero scaling args pairs j (Ok e) → length e.rows ≡ 0
   pair_alone true scaling args pairs j e h = cc
   pair_alone false scaling args pairs j e h = is_alone e h.0 h.2
 
-  -- how many an entry of a call has
-  abbrev Count : Node → Call → ℕ → ℕ
-  Count n (calls.Variable v) j = 0
-  Count n (calls.Parameter q) j = 0
-  Count n (calls.Constant x) j = 0
-  Count n (calls.Atom m) j = length ((atom_meaning m).rows (arg_sides p.tree n) j)
-  Count n (calls.Linear l) j = 0
-  Count n (calls.Pairing q) j = 0
-
-  reduced_count : (forms : List (List (Form C))) (i : ℕ) (n : Node) (call : Call) (j : ℕ) (e : EntryForms C) → ReducedEntry of_number number_of Sums Changes Reads rules p setting forms i n.args call (arg_sides p.tree n) j (Ok e) → length e.rows ≡ Count n call j
+  pub reduced_count : (forms : List (List (Form C))) (i : ℕ) (n : Node) (call : Call) (j : ℕ) (e : EntryForms C) → ReducedEntry of_number number_of Sums Changes Reads rules p setting forms i n.args call (arg_sides p.tree n) j (Ok e) → length e.rows ≡ row_count p.tree n call j
   reduced_count forms i n (calls.Variable v) j e h = is_alone e _ h
   reduced_count forms i n (calls.Parameter q) j e h = is_alone e _ h.2
   reduced_count forms i n (calls.Constant x) j e h = number_rows (calls.Constant x) (arg_sides p.tree n) (args_among of_number forms n.args) j e h
@@ -97,7 +97,7 @@ module _ {C : Type 0} (of_number : Frac → C) (number_of : C → Option Frac) (
     none_in : ((j : ℕ) → j < length es → length (Here j).rows ≡ 0) → length (node_rows of_number i es) ≡ 0
     none_in h = joined_empty (length es) (λ j. entry_rows of_number i j (Here j)) (λ j b. own_rows i es j (Here j) refl ∙ h j b)
 
-    call_count : (call : Call) → length es ≡ entries_of n.sides → ((j : ℕ) → j < length es → length (Here j).rows ≡ Count n call j) → length (node_rows of_number i es) ≡ length (call_rows p.tree n call)
+    call_count : (call : Call) → length es ≡ entries_of n.sides → ((j : ℕ) → j < length es → length (Here j).rows ≡ row_count p.tree n call j) → length (node_rows of_number i es) ≡ length (call_rows p.tree n call)
     call_count (calls.Variable v) size h = none_in h
     call_count (calls.Parameter q) size h = none_in h
     call_count (calls.Constant x) size h = none_in h

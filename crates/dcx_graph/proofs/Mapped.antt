@@ -14,16 +14,18 @@ use Rattle.dcx_linear.specs.declared.row.Row.{Row}
 use Rattle.dcx_linear.specs.declared.row.UnknownKind.{UnknownKind}
 use Rattle.dcx_linear.specs.FormTerms.{Unknowns}
 use Rattle.dcx_linear.specs.Widths.{form_width, rows_width}
+use Rattle.dcx_tab.specs.declared.program.Program as tab
 use Rattle.dcx_lp_answer.specs.declared.answer.LpStatus.{LpStatus}
 use Rattle.dcx_lp_answer.specs.declared.answer.LpStatus.TheVariants as status
 use Rattle.dcx_lp_answer.specs.declared.answer.LpAnswer.{LpAnswer}
 use Rattle.dcx_lp_answer.specs.Right.{multiplier_at, IsOneSided, IsRightAs}
 use Rattle.dcx_answer.specs.declared.answer.Answer.{Answer}
 use Rattle.dcx_answer.specs.declared.answer.Answer.TheVariants as answers
+use Rattle.dcx_std.specs.GivenRows.{GivenRows, given}
 use Rattle.dcx_std.specs.Answers.{IsRightForRowsAs}
 use Rattle.dcx_std.specs.Solutions.{HasKinds, linear_program, unknowns_at}
 use Rattle.dcx_std.proofs.ScaledProgram.{scaled_program}
-use Rattle.dcx_std.proofs.RightAnswers.{shown_of}
+use Rattle.dcx_std.proofs.RightAnswers.{one_sided, shown_of}
 use Rattle.dcx_unknowns.specs.Layout.{constraint_rows}
 use Rattle.dcx_unknowns.specs.Unknowns.{point_at}
 use Rattle.dcx_unknowns.specs.Laws.{AreAlike}
@@ -41,6 +43,10 @@ use Rattle.dcx_graph.specs.Backward.{CarriesOver}
 use Rattle.dcx_graph.proofs.Backward.{answers_carry_over}
 use Rattle.dcx_graph.proofs.Slacks.{rows_enough, have_slacks, multiplier_is}
 
+-- the rows that a program lends are its own
+pub given_rows : (q : Program Frac) (kinds : List UnknownKind) (rows : List (Row Frac)) (objective : Form Frac) → kinds ≡ q.kinds → rows ≡ q.rows → objective ≡ q.objective → given kinds rows objective ≡ rows_of q
+given_rows q kinds rows objective e f g = λ i. given (e i) (f i) (g i)
+
 -- rows and an objective that name known unknowns alone are those of the program
 pub known_of : (q : Program Frac) (kinds : List UnknownKind) (rows : List (Row Frac)) (objective : Form Frac) → kinds ≡ q.kinds → rows ≡ q.rows → objective ≡ q.objective →
     rows_width rows ≤ length kinds → form_width objective ≤ length kinds → HasKinds (rows_of q)
@@ -50,6 +56,11 @@ known_of q kinds rows objective same_kinds same_rows same_objective rows_known o
       rows_known = subst (λ rs. rows_width rs ≤ length q.kinds) same_rows (omega (arith, count, rows_known));
       objective_known = subst (λ f. form_width f ≤ length q.kinds) same_objective (omega (arith, count, objective_known));
     }
+
+-- the unknowns of a point that is read are those of the columns
+pub numbered_same : (p : Problem) (rows : GivenRows) (program : tab.Program) (xs : List Frac) (point : Pairs) → ColumnsTellUnknowns rows program (map value xs) → (at : IsPointRead p rows.kinds xs point) →
+    numbered at.unknowns ≡ unknowns_at program.columns (map value xs)
+numbered_same p rows program xs point tells at = λ i u. (ap (λ zs. rat_at zs u) at.are ∙ tells.same u) i
 
 module _ (p : Problem) (s : Setting) (q : Program Frac) (a : LpAnswer) (known : HasKinds (rows_of q)) (is : IsAnswered p s q a) where
   -- ---- rows
@@ -73,13 +84,8 @@ module _ (p : Problem) (s : Setting) (q : Program Frac) (a : LpAnswer) (known : 
   told : (xs : List Frac) → length xs ≡ length is.integer.columns → IsOneSided is.integer.columns (map value xs) → TellUnknowns q.kinds xs
   told xs full sides = let t = tells xs full in record { there = t.there; one_sided = t.one_sided sides }
 
-  one_sided : (t : LpStatus) → IsRightAs t is.integer a → IsOneSided is.integer.columns (map value a.columns)
-  one_sided status.Optimal r = r.one_sided
-  one_sided status.Infeasible r = r.one_sided
-  one_sided status.Unbounded r = r.one_sided
-
   columns_told : TellUnknowns q.kinds a.columns
-  columns_told = told a.columns is.parts.columns (one_sided a.status is.right)
+  columns_told = told a.columns is.parts.columns (one_sided a.status is.integer a is.right)
 
   ray_told : a.status ≡ status.Unbounded → TellUnknowns q.kinds a.ray
   ray_told e = told a.ray (is.parts.ray e) (subst (λ t. IsRightAs t is.integer a) e is.right).one_sided_ray
@@ -91,9 +97,8 @@ module _ (p : Problem) (s : Setting) (q : Program Frac) (a : LpAnswer) (known : 
   point_read : (xs : List Frac) (given : Pairs) → length xs ≡ length is.integer.columns → IsPointRead p q.kinds xs given →
       AreAlike p.variables (point_at p.variables (unknowns_at is.integer.columns (map value xs))) (point_of p given)
   point_read xs given full h =
-      let t = tells xs full in
-      let same : numbered h.unknowns ≡ unknowns_at is.integer.columns (map value xs) = λ i u. (ap (λ zs. rat_at zs u) h.are ∙ t.same u) i in
-      subst (λ (x : Unknowns). AreAlike p.variables (point_at p.variables x) (point_of p given)) same (arrays_are_points p h.unknowns given h.of_variables)
+      subst (λ (x : Unknowns). AreAlike p.variables (point_at p.variables x) (point_of p given)) (numbered_same p (rows_of q) is.integer xs given (tells xs full) h)
+      (arrays_are_points p h.unknowns given h.of_variables)
 
   duals_read : (d : _) → AreDuals a.status p.constraints a.rows d → AreSameMultipliers p.constraints (multipliers_of (convex_problem p) (multiplier_at is.integer.columns a)) (multipliers_in d)
   duals_read d are k c at j b =

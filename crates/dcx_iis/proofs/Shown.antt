@@ -5,7 +5,6 @@ use Rattle.std.specs.List.{AllZip}
 use Rattle.std.proofs.Math.Path.{fun_ext}
 use Rattle.std.proofs.lemmas.List.{length-map}
 use Rattle.dcx_math.specs.Rational.{ℚ, whole, ◌+ℚ◌, ◌-ℚ◌}
-use Rattle.dcx_math.specs.Sums.{rat_at}
 use Rattle.dcx_math.proofs.Orders.{≤ℚ_refl, zero-*ℚ, +ℚ_idr}
 use Rattle.dcx_frac.specs.declared.fraction.Frac.{Frac}
 use Rattle.dcx_frac.specs.Frac.{value}
@@ -26,7 +25,7 @@ use Rattle.dcx_lp_answer.specs.Right.{multiplier_at}
 use Rattle.dcx_std.specs.Answers.{IsRightForRowsAs}
 use Rattle.dcx_std.specs.Solutions.{linear_program, unknowns_at}
 use Rattle.dcx_std.proofs.ScaledProgram.{scaled_program}
-use Rattle.dcx_std.proofs.RightAnswers.{shown_of}
+use Rattle.dcx_std.proofs.RightAnswers.{one_sided, shown_of}
 use Rattle.dcx_unknowns.specs.Layout.{constraint_rows}
 use Rattle.dcx_unknowns.specs.Unknowns.{point_at}
 use Rattle.dcx_mapping.specs.Programs.{bound_row, multipliers_of}
@@ -38,9 +37,10 @@ use Rattle.dcx_postsolve.proofs.DualLaws.{right_multiplier}
 use Rattle.dcx_postsolve.proofs.Alike.{arrays_are_points}
 use Rattle.dcx_postsolve.proofs.Carrying.{alike_value, domain_alike}
 use Rattle.dcx_solved.specs.declared.solving.Solved.{Solved}
-use Rattle.dcx_solved.proofs.Counts.{counts_of, one_sided}
+use Rattle.dcx_solved.proofs.Counts.{counts_of}
 use Rattle.dcx_graph.specs.Program.{Program}
 use Rattle.dcx_graph.specs.Answers.{HasParts, TellUnknowns, IsPointRead}
+use Rattle.dcx_graph.proofs.Mapped.{numbered_same}
 use Rattle.dcx_graph.proofs.Slacks.{rows_enough, have_slacks, multiplier_is}
 use Rattle.dcx_iis.specs.Sets.{ConstraintSet, KeepsSet, IsImpossible}
 use Rattle.dcx_iis.specs.Steps.{kept_of, program_of_set}
@@ -113,9 +113,6 @@ module _ (p : Problem) (q : Program Frac) (limit : ℕ) (set : ConstraintSet) (s
       subst (IsSolution (linear_program (program_of_set p q set))) (fun_ext (λ i. ap (λ z. unknowns i +ℚ z) (zero-*ℚ (ray i)) ∙ +ℚ_idr (unknowns i)))
       ((right_rows status.Unbounded e).solution (whole (pos 0)) (≤ℚ_refl (whole (pos 0))))
 
-  numbered_same : (point : Pairs) (at : IsPointRead p q.kinds solved.answer.columns point) → numbered at.unknowns ≡ unknowns
-  numbered_same point at = fun_ext (λ u. ap (λ zs. rat_at zs u) at.are ∙ tells.same u)
-
   module _ (s : Setting) (is : IsReducedAt p s q) where
     -- some point keeps the set
     pub some_keeps : solved.answer.status ≢ status.Infeasible → KeepsSet p s set (point_at p.variables unknowns)
@@ -126,10 +123,10 @@ module _ (p : Problem) (q : Program Frac) (limit : ℕ) (set : ConstraintSet) (s
 
     -- the point that is read keeps it
     pub point_domain : solved.answer.status ≢ status.Infeasible → (point : Pairs) → IsPointRead p q.kinds solved.answer.columns point → IsDomainPoint p point
-    point_domain n point at = domain_read p at.unknowns point at.of_variables s (subst (λ u. IsInDomain p (point_at p.variables u)) (sym (numbered_same point at)) (some_keeps n).domain)
+    point_domain n point at = domain_read p at.unknowns point at.of_variables s (subst (λ u. IsInDomain p (point_at p.variables u)) (sym (numbered_same p (program_of_set p q set) solved.program solved.answer.columns point tells at)) (some_keeps n).domain)
 
     pub point_keeps : solved.answer.status ≢ status.Infeasible → (point : Pairs) → IsPointRead p q.kinds solved.answer.columns point → KeepsSet p s set (point_of p point)
-    point_keeps n point at = keeps_read p at.unknowns point at.of_variables s set (subst (λ u. KeepsSet p s set (point_at p.variables u)) (sym (numbered_same point at)) (some_keeps n))
+    point_keeps n point at = keeps_read p at.unknowns point at.of_variables s set (subst (λ u. KeepsSet p s set (point_at p.variables u)) (sym (numbered_same p (program_of_set p q set) solved.program solved.answer.columns point tells at)) (some_keeps n))
 
     -- ---- no point
     abbrev m : ℕ → ℚ

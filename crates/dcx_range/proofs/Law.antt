@@ -1,46 +1,37 @@
 -- Where a parameter moves and the last basis stays feasible, the problem is optimal, with a value on a line.
-use Rattle.std.proofs.Common.{◌≡◌, ℕ, zero, suc, ◌<◌, false, List, [], ◌∷◌, length, map, get_or, Option, Some, None, option_map, Result, Ok, Err, slice_get, refl, sym, ap, ap₂, ◌∙◌, subst, arith, pos}
+use Rattle.std.proofs.Common.{◌≡◌, ℕ, ◌<◌, false, List, [], ◌∷◌, length, map, get_or, Some, option_map, Ok, slice_get, refl, sym, ap, ap₂, ◌∙◌, subst, arith, pos}
 use Rattle.std.specs.List.{All}
-use Rattle.std.specs.Option.{option_and_then, unwrap_or}
-use Rattle.std.proofs.Math.Path.{fun_ext}
 use Rattle.std.proofs.lemmas.Bool.{or_parts}
 use Rattle.std.proofs.lemmas.List.{length-map}
-use Rattle.std.proofs.lemmas.Option.{none-some, same_Some, slice_get-map, get_or_from_slice_get, slice_get_within}
+use Rattle.std.proofs.lemmas.Option.{same_Some, slice_get-map, get_or_from_slice_get, slice_get_within}
 use Rattle.dcx_math.specs.Rational.{ℚ, whole, ◌+ℚ◌, ◌*ℚ◌}
 use Rattle.dcx_math.specs.Sums.{rat_sum_by}
 use Rattle.dcx_math.proofs.Orders.{+ℚ_idr, *ℚ-zero}
 use Rattle.dcx_frac.specs.declared.fraction.Frac.{Frac}
-use Rattle.dcx_frac.specs.declared.fraction.Passes.{Passes}
 use Rattle.dcx_frac.specs.Frac.{value}
 use Rattle.dcx_shape.specs.declared.shape.Sides.TheVariants.{Scalar}
 use Rattle.dcx_shape.specs.Shape.{sides_of}
 use Rattle.dcx_shape.specs.Sides.{entries_of}
-use Rattle.dcx_atom.specs.declared.array.Array.{Array}
-use Rattle.dcx_atom.specs.Arrays.{number_at}
-use Rattle.dcx_point.specs.Pairs.{Pairs, array_of}
+use Rattle.dcx_point.specs.Pairs.{Pairs}
 use Rattle.dcx_call.specs.declared.attribute.Parameter.{Parameter}
-use Rattle.dcx_call.specs.Values.{given_by}
 use Rattle.dcx_convex.specs.Rules.{Parametrized}
 use Rattle.dcx_tree.specs.declared.problem.Problem.{Problem}
 use Rattle.dcx_tree.specs.Meaning as meaning
-use Rattle.dcx_tree.specs.Meaning.{IsDpp, Fits, names_in, convex_problem, setting_of}
-use Rattle.dcx_linear.specs.declared.form.Form.{Form}
+use Rattle.dcx_tree.specs.Meaning.{IsDpp, Fits, convex_problem, setting_of}
 use Rattle.dcx_linear.specs.declared.form.FormTerm.{FormTerm}
 use Rattle.dcx_linear.specs.declared.row.Row.{Row}
 use Rattle.dcx_linear.specs.declared.param_form.ParamForm.{ParamForm}
 use Rattle.dcx_linear.specs.declared.param_term.ParamTerm.{ParamTerm}
-use Rattle.dcx_linear.specs.Parameters.{Parameters, array_entry}
+use Rattle.dcx_linear.specs.Parameters.{Parameters}
 use Rattle.dcx_linear.specs.ParamTerms.{HoldsTerms}
-use Rattle.dcx_linear.specs.ParamForms.{form_value, IsNamedForm, StandsFor}
-use Rattle.dcx_linear.specs.NamedForms.{IsNamedLinear}
+use Rattle.dcx_linear.specs.ParamForms.{form_value}
 use Rattle.dcx_linear.specs.FormTerms.{Unknowns}
 use Rattle.dcx_linear.specs.Forms.{linear_value}
-use Rattle.dcx_linear.specs.FormsAt.{frac_value, with_form, at_row, form_on_row, then_row, rows_at, form_at}
+use Rattle.dcx_linear.specs.FormsAt.{form_at}
 use Rattle.dcx_linear.specs.Rows as rows
 use Rattle.dcx_linear.specs.Rows.{RowAt}
-use Rattle.dcx_linear.proofs.SettingForms.{form_at-value}
 use Rattle.dcx_formed.proofs.Lists.{map-map}
-use Rattle.dcx_within.specs.Within.{IsKnown, IsKnownNumber, IsKnownTerm}
+use Rattle.dcx_within.specs.Within.{IsKnownNumber, IsKnownTerm}
 use Rattle.dcx_std.specs.Solutions as solutions
 use Rattle.dcx_std.specs.Solutions.{linear_program}
 use Rattle.dcx_std.proofs.Solutions.{unmapped_at}
@@ -52,7 +43,7 @@ use Rattle.dcx_graph.specs.AsLinear.{row_at, linear_at}
 use Rattle.dcx_graph.specs.Fixed.{IsKnownProgram, HaveArrays}
 use Rattle.dcx_graph.specs.Fixing.{FixGives}
 use Rattle.dcx_graph.specs.Correct.{ReducesAffine}
-use Rattle.dcx_graph.proofs.AtSetting.{form_listed}
+use Rattle.dcx_graph.proofs.AtSetting.{on_row, form_same, rows_same}
 use Rattle.dcx_graph.proofs.Correct.{affine_are_reductions}
 use Rattle.dcx_graph.proofs.Backward.{answers_carry_over}
 use Rattle.dcx_range.specs.Standing.{scales_unknown, scales_row}
@@ -79,59 +70,11 @@ nothing f (y ∷ ys) = ap₂ ◌+ℚ◌ (*ℚ-zero (f y)) (nothing f ys) ∙ +�
 at_zeros : {A : Type 0} (c : ℚ) (f : A → ℚ) (xs : List A) → c +ℚ rat_sum_by (λ x. f x *ℚ whole (pos 0)) xs ≡ c
 at_zeros c f xs = ap (λ z. c +ℚ z) (nothing f xs) ∙ +ℚ_idr c
 
--- ---- arrays
-number_there : (xs : List Frac) (j : ℕ) (x : Frac) → slice_get xs j ≡ Some x → number_at xs j ≡ value x
-number_there [] j x e = absurd (none-some x e)
-number_there (y ∷ xs) zero x e = ap value (same_Some y x e)
-number_there (y ∷ xs) (suc j) x e = number_there xs j x e
-
 module _ (p : Problem) (setting : Pairs) (arrays : HaveArrays p setting) where
-  abbrev names : List (List ℕ)
-  names = (names_in p).parameters
-
-  pub stands_for : StandsFor names setting (setting_of p setting)
-  stands_for position name entry x named found =
-      ap (λ n. given_by setting n entry) (get_or_from_slice_get names position name [] named) ∙ by (array_of setting name) found
-    where
-      by : (o : Option Array) → option_and_then (array_entry entry) o ≡ Some x → number_at (unwrap_or (option_map (λ (a : Array). a.entries) o) []) entry ≡ value x
-      by None e = absurd (none-some x e)
-      by (Some a) e = number_there a.entries entry x e
-
-  number_named : (c : ParamForm) → IsKnownNumber p c → IsNamedForm names c
-  number_named c h i d b = (h i d b).name
-
-  form_named : (f : Form ParamForm) → IsKnown p f → IsNamedLinear IsNamedForm names f
-  form_named f h = (number_named f.constant h.0, λ i d b. number_named (get_or f.terms i d).coefficient (h.1 i d b))
-
-  form_same : (f : Form ParamForm) (g : Form Frac) (u : Unknowns) → IsKnown p f → form_at setting f ≡ Ok g → linear_value frac_value g u (setting_of p setting) ≡ linear_value form_value f u (setting_of p setting)
-  form_same f g u known e = form_at-value names setting (setting_of p setting) stands_for u f g e (form_named f known) (form_listed p setting arrays f known)
-
-  on_row : (n : ℕ) (r : Result (Form Frac) Passes) (g : Form Frac) → at_row n r ≡ Ok g → r ≡ Ok g
-  on_row n (Ok f) g e = let d : f ≡ g = cc in ap Ok d
-  on_row n (Err passes) g e = absurd cc
-
-  row_same : (r : Row ParamForm) (g : Form Frac) → IsKnown p r.form → form_at setting r.form ≡ Ok g → row_at frac_value (setting_of p setting) (with_form r g) ≡ row_at form_value (setting_of p setting) r
-  row_same r g known e = ap (λ (f : Unknowns → ℚ). let a : RowAt = record { kind = r.kind; number = f } in a) (fun_ext (λ u. form_same r.form g u known e))
-
-  rows_same : (n : ℕ) (rs : List (Row ParamForm)) (us : List (Row Frac)) → ((k : ℕ) (r : Row ParamForm) → slice_get rs k ≡ Some r → IsKnown p r.form) → rows_at setting n rs ≡ Ok us →
-      map (row_at frac_value (setting_of p setting)) us ≡ map (row_at form_value (setting_of p setting)) rs
-  rows_same n [] us known e = let d : us ≡ [] = cc in ap (map (row_at frac_value (setting_of p setting))) d
-  rows_same n (r ∷ rs) us known e =
-      by (form_on_row setting n r.form) (rows_at setting (suc n) rs) (on_row n (form_at setting r.form)) (λ vs q. rows_same (suc n) rs vs (λ k. known (suc k)) q) e
-    where
-      by : (first : Result (Form Frac) (ℕ × Passes)) (rest : Result (List (Row Frac)) (ℕ × Passes)) → ((g : Form Frac) → first ≡ Ok g → form_at setting r.form ≡ Ok g) →
-          ((vs : List (Row Frac)) → rest ≡ Ok vs → map (row_at frac_value (setting_of p setting)) vs ≡ map (row_at form_value (setting_of p setting)) rs) →
-          then_row first (λ f. then_row rest (λ vs. Ok (with_form r f ∷ vs))) ≡ Ok us → map (row_at frac_value (setting_of p setting)) us ≡ map (row_at form_value (setting_of p setting)) (r ∷ rs)
-      by (Ok g) (Ok vs) f h q =
-          let d : us ≡ with_form r g ∷ vs = cc in
-          ap (map (row_at frac_value (setting_of p setting))) d ∙ ap₂ ◌∷◌ (row_same r g (known 0 r refl) (f g refl)) (h vs refl)
-      by (Ok g) (Err stop) f h q = absurd cc
-      by (Err stop) rest f h q = absurd cc
-
   -- ---- the program at the setting
   module _ (q : Program ParamForm) (known : IsKnownProgram p q) (r : Program Frac) (put : FixGives setting q (Ok r)) where
     pub rows_are : (linear_program (rows_of r)).rows ≡ map (row_at form_value (setting_of p setting)) q.rows
-    rows_are = rows_same 0 q.rows r.rows known.rows put.0.0
+    rows_are = rows_same p setting arrays (setting_of p setting) 0 q.rows r.rows known.rows put.0.0
 
     pub rows_count : length r.rows ≡ length q.rows
     rows_count = sym (length-map r.rows solutions.row_at) ∙ ap length rows_are ∙ length-map q.rows (row_at form_value (setting_of p setting))
@@ -200,7 +143,7 @@ module _ (p : Problem) (setting : Pairs) (arrays : HaveArrays p setting) where
                 ap (λ (z : RowAt). z.number x) (sym n.2) ∙ row_moves i n.0 n.1 x ∙ ap (λ y. y +ℚ coefficient_at k q.rows i *ℚ moved (setting_of p setting) t k differ)
                 (ap (λ (z : Row ParamForm). linear_value form_value z.form x (setting_of p setting)) same ∙ ap (λ (z : RowAt). z.number x) o.2),
           );
-      objective = λ x. objective_moves x ∙ ap (λ y. y +ℚ value (coefficient_of k q.objective.constant) *ℚ moved (setting_of p setting) t k differ) (sym (form_same q.objective r.objective x known.objective (on_row _ (form_at setting q.objective) r.objective put.0.1)));
+      objective = λ x. objective_moves x ∙ ap (λ y. y +ℚ value (coefficient_of k q.objective.constant) *ℚ moved (setting_of p setting) t k differ) (sym (form_same p setting arrays (setting_of p setting) q.objective r.objective x known.objective (on_row _ (form_at setting q.objective) r.objective put.0.1)));
     }
 
     -- an optimal answer of the moved program is one of the problem

@@ -9,7 +9,6 @@ pub mod Along
 pub mod Stays
 pub mod Moves
 pub mod Shifted
-pub mod Feasible
 pub mod Optimal
 pub mod Law
 pub mod Exact

@@ -1,6 +1,6 @@
 -- Where the constants of rows move along a line, an answer that is optimal stays so as long as its basis stays feasible: with its
 -- multipliers, and with a value on a line.
-use Rattle.std.proofs.Common.{◌≡◌, ℕ, Bool, true, false, [], ◌∷◌, map, sym, ap, ap₂, ◌∙◌, subst, pos, arith}
+use Rattle.std.proofs.Common.{◌≡◌, ℕ, Bool, true, false, [], ◌∷◌, map, sym, ap, ap₂, ◌∙◌, subst, pos}
 use Rattle.std.proofs.lemmas.List.{length-map}
 use Rattle.std.proofs.lemmas.Option.{slice_get_within}
 use Rattle.dcx_math.specs.Rational.{ℚ, whole, ◌+ℚ◌, ◌-ℚ◌, ◌*ℚ◌, neg_ℚ}
@@ -25,10 +25,10 @@ use Rattle.dcx_simplex.specs.Whole.{objective_row, RunEnds}
 use Rattle.dcx_simplex.specs.declared.run.LpEnd.TheVariants as lp
 use Rattle.dcx_simplex.specs.Reading.{IsReading}
 use Rattle.dcx_simplex.proofs.Starts.{starts}
-use Rattle.dcx_simplex.proofs.Chains.{IsKin}
 use Rattle.dcx_simplex.proofs.EndFacts.{IsEnded}
 use Rattle.dcx_simplex.proofs.Limits.{begun}
 use Rattle.dcx_simplex.proofs.PhaseLaws.{stays_ready, stays_kin}
+use Rattle.dcx_simplex.proofs.EndLaws.{kin_both}
 use Rattle.dcx_simplex.proofs.Ended.{right_optimal}
 use Rattle.dcx_simplex.proofs.Bounds.{lead_some_of}
 use Rattle.dcx_std.specs.GivenRows.{GivenRows}
@@ -37,14 +37,13 @@ use Rattle.dcx_std.specs.ScaledProgram.{IsScaledProgram}
 use Rattle.dcx_std.specs.Solutions.{form_number, row_at, linear_program, unknowns_at, HasKinds}
 use Rattle.dcx_std.specs.Answers.{IsRightForRowsAs}
 use Rattle.dcx_std.proofs.ScaledProgram.{scaled_program}
-use Rattle.dcx_std.proofs.Solutions.{RowFacts, mapped_at, unmapped_at, facts_of, cost_is}
+use Rattle.dcx_std.proofs.Solutions.{RowFacts, mapped_at, unmapped_at, facts_of, moved_holds, kinds_hold, cost_is}
 use Rattle.dcx_std.proofs.RightAnswers.{shown_of}
 use Rattle.dcx_range.proofs.Directions.{rate}
 use Rattle.dcx_range.proofs.OwnSums.{right_change, rate_is}
 use Rattle.dcx_range.proofs.Along.{moved, moved_row, moved_cost}
 use Rattle.dcx_range.proofs.Stays.{IsKept, moved_low, moved_none}
 use Rattle.dcx_range.proofs.Shifted.{IsMoved, source, moved_optimal}
-use Rattle.dcx_range.proofs.Feasible.{row_holds, kinds_hold}
 
 pub both_turned : (t : Bool) (f k c d : ℚ) → turned_if t (f *ℚ neg_ℚ k) +ℚ d *ℚ turned_if t (f *ℚ neg_ℚ c) ≡ turned_if t (f *ℚ neg_ℚ (k +ℚ c *ℚ d))
 both_turned true f k c d = ring (f ∷ k ∷ c ∷ d ∷ []) (search reads depth 30 fits 4000) tt
@@ -52,15 +51,6 @@ both_turned false f k c d = ring (f ∷ k ∷ c ∷ d ∷ []) (search reads dept
 
 on_line : (v d r b : ℚ) → (v +ℚ d *ℚ r) +ℚ b *ℚ d ≡ v +ℚ (r +ℚ b) *ℚ d
 on_line v d r b = ring (v ∷ d ∷ r ∷ b ∷ []) (search reads depth 30) tt
-
--- what phases keep one after the other
-kin_both : (t u v : Table) → IsKin t u → IsKin u v → IsKin t v
-kin_both t u v a b = record {
-  rows = b.rows ∙ a.rows;
-  columns = b.columns ∙ a.columns;
-  plain = b.plain ∙ a.plain;
-  last = λ k h l. let r = a.rows in b.last k (omega (arith, r, h)) (omega (arith, r, l)) ∙ a.last k h l;
-}
 
 module _ (rows : GivenRows) (q : Program) (known : HasKinds rows) (made : IsMade rows q) (limit n : ℕ) (u : Table) (run : RunEnds limit (first_tableau q) u (lp.Optimal n)) where
   pub ended : IsEnded (first_tableau q).rows (first_tableau q) u
@@ -92,13 +82,13 @@ module _ (rows : GivenRows) (q : Program) (known : HasKinds rows) (made : IsMade
 
       stands : (i : ℕ) (f : RowFacts rows q known scaled i) → StandsTo f.row.kind (form_number f.row.form (unknowns_at q.columns (moved q u ended (right_change q u ended a reading c) a reading d)) +ℚ c i *ℚ d)
       stands i f =
-          row_holds rows q known scaled (moved q u ended (right_change q u ended a reading c) a reading d) (moved_low q u ended (right_change q u ended a reading c) d a reading keeps) (moved_none q u ended (right_change q u ended a reading c) d a reading keeps)
+          moved_holds rows q known scaled (moved q u ended (right_change q u ended a reading c) a reading d) (moved_low q u ended (right_change q u ended a reading c) d a reading keeps) (moved_none q u ended (right_change q u ended a reading c) d a reading keeps)
           i f (c i *ℚ d) (row_is i f)
 
       solves : rows_of.IsSolution other (unknowns_at q.columns (moved q u ended (right_change q u ended a reading c) a reading d))
       solves = record {
         kinds = subst (λ ks. AreOfKinds ks (unknowns_at q.columns (moved q u ended (right_change q u ended a reading c) a reading d))) (sym is.kinds)
-            (kinds_hold rows q known scaled (moved q u ended (right_change q u ended a reading c) a reading d) (moved_low q u ended (right_change q u ended a reading c) d a reading keeps) (moved_none q u ended (right_change q u ended a reading c) d a reading keeps));
+            (kinds_hold rows q known scaled (moved q u ended (right_change q u ended a reading c) a reading d) (moved_low q u ended (right_change q u ended a reading c) d a reading keeps));
         rows = λ i s e.
             let r = source (linear_program rows) other c b d is i s e in
             let o = unmapped_at row_at rows.rows i r.0 r.1 in

@@ -10,9 +10,6 @@ use Rattle.dcx_tree.specs.declared.problem.Problem.{Problem}
 use Rattle.dcx_tree.specs.Meaning.{Fits, IsFitting, setting_of}
 use Rattle.dcx_linear.specs.declared.param_form.ParamForm.{ParamForm}
 use Rattle.dcx_linear.specs.Parameters.{Parameters}
-use Rattle.dcx_linear.specs.declared.form.Form.{Form}
-use Rattle.dcx_linear.specs.declared.row.Row.{Row}
-use Rattle.dcx_linear.specs.declared.row.UnknownKind.{UnknownKind}
 use Rattle.dcx_tab.specs.declared.rows.IntRow.{IntRow}
 use Rattle.dcx_tab.specs.declared.rows.ColumnKind.{ColumnKind}
 use Rattle.dcx_tab.specs.First.{first_tableau}
@@ -66,10 +63,6 @@ small_at c i j l =
     let size = length-rows_of m in
     let height = c.height in
     subst (λ (row : Line). unsigned_abs (entry row j) < 2 ^ 127) (sym (row_at-rows_of m i (omega (arith, l, size)))) (c.small i (omega (arith, l, size, height)) j)
-
--- the rows that a program lends are its own
-pub given_rows : (q : Program Frac) (kinds : List UnknownKind) (rows : List (Row Frac)) (objective : Form Frac) → kinds ≡ q.kinds → rows ≡ q.rows → objective ≡ q.objective → given kinds rows objective ≡ rows_of q
-given_rows q kinds rows objective e f g = λ i. given (e i) (f i) (g i)
 
 -- ---- how the run ended, by the status that is read
 module _ (limit : ℕ) (t : Table) (rows : List IntRow) (kinds : List ColumnKind) (u : Table) (a : LpAnswer) where

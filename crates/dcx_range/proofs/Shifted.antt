@@ -1,15 +1,16 @@
 -- A linear program whose rows and objective move by constants: its solutions, and the multipliers that bound it.
-use Rattle.std.proofs.Common.{◌≡◌, ℕ, zero, suc, ◌+◌, List, [], ◌∷◌, length, Some, refl, sym, ap, ap₂, ◌∙◌, subst, arith, pos}
+use Rattle.std.proofs.Common.{◌≡◌, ℕ, zero, suc, ◌+◌, List, [], ◌∷◌, length, Some, sym, ap, ap₂, ◌∙◌, subst, arith, pos}
 use Rattle.std.specs.Prelude.{slice_get}
 use Rattle.std.proofs.lemmas.Option.{slice_get_within}
 use Rattle.dcx_math.specs.Rational.{ℚ, whole, ◌+ℚ◌, ◌*ℚ◌, ◌≤ℚ◌}
 use Rattle.dcx_math.specs.Sums.{rat_sum_below}
 use Rattle.dcx_math.proofs.Orders.{linear}
 use Rattle.dcx_math.proofs.Ring.{ring, reads}
-use Rattle.dcx_math.proofs.Sums.{rat_sum_below-first, rat_sum_below-same, rat_sum_below-+ℚ, rat_sum_below-*ℚ_right}
+use Rattle.dcx_math.proofs.Sums.{rat_sum_below-same, rat_sum_below-+ℚ, rat_sum_below-*ℚ_right}
 use Rattle.dcx_linear.specs.FormTerms.{Unknowns}
-use Rattle.dcx_linear.specs.Rows.{RowAt, LinearProgram, AreOfKinds, IsSolution, IsOptimal, combined_from, combined}
+use Rattle.dcx_linear.specs.Rows.{RowAt, LinearProgram, AreOfKinds, IsSolution, IsOptimal, combined}
 use Rattle.dcx_std.proofs.Solutions.{at_place}
+use Rattle.dcx_std.proofs.RightAnswers.{combined_sum}
 
 -- the number of row k, and 0 past the end
 abbrev pub number_in : List RowAt → Unknowns → ℕ → ℚ
@@ -21,14 +22,6 @@ number_there : (rs : List RowAt) (x : Unknowns) (k : ℕ) (r : RowAt) → slice_
 number_there [] x k r e = cc
 number_there (s ∷ rs) x zero r e = let d : r ≡ s = cc in ap (λ (z : RowAt). z.number x) d
 number_there (s ∷ rs) x (suc k) r e = number_there rs x k r e
-
-combined_sum : (m : ℕ → ℚ) (i : ℕ) (rs : List RowAt) (x : Unknowns) (f : ℕ → ℚ) → ((k : ℕ) (r : RowAt) → slice_get rs k ≡ Some r → r.number x ≡ f k) → combined_from m i rs x ≡ rat_sum_below (length rs) (λ k. m (i + k) *ℚ f k)
-combined_sum m i [] x f h = refl
-combined_sum m i (r ∷ rs) x f h =
-    let z : i ≡ i + 0 = omega arith in
-    ap₂ (λ a b. a +ℚ b) (ap₂ ◌*ℚ◌ (ap m z) (h 0 r refl))
-    (combined_sum m (suc i) rs x (λ k. f (suc k)) (λ k s e. h (suc k) s e) ∙ rat_sum_below-same (length rs) _ (λ k. m (i + suc k) *ℚ f (suc k)) (λ k l. let e : suc i + k ≡ i + suc k = omega arith in ap (λ j. m j *ℚ f (suc k)) e))
-    ∙ sym (rat_sum_below-first (length rs) (λ k. m (i + k) *ℚ f k))
 
 -- the rows of the second program are those of the first, each moved by t times its number, and so is the objective
 pub record IsMoved (l n : LinearProgram) (c : ℕ → ℚ) (b t : ℚ) : Type 0 where

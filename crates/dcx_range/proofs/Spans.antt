@@ -57,6 +57,7 @@ use Rattle.dcx_graph.specs.AsLinear.{linear_at}
 use Rattle.dcx_graph.specs.Fixed.{IsKnownProgram}
 use Rattle.dcx_graph.specs.Fixing.{FixGives}
 use Rattle.dcx_graph.specs.Correct.{ReducesAffine}
+use Rattle.dcx_graph.proofs.AtSetting.{stands_for}
 use Rattle.dcx_graph.proofs.Correct.{affine_are_known}
 use Rattle.dcx_graph.proofs.Entries.{all_at}
 use Rattle.dcx_range.specs.declared.rates.Rate.{Rate}
@@ -77,7 +78,7 @@ use Rattle.dcx_range.proofs.Along as along
 use Rattle.dcx_range.proofs.Stays.{right, IsKept, kept, moved_low, moved_none}
 use Rattle.dcx_range.proofs.Moves.{moved}
 use Rattle.dcx_range.proofs.Optimal.{both_turned, ended, scaled, answer, stays_optimal}
-use Rattle.dcx_range.proofs.Law.{coefficient_at, coefficient_is, stands_for, rows_count, constant_same, constant_moves, is_moved, carried}
+use Rattle.dcx_range.proofs.Law.{coefficient_at, coefficient_is, rows_count, constant_same, constant_moves, is_moved, carried}
 
 -- ---- numbers
 on_line : (n s t v a : ℚ) → s ≡ t → n +ℚ t *ℚ (v -ℚ a) ≡ (n -ℚ s *ℚ a) +ℚ s *ℚ v
@@ -111,7 +112,7 @@ module _ (p : Problem) (setting : Pairs) (name : List ℕ) (m : Program ParamFor
       slice_get-map (λ (q : Parameter). q.name) p.parameters n.at ∙ ap (option_map (λ (q : Parameter). q.name)) n.named.there ∙ ap Some named_so
 
   at_value : s n.at 0 ≡ value at
-  at_value = stands_for p setting fits.shaped n.at name 0 at named at_is
+  at_value = stands_for p setting n.at name 0 at named at_is
 
   given_value : given_by setting n.parameter.name 0 ≡ value at
   given_value = ap (λ z. given_by setting z 0) (named_so ∙ sym (get_or_from_slice_get (names_in p).parameters n.at name [] named)) ∙ at_value

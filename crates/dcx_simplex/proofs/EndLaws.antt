@@ -19,7 +19,8 @@ use Rattle.dcx_simplex.proofs.Solutions.{basic_solution, ray}
 use Rattle.dcx_simplex.proofs.Limits.{ready_first, driven_first, kin_first, sum_row_after, begun}
 use Rattle.dcx_simplex.proofs.Right.{bounded, least, no_point}
 
-kin_both : (t u v : Table) → IsKin t u → IsKin u v → IsKin t v
+-- what phases keep one after the other
+pub kin_both : (t u v : Table) → IsKin t u → IsKin u v → IsKin t v
 kin_both t u v a b = record {
   rows = b.rows ∙ a.rows;
   columns = b.columns ∙ a.columns;

@@ -1,12 +1,9 @@
--- What the answer of a run has: a note of each row and a number of each column, and the columns of an unknown are one-sided.
-use Rattle.std.proofs.Common.{◌≡◌, length, map, sym, ◌∙◌}
-use Rattle.dcx_frac.specs.Frac.{value}
+-- What the answer of a run has: a note of each row, and a number of each column.
+use Rattle.std.proofs.Common.{◌≡◌, length, sym, ◌∙◌}
 use Rattle.dcx_tab.specs.declared.program.Program.{Program}
 use Rattle.dcx_tab.specs.Table.{Table}
 use Rattle.dcx_lp_answer.specs.declared.answer.LpAnswer.{LpAnswer}
-use Rattle.dcx_lp_answer.specs.declared.answer.LpStatus.{LpStatus}
 use Rattle.dcx_lp_answer.specs.declared.answer.LpStatus.TheVariants as status
-use Rattle.dcx_lp_answer.specs.Right.{IsOneSided, IsRightAs}
 use Rattle.dcx_simplex.specs.declared.run.LpEnd.{LpEnd}
 use Rattle.dcx_simplex.specs.declared.run.LpEnd.TheVariants as ends
 use Rattle.dcx_simplex.specs.Reading.{IsRead}
@@ -24,9 +21,3 @@ counts_of q t (ends.Infeasible n) a h = record { rows = h.0.notes; columns = h.0
 counts_of q t (ends.Unbounded n c) a h = record { rows = h.0.notes; columns = h.0.columns; ray = λ e. h.1.ray }
 counts_of q t (ends.Wide n r c) a h = absurd h
 counts_of q t (ends.PivotLimit n) a h = absurd h
-
--- the columns of an answer that is right
-pub one_sided : (t : LpStatus) (q : Program) (a : LpAnswer) → IsRightAs t q a → IsOneSided q.columns (map value a.columns)
-one_sided status.Optimal q a r = r.one_sided
-one_sided status.Infeasible q a r = r.one_sided
-one_sided status.Unbounded q a r = r.one_sided

@@ -18,7 +18,7 @@ use Rattle.dcx_lp_answer.specs.declared.answer.LpStatus.{LpStatus}
 use Rattle.dcx_lp_answer.specs.declared.answer.LpStatus.TheVariants as status
 use Rattle.dcx_lp_answer.specs.declared.answer.LpAnswer.{LpAnswer}
 use Rattle.dcx_lp_answer.specs.Notes.{numbers}
-use Rattle.dcx_lp_answer.specs.Right.{cost_at_columns, form_at, multiplier_at, combined_rows, HasSigns, IsAssignment, IsOptimalAnswer, IsInfeasibleAnswer, IsUnboundedAnswer, IsRightAs, IsRight}
+use Rattle.dcx_lp_answer.specs.Right.{cost_at_columns, form_at, multiplier_at, combined_rows, IsOneSided, HasSigns, IsAssignment, IsOptimalAnswer, IsInfeasibleAnswer, IsUnboundedAnswer, IsRightAs, IsRight}
 use Rattle.dcx_std.specs.GivenRows.{GivenRows}
 use Rattle.dcx_std.specs.ScaledProgram.{IsScaledProgram}
 use Rattle.dcx_std.specs.Solutions.{form_number, row_at, linear_program, unknowns_at, HasKinds}
@@ -26,12 +26,18 @@ use Rattle.dcx_std.specs.Answers.{IsRightForRowsAs, IsRightForRows}
 use Rattle.dcx_std.proofs.Assignments.{column_value, assignment, assigned_at, value_nonnegative, assigned_unknown, unknowns-along}
 use Rattle.dcx_std.proofs.Solutions.{unmapped_at, at_place, facts_of, narrow, form_same, artificial_none, slack_none, inequality_there, solution_of, cost_is, form_of}
 
+-- the columns of an answer that is right are one-sided
+pub one_sided : (t : LpStatus) (q : Program) (a : LpAnswer) → IsRightAs t q a → IsOneSided q.columns (numbers a.columns)
+one_sided status.Optimal q a r = r.one_sided
+one_sided status.Infeasible q a r = r.one_sided
+one_sided status.Unbounded q a r = r.one_sided
+
 -- unknowns that agree everywhere are the same
 same_unknowns : (x y : Unknowns) → ((u : ℕ) → x u ≡ y u) → x ≡ y
 same_unknowns x y e = λ i u. e u i
 
 -- the rows with their multipliers as a sum over their numbers
-combined_sum : (m : ℕ → ℚ) (i : ℕ) (rs : List RowAt) (x : Unknowns) (f : ℕ → ℚ) → ((k : ℕ) (r : RowAt) → slice_get rs k ≡ Some r → r.number x ≡ f k) → combined_from m i rs x ≡ rat_sum_below (length rs) (λ k. m (i + k) *ℚ f k)
+pub combined_sum : (m : ℕ → ℚ) (i : ℕ) (rs : List RowAt) (x : Unknowns) (f : ℕ → ℚ) → ((k : ℕ) (r : RowAt) → slice_get rs k ≡ Some r → r.number x ≡ f k) → combined_from m i rs x ≡ rat_sum_below (length rs) (λ k. m (i + k) *ℚ f k)
 combined_sum m i [] x f h = refl
 combined_sum m i (r ∷ rs) x f h =
     let z : i ≡ i + 0 = omega arith in

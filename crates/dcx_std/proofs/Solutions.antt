@@ -73,12 +73,15 @@ excess_none : (f e s : ℚ) → whole (pos 0) <ℚ f → s ≡ whole (pos 0) →
 excess_none f e s p h g =
     *ℚ_cancel f (λ z. <ℚ-≢ p (sym z)) (sym (+ℚ_idr (f *ℚ e)) ∙ ap (λ q. f *ℚ e +ℚ q) (sym h) ∙ g ∙ sym (*ℚ-zero f))
 
--- a row that solves: its factor times its form, and its slack, are 0
-solved : (t : Bool) (f l c s a r d : ℚ) → d ≡ sign t *ℚ (f *ℚ l +ℚ s) +ℚ a → a ≡ whole (pos 0) → r ≡ turned_if t (f *ℚ neg_ℚ c) → d ≡ r → f *ℚ (c +ℚ l) +ℚ s ≡ whole (pos 0)
-solved t f l c s a r d sum none right same =
-    let e : sign t *ℚ (f *ℚ l +ℚ s) ≡ sign t *ℚ (f *ℚ neg_ℚ c) = sym (+ℚ_idr _) ∙ ap (λ q. sign t *ℚ (f *ℚ l +ℚ s) +ℚ q) (sym none) ∙ sym sum ∙ same ∙ right ∙ turned_is t (f *ℚ neg_ℚ c) in
+-- a row that solves: its factor times its form, with this constant, and its slack, are 0
+solved : (t : Bool) (f l c s a d : ℚ) → d ≡ sign t *ℚ (f *ℚ l +ℚ s) +ℚ a → a ≡ whole (pos 0) → d ≡ turned_if t (f *ℚ neg_ℚ c) → f *ℚ (c +ℚ l) +ℚ s ≡ whole (pos 0)
+solved t f l c s a d sum none right =
+    let e : sign t *ℚ (f *ℚ l +ℚ s) ≡ sign t *ℚ (f *ℚ neg_ℚ c) = sym (+ℚ_idr _) ∙ ap (λ q. sign t *ℚ (f *ℚ l +ℚ s) +ℚ q) (sym none) ∙ sym sum ∙ right ∙ turned_is t (f *ℚ neg_ℚ c) in
     let g : f *ℚ l +ℚ s ≡ f *ℚ neg_ℚ c = sign_square t _ _ e in
     linear_eq (f ∷ l ∷ c ∷ s ∷ []) g (search reads depth 30) tt
+
+swapped : (a c l : ℚ) → (a +ℚ l) +ℚ c ≡ (a +ℚ c) +ℚ l
+swapped a c l = ring (a ∷ c ∷ l ∷ []) (search reads depth 30) tt
 
 turned_product : (f l c : ℚ) → (c +ℚ l) *ℚ f ≡ neg_ℚ ((neg_ℚ (whole (pos 1)) *ℚ (f *ℚ l +ℚ whole (pos 0)) +ℚ whole (pos 0)) -ℚ neg_ℚ (whole (pos 1)) *ℚ (f *ℚ neg_ℚ c))
 turned_product f l c = ring (f ∷ l ∷ c ∷ []) (search reads depth 30) tt
@@ -227,23 +230,30 @@ module _ (rows : GivenRows) (q : Program) (known : HasKinds rows) (s : IsScaledP
       by (Artificial r) e = (r, e)
 
   -- ---- solutions
+  -- a row whose constant moves by c holds at the unknowns of columns at least 0 that give it its right side, where artificials are 0
+  pub moved_holds : (zs : List ℚ) → ((j : ℕ) → j < length q.columns → whole (pos 0) ≤ℚ rat_at zs j) → ((j : ℕ) → plain_count q.columns ≤ j → j < length q.columns → rat_at zs j ≡ whole (pos 0)) →
+      (i : ℕ) (h : RowFacts i) (c : ℚ) → row_at_columns q i zs ≡ turned_if h.ints.negated (value h.ints.factor *ℚ neg_ℚ (value h.row.form.constant +ℚ c)) →
+      StandsTo h.row.kind (form_number h.row.form (unknowns_at q.columns zs) +ℚ c)
+  moved_holds zs low none i h c right =
+      let x = unknowns_at q.columns zs in
+      let artificials = artificial_none zs i (λ j k m e. none j (behind j k m e) m) in
+      let left = solved h.ints.negated (value h.ints.factor) (linear_sum h.row.form x) (value h.row.form.constant +ℚ c) (slack_at q.columns zs i) (artificial_at q.columns zs i) (row_at_columns q i zs) (row_value i h zs) artificials right in
+      by h.row.kind refl left
+    where
+      number : form_number h.row.form (unknowns_at q.columns zs) +ℚ c ≡ (value h.row.form.constant +ℚ c) +ℚ linear_sum h.row.form (unknowns_at q.columns zs)
+      number = ap (λ y. y +ℚ c) (form_is h.row.form (unknowns_at q.columns zs) h.scaled.sparse (narrow i h)) ∙ swapped (value h.row.form.constant) c (linear_sum h.row.form (unknowns_at q.columns zs))
+
+      by : (k : RowKind) → h.row.kind ≡ k → value h.ints.factor *ℚ ((value h.row.form.constant +ℚ c) +ℚ linear_sum h.row.form (unknowns_at q.columns zs)) +ℚ slack_at q.columns zs i ≡ whole (pos 0) → StandsTo k (form_number h.row.form (unknowns_at q.columns zs) +ℚ c)
+      by AtMost e g = subst (λ y. y ≤ℚ whole (pos 0)) (sym number) (excess_low (value h.ints.factor) _ (slack_at q.columns zs i) h.form.factor (slack_nonnegative zs i low) g)
+      by Equal e g = number ∙ excess_none (value h.ints.factor) _ (slack_at q.columns zs i) h.form.factor (slack_none zs i (λ j l k. absurd (no_slack i h e j k))) g
+
   -- a row that the columns solve holds at the unknowns
   row_holds : (i : ℕ) (h : RowFacts i) (zs : List ℚ) → IsSolution q zs → StandsTo h.row.kind (form_number h.row.form (unknowns_at q.columns zs))
   row_holds i h zs solution =
-      let x = unknowns_at q.columns zs in
-      let f = value h.ints.factor in
-      let l = slice_get_within q.rows i h.ints h.ints_is in
-      let right : whole (right_side_at q.rows i) ≡ turned_if h.ints.negated (f *ℚ neg_ℚ (value h.row.form.constant)) = ap whole (mapped_at right_of q.rows i h.ints (pos 0) h.ints_is) ∙ h.scaled.right in
-      let none = artificial_none zs i (λ j k m e. solution.artificial j (behind j k m e) m) in
-      let none_left : f *ℚ (value h.row.form.constant +ℚ linear_sum h.row.form x) +ℚ slack_at q.columns zs i ≡ whole (pos 0) =
-      solved h.ints.negated f (linear_sum h.row.form x) (value h.row.form.constant) (slack_at q.columns zs i) (artificial_at q.columns zs i) (whole (right_side_at q.rows i)) (row_at_columns q i zs) (row_value i h zs) none right (solution.rows i l) in
-      by h.row.kind refl none_left
-    where
-      by : (k : RowKind) → h.row.kind ≡ k → value h.ints.factor *ℚ (value h.row.form.constant +ℚ linear_sum h.row.form (unknowns_at q.columns zs)) +ℚ slack_at q.columns zs i ≡ whole (pos 0) → StandsTo k (form_number h.row.form (unknowns_at q.columns zs))
-      by AtMost e g = subst (λ y. y ≤ℚ whole (pos 0)) (sym (form_is h.row.form (unknowns_at q.columns zs) h.scaled.sparse (narrow i h))) (excess_low (value h.ints.factor) _ (slack_at q.columns zs i) h.form.factor (slack_nonnegative zs i solution.nonnegative) g)
-      by Equal e g =
-          form_is h.row.form (unknowns_at q.columns zs) h.scaled.sparse (narrow i h)
-          ∙ excess_none (value h.ints.factor) _ (slack_at q.columns zs i) h.form.factor (slack_none zs i (λ j l k. absurd (no_slack i h e j k))) g
+      let right : whole (right_side_at q.rows i) ≡ turned_if h.ints.negated (value h.ints.factor *ℚ neg_ℚ (value h.row.form.constant)) = ap whole (mapped_at right_of q.rows i h.ints (pos 0) h.ints_is) ∙ h.scaled.right in
+      subst (StandsTo h.row.kind) (+ℚ_idr (form_number h.row.form (unknowns_at q.columns zs)))
+      (moved_holds zs solution.nonnegative solution.artificial i h (whole (pos 0))
+      (solution.rows i (slice_get_within q.rows i h.ints h.ints_is) ∙ right ∙ ap (λ y. turned_if h.ints.negated (value h.ints.factor *ℚ neg_ℚ y)) (sym (+ℚ_idr (value h.row.form.constant)))))
 
   -- ---- the unknowns are of their kinds
   allows : (j v u : ℕ) (minus : Bool) (kind : UnknownKind) → j < length q.columns → kind_at q.columns j ≡ Unknown v minus → v ≡ u → slice_get rows.kinds u ≡ Some kind → Allows kind minus
@@ -293,7 +303,7 @@ module _ (rows : GivenRows) (q : Program) (known : HasKinds rows) (s : IsScaledP
     is_of_kind Nonneg d = rat_sum_below-nonnegative (length q.columns) part (part_above d)
     is_of_kind Nonpos d = subst (λ y. unknowns_at q.columns zs u ≤ℚ y) (rat_sum_below-zero (length q.columns)) (rat_sum_below-monotone (length q.columns) part (λ j. whole (pos 0)) (part_below d))
 
-  kinds_hold : (zs : List ℚ) → ((j : ℕ) → j < length q.columns → whole (pos 0) ≤ℚ rat_at zs j) → AreOfKinds rows.kinds (unknowns_at q.columns zs)
+  pub kinds_hold : (zs : List ℚ) → ((j : ℕ) → j < length q.columns → whole (pos 0) ≤ℚ rat_at zs j) → AreOfKinds rows.kinds (unknowns_at q.columns zs)
   kinds_hold zs low u kind e = is_of_kind zs u low kind e
 
   -- ---- solutions of the program

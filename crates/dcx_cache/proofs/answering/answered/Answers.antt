@@ -1,8 +1,8 @@
 use Rattle.std.proofs.Common.{sym, subst}
 use Rattle.dcx_solved.specs.Solved.{IsSolved, Stops as RowsStop}
+use Rattle.dcx_graph.proofs.Mapped.{given_rows}
 use Rattle.dcx_cache.specs.Answers.{Stops}
 use Rattle.dcx_cache.proofs.Answered.{is_answered}
-use Rattle.dcx_cache.proofs.Given.{given_rows}
 use Rattle.dcx_cache.proofs.Stopped.{run_stops, reading_stops}
 use Rattle.dcx_cache.proofs.answering.answered.Goals as goal
 

@@ -2,9 +2,8 @@
 use Rattle.std.proofs.Common.{Option, Some, None, subst}
 use Rattle.dcx_std.specs.GivenRows.{given}
 use Rattle.dcx_solved.specs.declared.solving.Solved.{Solved}
-use Rattle.dcx_graph.proofs.Mapped.{known_of}
+use Rattle.dcx_graph.proofs.Mapped.{given_rows, known_of}
 use Rattle.dcx_cache.specs.Warm.{SolvesWarm}
-use Rattle.dcx_cache.proofs.Given.{given_rows}
 use Rattle.dcx_cache.proofs.WarmRuns.{warm_is_answered, never_solved, reads_result}
 use Rattle.dcx_cache.proofs.rewarming.answered_warm.Goals as goal
 

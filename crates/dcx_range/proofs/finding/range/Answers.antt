@@ -18,11 +18,11 @@ use Rattle.dcx_solved.specs.Solved.{IsSolved, Stops}
 use Rattle.dcx_graph.specs.Program.{Program}
 use Rattle.dcx_graph.specs.Answers.{rows_of}
 use Rattle.dcx_graph.specs.Fixing.{FixGives}
-use Rattle.dcx_graph.proofs.Mapped.{known_of}
+use Rattle.dcx_graph.proofs.Mapped.{given_rows, known_of}
 use Rattle.dcx_range.specs.declared.asked.Asked.{Asked}
 use Rattle.dcx_range.specs.Parameters.{IsRanged}
 use Rattle.dcx_range.specs.Range.{IsMapOf, IsAsked}
-use Rattle.dcx_range.proofs.Ranges.{given_rows, of_run, has_few, rows_enough, shown, told_infeasible, told_unbounded, told_result, holds_result}
+use Rattle.dcx_range.proofs.Ranges.{of_run, has_few, rows_enough, shown, told_infeasible, told_unbounded, told_result, holds_result}
 use Rattle.dcx_range.proofs.finding.range.Goals as goal
 
 -- where the run of the rows that the program lends is optimal, its tableau can be read
