@@ -6,11 +6,12 @@ ghost use Rattle.dcx_frac.specs.Frac.{value};
 ghost use Rattle.dcx_atom.specs.Entrywise.{added_product};
 ghost use Rattle.dcx_range.specs.Operations.{change_at, greater, lesser, from_on, up_to, with_end, zero_of, row_ends, next_ends, ends_from, no_ends, sign_ends};
 
-use crate::numbers::{integer, is_negative, is_zero, zero};
+use crate::numbers::{is_negative, is_zero, zero};
 use crate::rates::Rate;
 use dcx_atom::is_at_most;
 use dcx_call::Attribute;
 use dcx_frac::{Frac, Passes};
+use dcx_std::integer;
 use dcx_tab::Tableau;
 
 /// The ends of a range so far.

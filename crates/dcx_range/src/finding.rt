@@ -14,7 +14,6 @@ ghost use Rattle.dcx_range.specs.Range.{IsMapOf, IsAsked, RangeGives, HoldsOn};
 
 use crate::asked::Asked;
 use crate::ends::{all_ends, change, sign_ends};
-use crate::numbers::integer;
 use crate::rates::{Rate, coefficient_of, rates};
 use crate::told::place_of;
 use dcx_frac::{Frac, Passes};
@@ -25,6 +24,7 @@ use dcx_point::Setting;
 use dcx_ranged::{RangeStop, Ranged};
 use dcx_shape::Name;
 use dcx_solved::{SolveStop, Solved, solve_rows};
+use dcx_std::integer;
 use dcx_tab::Tableau;
 use dcx_tree::Problem;
 use std::alloc::Global;

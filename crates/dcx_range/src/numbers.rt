@@ -1,22 +1,11 @@
 //! Numbers as the definitions have them.
-ghost use Rattle.std.specs.Prelude.{◌≡◌, ◌<◌, ◌^◌, pos, unsigned_abs};
+ghost use Rattle.std.specs.Prelude.{◌≡◌, pos};
 ghost use Rattle.dcx_math.specs.Rational.{whole, rat_le, rat_eq};
 ghost use Rattle.dcx_frac.specs.Frac.{value};
-ghost use Rattle.dcx_atom.specs.Formed.{zero_frac, frac_at};
+ghost use Rattle.dcx_atom.specs.Formed.{zero_frac};
 
 use dcx_atom::is_at_most;
 use dcx_frac::Frac;
-
-/// The integer as a fraction.
-pub(crate) fn integer(number: i128) -> Frac
-    requires { unsigned_abs number < 2 ^ 127 }
-    ensures { result ≡ frac_at (whole number) }
-{
-    match Frac::of(number, 1) {
-        Some(fraction) => fraction,
-        None => unreachable!(),
-    }
-}
 
 /// The number 0, as the definitions have it.
 pub(crate) fn zero() -> Frac

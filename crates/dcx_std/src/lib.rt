@@ -9,6 +9,7 @@
 //! | a program of over 600 rows or 2,400 columns is refused, and no other | `check_size`, `integer_rows`: `stops` |
 //! | a row is multiplied by the least common multiple of its denominators, or the first multiple that passes is told | `least_multiple` |
 //! | the program has the columns and rows that the written order of operations gives | `integer_rows`: `made` |
+//! | a small integer is the fraction that the definitions have for it | `integer` |
 //! | an operation is said to pass only where it does, and it is the first, with its row and operands | `integer_rows`: `stops` |
 //! | rows have one integer program | `laws::programs_are_one` |
 //! | rows that have one have no stop, and rows have one stop at most, want of memory aside | `laws::made_or_stopped`, `laws::stops_are_one` |
@@ -36,6 +37,7 @@ mod stop;
 mod whole;
 
 pub use multiple::least_multiple;
+pub use phase::integer;
 pub use program::integer_rows;
 pub use size::check_size;
 pub use stop::RowStop;

@@ -26,7 +26,7 @@ fn row_number(row: &IntRow, column: usize) -> i128
 }
 
 /// The integer as a fraction.
-fn integer(number: i128) -> Frac
+pub fn integer(number: i128) -> Frac
     requires { unsigned_abs number < 2 ^ 127 }
     ensures { result ≡ frac_at (whole number) }
 {
