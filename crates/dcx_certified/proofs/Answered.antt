@@ -21,14 +21,14 @@ use Rattle.dcx_linear.specs.Rows.{RowAt, LinearProgram, AreOfKinds, combined, co
 use Rattle.dcx_unknowns.specs.Layout.{constraint_rows, unknown_kinds, rows_at}
 use Rattle.dcx_unknowns.proofs.Places.{in_right}
 use Rattle.dcx_reduced.specs.Equations.{Forms, graph_numbers, reduced_with}
-use Rattle.dcx_reduced.proofs.Lists.{flat_first}
+use Rattle.dcx_reduced.proofs.Lists.{same_place, flat_first}
 use Rattle.dcx_reduced.proofs.OfKinds.{nonneg_from, nonpos_from}
 use Rattle.dcx_entries.proofs.Each.{some_before}
 use Rattle.dcx_mapping.specs.Programs.{gap_rows, bound_row, IsProgramOf, multipliers_of}
 use Rattle.dcx_mapping.proofs.Rows.{combined_append, combined_gaps}
 use Rattle.dcx_postsolve.specs.Laws.{AreSameMultipliers}
 use Rattle.dcx_certified.specs.Rows.{rows_until, BoundsForms}
-use Rattle.dcx_certified.proofs.Numbered.{same_place, numbers_at, numbers_at-length}
+use Rattle.dcx_certified.proofs.Numbered.{numbers_at, numbers_at-length}
 
 -- ---- multipliers that are the same at the entries of the constraints
 weighed_same : (gap : convex.Constraint → ℕ → ℚ) (cs : List Constraint) (m n : Multipliers) → AreSameMultipliers cs m n → weighed gap (map convex_constraint cs) m ≡ weighed gap (map convex_constraint cs) n

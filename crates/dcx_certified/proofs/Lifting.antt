@@ -1,13 +1,11 @@
 -- The unknowns of a program at a point of the domain and at unknowns of the graphs: the forms there are a family.
-use Rattle.std.proofs.Common.{◌≡◌, ℕ, zero, suc, ◌+◌, ◌-◌, ◌<◌, arith, Bool, true, false, if◌then◌else◌, IsTrue, List, [], ◌∷◌, length, map, get_or, All, Option, Some, None, slice_get, refl, sym, ap, ◌∙◌, subst, pos}
-use Rattle.std.specs.Prelude.{nat_lt}
-use Rattle.std.specs.List.{flat_map, range_with_len, list_all}
+use Rattle.std.proofs.Common.{◌≡◌, ℕ, zero, suc, ◌-◌, ◌<◌, arith, Bool, true, false, IsTrue, List, [], ◌∷◌, length, map, All, Option, Some, None, slice_get, refl, sym, ap, ◌∙◌, subst}
+use Rattle.std.specs.List.{list_all}
 use Rattle.std.proofs.Math.Path.{fun_ext}
-use Rattle.std.proofs.lemmas.Bool.{lt-ltb, le-ltb, and_parts, false≢true}
+use Rattle.std.proofs.lemmas.Bool.{and_parts, false≢true}
 use Rattle.std.proofs.lemmas.List.{length-map}
 use Rattle.std.proofs.lemmas.List.Elements.{All-cons, All-nil}
-use Rattle.std.proofs.lemmas.Option.{none-some, get_or_from_slice_get, slice_get_within}
-use Rattle.dcx_math.specs.Rational.{ℚ, whole}
+use Rattle.std.proofs.lemmas.Option.{none-some, slice_get_within}
 use Rattle.dcx_shape.specs.declared.shape.Sides.{Sides}
 use Rattle.dcx_shape.specs.Shape.{sides_of}
 use Rattle.dcx_shape.specs.Sides.{entries_of}
@@ -31,21 +29,17 @@ use Rattle.dcx_tree.specs.declared.problem.Problem.{Problem}
 use Rattle.dcx_tree.specs.Nodes.{Node, arg_sides, convex_node, head_of}
 use Rattle.dcx_tree.specs.Meaning.{names_in, IsInDomain, setting_of}
 use Rattle.dcx_tree.specs.Values.{array_at}
-use Rattle.dcx_linear.specs.Rows.{AreOfKinds, IsOfKind}
-use Rattle.dcx_unknowns.specs.Unknowns.{variable_unknowns, variable_kinds, unknowns_of, point_at}
-use Rattle.dcx_unknowns.specs.Layout.{is_reduced, call_aux, aux_if, aux_kind, aux_at, aux_before, first_aux, unknown_kinds}
-use Rattle.dcx_unknowns.specs.Laws.{AreAlike}
-use Rattle.dcx_unknowns.proofs.Owners.{are_numbered}
-use Rattle.dcx_unknowns.proofs.Domains.{stand_for_domain}
+use Rattle.dcx_linear.specs.Rows.{AreOfKinds}
+use Rattle.dcx_unknowns.specs.Unknowns.{point_at}
+use Rattle.dcx_unknowns.specs.Layout.{is_reduced, call_aux, aux_if, aux_at, unknown_kinds}
 use Rattle.dcx_reduced.specs.Equations.{Forms, call_entry, args_of, filling_of, AllStand}
-use Rattle.dcx_reduced.proofs.Lists.{flat_first, zip_flat}
 use Rattle.dcx_reduced.proofs.OwnTerms.{Agree, form_same}
 use Rattle.dcx_reduced.proofs.OwnGraphs.{atom_own}
-use Rattle.dcx_reduced.proofs.OfKinds.{kinds_both, IsOfAuxKind, taken, taken_at, taken_length, taken_kinds, zipped_kinds}
 use Rattle.dcx_reduced.proofs.CallGraphs.{call_filling, filled_kinds, filled_value}
 use Rattle.dcx_reduced.proofs.CallEntries.{first_same}
-use Rattle.dcx_reduced.proofs.Lift.{filling_if}
-use Rattle.dcx_reduced.proofs.Variables.{AreSameAt, point_local, node_same, same_value}
+use Rattle.dcx_reduced.proofs.Lift.{filling_if, lift, lift_filling}
+use Rattle.dcx_reduced.proofs.Lifted.{lifted_kinds, lifted_point}
+use Rattle.dcx_reduced.proofs.Variables.{AreSameAt, node_same, same_value}
 use Rattle.dcx_reduced.proofs.NodeForms.{nodes_of, nodes_ordered, convex_at, node_at, reducible, constant_form, reduced_form, not_reduced}
 use Rattle.dcx_reduced.proofs.Sound.{aux_is}
 use Rattle.dcx_affine.specs.declared.pairing.Pairing.TheVariants.{Times, MatTimes, Over}
@@ -54,57 +48,6 @@ use Rattle.dcx_build.proofs.Fixed.{unfixed_is_reduced}
 use Rattle.dcx_bound.specs.Fixed.{AreFixedValues}
 use Rattle.dcx_bound.proofs.OneTable.{value_of_fixed}
 use Rattle.dcx_certified.specs.Families.{IsFamily, AreFilled}
-use Rattle.dcx_certified.proofs.Numbered.{same_place}
-
--- ---- unknowns with given fillings
-module _ (rules : Rules) (p : Problem) (x : Point) (F : ℕ → Filling) where
-  abbrev numbers_at : ℕ → List ℚ
-  numbers_at i = taken (aux_at rules p i) (F i)
-
-  abbrev aux_numbers : List ℚ
-  aux_numbers = flat_map numbers_at (range_with_len 0 (length p.tree))
-
-  pub lifted : Unknowns
-  lifted n = if nat_lt n (variable_unknowns p.variables) then unknowns_of p.variables x n else get_or aux_numbers (n - variable_unknowns p.variables) (whole (pos 0))
-
-  lifted_variable : (n : ℕ) → n < variable_unknowns p.variables → lifted n ≡ unknowns_of p.variables x n
-  unfolding lifted
-  lifted_variable n b = ap (λ (c : Bool). if c then unknowns_of p.variables x n else get_or aux_numbers (n - variable_unknowns p.variables) (whole (pos 0))) (lt-ltb n (variable_unknowns p.variables) b)
-
-  lifted_aux : (m : ℕ) (q : ℚ) → slice_get aux_numbers m ≡ Some q → lifted (variable_unknowns p.variables + m) ≡ q
-  unfolding lifted
-  lifted_aux m q e =
-      let count = variable_unknowns p.variables in
-      let z : (count + m) - count ≡ m = omega arith in
-      ap (λ (c : Bool). if c then unknowns_of p.variables x (count + m) else get_or aux_numbers ((count + m) - count) (whole (pos 0))) (le-ltb (count + m) count (omega arith))
-      ∙ ap (λ k. get_or aux_numbers k (whole (pos 0))) z
-      ∙ get_or_from_slice_get aux_numbers m q (whole (pos 0)) e
-
-  pub lifted_filling : (i k : ℕ) → i < length p.tree → k < length (aux_at rules p i) → lifted (first_aux rules p i + k) ≡ F i k
-  lifted_filling i k b c =
-      let before = length (aux_before rules p i) in
-      let same = same_place numbers_at (aux_at rules p) (λ j. taken_length (aux_at rules p j) (F j)) (range_with_len 0 i) in
-      let there : slice_get aux_numbers (before + k) ≡ Some (F i k) =
-      ap (λ q. slice_get aux_numbers (q + k)) (sym same) ∙ flat_first numbers_at (length p.tree) i k (F i k) b (taken_at (aux_at rules p i) (F i) k c) in
-      let z : first_aux rules p i + k ≡ variable_unknowns p.variables + (before + k) = omega arith in
-      ap lifted z ∙ lifted_aux (before + k) (F i k) there
-
-  module _ (dom : IsInDomain p x) where
-    pub lifted_kinds : ((i : ℕ) → KindsHold (aux_at rules p i) (F i)) → AreOfKinds (unknown_kinds rules p) lifted
-    lifted_kinds filled =
-        let own = variable_kinds p.variables in
-        let others = aux_before rules p (length p.tree) in
-        let count = (are_numbered p.variables).kinds in
-        let first : AreOfKinds own lifted =
-        λ n kind e. let b = slice_get_within own n kind e in
-        subst (IsOfKind kind) (sym (lifted_variable n (omega (arith, count, b)))) ((stand_for_domain p).kinds x dom n kind e) in
-        let zipped = zip_flat IsOfAuxKind (aux_at rules p) numbers_at (range_with_len 0 (length p.tree)) (λ i. taken_kinds (aux_at rules p i) (F i) (filled i)) in
-        kinds_both own (map aux_kind others) lifted first
-        (zipped_kinds others aux_numbers zipped (λ m. lifted (length own + m)) (λ m q e. ap (λ k. lifted (k + m)) count ∙ lifted_aux m q e))
-
-    pub lifted_point : AreAlike p.variables (point_at p.variables lifted) x
-    lifted_point k v at e lt =
-        point_local p.variables p.squares lifted (unknowns_of p.variables x) lifted_variable k v at e lt ∙ (stand_for_domain p).same x dom k v at e lt
 
 -- ---- nodes that reach no variable have no arguments that do
 constant_fixed : (rules : Rules) (g : Judgement) → IsTrue (is_constant rules g) → IsTrue g.fixed
@@ -156,7 +99,7 @@ module _ (rules : Rules) (p : Problem) (setting : Pairs) (values : List (Option 
   F i = filling_by (array_at values i) i
 
   abbrev pub u : Unknowns
-  u = lifted rules p x F
+  u = lift rules p x F
 
   node_kinds : (i : ℕ) → KindsHold (aux_at rules p i) (F i)
   node_kinds i = by (is_reduced rules p i) (slice_get p.tree i) refl (array_at values i) refl
@@ -183,7 +126,7 @@ module _ (rules : Rules) (p : Problem) (setting : Pairs) (values : List (Option 
   pub own_filling : (i : ℕ) (n : Node) → IsNode p.tree i n → is_reduced rules p i ≡ true → Agree (length (call_aux p.tree n n.call)) (F i) (filling_of rules p i u)
   own_filling i n at reduced k b =
       let within : k < length (aux_at rules p i) = let l = ap (λ (ks : List AuxKind). length ks) (aux_is rules p s forms u i n at reduced) in omega (arith, l, b) in
-      sym (lifted_filling rules p x F i k (slice_get_within p.tree i n at) within)
+      sym (lift_filling rules p x F i k (slice_get_within p.tree i n at) within)
 
   -- ---- nodes whose values are known
   pub filling_known : (i : ℕ) (n : Node) → IsNode p.tree i n → (y : Array) → array_at values i ≡ Some y → F i ≡ call_filling n.call (arg_sides p.tree n) (arguments (map value n.args))

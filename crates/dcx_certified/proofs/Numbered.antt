@@ -1,7 +1,6 @@
 -- The rows of the graphs of the nodes, one node after the other.
-use Rattle.std.proofs.Common.{◌≡◌, ℕ, arith, List, [], ◌∷◌, length, Option, Some, None, slice_get, refl}
-use Rattle.std.specs.List.{flat_map}
-use Rattle.std.proofs.lemmas.List.{length-append, length-map}
+use Rattle.std.proofs.Common.{◌≡◌, ℕ, List, length, Option, Some, None, slice_get, refl}
+use Rattle.std.proofs.lemmas.List.{length-map}
 use Rattle.dcx_math.specs.Rational.{ℚ}
 use Rattle.dcx_convex.specs.Nodes.{Setting}
 use Rattle.dcx_convex.specs.Reductions.{Unknowns}
@@ -10,16 +9,6 @@ use Rattle.dcx_tree.specs.declared.problem.Problem.{Problem}
 use Rattle.dcx_tree.specs.Nodes.{Node}
 use Rattle.dcx_unknowns.specs.Layout.{is_reduced, rows_if, rows_at}
 use Rattle.dcx_reduced.specs.Equations.{Forms, row_number, numbers_if}
-
--- lists of the same lengths stand at the same places
-pub same_place : {A B : Type 0} (f : ℕ → List A) (g : ℕ → List B) → ((i : ℕ) → length (f i) ≡ length (g i)) → (is : List ℕ) → length (flat_map f is) ≡ length (flat_map g is)
-same_place f g h [] = refl
-same_place f g h (i ∷ is) =
-    let a = length-append (f i) (flat_map f is) in
-    let b = length-append (g i) (flat_map g is) in
-    let c = h i in
-    let d = same_place f g h is in
-    omega (arith, a, b, c, d)
 
 module _ (rules : Rules) (p : Problem) (s : Setting) (forms : Forms) where
   -- the numbers of the rows of node i

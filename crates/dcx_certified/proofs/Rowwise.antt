@@ -36,6 +36,7 @@ use Rattle.dcx_tree.specs.Values.{array_at}
 use Rattle.dcx_linear.specs.Rows.{combined_from}
 use Rattle.dcx_unknowns.specs.Layout.{is_reduced, call_aux, call_rows, rows_if, rows_at}
 use Rattle.dcx_reduced.specs.Equations.{Forms, args_of, filling_of, AllStand, row_number, numbers_if, graph_numbers}
+use Rattle.dcx_reduced.proofs.Lists.{same_place}
 use Rattle.dcx_reduced.proofs.OwnTerms.{Agree, AreOwnRows, row_same, rows_same}
 use Rattle.dcx_reduced.proofs.OwnGraphs.{atom_own}
 use Rattle.dcx_reduced.proofs.CallGraphs.{call_filling}
@@ -46,7 +47,7 @@ use Rattle.dcx_bound.specs.Fixed.{AreFixedValues}
 use Rattle.dcx_certified.specs.Families as families
 use Rattle.dcx_certified.specs.Families.{AreFilled, atom_rows}
 use Rattle.dcx_certified.specs.Rows.{rows_until, AreRowWeights}
-use Rattle.dcx_certified.proofs.Numbered.{same_place, numbers_at, numbers_at-length}
+use Rattle.dcx_certified.proofs.Numbered.{numbers_at, numbers_at-length}
 use Rattle.dcx_certified.proofs.Lifting.{u, own_filling, filling_known, known_args, others_reduced, unknown_filling}
 
 -- ---- rows by nodes

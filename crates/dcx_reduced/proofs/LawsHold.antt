@@ -18,7 +18,7 @@ use Rattle.dcx_reduced.specs.Laws.{EquationsReduce, EquationsHaveForms, Equation
 use Rattle.dcx_reduced.proofs.OfKinds.{kinds_left}
 use Rattle.dcx_reduced.proofs.NodeForms.{nodes_of, node_at, constant_form, reduced_form, not_reduced}
 use Rattle.dcx_reduced.proofs.Sound.{assigned_kinds, all_stand}
-use Rattle.dcx_reduced.proofs.Lift.{lift}
+use Rattle.dcx_reduced.proofs.Lift.{filling_at, lift}
 use Rattle.dcx_reduced.proofs.Lifted.{lifted}
 use Rattle.dcx_reduced.proofs.Formed.{formed, formed_stand}
 
@@ -28,7 +28,7 @@ equations_reduce rules p s forms all = record {
       (kinds_left (variable_kinds p.variables) (map aux_kind (aux_before rules p (length p.tree))) u (assigned_kinds rules p s forms u a));
   ray = unknowns.rays_are_unknowns p.variables;
   sound = λ u a holds. all_stand rules p s forms u all (assigned_kinds rules p s forms u a) holds;
-  lift = lift rules p s;
+  lift = λ y. lift rules p y (filling_at p s y);
   lifts = λ y dom. lifted rules p s y dom forms all;
 }
 

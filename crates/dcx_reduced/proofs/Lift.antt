@@ -1,10 +1,9 @@
--- The unknowns of a point: the entries of the variables, then the filling of each node's graph at the values of its arguments.
-use Rattle.std.proofs.Common.{◌≡◌, ℕ, ◌+◌, ◌-◌, ◌<◌, arith, Bool, if◌then◌else◌, List, [], ◌∷◌, length, map, get_or, Option, Some, None, slice_get, refl, sym, ap, ◌∙◌, pos}
+-- The unknowns of a point: the entries of the variables, then a filling of each node's graph, as that at the values of its arguments.
+use Rattle.std.proofs.Common.{◌≡◌, ℕ, ◌+◌, ◌-◌, ◌<◌, arith, Bool, if◌then◌else◌, List, length, map, get_or, Option, Some, None, slice_get, sym, ap, ◌∙◌, pos}
 use Rattle.std.specs.Prelude.{nat_lt}
 use Rattle.std.specs.List.{flat_map, range_with_len}
 use Rattle.std.proofs.lemmas.Bool.{lt-ltb, le-ltb}
 use Rattle.std.proofs.lemmas.Option.{get_or_from_slice_get}
-use Rattle.std.proofs.lemmas.List.{length-append}
 use Rattle.dcx_math.specs.Rational.{ℚ, whole}
 use Rattle.dcx_atom.specs.Rows.{Filling}
 use Rattle.dcx_convex.specs.Nodes.{Numbers, Point, Setting, zeros, arguments}
@@ -15,7 +14,7 @@ use Rattle.dcx_tree.specs.Nodes.{Node, arg_sides}
 use Rattle.dcx_tree.specs.Meaning.{value_at}
 use Rattle.dcx_unknowns.specs.Unknowns.{variable_unknowns, unknowns_of}
 use Rattle.dcx_unknowns.specs.Layout.{aux_at, aux_before, first_aux}
-use Rattle.dcx_reduced.proofs.Lists.{flat_first}
+use Rattle.dcx_reduced.proofs.Lists.{same_place, flat_first}
 use Rattle.dcx_reduced.proofs.OfKinds.{taken, taken_at, taken_length}
 use Rattle.dcx_reduced.proofs.CallGraphs.{call_filling}
 
@@ -24,23 +23,14 @@ abbrev pub filling_if : List Node → (ℕ → Numbers) → Option Node → Fill
 filling_if nodes f None = zeros
 filling_if nodes f (Some n) = call_filling n.call (arg_sides nodes n) (arguments (map f n.args))
 
--- lists of the same lengths stand at the same places
-same_place : {A B : Type 0} (f : ℕ → List A) (g : ℕ → List B) → ((i : ℕ) → length (f i) ≡ length (g i)) → (is : List ℕ) → length (flat_map f is) ≡ length (flat_map g is)
-same_place f g h [] = refl
-same_place f g h (i ∷ is) =
-    let a = length-append (f i) (flat_map f is) in
-    let b = length-append (g i) (flat_map g is) in
-    let c = h i in
-    let d = same_place f g h is in
-    omega (arith, a, b, c, d)
+-- that of node i at the values of its arguments
+abbrev pub filling_at : Problem → Setting → Point → ℕ → Filling
+filling_at p s y i = filling_if p.tree (value_at p s y) (slice_get p.tree i)
 
-module _ (rules : Rules) (p : Problem) (s : Setting) (y : Point) where
-  -- the filling of node i at the values of its arguments
-  abbrev pub filling_at : ℕ → Filling
-  filling_at i = filling_if p.tree (value_at p s y) (slice_get p.tree i)
-
+-- ---- the unknowns of a point where the graphs of the nodes have these fillings
+module _ (rules : Rules) (p : Problem) (y : Point) (F : ℕ → Filling) where
   abbrev pub numbers_at : ℕ → List ℚ
-  numbers_at i = taken (aux_at rules p i) (filling_at i)
+  numbers_at i = taken (aux_at rules p i) (F i)
 
   -- the numbers of all auxiliary unknowns
   abbrev pub aux_numbers : List ℚ
@@ -65,11 +55,11 @@ module _ (rules : Rules) (p : Problem) (s : Setting) (y : Point) where
       ∙ get_or_from_slice_get aux_numbers m x (whole (pos 0)) e
 
   -- those of node i are its filling
-  pub lift_filling : (i k : ℕ) → i < length p.tree → k < length (aux_at rules p i) → lift (first_aux rules p i + k) ≡ filling_at i k
+  pub lift_filling : (i k : ℕ) → i < length p.tree → k < length (aux_at rules p i) → lift (first_aux rules p i + k) ≡ F i k
   lift_filling i k b c =
       let before = length (aux_before rules p i) in
-      let same = same_place numbers_at (aux_at rules p) (λ j. taken_length (aux_at rules p j) (filling_at j)) (range_with_len 0 i) in
-      let there : slice_get aux_numbers (before + k) ≡ Some (filling_at i k) =
-      ap (λ q. slice_get aux_numbers (q + k)) (sym same) ∙ flat_first numbers_at (length p.tree) i k (filling_at i k) b (taken_at (aux_at rules p i) (filling_at i) k c) in
+      let same = same_place numbers_at (aux_at rules p) (λ j. taken_length (aux_at rules p j) (F j)) (range_with_len 0 i) in
+      let there : slice_get aux_numbers (before + k) ≡ Some (F i k) =
+      ap (λ q. slice_get aux_numbers (q + k)) (sym same) ∙ flat_first numbers_at (length p.tree) i k (F i k) b (taken_at (aux_at rules p i) (F i) k c) in
       let z : first_aux rules p i + k ≡ variable_unknowns p.variables + (before + k) = omega arith in
-      ap lift z ∙ lift_aux (before + k) (filling_at i k) there
+      ap lift z ∙ lift_aux (before + k) (F i k) there

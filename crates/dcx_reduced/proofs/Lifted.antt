@@ -10,7 +10,7 @@ use Rattle.dcx_atom.specs.Rows.{Filling, KindsHold}
 use Rattle.dcx_atom.specs.Bounding.{free_kinds}
 use Rattle.dcx_arena.specs.Nodes.{IsNode}
 use Rattle.dcx_convex.specs.Nodes as convex
-use Rattle.dcx_convex.specs.Nodes.{Numbers, Point, Setting, first_of, arguments, value_by}
+use Rattle.dcx_convex.specs.Nodes.{Numbers, Point, Setting, first_of, arguments}
 use Rattle.dcx_convex.specs.Rules.{Rules, is_constant, judgement_at}
 use Rattle.dcx_convex.specs.Reductions.{Unknowns, RowsHold, IsLifted}
 use Rattle.dcx_convex.proofs.Told.{map-same, value_tells}
@@ -33,10 +33,30 @@ use Rattle.dcx_reduced.proofs.Variables.{point_local, node_same, same_value}
 use Rattle.dcx_reduced.proofs.NodeForms.{nodes_of, nodes_ordered, convex_at, nodes_counted, node_at, reducible, constant_form, reduced_form, not_reduced}
 use Rattle.dcx_reduced.proofs.Sound.{IsKept, aux_is}
 
+-- ---- unknowns with given fillings
+module _ (rules : Rules) (p : Problem) (y : Point) (F : ℕ → Filling) (dom : IsInDomain p y) where
+  pub lifted_kinds : ((i : ℕ) → KindsHold (aux_at rules p i) (F i)) → AreOfKinds (unknown_kinds rules p) (lift rules p y F)
+  lifted_kinds filled =
+      let own = variable_kinds p.variables in
+      let others = aux_before rules p (length p.tree) in
+      let count = (are_numbered p.variables).kinds in
+      let first : AreOfKinds own (lift rules p y F) =
+      λ n kind e. let b = slice_get_within own n kind e in
+      subst (IsOfKind kind) (sym (lift_variable rules p y F n (omega (arith, count, b)))) ((stand_for_domain p).kinds y dom n kind e) in
+      let zipped = zip_flat IsOfAuxKind (aux_at rules p) (numbers_at rules p y F) (range_with_len 0 (length p.tree)) (λ i. taken_kinds (aux_at rules p i) (F i) (filled i)) in
+      kinds_both own (map aux_kind others) (lift rules p y F) first
+      (zipped_kinds others (aux_numbers rules p y F) zipped (λ m. lift rules p y F (length own + m)) (λ m x e. ap (λ k. lift rules p y F (k + m)) count ∙ lift_aux rules p y F m x e))
+
+  -- the point of these unknowns has the entries of y
+  pub lifted_point : AreAlike p.variables (point_at p.variables (lift rules p y F)) y
+  lifted_point k v at e lt =
+      point_local p.variables p.squares (lift rules p y F) (unknowns_of p.variables y) (lift_variable rules p y F) k v at e lt ∙ (stand_for_domain p).same y dom k v at e lt
+
+-- ---- the fillings at the values of the arguments
 module _ (rules : Rules) (p : Problem) (s : Setting) (y : Point) where
   -- ---- kinds
   -- the filling of each node is of its kinds
-  node_filled : (i : ℕ) → KindsHold (aux_at rules p i) (filling_at rules p s y i)
+  node_filled : (i : ℕ) → KindsHold (aux_at rules p i) (filling_at p s y i)
   node_filled i = by (is_reduced rules p i) (slice_get p.tree i) refl
     where
       by : (b : Bool) (o : Option Node) → slice_get p.tree i ≡ o → KindsHold (aux_if p.tree b o) (filling_if p.tree (convex.value_at (nodes_of p) s y) o)
@@ -45,30 +65,10 @@ module _ (rules : Rules) (p : Problem) (s : Setting) (y : Point) where
       by false (Some n) e = λ k z. absurd (free_kinds 0 k z)
 
   module _ (dom : IsInDomain p y) where
-    lifted_kinds : AreOfKinds (unknown_kinds rules p) (lift rules p s y)
-    lifted_kinds =
-        let own = variable_kinds p.variables in
-        let others = aux_before rules p (length p.tree) in
-        let count = (are_numbered p.variables).kinds in
-        let first : AreOfKinds own (lift rules p s y) =
-        λ n kind e. let b = slice_get_within own n kind e in
-        subst (IsOfKind kind) (sym (lift_variable rules p s y n (omega (arith, count, b)))) ((stand_for_domain p).kinds y dom n kind e) in
-        let zipped = zip_flat IsOfAuxKind (aux_at rules p) (numbers_at rules p s y) (range_with_len 0 (length p.tree))
-        (λ i. taken_kinds (aux_at rules p i) (filling_at rules p s y i) (node_filled i)) in
-        kinds_both own (map aux_kind others) (lift rules p s y) first
-        (zipped_kinds others (aux_numbers rules p s y) zipped (λ m. lift rules p s y (length own + m))
-        (λ m x e. ap (λ k. lift rules p s y (k + m)) count ∙ lift_aux rules p s y m x e))
-
-    -- the point of these unknowns has the entries of y
-    lifted_point : AreAlike p.variables (point_at p.variables (lift rules p s y)) y
-    lifted_point k v at e lt =
-        point_local p.variables p.squares (lift rules p s y) (unknowns_of p.variables y) (lift_variable rules p s y) k v at e lt
-        ∙ (stand_for_domain p).same y dom k v at e lt
-
     -- ---- forms
     module _ (forms : Forms) (all : AllStand rules p s forms) where
       abbrev u : Unknowns
-      u = lift rules p s y
+      u = lift rules p y (filling_at p s y)
 
       abbrev value : ℕ → Numbers
       value = convex.value_at (nodes_of p) s y
@@ -84,7 +84,7 @@ module _ (rules : Rules) (p : Problem) (s : Setting) (y : Point) where
         filled_at : Agree (length (call_aux p.tree n n.call)) (call_filling n.call sides (arguments (map value n.args))) t
         filled_at k b =
             let within : k < length (aux_at rules p i) = let l = ap (λ (ks : List AuxKind). length ks) (aux_is rules p s forms u i n at reduced) in omega (arith, l, b) in
-            sym (lift_filling rules p s y i k (slice_get_within p.tree i n at) within ∙ ap (λ o. filling_if p.tree value o k) at)
+            sym (lift_filling rules p y (filling_at p s y) i k (slice_get_within p.tree i n at) within ∙ ap (λ o. filling_if p.tree value o k) at)
 
         -- the form of node i is its value, where those of its arguments are
         node_same_value : map (forms u) n.args ≡ map value n.args → (j : ℕ) → forms u i j ≡ value i j
@@ -95,7 +95,7 @@ module _ (rules : Rules) (p : Problem) (s : Setting) (y : Point) where
             reduced_form p rules s forms all i n at reduced u j
             ∙ ap (λ (fs : List Numbers). first_of (entries_of n.sides) (call_entry names s x n.call sides (arguments fs) t) j) args
             ∙ filled_value p.tree n names s x n.call (reducible p rules i n at reduced) (map value n.args) t shaped filled_at j
-            ∙ same_value p x y s n.call (node_same p x y lifted_point i n at) sides n.sides (map value n.args) j
+            ∙ same_value p x y s n.call (node_same p x y (lifted_point rules p y (filling_at p s y) dom) i n at) sides n.sides (map value n.args) j
             ∙ sym (ap (λ (f : Numbers). f j) (value_tells (nodes_of p) (nodes_ordered p) s y i (convex_node names p.tree n) (convex_at p i n at)))
 
       same_below : (m i : ℕ) → i < m → i < length p.tree → forms u i ≡ value i
@@ -110,6 +110,9 @@ module _ (rules : Rules) (p : Problem) (s : Setting) (y : Point) where
 
       forms_same : (i : ℕ) → i < length p.tree → forms u i ≡ value i
       forms_same i b = same_below (suc i) i (omega arith) b
+
+      of_kinds : AreOfKinds (unknown_kinds rules p) u
+      of_kinds = lifted_kinds rules p y (filling_at p s y) dom node_filled
 
       -- ---- rows
       node_rows : (i : ℕ) (n : Node) → IsNode p.tree i n → (b : Bool) → is_reduced rules p i ≡ b → Each (IsKept u) (numbers_if rules p s forms i (Some n) (rows_if p.tree b (Some n)))
@@ -133,7 +136,7 @@ module _ (rules : Rules) (p : Problem) (s : Setting) (y : Point) where
 
       pub lifted : IsLifted (reduced_with rules p s forms) (convex_problem p) s y u
       lifted = record {
-        assignment = record { nonneg = nonneg_from (unknown_kinds rules p) u lifted_kinds; nonpos = nonpos_from (unknown_kinds rules p) u lifted_kinds };
+        assignment = record { nonneg = nonneg_from (unknown_kinds rules p) u of_kinds; nonpos = nonpos_from (unknown_kinds rules p) u of_kinds };
         rows = lifted_rows;
         same = λ i b. let count = nodes_counted p in forms_same i (omega (arith, b, count));
       }

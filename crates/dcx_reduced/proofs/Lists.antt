@@ -96,6 +96,16 @@ flat_at f a (suc n) (suc i) k x b h =
     ∙ in_right (f a) (flat_map f (range_with_len (a + 1) n)) (length rest + k)
     ∙ flat_at f (a + 1) n i k x (omega arith) (subst (λ b. slice_get (f b) k ≡ Some x) s h)
 
+-- lists of the same lengths stand at the same places
+pub same_place : {A B : Type 0} (f : ℕ → List A) (g : ℕ → List B) → ((i : ℕ) → length (f i) ≡ length (g i)) → (is : List ℕ) → length (flat_map f is) ≡ length (flat_map g is)
+same_place f g h [] = refl
+same_place f g h (i ∷ is) =
+    let a = length-append (f i) (flat_map f is) in
+    let b = length-append (g i) (flat_map g is) in
+    let c = h i in
+    let d = same_place f g h is in
+    omega (arith, a, b, c, d)
+
 pub flat_first : {A : Type 0} (f : ℕ → List A) (n i k : ℕ) (x : A) → i < n → slice_get (f i) k ≡ Some x →
     slice_get (flat_map f (range_with_len 0 n)) (length (flat_map f (range_with_len 0 i)) + k) ≡ Some x
 flat_first f n i k x b h = let z : i ≡ 0 + i = omega arith in flat_at f 0 n i k x b (subst (λ q. slice_get (f q) k ≡ Some x) z h)
