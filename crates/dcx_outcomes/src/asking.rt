@@ -39,13 +39,13 @@ pub(crate) trait Question {
     /// Whether it can be asked of a problem.
     ghost can_ask: { Self → Problem → Type 0 };
 
-    /// Which answers it has at a setting of a problem for a program.
+    /// Which answers it has at a setting of a problem, for a program there.
     ghost gives: { Self → Problem → Pairs → Program Frac → Self.Answer → Type 0 };
 
-    /// How a setting ends of which an outcome tells.
+    /// How a setting ends, as its outcome tells.
     ghost told_end: { Self.Outcome → Result Self.Answer Stop };
 
-    /// The place that an outcome tells.
+    /// The place that its outcome tells.
     ghost told_place: { Self.Outcome → Option Place };
 
     /// The answer at a setting for the session's program there, beside the program with affine coefficients that the session keeps.
