@@ -14,6 +14,7 @@ ghost use Rattle.dcx_cache.specs.Programs.{IsMapOf, HasMap, SessionGives, IsProg
 ghost use Rattle.dcx_outcomes.specs.Outcomes.{Counts};
 ghost use Rattle.dcx_outcomes.specs.Asking.{IsAnswered, IsAskedOutcome, AreAskedOutcomes};
 
+use crate::beginning::begin;
 use crate::outcome::stop_place;
 use dcx_answer::Stop;
 use dcx_cache::Session;
@@ -151,11 +152,6 @@ pub(crate) fn ask_problem<Q: Question, S: Ledger>(
     ensures outcomes { IfOk result (λ v. AreAskedOutcomes (Q.gives question.now) Q.told_end Q.told_place problem settings.now v.items) }
     ensures counted { OnOk result (Counts problem (length settings.now) steps.old steps.new) }
 {
-    match Session::begin(alloc, problem, verdict, steps) {
-        Ok(session) => {
-            let mut session = session;
-            ask_session(alloc, question, &mut session, settings, steps)
-        }
-        Err(_) => Err(AllocError),
-    }
+    let mut session = begin(alloc, problem, verdict, steps)?;
+    ask_session(alloc, question, &mut session, settings, steps)
 }

@@ -23,6 +23,7 @@
 #![tactic(auto)]
 
 mod asking;
+mod beginning;
 mod filters;
 mod finding;
 pub mod laws;

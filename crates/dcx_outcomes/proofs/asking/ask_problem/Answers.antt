@@ -7,16 +7,16 @@ use Rattle.dcx_outcomes.proofs.Counting.{both_ok, counts}
 use Rattle.dcx_outcomes.proofs.asking.ask_problem.Goals as goal
 
 pub ask_session-requires : goal.ask_session-requires
-ask_session-requires g c = subst (g.Q.Question.can_ask c.args.question.now) (sym c.in-Ok.ensures.problem) c.requires.can
+ask_session-requires g c = subst (g.Q.Question.can_ask c.args.question.now) (sym c.in_ok-session.ensures.problem) c.requires.can
 
-pub returns-in-Ok-clause-outcomes : goal.returns-in-Ok-clause-outcomes
-returns-in-Ok-clause-outcomes g c =
+pub returns-clause-outcomes : goal.returns-clause-outcomes
+returns-clause-outcomes g c =
     subst (λ (z : Problem). IfOk c.ask_session.result (λ v. AreAskedOutcomes (g.Q.Question.gives c.args.question.now) g.Q.Question.told_end g.Q.Question.told_place z c.args.settings.now v.items))
-    c.in-Ok.ensures.problem c.ask_session.ensures.outcomes
+    c.in_ok-session.ensures.problem c.ask_session.ensures.outcomes
 
-pub returns-in-Ok-clause-counted : goal.returns-in-Ok-clause-counted
-returns-in-Ok-clause-counted g c =
+pub returns-clause-counted : goal.returns-clause-counted
+returns-clause-counted g c =
     both_ok c.ask_session.result _ _ _
-    (λ kept few. counts c.args.problem c.in-Ok.session.problem c.in-Ok.session.cached (length c.args.settings.now) c.args.steps.now c.begin.new.steps c.ask_session.new.steps c.in-Ok.ensures.problem c.in-Ok.ensures.counted c.in-Ok.ensures.cached
-    c.in-Ok.ensures.few kept few)
+    (λ kept few. counts c.args.problem c.in_ok-session.session.problem c.in_ok-session.session.cached (length c.args.settings.now) c.args.steps.now c.begin.new.steps c.ask_session.new.steps c.in_ok-session.ensures.problem c.in_ok-session.ensures.counted c.in_ok-session.ensures.cached
+    c.in_ok-session.ensures.few kept few)
     c.ask_session.ensures.counted c.ask_session.ensures.few
