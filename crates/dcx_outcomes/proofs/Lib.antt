@@ -6,6 +6,7 @@ pub mod OneOutcome
 pub mod More
 pub mod Warm
 pub mod Counting
+pub mod Asked
 pub mod FilterEnds
 pub mod WholeEnds
 pub mod RangeEnds

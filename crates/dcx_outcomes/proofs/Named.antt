@@ -18,14 +18,14 @@ use Rattle.dcx_graph.specs.declared.reading.AnswerStop.{AnswerStop}
 use Rattle.dcx_graph.specs.declared.reading.AnswerStop.TheVariants as reads
 use Rattle.dcx_graph.specs.Program.{Program}
 use Rattle.dcx_graph.specs.Answers.{rows_of, StopsReading}
-use Rattle.dcx_cache.specs.Programs.{SessionGives, mapped, anew}
+use Rattle.dcx_cache.specs.Programs.{SessionGives, mapped, anew, ProgramStops}
 use Rattle.dcx_cache.specs.Stops.{program_stop, run_stop, reading_stop}
 use Rattle.dcx_cache.specs.Answers.{StopsAt, at_program, at_run, at_reading, Stops}
 use Rattle.dcx_outcomes.specs.Outcomes.{IsNodeSite, NamesNodes}
 
 module _ (p : Problem) (setting : Pairs) (limit : ℕ) where
   -- ---- stops of the program
-  pub in_program : (e : ReduceStop) → SessionGives p setting (Err e) → NamesNodes p (program_stop e)
+  in_program : (e : ReduceStop) → SessionGives p setting (Err e) → NamesNodes p (program_stop e)
   in_program (reduces.TooLarge rows columns) g = tt
   in_program (reduces.ZeroDivisor node entry) (mapped q m f) = absurd f
   in_program (reduces.ZeroDivisor node entry) (anew n h) = h.first.within
@@ -72,3 +72,15 @@ module _ (p : Problem) (setting : Pairs) (limit : ℕ) where
   names_nodes (why.Wide site) h = in_parts (why.Wide site) h.stops
   names_nodes (why.PivotLimit count) h = tt
   names_nodes why.Memory h = tt
+
+-- ---- stops of the program alone
+pub program_names : (p : Problem) (setting : Pairs) (e : Stop) → ProgramStops p setting e → NamesNodes p e
+program_names p setting (why.UnknownParam name) h = tt
+program_names p setting (why.MissingParam name) h = tt
+program_names p setting (why.ParamShape name declared given) h = tt
+program_names p setting (why.ParamSign name entry value) h = tt
+program_names p setting (why.TooLarge rows columns) h = tt
+program_names p setting (why.ZeroDivisor node entry) h = in_program p setting 0 (reduces.ZeroDivisor node entry) h.stops
+program_names p setting (why.Wide site) h = in_program p setting 0 (reduces.Wide site) h.stops
+program_names p setting (why.PivotLimit count) h = absurd h
+program_names p setting why.Memory h = tt

@@ -5,8 +5,7 @@ use Rattle.dcx_tree.specs.declared.problem.Problem.{Problem}
 use Rattle.dcx_answer.specs.declared.site.Site.TheVariants as sites
 use Rattle.dcx_answer.specs.declared.stop.Stop.{Stop}
 use Rattle.dcx_answer.specs.declared.stop.Stop.TheVariants as why
-use Rattle.dcx_report.specs.declared.outcome.OutcomeEnd.TheVariants as the
-use Rattle.dcx_report.specs.NodeStops.{names_node}
+use Rattle.dcx_report.specs.NodeStops.{stop_names_node}
 use Rattle.dcx_outcomes.specs.Outcomes.{NamesNodes, stop_place}
 
 there : {X Y : Type 0} (f : X → Y) (xs : List X) (i : ℕ) → i < length xs → is_some (option_map f (slice_get xs i)) ≡ true
@@ -14,7 +13,7 @@ there f [] i lt = absurd (omega arith)
 there f (x ∷ xs) zero lt = refl
 there f (x ∷ xs) (suc i) lt = there f xs i (omega arith)
 
-pub placed : (p : Problem) (stop : Stop) → NamesNodes p stop → is_some (stop_place p stop) ≡ names_node (the.Stop stop)
+pub placed : (p : Problem) (stop : Stop) → NamesNodes p stop → is_some (stop_place p stop) ≡ stop_names_node stop
 placed p (why.UnknownParam name) h = refl
 placed p (why.MissingParam name) h = refl
 placed p (why.ParamShape name declared given) h = refl

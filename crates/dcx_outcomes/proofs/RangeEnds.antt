@@ -1,38 +1,28 @@
 -- What holds of the outcomes of settings at which a parameter's range is told.
-use Rattle.std.proofs.Common.{◌≡◌, ◌≢◌, ℕ, ◌+◌, ◌<◌, List, [], ◌∷◌, ◌++◌, length, take, get_or, Option, Some, None, Result, Ok, Err, refl, sym, ap, ◌∙◌, subst}
-use Rattle.std.specs.Prelude.{is_some, IfOk}
-use Rattle.std.specs.List.{AllZip}
+use Rattle.std.proofs.Common.{◌≡◌, ℕ, List, [], Option, Some, None, Result, Ok, Err, refl, ap, subst}
 use Rattle.dcx_frac.specs.declared.fraction.Frac.{Frac}
 use Rattle.dcx_point.specs.Pairs.{Pairs}
 use Rattle.dcx_tree.specs.declared.problem.Problem.{Problem}
-use Rattle.dcx_tree.specs.Meaning.{IsFitting, setting_of}
-use Rattle.dcx_fit.specs.Fit.{FitsParameters}
-use Rattle.dcx_answer.specs.declared.stop.Stop.{Stop}
-use Rattle.dcx_answer.specs.declared.stop.Stop.TheVariants as why
+use Rattle.dcx_tree.specs.Meaning.{setting_of}
 use Rattle.dcx_linear.specs.declared.param_form.ParamForm.{ParamForm}
 use Rattle.dcx_ranged.specs.declared.not_ranged.NotRanged.{NotRanged}
 use Rattle.dcx_ranged.specs.declared.ranged.Ranged.{Ranged}
 use Rattle.dcx_ranged.specs.declared.stop.RangeStop.{RangeStop}
 use Rattle.dcx_ranged.specs.declared.stop.RangeStop.TheVariants as range
-use Rattle.dcx_report.specs.declared.range_outcome.RangeEnd.{RangeEnd}
-use Rattle.dcx_report.specs.declared.range_outcome.RangeEnd.TheVariants as the
 use Rattle.dcx_report.specs.declared.range_outcome.RangeOutcome.{RangeOutcome}
-use Rattle.dcx_report.specs.NodeStops.{range_names_node}
 use Rattle.dcx_graph.specs.Program.{Program}
 use Rattle.dcx_graph.specs.Fixing.{FixGives}
 use Rattle.dcx_graph.proofs.OneWay.{one_affine}
-use Rattle.dcx_cache.specs.Programs.{IsMapOf, HasMap, SessionGives, mapped, anew, ProgramStops}
-use Rattle.dcx_cache.proofs.OneEnd.{same_program}
+use Rattle.dcx_cache.specs.Programs.{IsMapOf, SessionGives, mapped, anew}
 use Rattle.dcx_range.specs.Parameters.{IsRanged, IsFaultOf, IsTold}
 use Rattle.dcx_range.specs.Range.{RangeGives, HoldsOn, IsMapOf as IsAffineMapOf}
 use Rattle.dcx_range.specs.Laws.{AreOneRange}
 use Rattle.dcx_range.proofs.Named.{tells_once}
 use Rattle.dcx_range.proofs.OneRange.{ranges_are_one as one_range}
-use Rattle.dcx_outcomes.specs.Ranges.{IsKeptProgram, HasRange, LacksRange, IsRangedAt, EndsRange, range_place, NamesRangeNodes, IsRangeOutcome, AreRangeOutcomes}
-use Rattle.dcx_outcomes.specs.RangeLaws.{RangeIsTold, TellsRight, RangesAreRight, WantsMemory, AreOneRangeEnd, RangesAreOne}
-use Rattle.dcx_outcomes.proofs.Placed.{placed}
-use Rattle.dcx_outcomes.proofs.More.{one_taken}
-use Rattle.dcx_outcomes.proofs.FilterEnds.{program_names, zip_more, given_apart, same_stop}
+use Rattle.dcx_outcomes.specs.Asking.{AreOneEnd}
+use Rattle.dcx_outcomes.specs.Ranges.{IsKeptProgram, HasRange, LacksRange, TellsOf, range_end}
+use Rattle.dcx_outcomes.specs.RangeLaws.{RangeIsTold, RangesAreRight, RangesAreOne}
+use Rattle.dcx_outcomes.proofs.Asked.{are_right, are_one, right_there}
 
 -- ---- the program with affine coefficients
 same_ok : {A E : Type 0} (x y : A) → ◌≡◌ {A = Result A E} (Ok x) (Ok y) → x ≡ y
@@ -74,23 +64,6 @@ told_has p o name u kept (q, is, ranged) = record { map = q; is_map = subst (IsK
 pub told_lacks : (p : Problem) (o : Option (Program ParamForm)) (name : List ℕ) (f : NotRanged) → IsKeptProgram p o → IsTold p o name (Err f) → LacksRange p name f
 told_lacks p o name f kept h = record { program = o; is_kept = kept; is_fault = h }
 
--- ---- nodes
-pub end_names : (p q : Problem) (name : List ℕ) (setting : Pairs) (limit : ℕ) (end : RangeEnd) → q ≡ p → EndsRange p name limit setting end → NamesRangeNodes q end
-end_names p q name setting limit (the.Ranged ranged) same h = tt
-end_names p q name setting limit (the.Range stop) same h = tt
-end_names p q name setting limit (the.Stop stop) same h = subst (λ (z : Problem). NamesRangeNodes z (the.Stop stop)) (sym same) (program_names p setting limit stop h)
-
-pub end_placed : (p : Problem) (end : RangeEnd) → NamesRangeNodes p end → is_some (range_place p end) ≡ range_names_node end
-end_placed p (the.Ranged ranged) h = refl
-end_placed p (the.Range stop) h = refl
-end_placed p (the.Stop stop) h = placed p stop h
-
-pub outcome_is : (p q : Problem) (name : List ℕ) (setting : Pairs) (limit : ℕ) (end : RangeEnd) (o : RangeOutcome) → q ≡ p → EndsRange p name limit setting end → o.end ≡ end → o.place ≡ range_place q end → IsRangeOutcome p name limit setting o
-outcome_is p q name setting limit end o same ends is place = record {
-  ends = subst (EndsRange p name limit setting) (sym is) ends;
-  placed = place ∙ ap (λ (z : Problem). range_place z end) same ∙ ap (range_place p) (sym is);
-}
-
 -- ---- one setting
 pub affine_map : (p : Problem) (q : Program ParamForm) → IsMapOf p q → IsAffineMapOf p q
 affine_map p q m = record { dpp = m.dpp; unread = []; reduces = m.reduces }
@@ -103,75 +76,22 @@ fixed_there p setting q r m (anew none h) = absurd (none (q, m))
 pub ranged_there : (p : Problem) (name : List ℕ) (q : Program ParamForm) → IsMapOf p q → HasRange p name → IsRanged p q name
 ranged_there p name q m h = subst (λ (z : Program ParamForm). IsRanged p z name) (one_map p h.map q h.is_map m) h.ranged
 
-pub told_there : (p : Problem) (name : List ℕ) (limit : ℕ) (setting : Pairs) (q : Program ParamForm) (r : Program Frac) (told : Result Ranged RangeStop) → FitsParameters p.parameters setting → IsMapOf p q →
-    SessionGives p setting (Ok r) → IsFitting p setting → RangeGives p q r setting name limit told → IfOk told (HoldsOn p (setting_of p setting) name) → IsRangedAt p name limit setting told
-told_there p name limit setting q r told fits m gives fitting h holds = record {
-  fits = fits;
-  map = q;
-  is_map = m;
-  program = r;
-  fixed = fixed_there p setting q r m gives;
-  gives = h;
-  fitting = fitting;
-  holds = holds;
-}
-
--- ---- one setting more
-pub ranges_more : (p : Problem) (name : List ℕ) (limit : ℕ) (settings : List Pairs) (os items : List RangeOutcome) (i : ℕ) (s : Pairs) (o : RangeOutcome) → i < length settings → s ≡ get_or settings i s → items ≡ os ++ o ∷ [] →
-    AreRangeOutcomes p name limit (take i settings) os → IsRangeOutcome p name limit s o → AreRangeOutcomes p name limit (take (i + 1) settings) items
-ranges_more p name limit settings os items i s o lt is pushed h k =
-    subst (AreRangeOutcomes p name limit (take (i + 1) settings)) (sym pushed)
-    (subst (λ (z : List Pairs). AreRangeOutcomes p name limit z (os ++ o ∷ [])) (sym (one_taken settings i s lt is)) (zip_more (IsRangeOutcome p name limit) (take i settings) os s o h k))
-
--- ---- right
-tells_right : (p : Problem) (name : List ℕ) (limit : ℕ) (s : Pairs) (end : RangeEnd) → EndsRange p name limit s end → TellsRight p name s end
-tells_right p name limit s (the.Ranged ranged) h = record { fits = h.fitting; holds = h.holds }
-tells_right p name limit s (the.Range stop) h = tt
-tells_right p name limit s (the.Stop stop) h = tt
-
+-- ---- all settings
 pub ranges_are_right : RangesAreRight
-ranges_are_right p name limit [] [] h = tt
-ranges_are_right p name limit [] (o ∷ os) h = absurd h
-ranges_are_right p name limit (s ∷ ss) [] h = absurd h
-ranges_are_right p name limit (s ∷ ss) (o ∷ os) h = (tells_right p name limit s o.end h.0.ends, ranges_are_right p name limit ss os h.1)
+ranges_are_right p name limit settings outcomes h =
+    are_right (TellsOf name limit) (λ (o : RangeOutcome). range_end o.end) (λ (o : RangeOutcome). o.place) p (λ s. HoldsOn p (setting_of p s) name) (λ s q r g. right_there p s (HoldsOn p (setting_of p s) name) r g.fitting g.holds) settings outcomes h
 
--- ---- one
-module _ (p : Problem) (name : List ℕ) (setting : Pairs) (limit : ℕ) where
-  session_gives : (told : Result Ranged RangeStop) (h : IsRangedAt p name limit setting told) → SessionGives p setting (Ok h.program)
-  session_gives told h = mapped h.map h.is_map h.fixed
+module _ (p : Problem) (name : List ℕ) (limit : ℕ) (s : Pairs) (q : Program Frac) where
+  one_told : (x y : Result Ranged RangeStop) → TellsOf name limit p s q x → TellsOf name limit p s q y → AreOneRange x y
+  one_told x y h k = one_range p h.map q s name limit x y h.gives (subst (λ (z : Program ParamForm). RangeGives p z q s name limit y) (one_map p k.map h.map k.is_map h.is_map) k.gives)
 
-  -- two things that are told, or stops
-  one_told : (x y : Result Ranged RangeStop) → IsRangedAt p name limit setting x → IsRangedAt p name limit setting y → AreOneRange x y
-  one_told x y h k =
-      let map = one_map p k.map h.map k.is_map h.is_map in
-      let program = same_program p setting limit k.program h.program (session_gives y k) (session_gives x h) in
-      let there = subst (λ (q : Program ParamForm). RangeGives p q k.program setting name limit y) map k.gives in
-      one_range p h.map h.program setting name limit x y h.gives (subst (λ (r : Program Frac). RangeGives p h.map r setting name limit y) program there)
-
-  not_stopped : (told : Result Ranged RangeStop) (e : Stop) → e ≢ why.Memory → IsRangedAt p name limit setting told → ProgramStops p setting e → ⊥
-  not_stopped told e n h k = given_apart p setting limit h.program e n h.fits (session_gives told h) k
-
-  no_memory : (e : Stop) → ¬ WantsMemory (the.Stop e) → e ≢ why.Memory
-  no_memory e n is = n (subst (λ (z : Stop). WantsMemory (the.Stop z)) (sym is) tt)
-
-  no_range_memory : (e : RangeStop) → ¬ WantsMemory (the.Range e) → e ≢ range.Memory
-  no_range_memory e n is = n (subst (λ (z : RangeStop). WantsMemory (the.Range z)) (sym is) tt)
-
-  one_end : (x y : RangeEnd) → EndsRange p name limit setting x → EndsRange p name limit setting y → AreOneRangeEnd x y
-  one_end (the.Ranged a) (the.Ranged b) h k n m = ap the.Ranged (one_told (Ok a) (Ok b) h k)
-  one_end (the.Ranged a) (the.Range s) h k n m = absurd (no_range_memory s m (one_told (Ok a) (Err s) h k))
-  one_end (the.Ranged a) (the.Stop e) h k n m = absurd (not_stopped (Ok a) e (no_memory e m) h k)
-  one_end (the.Range s) (the.Ranged b) h k n m = absurd (no_range_memory s n (one_told (Err s) (Ok b) h k))
-  one_end (the.Range s) (the.Range t) h k n m = ap the.Range (one_told (Err s) (Err t) h k (no_range_memory s n) (no_range_memory t m))
-  one_end (the.Range s) (the.Stop e) h k n m = absurd (not_stopped (Err s) e (no_memory e m) h k)
-  one_end (the.Stop e) (the.Ranged b) h k n m = absurd (not_stopped (Ok b) e (no_memory e n) k h)
-  one_end (the.Stop e) (the.Range t) h k n m = absurd (not_stopped (Err t) e (no_memory e n) k h)
-  one_end (the.Stop e) (the.Stop f) h k n m = ap the.Stop (same_stop p setting limit e f (no_memory e n) (no_memory f m) h k)
+  -- one thing is told for a program, or one stops it
+  one_answer : (x y : Result Ranged RangeStop) → TellsOf name limit p s q x → TellsOf name limit p s q y → AreOneEnd range.Memory (λ (a b : Ranged). a ≡ b) (Ok x) (Ok y)
+  one_answer (Ok a) (Ok b) h k n m = one_told (Ok a) (Ok b) h k
+  one_answer (Ok a) (Err e) h k n m = m (one_told (Ok a) (Err e) h k)
+  one_answer (Err e) (Ok b) h k n m = n (one_told (Err e) (Ok b) h k)
+  one_answer (Err e) (Err f) h k n m = one_told (Err e) (Err f) h k n m
 
 pub ranges_are_one : RangesAreOne
-ranges_are_one p name limit [] [] [] h k = tt
-ranges_are_one p name limit [] [] (q ∷ qs) h k = absurd k
-ranges_are_one p name limit [] (o ∷ os) qs h k = absurd h
-ranges_are_one p name limit (s ∷ ss) [] qs h k = absurd h
-ranges_are_one p name limit (s ∷ ss) (o ∷ os) [] h k = absurd k
-ranges_are_one p name limit (s ∷ ss) (o ∷ os) (q ∷ qs) h k = (one_end p name s limit o.end q.end h.0.ends k.0.ends, ranges_are_one p name limit ss os qs h.1 k.1)
+ranges_are_one p name limit settings os qs h k =
+    are_one (TellsOf name limit) (λ (o : RangeOutcome). range_end o.end) (λ (o : RangeOutcome). o.place) p range.Memory (λ (a b : Ranged). a ≡ b) (one_answer p name limit) settings os qs h k

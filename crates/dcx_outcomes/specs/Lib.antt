@@ -3,6 +3,7 @@ pub mod Outcomes
 pub mod Warm
 pub mod Right
 pub mod Laws
+pub mod Asking
 pub mod Filters
 pub mod FilterLaws
 pub mod Wholes

@@ -1,17 +1,17 @@
 //! The outcomes of a problem at settings at which its constraints are filtered.
-ghost use Rattle.std.specs.Prelude.{◌≡◌, ◌+◌, ◌*◌, ◌≤◌, length, IfOk, OnOk};
-ghost use Rattle.std.specs.List.{AllZip};
+ghost use Rattle.std.specs.Prelude.{⊤, length, IfOk, OnOk};
 ghost use Rattle.dcx_rules.specs.Verdicts.{IsVerdictOf};
 ghost use Rattle.dcx_tree.specs.Meaning.{IsAccepted};
-ghost use Rattle.dcx_cache.specs.Programs.{HasMap};
 ghost use Rattle.dcx_outcomes.specs.Outcomes.{Counts};
-ghost use Rattle.dcx_outcomes.specs.Filters.{filter_place, NamesNodesOf, EndsFilter, IsFilterOutcome, AreFilterOutcomes};
+ghost use Rattle.dcx_outcomes.specs.Filters.{FilterGives, filter_end, AreFilterOutcomes};
 
-use crate::outcome::stop_place;
-use dcx_cache::Session;
+use crate::asking::{Question, ask_problem};
+use dcx_frac::Frac;
+use dcx_graph::Reduced;
 use dcx_iis::filter;
+use dcx_linear::ParamForm;
 use dcx_point::Setting;
-use dcx_report::{FilterEnd, FilterOutcome, FilterOutcomes};
+use dcx_report::{FilterEnd, FilterOutcome, FilterOutcomes, FilterStop, Filtered, Stop};
 use dcx_rules::Verdict;
 use dcx_shape::Place;
 use dcx_steps::Steps;
@@ -19,84 +19,55 @@ use dcx_tree::Problem;
 use std::alloc::{AllocError, Global};
 use std::sync::ledger::Ledger;
 
-/// What a session's program at a setting is filtered to, or what stops it.
-fn filter_end<S: Ledger>(
-    alloc: Global,
-    session: &mut Session,
-    setting: &Setting,
+/// What a program is filtered to, with at most so many pivots in each step.
+#[derive(Clone, Copy)]
+struct Filtering {
     limit: u64,
-    steps: &mut Steps<S>,
-) -> FilterEnd
-    ensures ends { EndsFilter session.old.problem limit setting.now result }
-    ensures same { session.new.problem ≡ session.old.problem }
-    ensures counted { HasMap session.old.problem → steps.new ≡ steps.old }
-    ensures few { steps.new ≤ steps.old + length session.old.problem.tree }
-{
-    match session.program(alloc, setting, steps) {
-        Ok(reduced) => match filter(alloc, session.problem(), &reduced, setting, limit) {
-            Ok(found) => FilterEnd::Filtered(found),
-            Err(stop) => FilterEnd::Filter(stop),
-        },
-        Err(stop) => FilterEnd::Stop(stop),
+}
+
+impl Question for Filtering {
+    type Answer = Result<Filtered, FilterStop>;
+
+    type Outcome = FilterOutcome;
+
+    ghost can_ask = { λ _ _. ⊤ };
+
+    ghost gives = { λ q. FilterGives q.limit };
+
+    ghost told_end = { λ o. filter_end o.end };
+
+    ghost told_place = { λ o. o.place };
+
+    fn ask(
+        &self,
+        alloc: Global,
+        problem: &Problem,
+        _map: Option<&Reduced<ParamForm>>,
+        program: &Reduced<Frac>,
+        setting: &Setting,
+    ) -> Result<Filtered, FilterStop> {
+        filter(alloc, problem, program, setting, self.limit)
     }
-}
 
-/// Where the node stands in the script that a setting's stop names, if it names one.
-fn end_place(problem: &Problem, end: &FilterEnd) -> Option<Place>
-    requires { NamesNodesOf problem.now end.now }
-    ensures { result ≡ filter_place problem.now end.now }
-{
-    match end {
-        FilterEnd::Stop(stop) => stop_place(problem, stop),
-        FilterEnd::Filtered(_) | FilterEnd::Filter(_) => None,
+    fn answered(&self, answer: Result<Filtered, FilterStop>) -> FilterOutcome {
+        match answer {
+            Ok(found) => FilterOutcome {
+                end: FilterEnd::Filtered(found),
+                place: None,
+            },
+            Err(stop) => FilterOutcome {
+                end: FilterEnd::Filter(stop),
+                place: None,
+            },
+        }
     }
-}
 
-/// The outcome that tells how a setting ends.
-fn told(problem: &Problem, end: FilterEnd) -> FilterOutcome
-    requires { NamesNodesOf problem.now end }
-    ensures end { result.end ≡ end }
-    ensures place { result.place ≡ filter_place problem.now end }
-{
-    let place = end_place(problem, &end);
-    FilterOutcome { end, place }
-}
-
-/// The outcome of a setting.
-fn outcome<S: Ledger>(
-    alloc: Global,
-    session: &mut Session,
-    setting: &Setting,
-    limit: u64,
-    steps: &mut Steps<S>,
-) -> FilterOutcome
-    ensures outcome { IsFilterOutcome session.old.problem limit setting.now result }
-    ensures same { session.new.problem ≡ session.old.problem }
-    ensures counted { HasMap session.old.problem → steps.new ≡ steps.old }
-    ensures few { steps.new ≤ steps.old + length session.old.problem.tree }
-{
-    let end = filter_end(alloc, session, setting, limit, steps);
-    told(session.problem(), end)
-}
-
-/// The outcomes of settings, in order.
-fn all<S: Ledger>(
-    alloc: Global,
-    session: &mut Session,
-    settings: &[Setting],
-    limit: u64,
-    steps: &mut Steps<S>,
-) -> Result<FilterOutcomes, AllocError>
-    ensures outcomes { IfOk result (AllZip (IsFilterOutcome session.old.problem limit) settings.now) }
-    ensures counted { OnOk result (HasMap session.old.problem → steps.new ≡ steps.old) }
-    ensures few { OnOk result (steps.new ≤ steps.old + length settings.now * length session.old.problem.tree) }
-{
-    let mut outcomes = Vec::with_capacity(alloc, settings.len())?;
-    for setting in settings {
-        let next = outcome(alloc, session, setting, limit, steps);
-        outcomes.push(next)?;
+    fn stopped(&self, stop: Stop, place: Option<Place>) -> FilterOutcome {
+        FilterOutcome {
+            end: FilterEnd::Stop(stop),
+            place,
+        }
     }
-    Ok(FilterOutcomes::from_vec(outcomes))
 }
 
 /// What the filter finds of an accepted problem at each setting, in order, with at most `limit` pivots in each step; or what stops
@@ -115,11 +86,7 @@ pub fn filter_outcomes<S: Ledger>(
     ensures outcomes { IfOk result (AreFilterOutcomes problem limit settings.now) }
     ensures counted { OnOk result (Counts problem (length settings.now) steps.old steps.new) }
 {
-    match Session::begin(alloc, problem, verdict, steps) {
-        Ok(session) => {
-            let mut session = session;
-            all(alloc, &mut session, settings, limit, steps)
-        }
-        Err(_) => Err(AllocError),
-    }
+    let question = Filtering { limit };
+    let outcomes = ask_problem(alloc, &question, problem, verdict, settings, steps)?;
+    Ok(FilterOutcomes::from_vec(outcomes))
 }

@@ -6,6 +6,7 @@ ghost use Rattle.dcx_cache.specs.Programs.{HasMap};
 ghost use Rattle.dcx_outcomes.specs.Outcomes.{Counts};
 ghost use Rattle.dcx_outcomes.specs.Warm.{AreToldFrom, AreFound, counted_where};
 
+use crate::beginning::begin;
 use crate::outcome::outcome;
 use dcx_cache::Session;
 use dcx_point::Setting;
@@ -96,14 +97,9 @@ pub fn outcomes<S: Ledger>(
     ensures outcomes { IfOk result (λ f. AreFound warm problem limit settings.now f.outcomes f.warm) }
     ensures counted { OnOk result (Counts problem (length settings.now) steps.old steps.new) }
 {
-    match Session::begin(alloc, problem, verdict, steps) {
-        Ok(session) => {
-            let mut session = session;
-            match all(alloc, &mut session, settings, limit, warm, steps) {
-                Ok(told) => counted(warm, told),
-                Err(e) => Err(e),
-            }
-        }
-        Err(_) => Err(AllocError),
+    let mut session = begin(alloc, problem, verdict, steps)?;
+    match all(alloc, &mut session, settings, limit, warm, steps) {
+        Ok(told) => counted(warm, told),
+        Err(e) => Err(e),
     }
 }

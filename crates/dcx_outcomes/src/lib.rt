@@ -8,6 +8,7 @@
 //! | where it is wanted, each setting is answered from the columns that the settings before it left, and these outcomes are counted | `outcomes`, `specs/Warm.antt`: `AreWarmOutcomes` |
 //! | a warm answer is right too; it has the status and the value of the fresh one whenever both answer, and a warm stop is the fresh one's | `laws::warm_outcomes_are_right`, `laws::warm_outcomes_agree` |
 //! | settings have one list of warm outcomes and one count of them, until memory runs out at a setting | `laws::warm_outcomes_are_one` |
+//! | a question is asked of the session's program at each setting, in order: its answer, or what stops the program with the place of the node that it names | `asking.rt`: `Question`, `specs/Asking.antt`: `AreAskedOutcomes` |
 //! | constraints are filtered at each setting, in order: what the filter of a session's program finds, or what stops it | `filter_outcomes`, `specs/Filters.antt`: `AreFilterOutcomes` |
 //! | whatever it finds is right for the problem at its setting, which fits | `laws::filters_are_right` |
 //! | settings have one list of what is found, or of stops; want of memory is free | `laws::filters_are_one` |
@@ -21,6 +22,8 @@
 //! | a problem that has a map is reduced once for all settings, another one at most once more at each | `outcomes`, `filter_outcomes`, `whole_outcomes`: `counted` |
 #![tactic(auto)]
 
+mod asking;
+mod beginning;
 mod filters;
 mod finding;
 pub mod laws;

@@ -1,104 +1,74 @@
 //! The outcomes of a problem at settings at which a parameter's range is told.
-ghost use Rattle.std.specs.Prelude.{◌≡◌, Ok, IfOk, OnOk};
-ghost use Rattle.dcx_fit.specs.Fit.{FitsParameters};
-ghost use Rattle.dcx_tree.specs.Meaning.{IsFitting};
-ghost use Rattle.dcx_cache.specs.Programs.{SessionGives};
-ghost use Rattle.dcx_outcomes.specs.Ranges.{HasRange, range_place, NamesRangeNodes, EndsRange, IsRangeOutcome, AreRangeOutcomes};
+ghost use Rattle.std.specs.Prelude.{◌≡◌, IfOk, OnOk};
+ghost use Rattle.dcx_outcomes.specs.Ranges.{HasRange, TellsOf, range_end, AreRangeOutcomes};
 
-use crate::outcome::stop_place;
+use crate::asking::{Question, ask_session};
 use dcx_cache::Session;
 use dcx_frac::Frac;
 use dcx_graph::Reduced;
+use dcx_linear::ParamForm;
 use dcx_point::Setting;
 use dcx_range::range;
-use dcx_report::{RangeEnd, RangeOutcome, RangeOutcomes};
+use dcx_report::{RangeEnd, RangeOutcome, RangeOutcomes, RangeStop, Ranged, Stop};
 use dcx_shape::{Name, Place};
 use dcx_steps::Steps;
 use dcx_tree::Problem;
 use std::alloc::{AllocError, Global};
 use std::sync::ledger::Ledger;
 
-/// What is told of the parameter by the session's program at a setting, or what stops its range.
-fn told_by(
-    alloc: Global,
-    session: &Session,
-    program: &Reduced<Frac>,
-    setting: &Setting,
-    name: &Name,
+/// What is told of the parameter of this name for a program, with at most so many pivots.
+#[derive(Clone, Copy)]
+struct Ranging<'a> {
+    name: &'a Name,
     limit: u64,
-) -> RangeEnd
-    requires ranged { HasRange session.now.problem name.now }
-    requires fits { FitsParameters session.now.problem.parameters setting.now }
-    requires gives { SessionGives session.now.problem setting.now (Ok program.now.program) }
-    requires fitting { IsFitting session.now.problem setting.now }
-    ensures { EndsRange session.now.problem name.now limit setting.now result }
-{
-    let Some(map) = session.map() else {
-        unreachable!()
-    };
-    match range(alloc, session.problem(), map, program, setting, name, limit) {
-        Ok(ranged) => RangeEnd::Ranged(ranged),
-        Err(stop) => RangeEnd::Range(stop),
+}
+
+impl Question for Ranging<'_> {
+    type Answer = Result<Ranged, RangeStop>;
+
+    type Outcome = RangeOutcome;
+
+    ghost can_ask = { λ q p. HasRange p q.name.now };
+
+    ghost gives = { λ q. TellsOf q.name.now q.limit };
+
+    ghost told_end = { λ o. range_end o.end };
+
+    ghost told_place = { λ o. o.place };
+
+    fn ask(
+        &self,
+        alloc: Global,
+        problem: &Problem,
+        map: Option<&Reduced<ParamForm>>,
+        program: &Reduced<Frac>,
+        setting: &Setting,
+    ) -> Result<Ranged, RangeStop> {
+        match map {
+            Some(map) => range(alloc, problem, map, program, setting, self.name, self.limit),
+            None => unreachable!(),
+        }
     }
-}
 
-/// What is told of the parameter at a setting, or what stops its range or the setting.
-fn range_end<S: Ledger>(
-    alloc: Global,
-    session: &mut Session,
-    setting: &Setting,
-    name: &Name,
-    limit: u64,
-    steps: &mut Steps<S>,
-) -> RangeEnd
-    requires { HasRange session.old.problem name.now }
-    ensures ends { EndsRange session.old.problem name.now limit setting.now result }
-    ensures same { session.new.problem ≡ session.old.problem }
-    ensures counted { steps.new ≡ steps.old }
-{
-    match session.program(alloc, setting, steps) {
-        Ok(program) => told_by(alloc, session, &program, setting, name, limit),
-        Err(stop) => RangeEnd::Stop(stop),
+    fn answered(&self, answer: Result<Ranged, RangeStop>) -> RangeOutcome {
+        match answer {
+            Ok(ranged) => RangeOutcome {
+                end: RangeEnd::Ranged(ranged),
+                place: None,
+            },
+            Err(stop) => RangeOutcome {
+                end: RangeEnd::Range(stop),
+                place: None,
+            },
+        }
     }
-}
 
-/// Where the node stands in the script that a setting's stop names, if it names one.
-fn end_place(problem: &Problem, end: &RangeEnd) -> Option<Place>
-    requires { NamesRangeNodes problem.now end.now }
-    ensures { result ≡ range_place problem.now end.now }
-{
-    match end {
-        RangeEnd::Stop(stop) => stop_place(problem, stop),
-        RangeEnd::Ranged(_) | RangeEnd::Range(_) => None,
+    fn stopped(&self, stop: Stop, place: Option<Place>) -> RangeOutcome {
+        RangeOutcome {
+            end: RangeEnd::Stop(stop),
+            place,
+        }
     }
-}
-
-/// The outcome that tells how a setting ends.
-fn told(problem: &Problem, end: RangeEnd) -> RangeOutcome
-    requires { NamesRangeNodes problem.now end }
-    ensures end { result.end ≡ end }
-    ensures place { result.place ≡ range_place problem.now end }
-{
-    let place = end_place(problem, &end);
-    RangeOutcome { end, place }
-}
-
-/// The outcome of a setting.
-fn outcome<S: Ledger>(
-    alloc: Global,
-    session: &mut Session,
-    setting: &Setting,
-    name: &Name,
-    limit: u64,
-    steps: &mut Steps<S>,
-) -> RangeOutcome
-    requires { HasRange session.old.problem name.now }
-    ensures outcome { IsRangeOutcome session.old.problem name.now limit setting.now result }
-    ensures same { session.new.problem ≡ session.old.problem }
-    ensures counted { steps.new ≡ steps.old }
-{
-    let end = range_end(alloc, session, setting, name, limit, steps);
-    told(session.problem(), end)
 }
 
 /// What is told of the parameter of this name at each setting by a session whose problem has a range for it, in order, with at most
@@ -116,10 +86,7 @@ pub fn range_outcomes<S: Ledger>(
     ensures outcomes { IfOk result (AreRangeOutcomes session.old.problem name.now limit settings.now) }
     ensures counted { OnOk result (steps.new ≡ steps.old) }
 {
-    let mut outcomes = Vec::with_capacity(alloc, settings.len())?;
-    for setting in settings {
-        let next = outcome(alloc, session, setting, name, limit, steps);
-        outcomes.push(next)?;
-    }
+    let question = Ranging { name, limit };
+    let outcomes = ask_session(alloc, &question, session, settings, steps)?;
     Ok(RangeOutcomes::from_vec(outcomes))
 }

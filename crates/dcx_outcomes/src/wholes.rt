@@ -1,17 +1,17 @@
 //! The outcomes of a problem with marked variables at settings.
-ghost use Rattle.std.specs.Prelude.{◌≡◌, ◌+◌, ◌*◌, ◌≤◌, length, IfOk, OnOk};
-ghost use Rattle.std.specs.List.{AllZip};
+ghost use Rattle.std.specs.Prelude.{⊤, length, IfOk, OnOk};
 ghost use Rattle.dcx_rules.specs.Verdicts.{IsVerdictOf};
 ghost use Rattle.dcx_tree.specs.Meaning.{IsAccepted};
-ghost use Rattle.dcx_cache.specs.Programs.{HasMap};
 ghost use Rattle.dcx_outcomes.specs.Outcomes.{Counts};
-ghost use Rattle.dcx_outcomes.specs.Wholes.{whole_place, NamesNodesOf, EndsWhole, IsWholeOutcome, AreWholeOutcomes};
+ghost use Rattle.dcx_outcomes.specs.Wholes.{WholeGives, whole_end, AreWholeOutcomes};
 
-use crate::outcome::stop_place;
+use crate::asking::{Question, ask_problem};
 use dcx_branch::branch;
-use dcx_cache::Session;
+use dcx_frac::Frac;
+use dcx_graph::Reduced;
+use dcx_linear::ParamForm;
 use dcx_point::Setting;
-use dcx_report::{WholeEnd, WholeOutcome, WholeOutcomes};
+use dcx_report::{BranchStop, Stop, WholeAnswer, WholeEnd, WholeOutcome, WholeOutcomes};
 use dcx_rules::Verdict;
 use dcx_shape::Place;
 use dcx_steps::Steps;
@@ -22,91 +22,55 @@ use std::sync::ledger::Ledger;
 /// How many nodes a run may have.
 const MOST_NODES: u32 = 10_000;
 
-/// How the run of nodes over a session's program at a setting ends, or what stops the program.
-fn whole_end<S: Ledger>(
-    alloc: Global,
-    session: &mut Session,
-    setting: &Setting,
+/// How the run of nodes over a program ends, with at most so many pivots in each node.
+#[derive(Clone, Copy)]
+struct Branching {
     limit: u64,
-    steps: &mut Steps<S>,
-) -> WholeEnd
-    ensures ends { EndsWhole session.old.problem limit setting.now result }
-    ensures same { session.new.problem ≡ session.old.problem }
-    ensures counted { HasMap session.old.problem → steps.new ≡ steps.old }
-    ensures few { steps.new ≤ steps.old + length session.old.problem.tree }
-{
-    match session.program(alloc, setting, steps) {
-        Ok(reduced) => match branch(
-            alloc,
-            session.problem(),
-            &reduced,
-            setting,
-            limit,
-            MOST_NODES,
-        ) {
-            Ok(answer) => WholeEnd::Whole(answer),
-            Err(stop) => WholeEnd::Branch(stop),
-        },
-        Err(stop) => WholeEnd::Stop(stop),
+}
+
+impl Question for Branching {
+    type Answer = Result<WholeAnswer, BranchStop>;
+
+    type Outcome = WholeOutcome;
+
+    ghost can_ask = { λ _ _. ⊤ };
+
+    ghost gives = { λ q. WholeGives q.limit };
+
+    ghost told_end = { λ o. whole_end o.end };
+
+    ghost told_place = { λ o. o.place };
+
+    fn ask(
+        &self,
+        alloc: Global,
+        problem: &Problem,
+        _map: Option<&Reduced<ParamForm>>,
+        program: &Reduced<Frac>,
+        setting: &Setting,
+    ) -> Result<WholeAnswer, BranchStop> {
+        branch(alloc, problem, program, setting, self.limit, MOST_NODES)
     }
-}
 
-/// Where the node stands in the script that a setting's stop names, if it names one.
-fn end_place(problem: &Problem, end: &WholeEnd) -> Option<Place>
-    requires { NamesNodesOf problem.now end.now }
-    ensures { result ≡ whole_place problem.now end.now }
-{
-    match end {
-        WholeEnd::Stop(stop) => stop_place(problem, stop),
-        WholeEnd::Whole(_) | WholeEnd::Branch(_) => None,
+    fn answered(&self, answer: Result<WholeAnswer, BranchStop>) -> WholeOutcome {
+        match answer {
+            Ok(whole) => WholeOutcome {
+                end: WholeEnd::Whole(whole),
+                place: None,
+            },
+            Err(stop) => WholeOutcome {
+                end: WholeEnd::Branch(stop),
+                place: None,
+            },
+        }
     }
-}
 
-/// The outcome that tells how a setting ends.
-fn told(problem: &Problem, end: WholeEnd) -> WholeOutcome
-    requires { NamesNodesOf problem.now end }
-    ensures end { result.end ≡ end }
-    ensures place { result.place ≡ whole_place problem.now end }
-{
-    let place = end_place(problem, &end);
-    WholeOutcome { end, place }
-}
-
-/// The outcome of a setting.
-fn outcome<S: Ledger>(
-    alloc: Global,
-    session: &mut Session,
-    setting: &Setting,
-    limit: u64,
-    steps: &mut Steps<S>,
-) -> WholeOutcome
-    ensures outcome { IsWholeOutcome session.old.problem limit setting.now result }
-    ensures same { session.new.problem ≡ session.old.problem }
-    ensures counted { HasMap session.old.problem → steps.new ≡ steps.old }
-    ensures few { steps.new ≤ steps.old + length session.old.problem.tree }
-{
-    let end = whole_end(alloc, session, setting, limit, steps);
-    told(session.problem(), end)
-}
-
-/// The outcomes of settings, in order.
-fn all<S: Ledger>(
-    alloc: Global,
-    session: &mut Session,
-    settings: &[Setting],
-    limit: u64,
-    steps: &mut Steps<S>,
-) -> Result<WholeOutcomes, AllocError>
-    ensures outcomes { IfOk result (AllZip (IsWholeOutcome session.old.problem limit) settings.now) }
-    ensures counted { OnOk result (HasMap session.old.problem → steps.new ≡ steps.old) }
-    ensures few { OnOk result (steps.new ≤ steps.old + length settings.now * length session.old.problem.tree) }
-{
-    let mut outcomes = Vec::with_capacity(alloc, settings.len())?;
-    for setting in settings {
-        let next = outcome(alloc, session, setting, limit, steps);
-        outcomes.push(next)?;
+    fn stopped(&self, stop: Stop, place: Option<Place>) -> WholeOutcome {
+        WholeOutcome {
+            end: WholeEnd::Stop(stop),
+            place,
+        }
     }
-    Ok(WholeOutcomes::from_vec(outcomes))
 }
 
 /// The outcome of an accepted problem with marked variables at each setting, in order, with at most `limit` pivots in each node and
@@ -126,11 +90,7 @@ pub fn whole_outcomes<S: Ledger>(
     ensures outcomes { IfOk result (AreWholeOutcomes problem limit settings.now) }
     ensures counted { OnOk result (Counts problem (length settings.now) steps.old steps.new) }
 {
-    match Session::begin(alloc, problem, verdict, steps) {
-        Ok(session) => {
-            let mut session = session;
-            all(alloc, &mut session, settings, limit, steps)
-        }
-        Err(_) => Err(AllocError),
-    }
+    let question = Branching { limit };
+    let outcomes = ask_problem(alloc, &question, problem, verdict, settings, steps)?;
+    Ok(WholeOutcomes::from_vec(outcomes))
 }

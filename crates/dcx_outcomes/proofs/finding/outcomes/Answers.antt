@@ -4,15 +4,15 @@ use Rattle.dcx_outcomes.proofs.More.{found_all}
 use Rattle.dcx_outcomes.proofs.Counting.{ok_weaker, on_ok, counts}
 use Rattle.dcx_outcomes.proofs.finding.outcomes.Goals as goal
 
-pub returns-in-Ok-all-clause-outcomes : goal.returns-in-Ok-all-clause-outcomes
-returns-in-Ok-all-clause-outcomes g c =
+pub returns-in-Ok-clause-outcomes : goal.returns-in-Ok-clause-outcomes
+returns-in-Ok-clause-outcomes g c =
     ok_weaker c.counted.result _ _
-    (λ f h. found_all c.args.problem c.in-Ok.session.problem c.args.limit c.args.warm c.args.settings.now c.in-Ok.session.columns c.in-Ok-all.told.outcomes f.outcomes c.in-Ok-all.told.kept c.all.new.session.columns f.warm
-    c.in-Ok.ensures.problem c.in-Ok.ensures.columns c.in-Ok-all.ensures.outcomes h.0 h.1)
+    (λ f h. found_all c.args.problem c.in_ok-session.session.problem c.args.limit c.args.warm c.args.settings.now c.in_ok-session.session.columns c.in-Ok.told.outcomes f.outcomes c.in-Ok.told.kept c.all.new.session.columns f.warm
+    c.in_ok-session.ensures.problem c.in_ok-session.ensures.columns c.in-Ok.ensures.outcomes h.0 h.1)
     c.counted.ensures
 
-pub returns-in-Ok-all-clause-counted : goal.returns-in-Ok-all-clause-counted
-returns-in-Ok-all-clause-counted g c =
+pub returns-in-Ok-clause-counted : goal.returns-in-Ok-clause-counted
+returns-in-Ok-clause-counted g c =
     on_ok c.counted.result _
-    (counts c.args.problem c.in-Ok.session.problem c.in-Ok.session.cached (length c.args.settings.now) c.args.steps.now c.begin.new.steps c.all.new.steps c.in-Ok.ensures.problem c.in-Ok.ensures.counted c.in-Ok.ensures.cached
-    c.in-Ok.ensures.few c.in-Ok-all.ensures.counted c.in-Ok-all.ensures.few)
+    (counts c.args.problem c.in_ok-session.session.problem c.in_ok-session.session.cached (length c.args.settings.now) c.args.steps.now c.begin.new.steps c.all.new.steps c.in_ok-session.ensures.problem c.in_ok-session.ensures.counted c.in_ok-session.ensures.cached
+    c.in_ok-session.ensures.few c.in-Ok.ensures.counted c.in-Ok.ensures.few)

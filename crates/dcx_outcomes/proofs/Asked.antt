@@ -1,0 +1,118 @@
+-- What holds of the outcomes of settings at which a question is asked of a session's program.
+use Rattle.std.proofs.Common.{◌≡◌, ◌≢◌, ◌⊎◌, inl, inr, ℕ, ◌+◌, ◌<◌, List, [], ◌∷◌, ◌++◌, length, take, get_or, Option, Result, Ok, Err, refl, sym, ap, ◌∙◌, subst}
+use Rattle.std.specs.Prelude.{IfOk}
+use Rattle.std.specs.List.{AllZip}
+use Rattle.std.proofs.lemmas.Slice.Zip.{all_zipped_more}
+use Rattle.dcx_shape.specs.declared.place.Place.{Place}
+use Rattle.dcx_frac.specs.declared.fraction.Frac.{Frac}
+use Rattle.dcx_point.specs.Pairs.{Pairs}
+use Rattle.dcx_tree.specs.declared.problem.Problem.{Problem}
+use Rattle.dcx_tree.specs.Meaning.{IsFitting}
+use Rattle.dcx_fit.specs.Fit.{FitsParameters, IsFirstMisfit}
+use Rattle.dcx_fit.proofs.First.{stops_hold}
+use Rattle.dcx_answer.specs.declared.stop.Stop.{Stop}
+use Rattle.dcx_answer.specs.declared.stop.Stop.TheVariants as why
+use Rattle.dcx_graph.specs.declared.stop.ReduceStop.{ReduceStop}
+use Rattle.dcx_graph.specs.declared.stop.ReduceStop.TheVariants as reduces
+use Rattle.dcx_graph.specs.Program.{Program}
+use Rattle.dcx_cache.specs.Programs.{SessionGives, IsUnformed, ProgramStops}
+use Rattle.dcx_cache.specs.Stops.{program_stop}
+use Rattle.dcx_cache.proofs.OneEnd.{one_program, program_apart, same_program, unfit}
+use Rattle.dcx_outcomes.specs.Asking.{EndsAt, node_place, IsAskedOutcome, AreAskedOutcomes, IsRightAt, FindsRight, AreOneEnd}
+use Rattle.dcx_outcomes.proofs.More.{one_taken}
+
+-- ---- lists
+-- one element more
+pub zip_more : {A B : Type 0} (R : A → B → Type 0) (xs : List A) (ys items : List B) (i : ℕ) (x : A) (y : B) → i < length xs → x ≡ get_or xs i x → items ≡ ys ++ y ∷ [] → AllZip R (take i xs) ys → R x y → AllZip R (take (i + 1) xs) items
+zip_more R xs ys items i x y lt is pushed h k =
+    subst (AllZip R (take (i + 1) xs)) (sym pushed) (subst (λ zs. AllZip R zs (ys ++ y ∷ [])) (sym (one_taken xs i x lt is)) (all_zipped_more R (take i xs) ys x y h k))
+
+zip_weaker : {A B : Type 0} (R S : A → B → Type 0) → ((a : A) (b : B) → R a b → S a b) → (xs : List A) (ys : List B) → AllZip R xs ys → AllZip S xs ys
+zip_weaker R S f [] [] h = tt
+zip_weaker R S f [] (y ∷ ys) h = absurd h
+zip_weaker R S f (x ∷ xs) [] h = absurd h
+zip_weaker R S f (x ∷ xs) (y ∷ ys) h = (f x y h.0, zip_weaker R S f xs ys h.1)
+
+-- two lists beside one list stand beside each other
+zip_both : {A B : Type 0} (R : A → B → Type 0) (S : B → B → Type 0) → ((a : A) (b c : B) → R a b → R a c → S b c) → (xs : List A) (ys zs : List B) → AllZip R xs ys → AllZip R xs zs → AllZip S ys zs
+zip_both R S f [] [] [] h k = tt
+zip_both R S f [] [] (z ∷ zs) h k = absurd k
+zip_both R S f [] (y ∷ ys) zs h k = absurd h
+zip_both R S f (x ∷ xs) [] zs h k = absurd h
+zip_both R S f (x ∷ xs) (y ∷ ys) [] h k = absurd k
+zip_both R S f (x ∷ xs) (y ∷ ys) (z ∷ zs) h k = (f x y z h.0 k.0, zip_both R S f xs ys zs h.1 k.1)
+
+-- ---- the stops of a program
+module _ (p : Problem) (setting : Pairs) where
+  -- what stops a program, want of memory aside: a misfit, or a part of its forming
+  parted : (e : Stop) → e ≢ why.Memory → ProgramStops p setting e → IsFirstMisfit p.parameters setting e ⊎ ((r : ReduceStop) × IsUnformed p setting r × (e ≡ program_stop r))
+  parted (why.UnknownParam name) n h = inl h
+  parted (why.MissingParam name) n h = inl h
+  parted (why.ParamShape name declared given) n h = inl h
+  parted (why.ParamSign name entry value) n h = inl h
+  parted (why.TooLarge rows columns) n h = inr (reduces.TooLarge rows columns, h, refl)
+  parted (why.ZeroDivisor node entry) n h = inr (reduces.ZeroDivisor node entry, h, refl)
+  parted (why.Wide site) n h = inr (reduces.Wide site, h, refl)
+  parted (why.PivotLimit count) n h = absurd h
+  parted why.Memory n h = absurd (n refl)
+
+  -- a setting that has a program isn't stopped
+  given_apart : (q : Program Frac) (e : Stop) → e ≢ why.Memory → FitsParameters p.parameters setting → SessionGives p setting (Ok q) → ProgramStops p setting e → ⊥
+  given_apart q e n fits g h = by (parted e n h)
+    where
+      by : IsFirstMisfit p.parameters setting e ⊎ ((r : ReduceStop) × IsUnformed p setting r × (e ≡ program_stop r)) → ⊥
+      by (inl m) = unfit p setting 0 e m fits
+      by (inr (r, k, is)) = program_apart p setting 0 q r g k.stops
+
+  same_stop : (e f : Stop) → e ≢ why.Memory → f ≢ why.Memory → ProgramStops p setting e → ProgramStops p setting f → e ≡ f
+  same_stop e f n m h k = by (parted e n h) (parted f m k)
+    where
+      by : IsFirstMisfit p.parameters setting e ⊎ ((r : ReduceStop) × IsUnformed p setting r × (e ≡ program_stop r)) → IsFirstMisfit p.parameters setting f ⊎ ((r : ReduceStop) × IsUnformed p setting r × (f ≡ program_stop r)) → e ≡ f
+      by (inl a) (inl b) = stops_hold.one p.parameters setting e f a b n m
+      by (inl a) (inr (r, b, is)) = absurd (unfit p setting 0 e a b.fits)
+      by (inr (r, a, is)) (inl b) = absurd (unfit p setting 0 f b a.fits)
+      by (inr (r, a, is)) (inr (t, b, also)) =
+          let stops = one_program p setting (Err r) (Err t) a.stops b.stops in
+          let same : r ≡ t = cc in
+          is ∙ ap program_stop same ∙ sym also
+
+-- ---- outcomes
+-- an outcome that tells how a setting ends, with its place
+pub outcome_of : {A O : Type 0} (Gives : Problem → Pairs → Program Frac → A → Type 0) (end : O → Result A Stop) (place : O → Option Place) (p : Problem) (setting : Pairs) (e : Result A Stop) (o : O) →
+    EndsAt Gives p setting e → end o ≡ e → place o ≡ node_place p e → IsAskedOutcome Gives end place p setting o
+outcome_of Gives end place p setting e o h told placed = record {
+  ends = subst (EndsAt Gives p setting) (sym told) h;
+  placed = placed ∙ ap (node_place p) (sym told);
+}
+
+-- what is found is right, where each answer is
+pub are_right : {F E O : Type 0} (Gives : Problem → Pairs → Program Frac → Result F E → Type 0) (end : O → Result (Result F E) Stop) (place : O → Option Place) (p : Problem) (Right : Pairs → F → Type 0) →
+    ((s : Pairs) (q : Program Frac) (r : Result F E) → Gives p s q r → IfOk r (IsRightAt p s (Right s))) →
+    (settings : List Pairs) (os : List O) → AreAskedOutcomes Gives end place p settings os → AllZip (λ s o. FindsRight p s (Right s) (end o)) settings os
+are_right {F} {E} Gives end place p Right right settings os h =
+    zip_weaker (IsAskedOutcome Gives end place p) (λ s o. FindsRight p s (Right s) (end o)) (λ s o k. by s (end o) k.ends) settings os h
+  where
+    by : (s : Pairs) (e : Result (Result F E) Stop) → EndsAt Gives p s e → FindsRight p s (Right s) e
+    by s (Ok r) k = right s k.program r k.answers
+    by s (Err stop) k = tt
+
+-- settings have one list of outcomes, where a program has one answer
+pub are_one : {F E O : Type 0} (Gives : Problem → Pairs → Program Frac → Result F E → Type 0) (end : O → Result (Result F E) Stop) (place : O → Option Place) (p : Problem) (memory : E) (Same : F → F → Type 0) →
+    ((s : Pairs) (q : Program Frac) (x y : Result F E) → Gives p s q x → Gives p s q y → AreOneEnd memory Same (Ok x) (Ok y)) →
+    (settings : List Pairs) (os qs : List O) → AreAskedOutcomes Gives end place p settings os → AreAskedOutcomes Gives end place p settings qs → AllZip (λ o q. AreOneEnd memory Same (end o) (end q)) os qs
+are_one {F} {E} Gives end place p memory Same one settings os qs h k =
+    zip_both (IsAskedOutcome Gives end place p) (λ o q. AreOneEnd memory Same (end o) (end q)) (λ s o q x y. by s (end o) (end q) x.ends y.ends) settings os qs h k
+  where
+    by : (s : Pairs) (x y : Result (Result F E) Stop) → EndsAt Gives p s x → EndsAt Gives p s y → AreOneEnd memory Same x y
+    by s (Ok x) (Ok y) h k n m =
+        let same = same_program p s 0 h.program k.program h.gives k.gives in
+        one s h.program x y h.answers (subst (λ (q : Program Frac). Gives p s q y) (sym same) k.answers) n m
+    by s (Ok x) (Err e) h k n m = absurd (given_apart p s h.program e m h.fits h.gives k)
+    by s (Err e) (Ok y) h k n m = absurd (given_apart p s k.program e n k.fits k.gives h)
+    by s (Err e) (Err f) h k n m = same_stop p s e f n m h k
+
+-- ---- answers
+-- what is found is right, and the setting fits
+pub right_there : {F E : Type 0} (p : Problem) (setting : Pairs) (Right : F → Type 0) (r : Result F E) → IsFitting p setting → IfOk r Right → IfOk r (IsRightAt p setting Right)
+right_there p setting Right (Ok found) fits h = record { fits = fits; right = h }
+right_there p setting Right (Err stop) fits h = tt

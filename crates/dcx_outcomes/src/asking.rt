@@ -1,0 +1,157 @@
+//! A question that is asked of a session's program at setting after setting.
+ghost use Rattle.std.specs.Prelude.{◌≡◌, ◌+◌, ◌*◌, ◌≤◌, length, is_some, Option, Result, None, Ok, Err, IfOk, OnOk, MatchOption};
+ghost use Rattle.dcx_shape.specs.declared.place.Place.{Place};
+ghost use Rattle.dcx_frac.specs.declared.fraction.Frac.{Frac};
+ghost use Rattle.dcx_point.specs.Pairs.{Pairs};
+ghost use Rattle.dcx_rules.specs.Verdicts.{IsVerdictOf};
+ghost use Rattle.dcx_tree.specs.declared.problem.Problem.{Problem};
+ghost use Rattle.dcx_tree.specs.Meaning.{IsAccepted};
+ghost use Rattle.dcx_fit.specs.Fit.{FitsParameters};
+ghost use Rattle.dcx_answer.specs.declared.stop.Stop.{Stop};
+ghost use Rattle.dcx_report.specs.NodeStops.{stop_names_node};
+ghost use Rattle.dcx_graph.specs.Program.{Program};
+ghost use Rattle.dcx_cache.specs.Programs.{IsMapOf, HasMap, SessionGives, IsProgramAt};
+ghost use Rattle.dcx_outcomes.specs.Outcomes.{Counts};
+ghost use Rattle.dcx_outcomes.specs.Asking.{IsAnswered, IsAskedOutcome, AreAskedOutcomes};
+
+use crate::beginning::begin;
+use crate::outcome::stop_place;
+use dcx_answer::Stop;
+use dcx_cache::Session;
+use dcx_frac::Frac;
+use dcx_graph::Reduced;
+use dcx_linear::ParamForm;
+use dcx_point::Setting;
+use dcx_rules::Verdict;
+use dcx_shape::Place;
+use dcx_steps::Steps;
+use dcx_tree::Problem;
+use std::alloc::{AllocError, Global};
+use std::sync::ledger::Ledger;
+
+/// A question that a session's program answers at a setting.
+pub(crate) trait Question {
+    /// What it finds, or what stops it.
+    type Answer;
+
+    /// The outcome of a setting.
+    type Outcome: Drop;
+
+    /// Whether it can be asked of a problem.
+    ghost can_ask: { Self → Problem → Type 0 };
+
+    /// Which answers it has at a setting of a problem, for a program there.
+    ghost gives: { Self → Problem → Pairs → Program Frac → Self.Answer → Type 0 };
+
+    /// How a setting ends, as its outcome tells.
+    ghost told_end: { Self.Outcome → Result Self.Answer Stop };
+
+    /// The place that its outcome tells.
+    ghost told_place: { Self.Outcome → Option Place };
+
+    /// The answer at a setting for the session's program there, beside the program with affine coefficients that the session keeps.
+    fn ask(
+        &self,
+        alloc: Global,
+        problem: &Problem,
+        map: Option<&Reduced<ParamForm>>,
+        program: &Reduced<Frac>,
+        setting: &Setting,
+    ) -> Self::Answer
+        requires can { can_ask self.now problem.now }
+        requires kept { MatchOption map (¬ (HasMap problem.now)) (λ m. IsMapOf problem.now m.now.program) }
+        requires given { SessionGives problem.now setting.now (Ok program.now.program) }
+        requires program { IsProgramAt problem.now setting.now program.now.program }
+        ensures { gives self.now problem.now setting.now program.now.program result };
+
+    /// The outcome that tells an answer.
+    fn answered(&self, answer: Self::Answer) -> Self::Outcome
+        ensures end { told_end result ≡ Ok answer }
+        ensures place { told_place result ≡ None };
+
+    /// The outcome that tells what stops the program, with the place of the node that it names.
+    fn stopped(&self, stop: Stop, place: Option<Place>) -> Self::Outcome
+        requires { is_some place ≡ stop_names_node stop }
+        ensures end { told_end result ≡ Err stop }
+        ensures place { told_place result ≡ place };
+}
+
+/// The answer at a setting for the session's program there.
+fn answer<Q: Question>(
+    alloc: Global,
+    question: &Q,
+    session: &Session,
+    program: &Reduced<Frac>,
+    setting: &Setting,
+) -> Q::Answer
+    requires can { Q.can_ask question.now session.now.problem }
+    requires fits { FitsParameters session.now.problem.parameters setting.now }
+    requires given { SessionGives session.now.problem setting.now (Ok program.now.program) }
+    requires program { IsProgramAt session.now.problem setting.now program.now.program }
+    ensures { IsAnswered (Q.gives question.now) session.now.problem setting.now result }
+{
+    question.ask(alloc, session.problem(), session.map(), program, setting)
+}
+
+/// The outcome of a setting.
+fn outcome<Q: Question, S: Ledger>(
+    alloc: Global,
+    question: &Q,
+    session: &mut Session,
+    setting: &Setting,
+    steps: &mut Steps<S>,
+) -> Q::Outcome
+    requires { Q.can_ask question.now session.old.problem }
+    ensures outcome { IsAskedOutcome (Q.gives question.now) Q.told_end Q.told_place session.old.problem setting.now result }
+    ensures same { session.new.problem ≡ session.old.problem }
+    ensures counted { HasMap session.old.problem → steps.new ≡ steps.old }
+    ensures few { steps.new ≤ steps.old + length session.old.problem.tree }
+{
+    match session.program(alloc, setting, steps) {
+        Ok(program) => question.answered(answer(alloc, question, session, &program, setting)),
+        Err(stop) => {
+            let place = stop_place(session.problem(), &stop);
+            question.stopped(stop, place)
+        }
+    }
+}
+
+/// The outcomes of settings, in order.
+pub(crate) fn ask_session<Q: Question, S: Ledger>(
+    alloc: Global,
+    question: &Q,
+    session: &mut Session,
+    settings: &[Setting],
+    steps: &mut Steps<S>,
+) -> Result<Vec<Q::Outcome>, AllocError>
+    requires { Q.can_ask question.now session.old.problem }
+    ensures outcomes { IfOk result (λ v. AreAskedOutcomes (Q.gives question.now) Q.told_end Q.told_place session.old.problem settings.now v.items) }
+    ensures counted { OnOk result (HasMap session.old.problem → steps.new ≡ steps.old) }
+    ensures few { OnOk result (steps.new ≤ steps.old + length settings.now * length session.old.problem.tree) }
+{
+    let mut outcomes = Vec::with_capacity(alloc, settings.len())?;
+    for setting in settings {
+        let next = outcome(alloc, question, session, setting, steps);
+        outcomes.push(next)?;
+    }
+    Ok(outcomes)
+}
+
+/// The outcomes of an accepted problem at settings, in order. `AllocError` where there is no memory for the session or for the list.
+pub(crate) fn ask_problem<Q: Question, S: Ledger>(
+    alloc: Global,
+    question: &Q,
+    problem: Problem,
+    verdict: Verdict,
+    settings: &[Setting],
+    steps: &mut Steps<S>,
+) -> Result<Vec<Q::Outcome>, AllocError>
+    requires accepted { IsAccepted problem }
+    requires verdict { IsVerdictOf problem verdict }
+    requires can { Q.can_ask question.now problem }
+    ensures outcomes { IfOk result (λ v. AreAskedOutcomes (Q.gives question.now) Q.told_end Q.told_place problem settings.now v.items) }
+    ensures counted { OnOk result (Counts problem (length settings.now) steps.old steps.new) }
+{
+    let mut session = begin(alloc, problem, verdict, steps)?;
+    ask_session(alloc, question, &mut session, settings, steps)
+}
