@@ -81,10 +81,9 @@ class Accepted:
         return bool(marked(self.problem))
 
     def test_unmarked(self):
-        """Some words refuse a problem with a variable whose entries are to be whole, at the first one that it reaches."""
-        nodes = [self.problem.variables[v][1] for v, _ in marked(self.problem)]
-        if nodes:
-            raise Refused(34, self.problem.nodes[min(nodes)].place)
+        """Some words refuse a problem that reaches a variable whose entries are to be whole, at the first one that is declared."""
+        for v, _ in marked(self.problem):
+            raise Refused(34, self.problem.nodes[self.problem.variables[v][1]].place)
 
 
 def ends_of(accepted, settings, limit):

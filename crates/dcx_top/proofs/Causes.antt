@@ -75,13 +75,13 @@ module _ (words : List (List ℕ)) (told : Option Files) (risen : Type 0) (comma
 
   module _ (a : Accepted) (gives : GivesProblem told command a) where
     -- ---- a variable that is to be whole ends it
-    pub whole_ends : (old new : ℕ) (r : Run) → RefusesWhole command → (t : Refusal) × IsRefusedForWhole a.work.problem.tree t × (r ≡ run.Refused t) × (new ≡ old) → Causes words told risen old new r
+    pub whole_ends : (old new : ℕ) (r : Run) → RefusesWhole command → (t : Refusal) × IsRefusedForWhole a.work.problem t × (r ≡ run.Refused t) × (new ≡ old) → Causes words told risen old new r
     whole_ends old new r solving (t, h, e, same) =
         subst (Causes words told risen old new) (sym e) (for_whole command a form gives solving h, inl same)
 
     -- ---- the settings file ends it
     -- behind the steps of a session's beginning, where one was begun
-    pub settings_end : (taken : Takes command a.work.problem.tree) (allows : AllowsRange command a.work.problem) (name : List ℕ) (old new : ℕ) (r : Run) → CountsAtMostBeginning words told old new → settings_name command ≡ Some name →
+    pub settings_end : (taken : Takes command a.work.problem) (allows : AllowsRange command a.work.problem) (name : List ℕ) (old new : ℕ) (r : Run) → CountsAtMostBeginning words told old new → settings_name command ≡ Some name →
         EndsAt told risen Settings name RefusesSettings r → Causes words told risen old new r
     settings_end taken allows name old new run.ReadFault steps is h = (no_settings command a name form gives taken allows is h, steps)
     settings_end taken allows name old new (run.Refused r) steps is h = (bad_settings command a name form gives taken allows is h, steps)
@@ -99,7 +99,7 @@ module _ (words : List (List ℕ)) (told : Option Files) (risen : Type 0) (comma
 
     -- ---- the problem is solved
     module _ (settings : List Pairs) (asked : AreSettingsOf told command a.work settings) (tells : List Outcome → Option ℕ → Run)
-        (continuous : HasNoWhole a.work.problem.tree) (told_so : (outcomes : List Outcome) (count : Option ℕ) → TellsOutcomes command a.work.problem.sense outcomes count (tells outcomes count)) where
+        (continuous : HasNoWhole a.work.problem) (told_so : (outcomes : List Outcome) (count : Option ℕ) → TellsOutcomes command a.work.problem.sense outcomes count (tells outcomes count)) where
       abbrev solved_run : (old new : ℕ) (outcomes : List Outcome) (count : Option ℕ) → AreFound (is_warm_command command) a.work.problem (limit_of command) settings outcomes count → Counts a.work.problem (length settings) old new →
           IsSolvedRun words told old new (tells outcomes count)
       solved_run old new outcomes count are steps = record {
@@ -123,7 +123,7 @@ module _ (words : List (List ℕ)) (told : Option Files) (risen : Type 0) (comma
       solved_so old new r caused (inr (outcomes, count, are, steps, e)) = subst (Causes words told risen old new) (sym e) (caused outcomes count (solved_run old new outcomes count are steps))
 
     -- ---- it is solved by branch and bound
-    module _ (settings : List Pairs) (asked : AreSettingsOf told command a.work settings) (tells : List WholeOutcome → Run) (marked : HasWhole a.work.problem.tree)
+    module _ (settings : List Pairs) (asked : AreSettingsOf told command a.work settings) (tells : List WholeOutcome → Run) (marked : HasWhole a.work.problem)
         (told_so : (outcomes : List WholeOutcome) → TellsWholes command a.work.problem.sense outcomes (tells outcomes)) where
       abbrev branched_run : (old new : ℕ) (outcomes : List WholeOutcome) → AreWholeOutcomes a.work.problem (limit_of command) settings outcomes → Counts a.work.problem (length settings) old new → IsBranchedRun words told old new (tells outcomes)
       branched_run old new outcomes are steps = record {
@@ -272,7 +272,7 @@ task_refused (tasks.Resolve true) script name limit t = tt
 task_refused tasks.Certificate script name limit t = tt
 task_refused tasks.Filter script name limit t = tt
 
-task_takes : (task : Task) (script name : List ℕ) (limit : ℕ) (p : Problem) → (IsTrue (task_refuses task) → HasNoWhole p.tree) → Takes (command_for task script name limit) p.tree
+task_takes : (task : Task) (script name : List ℕ) (limit : ℕ) (p : Problem) → (IsTrue (task_refuses task) → HasNoWhole p) → Takes (command_for task script name limit) p
 task_takes (tasks.Resolve false) script name limit p h t = absurd t
 task_takes (tasks.Resolve true) script name limit p h t = h refl
 task_takes tasks.Certificate script name limit p h t = h refl
@@ -300,7 +300,7 @@ module _ (words : List (List ℕ)) (told : Option Files) (risen : Type 0) where
 
   -- ---- what is asked at the settings of a file
   does_at : (task : Task) (script name bytes : List ℕ) (limit : ℕ) (a : Accepted) (settings : List Pairs) (old new : ℕ) (r : Run) → command_of words ≡ Some (command_for task script name limit) → IsTold told script bytes → Gives bytes (Ok a) →
-      (IsTrue (task_refuses task) → HasNoWhole a.work.problem.tree) → AreOfFile told name a.work.last settings → DoesAt task a.work limit settings old new r → Causes words told risen old new r
+      (IsTrue (task_refuses task) → HasNoWhole a.work.problem) → AreOfFile told name a.work.last settings → DoesAt task a.work limit settings old new r → Causes words told risen old new r
   does_at (tasks.Resolve false) script name bytes limit a settings old new r form there gives free are h =
       answered (resolve script name limit false) word.Setting a (record { bytes = bytes; are_of = there; gives = gives }) settings old new r form refl are (λ os count. refl) (λ os. refl) h
   does_at (tasks.Resolve true) script name bytes limit a settings old new r form there gives free are h =
@@ -355,7 +355,7 @@ module _ (words : List (List ℕ)) (told : Option Files) (risen : Type 0) where
       by (inr (refuses, k)) = whole_ends words told risen (command_for task script name limit) form a problem old new r (task_refused task script name limit refuses) k
 
   -- ---- the range of a parameter
-  begun : (script name parameter bytes : List ℕ) (limit : ℕ) (a : Accepted) (old new : ℕ) → command_of words ≡ Some (range script name parameter limit) → IsTold told script bytes → Gives bytes (Ok a) → HasNoWhole a.work.problem.tree →
+  begun : (script name parameter bytes : List ℕ) (limit : ℕ) (a : Accepted) (old new : ℕ) → command_of words ≡ Some (range script name parameter limit) → IsTold told script bytes → Gives bytes (Ok a) → HasNoWhole a.work.problem →
       Counts a.work.problem 0 old new → CountsAtMostBeginning words told old new
   begun script name parameter bytes limit a old new form there gives continuous steps = inr (record {
     script = script;

@@ -107,7 +107,7 @@ module _ (Refuses : Type 0) (work : Work) (name : List ℕ) (At : List Pairs →
 
   -- ---- settings that are read
   -- something is done with an accepted problem at the lines of a settings file
-  pub lines_done : (told : Option Files) (risen : Type 0) (bytes : List ℕ) (lines : List (List SettingItem)) → (Refuses → HasNoWhole work.problem.tree) → IsTold told name bytes → SpellSettings bytes lines →
+  pub lines_done : (told : Option Files) (risen : Type 0) (bytes : List ℕ) (lines : List (List SettingItem)) → (Refuses → HasNoWhole work.problem) → IsTold told name bytes → SpellSettings bytes lines →
       ((r ≡ run.Memory) × (new ≡ old)) ⊎ ((settings : List Pairs) × AreLaidOver work.last lines settings × At settings old new r) → OrWhole Refuses work.problem (FromFile told risen work name At old new) old new r
   lines_done told risen bytes lines continuous there spelled (inl (e, same)) = inl (continuous, inr (subst (EndsAt told risen Settings name RefusesSettings) (sym e) tt, same))
   lines_done told risen bytes lines continuous there spelled (inr (settings, laid, h)) =

@@ -1,41 +1,39 @@
--- Variables that are to be whole, among the nodes of a tree.
-use Rattle.std.proofs.Common.{◌≡◌, ◌≢◌, ◌↔◌, IsTrue, ℕ, ◌<◌, ◌≤◌, List, length, Bool, true, false, Some, sym, ap, subst, ◌∙◌, arith}
-use Rattle.std.proofs.lemmas.Option.{none-some, slice_get_past}
-use Rattle.std.specs.Prelude.{option_map}
-use Rattle.dcx_arena.specs.Nodes.{call_at}
+-- Variables that are to be whole, among those of a problem.
+use Rattle.std.proofs.Common.{◌≡◌, ◌≢◌, ◌↔◌, IsTrue, ℕ, ◌<◌, ◌≤◌, List, length, Bool, true, false, Some, refl, sym, ap, subst, ◌∙◌, arith}
+use Rattle.std.proofs.lemmas.Option.{none-some, same_Some, slice_get_past, slice_get_read}
+use Rattle.std.specs.Prelude.{slice_get, get_or}
 use Rattle.dcx_call.specs.declared.attribute.Variable.{Variable}
 use Rattle.dcx_call.specs.declared.attribute.Whole.TheVariants.{Not}
-use Rattle.dcx_call.specs.declared.call.Call.{Call}
-use Rattle.dcx_call.specs.declared.call.Call.TheVariants as calls
-use Rattle.dcx_tree.specs.Nodes.{Node}
+use Rattle.dcx_tree.specs.declared.problem.Problem.{Problem}
 use Rattle.dcx_top.specs.Whole.{IsWholeAt, HasNoWhole, HasWhole}
 
-same_variable : (v w : Variable) → Some (calls.Variable v) ≡ Some (calls.Variable w) → v ≡ w
-same_variable v w e = cc
+-- the variable that is read at a position
+pub read_at : (p : Problem) (k : ℕ) (vs : List Variable) (v : Variable) → vs ≡ p.variables → k < length p.variables → v ≡ get_or vs k v → slice_get p.variables k ≡ Some v
+read_at p k vs v same lt is = slice_get_read p.variables (length p.variables) k v refl lt (is ∙ ap (λ xs. get_or xs k v) same)
 
--- a node is whole where its variable is marked
-pub marked_is_whole : (nodes : List Node) (i : ℕ) (call : Call) (v : Variable) (b : Bool) → call_at nodes i ≡ Some call → call ≡ calls.Variable v → IsTrue b ↔ (v.whole ≢ Not) → IsTrue b ↔ IsWholeAt nodes i
-marked_is_whole nodes i call v b there is h = (
-  λ t. record { variable = v; there = there ∙ ap Some is; marked = h.0 t },
-  λ k. h.1 (subst (λ (x : Variable). x.whole ≢ Not) (same_variable k.variable v (sym k.there ∙ there ∙ ap Some is)) k.marked),
+-- a variable is whole where it is marked
+pub marked_is_whole : (p : Problem) (k : ℕ) (v : Variable) (b : Bool) → slice_get p.variables k ≡ Some v → IsTrue b ↔ (v.whole ≢ Not) → IsTrue b ↔ IsWholeAt p k
+marked_is_whole p k v b at h = (
+  λ t. record { variable = v; there = at; marked = h.0 t },
+  λ w. h.1 (subst (λ (x : Variable). x.whole ≢ Not) (same_Some w.variable v (sym w.there ∙ at)) w.marked),
 )
 
-pub not_whole : (nodes : List Node) (i : ℕ) (b : Bool) → IsTrue b ↔ IsWholeAt nodes i → b ≡ false → ¬ IsWholeAt nodes i
-not_whole nodes i b h e k = let t : b ≡ true = h.1 k in absurd (cc)
+pub not_whole : (p : Problem) (k : ℕ) (b : Bool) → IsTrue b ↔ IsWholeAt p k → b ≡ false → ¬ IsWholeAt p k
+not_whole p k b h e w = let t : b ≡ true = h.1 w in absurd (cc)
 
--- no node is whole past the end
-past : (nodes : List Node) (i : ℕ) → length nodes ≤ i → ¬ IsWholeAt nodes i
-past nodes i le h = none-some (calls.Variable h.variable) (sym (ap (option_map (λ (n : Node). n.call)) (slice_get_past nodes i le)) ∙ h.there)
+-- none is whole past the end
+past : (p : Problem) (k : ℕ) → length p.variables ≤ k → ¬ IsWholeAt p k
+past p k le h = none-some h.variable (sym (slice_get_past p.variables k le) ∙ h.there)
 
-pub whole_within : (nodes : List Node) (i : ℕ) → IsWholeAt nodes i → i < length nodes
-whole_within nodes i h = let no : length nodes ≤ i → ⊥ = (λ le. past nodes i le h) in omega (arith, no)
+pub whole_within : (p : Problem) (k : ℕ) → IsWholeAt p k → k < length p.variables
+whole_within p k h = let no : length p.variables ≤ k → ⊥ = (λ le. past p k le h) in omega (arith, no)
 
-pub none_whole : (nodes : List Node) (n : ℕ) → length nodes ≤ n → ((j : ℕ) → j < n → ¬ IsWholeAt nodes j) → HasNoWhole nodes
-none_whole nodes n le h i k = let l = whole_within nodes i k in h i (omega (arith, l, le)) k
+pub none_whole : (p : Problem) (n : ℕ) → length p.variables ≤ n → ((j : ℕ) → j < n → ¬ IsWholeAt p j) → HasNoWhole p
+none_whole p n le h k w = let l = whole_within p k w in h k (omega (arith, l, le)) w
 
 -- whether there is one
-pub no_whole : (nodes : List Node) → HasNoWhole nodes → IsTrue false ↔ HasWhole nodes
-no_whole nodes h = (λ t. let e : false ≡ true = t in absurd (cc), λ k. absurd (h k.0 k.1))
+pub no_whole : (p : Problem) → HasNoWhole p → IsTrue false ↔ HasWhole p
+no_whole p h = (λ t. let e : false ≡ true = t in absurd (cc), λ k. absurd (h k.0 k.1))
 
-pub none_where_not : (nodes : List Node) (b : Bool) → IsTrue b ↔ HasWhole nodes → b ≡ false → HasNoWhole nodes
-none_where_not nodes b h e i k = let t : b ≡ true = h.1 (i, k) in absurd (cc)
+pub none_where_not : (p : Problem) (b : Bool) → IsTrue b ↔ HasWhole p → b ≡ false → HasNoWhole p
+none_where_not p b h e k w = let t : b ≡ true = h.1 (k, w) in absurd (cc)

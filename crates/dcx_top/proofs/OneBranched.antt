@@ -25,7 +25,7 @@ module _ (words : List (List ℕ)) (files : Files) where
   solved_or_branched old new was now r s h k =
       let same = same_command words files h.command h.form k.command k.form in
       let one = one_problem files h.command h.accepted k.accepted h.problem (subst (λ c. GivesProblem (Some files) c k.accepted) same k.problem) in
-      let free = subst (λ (x : Accepted). HasNoWhole x.work.problem.tree) one h.continuous in
+      let free = subst (λ (x : Accepted). HasNoWhole x.work.problem) one h.continuous in
       free k.marked.0 k.marked.1
 
   tell_one : (command : Command) (sense : Sense) (os qs : List WholeOutcome) (r s : Run) → TellsWholes command sense os r → TellsWholes command sense qs s → AreAlikeWholesOver words files os qs → AreOneRun words files r s

@@ -97,7 +97,7 @@ laid_length s [] (t ∷ ts) h = absurd h
 laid_length s (line ∷ lines) [] h = absurd h
 laid_length s (line ∷ lines) (t ∷ ts) h = omega (arith, laid_length s lines ts h.1)
 
-module _ (told : Option Files) (script name file bytes set : List ℕ) (a : Accepted) (lines : List (List SettingItem)) (there : IsTold told script bytes) (gives : Gives bytes (Ok a)) (continuous : HasNoWhole a.work.problem.tree)
+module _ (told : Option Files) (script name file bytes set : List ℕ) (a : Accepted) (lines : List (List SettingItem)) (there : IsTold told script bytes) (gives : Gives bytes (Ok a)) (continuous : HasNoWhole a.work.problem)
     (told_set : IsTold told name set) (spelled : SpellSettings set lines) where
   gives_settings : (settings : List Pairs) → AreLaidOver a.work.last lines settings → GivesSettings told script name a settings
   gives_settings settings laid = record {

@@ -1,6 +1,7 @@
 -- What a refusal says of files that are told: one fault, and no other.
 use Rattle.std.proofs.Common.{◌≡◌, inl, inr, ℕ, ◌<◌, ◌≤◌, List, length, Some, Ok, Err, refl, sym, ap, subst, ◌∙◌, arith}
 use Rattle.std.proofs.lemmas.Option.{none-some, same_Some}
+use Rattle.std.specs.Prelude.{slice_get}
 use Rattle.dcx_tokens.specs.declared.fault.ReadFault.{ReadFault}
 use Rattle.dcx_tokens.specs.declared.fault.ReadFault.TheVariants as reads
 use Rattle.dcx_tokens.specs.Position.{start_of_text}
@@ -11,8 +12,8 @@ use Rattle.dcx_settings.proofs.OneAnswer.{refused_one, settings_apart}
 use Rattle.dcx_host.specs.Files.{Files}
 use Rattle.dcx_elab.specs.declared.work.Work.{Work}
 use Rattle.dcx_point.specs.Pairs.{Pairs}
-use Rattle.dcx_arena.specs.Nodes.{place_at}
 use Rattle.dcx_tree.specs.Nodes.{Node}
+use Rattle.dcx_call.specs.declared.attribute.Variable.{Variable}
 use Rattle.dcx_tree.specs.declared.problem.Problem.{Problem}
 use Rattle.dcx_shape.specs.declared.place.Place.{Place}
 use Rattle.dcx_ranged.specs.declared.not_ranged.NotRanged.{NotRanged as Fault}
@@ -31,6 +32,7 @@ use Rattle.dcx_words.specs.Commands.{Command, check, solve, resolve, certificate
 use Rattle.dcx_top.specs.Commands.{IsScriptOf, script_name, settings_name, certificate_name, parameter_name, AreOfFile, AreSettingsOf}
 use Rattle.dcx_top.specs.Files.{most_bytes, RefusesScript, RefusesSettings}
 use Rattle.dcx_top.specs.Runs.{GivesProblem, IsRefusedRun, long_script, bad_script, for_whole, for_range, bad_settings, long_certificate}
+use Rattle.dcx_top.specs.Stands.{StandsAt}
 use Rattle.dcx_top.specs.NoRange.{IsPlaceOf, IsRefusedForRange, AllowsRange}
 use Rattle.dcx_top.proofs.Named.{reads_no_parameter}
 use Rattle.dcx_top.proofs.Standing.{stands_once}
@@ -109,10 +111,10 @@ module _ (files : Files) where
 -- length
 pub data Refuses (files : Files) (command : Command) (r : Refusal) : Type 0 where
   in_script : (bytes : List ℕ) → IsScriptOf (Some files) command bytes → RefusesScript bytes r → Refuses files command r
-  in_problem : (a : Accepted) → GivesProblem (Some files) command a → RefusesWhole command → IsRefusedForWhole a.work.problem.tree r → Refuses files command r
-  in_range : (a : Accepted) (name : List ℕ) → GivesProblem (Some files) command a → HasNoWhole a.work.problem.tree → parameter_name command ≡ Some name → IsRefusedForRange a.work.problem name r → Refuses files command r
-  in_settings : (a : Accepted) (name bytes : List ℕ) → GivesProblem (Some files) command a → Takes command a.work.problem.tree → AllowsRange command a.work.problem → settings_name command ≡ Some name → files name ≡ Some bytes → RefusesSettings bytes r → Refuses files command r
-  in_length : (a : Accepted) (settings : List Pairs) (name bytes : List ℕ) → GivesProblem (Some files) command a → HasNoWhole a.work.problem.tree → AreSettingsOf (Some files) command a.work settings → certificate_name command ≡ Some name →
+  in_problem : (a : Accepted) → GivesProblem (Some files) command a → RefusesWhole command → IsRefusedForWhole a.work.problem r → Refuses files command r
+  in_range : (a : Accepted) (name : List ℕ) → GivesProblem (Some files) command a → HasNoWhole a.work.problem → parameter_name command ≡ Some name → IsRefusedForRange a.work.problem name r → Refuses files command r
+  in_settings : (a : Accepted) (name bytes : List ℕ) → GivesProblem (Some files) command a → Takes command a.work.problem → AllowsRange command a.work.problem → settings_name command ≡ Some name → files name ≡ Some bytes → RefusesSettings bytes r → Refuses files command r
+  in_length : (a : Accepted) (settings : List Pairs) (name bytes : List ℕ) → GivesProblem (Some files) command a → HasNoWhole a.work.problem → AreSettingsOf (Some files) command a.work settings → certificate_name command ≡ Some name →
       files name ≡ Some bytes → most_bytes Certificate < length bytes → IsTooLong Certificate r → Refuses files command r
 
 module _ (words : List (List ℕ)) (files : Files) (command : Command) (form : command_of words ≡ Some command) where
@@ -134,17 +136,20 @@ module _ (words : List (List ℕ)) (files : Files) (command : Command) (form : c
   refuses r (bad_settings c a name e g free allows is (inr (bytes, there, h))) = of_command r c e (in_settings a name bytes g free allows is there h)
   refuses r (long_certificate c f (long, (bytes, there, more))) = of_command r c f.form (in_length f.accepted f.settings f.name bytes f.problem f.continuous f.asked f.named there more long)
 
--- the first variable that is to be whole is one
-one_first : (nodes : List Node) (i j : ℕ) → IsFirstWhole nodes i → IsFirstWhole nodes j → i ≡ j
-one_first nodes i j h k =
+-- the first variable that is to be whole is one, and so is its name
+one_first : (p : Problem) (i j : ℕ) → IsFirstWhole p i → IsFirstWhole p j → i ≡ j
+one_first p i j h k =
     let low : i < j → ⊥ = (λ l. k.before i l h.is) in
     let high : j < i → ⊥ = (λ l. h.before j l k.is) in
     omega (arith, low, high)
 
-one_whole : (nodes : List Node) (r t : Refusal) → IsRefusedForWhole nodes r → IsRefusedForWhole nodes t → r ≡ t
-one_whole nodes r t h k =
-    let node = one_first nodes h.node k.node h.first k.first in
-    let place = same_Some h.place k.place (sym h.stands ∙ ap (place_at nodes) node ∙ k.stands) in
+one_variable : (p : Problem) (i j : ℕ) (h : IsFirstWhole p i) (k : IsFirstWhole p j) → h.is.variable ≡ k.is.variable
+one_variable p i j h k = same_Some h.is.variable k.is.variable (sym h.is.there ∙ ap (slice_get p.variables) (one_first p i j h k) ∙ k.is.there)
+
+one_whole : (p : Problem) (r t : Refusal) → IsRefusedForWhole p r → IsRefusedForWhole p t → r ≡ t
+one_whole p r t h k =
+    let name = ap (λ (v : Variable). v.name) (one_variable p h.number k.number h.first k.first) in
+    let place = stands_once p.tree k.first.is.variable.name h.place k.place (subst (λ n. StandsAt p.tree n h.place) name h.stands) k.stands in
     one_refusal Script 34 k.place Nothing r t (subst (λ z. IsRefusedAs Script 34 z Nothing r) place h.refusal) k.refusal
 
 -- what a script is refused for, where a parameter has no range, is one, and so is its place
@@ -173,14 +178,14 @@ module _ (files : Files) (command : Command) where
   in_script_once : (a : Accepted) (r : Refusal) (b : List ℕ) → GivesProblem (Some files) command a → IsScriptOf (Some files) command b → RefusesScript b r → ⊥
   in_script_once a r b g of h = accepted_or_refused g.bytes a r g.gives (subst (λ x. RefusesScript x r) (one_script files command b g.bytes of g.are_of) h)
 
-  in_problem_once : (a b : Accepted) (r t : Refusal) → GivesProblem (Some files) command a → GivesProblem (Some files) command b → IsRefusedForWhole a.work.problem.tree r → IsRefusedForWhole b.work.problem.tree t → r ≡ t
+  in_problem_once : (a b : Accepted) (r t : Refusal) → GivesProblem (Some files) command a → GivesProblem (Some files) command b → IsRefusedForWhole a.work.problem r → IsRefusedForWhole b.work.problem t → r ≡ t
   in_problem_once a b r t g i h k =
-      one_whole b.work.problem.tree r t (subst (λ (x : Accepted). IsRefusedForWhole x.work.problem.tree r) (one_problem files command a b g i) h) k
+      one_whole b.work.problem r t (subst (λ (x : Accepted). IsRefusedForWhole x.work.problem r) (one_problem files command a b g i) h) k
 
-  whole_or_free : (a b : Accepted) (r : Refusal) → GivesProblem (Some files) command a → GivesProblem (Some files) command b → IsRefusedForWhole a.work.problem.tree r → HasNoWhole b.work.problem.tree → ⊥
+  whole_or_free : (a b : Accepted) (r : Refusal) → GivesProblem (Some files) command a → GivesProblem (Some files) command b → IsRefusedForWhole a.work.problem r → HasNoWhole b.work.problem → ⊥
   whole_or_free a b r g i h free =
-      let k = subst (λ (x : Accepted). IsRefusedForWhole x.work.problem.tree r) (one_problem files command a b g i) h in
-      free k.node k.first.is
+      let k = subst (λ (x : Accepted). IsRefusedForWhole x.work.problem r) (one_problem files command a b g i) h in
+      free k.number k.first.is
 
   -- a settings file that gives settings isn't refused
   settings_or_not : (work : Work) (settings : List Pairs) (name bytes : List ℕ) (fault : ReadFault) → AreSettingsOf (Some files) command work settings → settings_name command ≡ Some name → files name ≡ Some bytes → IsRefused bytes fault → ⊥
@@ -236,7 +241,7 @@ module _ (files : Files) (command : Command) where
   IsShort = (name bytes : List ℕ) → certificate_name command ≡ Some name → files name ≡ Some bytes → length bytes ≤ most_bytes Certificate
 
   -- nothing is refused where the problem is solved
-  pub never_refused : (a : Accepted) (settings : List Pairs) (r : Refusal) → GivesProblem (Some files) command a → Takes command a.work.problem.tree → AllowsRange command a.work.problem → AreSettingsOf (Some files) command a.work settings → IsShort → Refuses files command r → ⊥
+  pub never_refused : (a : Accepted) (settings : List Pairs) (r : Refusal) → GivesProblem (Some files) command a → Takes command a.work.problem → AllowsRange command a.work.problem → AreSettingsOf (Some files) command a.work settings → IsShort → Refuses files command r → ⊥
   never_refused a settings r g taken allowed are short (in_script b of h) = in_script_once a r b g of h
   never_refused a settings r g taken allowed are short (in_problem b i refusing h) = whole_or_free b a r i g h (taken refusing)
   never_refused a settings r g taken allowed are short (in_range b name i unmarked is h) = range_or_lack b a name r i g is h allowed

@@ -1,5 +1,5 @@
--- Where a parameter stands among the nodes of a tree.
-use Rattle.std.proofs.Common.{◌≡◌, ◌≢◌, ◌↔◌, IsTrue, ℕ, ◌<◌, ◌≤◌, List, length, Bool, true, false, Option, Some, None, Bor, refl, sym, ap, subst, ◌∙◌, arith}
+-- Where a declared name stands among the nodes of a tree.
+use Rattle.std.proofs.Common.{◌≡◌, ◌↔◌, inl, inr, IsTrue, ℕ, ◌<◌, ◌≤◌, List, length, Bool, true, false, Option, Some, None, Bor, sym, ap, subst, ◌∙◌, arith}
 use Rattle.std.proofs.lemmas.Option.{none-some, same_Some, slice_get_past}
 use Rattle.std.specs.Prelude.{option_map, option_copied, MatchOption}
 use Rattle.dcx_point.specs.Pairs.{same_name}
@@ -7,6 +7,7 @@ use Rattle.dcx_point.proofs.Puts.{same_name-refl, same_name-true}
 use Rattle.dcx_arena.specs.Nodes.{call_at, place_at}
 use Rattle.dcx_shape.specs.declared.place.Place.{Place}
 use Rattle.dcx_call.specs.declared.attribute.Parameter.{Parameter}
+use Rattle.dcx_call.specs.declared.attribute.Variable.{Variable}
 use Rattle.dcx_call.specs.declared.call.Call.{Call}
 use Rattle.dcx_call.specs.declared.call.Call.TheVariants as calls
 use Rattle.dcx_tree.specs.Nodes.{Node}
@@ -21,46 +22,54 @@ use Rattle.dcx_graph.specs.declared.reduced.Reduced.{Reduced}
 use Rattle.dcx_cache.specs.Programs.{IsMapOf, HasMap}
 use Rattle.dcx_range.specs.Parameters.{program_in}
 use Rattle.dcx_outcomes.specs.Ranges.{IsKeptProgram, LacksRange}
-use Rattle.dcx_top.specs.NoRange.{Reaches, IsParameterAt, HasNoParameter, IsFirstParameter, StandsAt}
+use Rattle.dcx_top.specs.Stands.{name_of, IsNamedAt, LacksName, IsFirstNamed, StandsAt, Reaches, HasName}
 
-same_parameter : (q t : Parameter) → Some (calls.Parameter q) ≡ Some (calls.Parameter t) → q ≡ t
-same_parameter q t e = cc
-
--- a node is the parameter where its name is the one
-pub named_is_parameter : (nodes : List Node) (name : List ℕ) (i : ℕ) (call : Call) (q : Parameter) (b : Bool) → call_at nodes i ≡ Some call → call ≡ calls.Parameter q → b ≡ same_name name q.name → IsTrue b ↔ IsParameterAt nodes name i
-named_is_parameter nodes name i call q b there is h = (
-  λ t. record { parameter = q; there = there ∙ ap Some is; named = sym (same_name-true name q.name (sym h ∙ t)) },
-  λ k. h ∙ subst (λ n. same_name n q.name ≡ true) (subst (λ (x : Parameter). x.name ≡ name) (same_parameter k.parameter q (sym k.there ∙ there ∙ ap Some is)) k.named) (same_name-refl q.name),
+-- a call declares a name where its own is the one
+pub named_is : (name other : List ℕ) (b : Bool) (own : Option (List ℕ)) → own ≡ Some other → b ≡ same_name name other → IsTrue b ↔ (own ≡ Some name)
+named_is name other b own is h = (
+  λ t. is ∙ ap Some (sym (same_name-true name other (sym h ∙ t))),
+  λ k. h ∙ subst (λ n. same_name n other ≡ true) (same_Some other name (sym is ∙ k)) (same_name-refl other),
 )
 
-pub not_parameter : (nodes : List Node) (name : List ℕ) (i : ℕ) (b : Bool) → IsTrue b ↔ IsParameterAt nodes name i → b ≡ false → ¬ IsParameterAt nodes name i
-not_parameter nodes name i b h e k = let t : b ≡ true = h.1 k in absurd (cc)
+-- a node does where its call does
+pub call_named : (nodes : List Node) (name : List ℕ) (i : ℕ) (call : Call) (b : Bool) → call_at nodes i ≡ Some call → IsTrue b ↔ (name_of call ≡ Some name) → IsTrue b ↔ IsNamedAt nodes name i
+call_named nodes name i call b there h = (
+  λ t. record { call = call; there = there; named = h.0 t },
+  λ k. h.1 (subst (λ (x : Call). name_of x ≡ Some name) (same_Some k.call call (sym k.there ∙ there)) k.named),
+)
 
-past : (nodes : List Node) (name : List ℕ) (i : ℕ) → length nodes ≤ i → ¬ IsParameterAt nodes name i
-past nodes name i le h = none-some (calls.Parameter h.parameter) (sym (ap (option_map (λ (n : Node). n.call)) (slice_get_past nodes i le)) ∙ h.there)
+pub not_named_at : (nodes : List Node) (name : List ℕ) (i : ℕ) (b : Bool) → IsTrue b ↔ IsNamedAt nodes name i → b ≡ false → ¬ IsNamedAt nodes name i
+not_named_at nodes name i b h e k = let t : b ≡ true = h.1 k in absurd (cc)
 
-pub parameter_within : (nodes : List Node) (name : List ℕ) (i : ℕ) → IsParameterAt nodes name i → i < length nodes
-parameter_within nodes name i h = let no : length nodes ≤ i → ⊥ = (λ le. past nodes name i le h) in omega (arith, no)
+past : (nodes : List Node) (name : List ℕ) (i : ℕ) → length nodes ≤ i → ¬ IsNamedAt nodes name i
+past nodes name i le h = none-some h.call (sym (ap (option_map (λ (n : Node). n.call)) (slice_get_past nodes i le)) ∙ h.there)
 
-pub no_parameter : (nodes : List Node) (name : List ℕ) (n : ℕ) → length nodes ≤ n → ((j : ℕ) → j < n → ¬ IsParameterAt nodes name j) → HasNoParameter nodes name
-no_parameter nodes name n le h i k = let l = parameter_within nodes name i k in h i (omega (arith, l, le)) k
+pub named_within : (nodes : List Node) (name : List ℕ) (i : ℕ) → IsNamedAt nodes name i → i < length nodes
+named_within nodes name i h = let no : length nodes ≤ i → ⊥ = (λ le. past nodes name i le h) in omega (arith, no)
+
+pub lacks_name : (nodes : List Node) (name : List ℕ) (n : ℕ) → length nodes ≤ n → ((j : ℕ) → j < n → ¬ IsNamedAt nodes name j) → LacksName nodes name
+lacks_name nodes name n le h i k = let l = named_within nodes name i k in h i (omega (arith, l, le)) k
 
 -- the first node is one, and so is its place
-one_first_parameter : (nodes : List Node) (name : List ℕ) (i j : ℕ) → IsFirstParameter nodes name i → IsFirstParameter nodes name j → i ≡ j
-one_first_parameter nodes name i j h k =
+one_first_named : (nodes : List Node) (name : List ℕ) (i j : ℕ) → IsFirstNamed nodes name i → IsFirstNamed nodes name j → i ≡ j
+one_first_named nodes name i j h k =
     let low : i < j → ⊥ = (λ l. k.before i l h.is) in
     let high : j < i → ⊥ = (λ l. h.before j l k.is) in
     omega (arith, low, high)
 
 pub stands_once : (nodes : List Node) (name : List ℕ) (a b : Place) → StandsAt nodes name a → StandsAt nodes name b → a ≡ b
-stands_once nodes name a b h k = same_Some a b (sym h.stands ∙ ap (place_at nodes) (one_first_parameter nodes name h.node k.node h.first k.first) ∙ k.stands)
+stands_once nodes name a b h k = same_Some a b (sym h.stands ∙ ap (place_at nodes) (one_first_named nodes name h.node k.node h.first k.first) ∙ k.stands)
 
--- a parameter that the problem reaches has a node
-pub reached : (p : Problem) (name : List ℕ) → Reaches p name → HasNoParameter p.tree name → ⊥
-reached p name (k, q, h) none = ∥∥₁_elim p.declared (λ x. absurd x) (λ d. by (all_at (λ (x : Parameter). HasCall p.tree (calls.Parameter x)) p.parameters k q d.parameters_stand h.there))
-  where
-    by : HasCall p.tree (calls.Parameter q) → ⊥
-    by (i, there) = none i (record { parameter = q; there = there; named = name_is p.parameters name k q h.place h.there })
+-- what is declared has a node
+call_reached : (p : Problem) (name : List ℕ) (call : Call) → name_of call ≡ Some name → HasCall p.tree call → LacksName p.tree name → ⊥
+call_reached p name call named (i, there) none = none i (record { call = call; there = there; named = named })
+
+pub reached : (p : Problem) (name : List ℕ) → HasName p name → LacksName p.tree name → ⊥
+reached p name (inl (k, v, at, is)) none =
+    ∥∥₁_elim p.declared (λ x. absurd x) (λ d. call_reached p name (calls.Variable v) (ap Some is) (all_at (λ (x : Variable). HasCall p.tree (calls.Variable x)) p.variables k v d.variables_stand at) none)
+reached p name (inr (k, q, h)) none =
+    ∥∥₁_elim p.declared (λ x. absurd x)
+    (λ d. call_reached p name (calls.Parameter q) (ap Some (name_is p.parameters name k q h.place h.there)) (all_at (λ (x : Parameter). HasCall p.tree (calls.Parameter x)) p.parameters k q d.parameters_stand h.there) none)
 
 -- what stands against a range, but for its name, is that of a parameter that the problem reaches
 pub lacking_shape : (p : Problem) (name : List ℕ) → LacksRange p name faults.Shape → Reaches p name

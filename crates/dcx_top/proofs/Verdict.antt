@@ -57,7 +57,7 @@ module _ (files : Files) (command : Command) (script settings certificate : List
   no_faults w (bad_script f) = apart script w.no_script_fault f
   no_faults w (has_whole h refusing i is) =
       let same = one_work w.no_script_fault.script h.script (one_view script w.no_script_fault.script h.script w.no_script_fault.spelled h.spelled) w.no_script_fault.work h.work w.no_script_fault.stands_for h.stands_for in
-      w.no_whole refusing i (subst (λ (x : Work). IsWholeAt x.problem.tree i) (sym same) is)
+      w.no_whole refusing i (subst (λ (x : Work). IsWholeAt x.problem i) (sym same) is)
   no_faults w (lacks_range h name is fault lacks) =
       let same = one_work w.no_script_fault.script h.script (one_view script w.no_script_fault.script h.script w.no_script_fault.spelled h.spelled) w.no_script_fault.work h.work w.no_script_fault.stands_for h.stands_for in
       range_is_told.never_both w.no_script_fault.work.problem name fault (w.no_lack name is) (subst (λ (x : Work). LacksRange x.problem name fault) (sym same) lacks)
@@ -69,7 +69,7 @@ module _ (files : Files) (command : Command) (script settings certificate : List
 
   at_fault : (r : Refusal) → Refuses files command r → AreAtFault command script settings certificate
   at_fault r (in_script bytes of h) = bad_script (refused_for script r (subst (λ b. RefusesScript b r) (one_script files command bytes script of has.is_script) h))
-  at_fault r (in_problem a g refusing h) = has_whole (without_fault script a (accepted a g)) refusing h.node h.first.is
+  at_fault r (in_problem a g refusing h) = has_whole (without_fault script a (accepted a g)) refusing h.number h.first.is
   at_fault r (in_range a name g free is h) = lacks_range (without_fault script a (accepted a g)) name is h.fault h.lacks
   at_fault r (in_settings a name bytes g free allows is there h) =
       bad_settings (without_fault script a (accepted a g))
@@ -78,7 +78,7 @@ module _ (files : Files) (command : Command) (script settings certificate : List
       long_certificate (without_fault script a (accepted a g)) (λ name is. spelled_by files command a.work others name settings asked is (has.are_settings name is))
       (record { name = name; asked = named; long = subst (λ b. most_bytes Certificate < length b) (same_Some bytes certificate (sym there ∙ has.is_certificate name named)) more })
 
-  without : (a : Accepted) → GivesProblem (Some files) command a → Takes command a.work.problem.tree → AllowsRange command a.work.problem → AreFaultless command settings → IsShort files command → AreWithoutFault command script settings certificate
+  without : (a : Accepted) → GivesProblem (Some files) command a → Takes command a.work.problem → AllowsRange command a.work.problem → AreFaultless command settings → IsShort files command → AreWithoutFault command script settings certificate
   without a g taken allows f short = record { no_script_fault = without_fault script a (accepted a g); no_whole = taken; no_lack = allows; no_settings_fault = f; not_long = λ l. let few = short l.name certificate l.asked (has.is_certificate l.name l.asked) in omega (arith, few, l.long) }
 
   refuses_so : (r : Refusal) → AreAtFault command script settings certificate → IsVerdictOn command script settings certificate (run.Refused r)
@@ -93,13 +93,13 @@ module _ (files : Files) (command : Command) (script settings certificate : List
 
   module _ (words : List (List ℕ)) (form : command_of words ≡ Some command) (risen : Type 0) (old new : ℕ) where
     -- the problem is solved, or its certificate is checked
-    goes_on : (r : Run) → IsAcceptance r → (IsRefusal r → ⊥) → (c : Command) → c ≡ command → (a : Accepted) (list : List Pairs) → GivesProblem (Some files) c a → Takes c a.work.problem.tree → AllowsRange c a.work.problem → AreSettingsOf (Some files) c a.work list →
+    goes_on : (r : Run) → IsAcceptance r → (IsRefusal r → ⊥) → (c : Command) → c ≡ command → (a : Accepted) (list : List Pairs) → GivesProblem (Some files) c a → Takes c a.work.problem → AllowsRange c a.work.problem → AreSettingsOf (Some files) c a.work list →
         IsShort files command → IsVerdictOn command script settings certificate r
     goes_on r i n c same a list gives taken permits asked short =
         let g = subst (λ d. GivesProblem (Some files) d a) same gives in
         let are = subst (λ d. AreSettingsOf (Some files) d a.work list) same asked in
         let allows = subst (λ d. AllowsRange d a.work.problem) same permits in
-        accepts_so r i n (without a g (subst (λ d. Takes d a.work.problem.tree) same taken) allows (λ name is. spelled_by files command a.work list name settings are is (has.are_settings name is)) short)
+        accepts_so r i n (without a g (subst (λ d. Takes d a.work.problem) same taken) allows (λ name is. spelled_by files command a.work list name settings are is (has.are_settings name is)) short)
 
     solved : (r : Run) → IsAcceptance r → (IsRefusal r → ⊥) → IsSolvedRun words (Some files) old new r → IsVerdictOn command script settings certificate r
     solved r i n h =

@@ -27,6 +27,7 @@ use Rattle.dcx_sections.specs.declared.section.Sections.{Sections}
 use Rattle.dcx_cert_lines.specs.CertText.{cert_text}
 use Rattle.dcx_certificates.specs.Checking.{is_cert, AreShown}
 use Rattle.dcx_top.specs.Commands.{IsScriptOf, parameter_name, AreSettingsOf, TellsOutcomes, TellsWholes}
+use Rattle.dcx_top.specs.Whole.{HasNoWhole}
 
 -- The script of the command spells what stands for this work: a problem with its settings. The rules accept the problem, and it is
 -- convex at every fitting setting.
@@ -47,12 +48,14 @@ pub record IsRightlyFound (words : List (List ℕ)) (told : Option Files) (c : C
   pub accepted : IsAcceptedWork words told command work
   pub found : IsFoundOf work.problem c
 
--- Each answer of the run is right for the accepted problem, at its setting: a feasible point with multipliers whose Lagrangian bound
--- is its value, or multipliers that show that no point is feasible, or a feasible point and a ray of unbounded descent.
+-- No variable is to be whole, and each answer of the run is right for the accepted problem, at its setting: a feasible point
+-- with multipliers whose Lagrangian bound is its value, or multipliers that show that no point is feasible, or a feasible point and a ray
+-- of unbounded descent.
 pub record IsRightlySolved (words : List (List ℕ)) (told : Option Files) (r : Run) : Type 0 where
   pub command : Command
   pub work : Work
   pub accepted : IsAcceptedWork words told command work
+  pub continuous : HasNoWhole work.problem
   pub settings : List Pairs
   pub asked : AreSettingsOf told command work settings
   pub outcomes : List Outcome
@@ -73,33 +76,39 @@ pub record IsRightlyBranched (words : List (List ℕ)) (told : Option Files) (r 
   pub tells : TellsWholes command work.problem.sense outcomes r
   pub right : AreRightWholes work.problem settings outcomes
 
--- Whatever is found of the constraints of the accepted problem is right at its setting: a feasible point; or constraints that no point of
--- the domain keeps together, as multipliers show, each with a point that keeps all the others.
+-- No variable is to be whole, and whatever is found of the constraints of the accepted problem is right at its setting: a
+-- feasible point; or constraints that no point of the domain keeps together, as multipliers show, each with a point that keeps all the
+-- others.
 pub record IsRightlyFiltered (words : List (List ℕ)) (told : Option Files) (outcomes : List FilterOutcome) : Type 0 where
   pub command : Command
   pub work : Work
   pub accepted : IsAcceptedWork words told command work
+  pub continuous : HasNoWhole work.problem
   pub settings : List Pairs
   pub asked : AreSettingsOf told command work settings
   pub right : AreRightFilters work.problem settings outcomes
 
--- Whatever is told of the parameter of the accepted problem is right at its setting: at each fitting setting that differs by a value of the
--- parameter in the span alone some point and some multipliers show that the problem has the value on the line.
+-- No variable is to be whole, and whatever is told of the parameter of the accepted problem is right at its setting: at each
+-- fitting setting that differs by a value of the parameter in the span alone some point and some multipliers show that the problem has the
+-- value on the line.
 pub record IsRightlyRanged (words : List (List ℕ)) (told : Option Files) (parameter : List ℕ) (sense : Sense) (outcomes : List RangeOutcome) : Type 0 where
   pub command : Command
   pub work : Work
   pub accepted : IsAcceptedWork words told command work
+  pub continuous : HasNoWhole work.problem
   pub named : parameter_name command ≡ Some parameter
   pub sense_is : sense ≡ work.problem.sense
   pub settings : List Pairs
   pub asked : AreSettingsOf told command work settings
   pub right : AreRightRanges work.problem parameter settings outcomes
 
--- Each section of the certificate is empty or shows the answer of the accepted problem at its setting.
+-- No variable is to be whole, and each section of the certificate is empty or shows the answer of the accepted problem at its
+-- setting.
 pub record IsRightlyShown (words : List (List ℕ)) (told : Option Files) (list : List Section) : Type 0 where
   pub command : Command
   pub work : Work
   pub accepted : IsAcceptedWork words told command work
+  pub continuous : HasNoWhole work.problem
   pub settings : List Pairs
   pub asked : AreSettingsOf told command work settings
   pub shown : AreShown work.problem settings list

@@ -1,6 +1,7 @@
 -- What contracts cite.
 pub mod Commands
 pub mod Files
+pub mod Stands
 pub mod Whole
 pub mod NoRange
 pub mod Runs

@@ -63,7 +63,7 @@ pub record IsSolvedRun (words : List (List ℕ)) (told : Option Files) (old new 
   pub form : command_of words ≡ Some command
   pub accepted : Accepted
   pub problem : GivesProblem told command accepted
-  pub continuous : HasNoWhole accepted.work.problem.tree
+  pub continuous : HasNoWhole accepted.work.problem
   pub settings : List Pairs
   pub asked : AreSettingsOf told command accepted.work settings
   pub outcomes : List Outcome
@@ -79,7 +79,7 @@ pub record IsBranchedRun (words : List (List ℕ)) (told : Option Files) (old ne
   pub form : command_of words ≡ Some command
   pub accepted : Accepted
   pub problem : GivesProblem told command accepted
-  pub marked : HasWhole accepted.work.problem.tree
+  pub marked : HasWhole accepted.work.problem
   pub settings : List Pairs
   pub asked : AreSettingsOf told command accepted.work settings
   pub outcomes : List WholeOutcome
@@ -97,7 +97,7 @@ pub record IsFilteredRun (words : List (List ℕ)) (told : Option Files) (old ne
   pub form : command_of words ≡ Some (iis script name limit)
   pub accepted : Accepted
   pub problem : GivesProblem told (iis script name limit) accepted
-  pub continuous : HasNoWhole accepted.work.problem.tree
+  pub continuous : HasNoWhole accepted.work.problem
   pub settings : List Pairs
   pub asked : AreOfFile told name accepted.work.last settings
   pub are : AreFilterOutcomes accepted.work.problem limit settings outcomes
@@ -113,7 +113,7 @@ pub record IsRangedRun (words : List (List ℕ)) (told : Option Files) (old new 
   pub form : command_of words ≡ Some (range script name parameter limit)
   pub accepted : Accepted
   pub problem : GivesProblem told (range script name parameter limit) accepted
-  pub continuous : HasNoWhole accepted.work.problem.tree
+  pub continuous : HasNoWhole accepted.work.problem
   pub ranged : HasRange accepted.work.problem parameter
   pub settings : List Pairs
   pub asked : AreOfFile told name accepted.work.last settings
@@ -130,7 +130,7 @@ pub record BeginsRange (words : List (List ℕ)) (told : Option Files) (old new 
   pub form : command_of words ≡ Some (range script name parameter limit)
   pub accepted : Accepted
   pub problem : GivesProblem told (range script name parameter limit) accepted
-  pub continuous : HasNoWhole accepted.work.problem.tree
+  pub continuous : HasNoWhole accepted.work.problem
   pub steps : Counts accepted.work.problem 0 old new
 
 -- no step was counted, or those of a session that a `range` begins before it is refused or its settings file is fetched
@@ -147,7 +147,7 @@ pub record IsCertificateRun (words : List (List ℕ)) (told : Option Files) (old
   pub form : command_of words ≡ Some (certificate script name limit)
   pub accepted : Accepted
   pub problem : GivesProblem told (certificate script name limit) accepted
-  pub continuous : HasNoWhole accepted.work.problem.tree
+  pub continuous : HasNoWhole accepted.work.problem
   pub settings : List Pairs
   pub asked : AreOfFile told name accepted.work.last settings
   pub sections : Sections
@@ -163,7 +163,7 @@ pub record HasCertificate (words : List (List ℕ)) (told : Option Files) (comma
   pub named : certificate_name command ≡ Some name
   pub accepted : Accepted
   pub problem : GivesProblem told command accepted
-  pub continuous : HasNoWhole accepted.work.problem.tree
+  pub continuous : HasNoWhole accepted.work.problem
   pub settings : List Pairs
   pub asked : AreSettingsOf told command accepted.work settings
 
@@ -208,11 +208,11 @@ pub data IsCertRefusedRun (words : List (List ℕ)) (told : Option Files) (secti
 
 -- the run refuses the script for the first variable that is to be whole, and no step is counted
 abbrev pub RefusedForWhole : Problem → ℕ → ℕ → Run → Type 0
-RefusedForWhole p old new r = (t : Refusal) × IsRefusedForWhole p.tree t × (r ≡ run.Refused t) × (new ≡ old)
+RefusedForWhole p old new r = (t : Refusal) × IsRefusedForWhole p t × (r ≡ run.Refused t) × (new ≡ old)
 
 -- the run is one of these, where no variable is to be whole if that is refused; or it refuses the script
 abbrev pub OrWhole : Type 0 → Problem → (Run → Type 0) → ℕ → ℕ → Run → Type 0
-OrWhole Refuses p Next old new r = ((Refuses → HasNoWhole p.tree) × Next r) ⊎ (Refuses × RefusedForWhole p old new r)
+OrWhole Refuses p Next old new r = ((Refuses → HasNoWhole p) × Next r) ⊎ (Refuses × RefusedForWhole p old new r)
 
 -- a problem is solved at settings, warm or not, and its outcomes are told so; want of memory is free
 abbrev pub SolvesAt : Bool → Problem → ℕ → List Pairs → (List Outcome → Option ℕ → Run) → ℕ → ℕ → Run → Type 0
@@ -227,8 +227,8 @@ BranchesAt p limit settings tells old new r =
 -- it is solved so where a variable is to be whole, and else as ever
 abbrev pub AnswersAt : Word → Problem → ℕ → List Pairs → ℕ → ℕ → Run → Type 0
 AnswersAt word p limit settings old new r =
-    (HasNoWhole p.tree × SolvesAt false p limit settings (λ os count. run.Solved word p.sense os count) old new r)
-    ⊎ (HasWhole p.tree × BranchesAt p limit settings (λ os. run.Branched word p.sense os) old new r)
+    (HasNoWhole p × SolvesAt false p limit settings (λ os count. run.Solved word p.sense os count) old new r)
+    ⊎ (HasWhole p × BranchesAt p limit settings (λ os. run.Branched word p.sense os) old new r)
 
 -- it is solved at the settings of a file, warm or not
 abbrev pub ResolvesAt : Bool → Problem → ℕ → List Pairs → ℕ → ℕ → Run → Type 0
@@ -291,7 +291,7 @@ pub record GivesSettings (told : Option Files) (script name : List ℕ) (a : Acc
   pub bytes : List ℕ
   pub are_told : IsTold told script bytes
   pub gives : Gives bytes (Ok a)
-  pub continuous : HasNoWhole a.work.problem.tree
+  pub continuous : HasNoWhole a.work.problem
   pub asked : AreOfFile told name a.work.last settings
 
 -- a third file has the text of these sections for the problem at the settings
@@ -304,8 +304,8 @@ pub record GivesSections (told : Option Files) (script name file : List ℕ) (p 
 -- one of the files ends the run: the script, a variable that is to be whole, the settings file, or the certificate; want of memory is free
 pub data EndsFiles (told : Option Files) (risen : Type 0) (script name file : List ℕ) (r : Run) : Type 0 where
   at_script : EndsAt told risen Script script RefusesScript r → EndsFiles told risen script name file r
-  at_whole : (a : Accepted) (bytes : List ℕ) (t : Refusal) → IsTold told script bytes → Gives bytes (Ok a) → IsRefusedForWhole a.work.problem.tree t → r ≡ run.Refused t → EndsFiles told risen script name file r
-  at_settings : (a : Accepted) (bytes : List ℕ) → IsTold told script bytes → Gives bytes (Ok a) → HasNoWhole a.work.problem.tree → EndsAt told risen Settings name RefusesSettings r → EndsFiles told risen script name file r
+  at_whole : (a : Accepted) (bytes : List ℕ) (t : Refusal) → IsTold told script bytes → Gives bytes (Ok a) → IsRefusedForWhole a.work.problem t → r ≡ run.Refused t → EndsFiles told risen script name file r
+  at_settings : (a : Accepted) (bytes : List ℕ) → IsTold told script bytes → Gives bytes (Ok a) → HasNoWhole a.work.problem → EndsAt told risen Settings name RefusesSettings r → EndsFiles told risen script name file r
   at_certificate : (a : Accepted) (settings : List Pairs) → GivesSettings told script name a settings → ReadsCertificate told risen file a.work.problem (length settings) (Err r) → EndsFiles told risen script name file r
   at_memory : r ≡ run.Memory → EndsFiles told risen script name file r
 
@@ -315,10 +315,10 @@ pub data EndsFiles (told : Option Files) (risen : Type 0) (script name file : Li
 pub data IsRefusedRun (words : List (List ℕ)) (told : Option Files) (r : Refusal) : Type 0 where
   long_script : (command : Command) (name : List ℕ) → command_of words ≡ Some command → script_name command ≡ Some name → IsLong told Script name r → IsRefusedRun words told r
   bad_script : (command : Command) (bytes : List ℕ) → command_of words ≡ Some command → IsScriptOf told command bytes → RefusesScript bytes r → IsRefusedRun words told r
-  for_whole : (command : Command) (a : Accepted) → command_of words ≡ Some command → GivesProblem told command a → RefusesWhole command → IsRefusedForWhole a.work.problem.tree r → IsRefusedRun words told r
-  for_range : (command : Command) (a : Accepted) (name : List ℕ) → command_of words ≡ Some command → GivesProblem told command a → HasNoWhole a.work.problem.tree → parameter_name command ≡ Some name → IsRefusedForRange a.work.problem name r →
+  for_whole : (command : Command) (a : Accepted) → command_of words ≡ Some command → GivesProblem told command a → RefusesWhole command → IsRefusedForWhole a.work.problem r → IsRefusedRun words told r
+  for_range : (command : Command) (a : Accepted) (name : List ℕ) → command_of words ≡ Some command → GivesProblem told command a → HasNoWhole a.work.problem → parameter_name command ≡ Some name → IsRefusedForRange a.work.problem name r →
       IsRefusedRun words told r
-  bad_settings : (command : Command) (a : Accepted) (name : List ℕ) → command_of words ≡ Some command → GivesProblem told command a → Takes command a.work.problem.tree → AllowsRange command a.work.problem → settings_name command ≡ Some name →
+  bad_settings : (command : Command) (a : Accepted) (name : List ℕ) → command_of words ≡ Some command → GivesProblem told command a → Takes command a.work.problem → AllowsRange command a.work.problem → settings_name command ≡ Some name →
       IsLong told Settings name r ⊎ IsRefusedIn told name RefusesSettings r → IsRefusedRun words told r
   long_certificate : (command : Command) (files : HasCertificate words told command) → IsLong told Certificate files.name r → IsRefusedRun words told r
 
@@ -326,7 +326,7 @@ pub data IsRefusedRun (words : List (List ℕ)) (told : Option Files) (r : Refus
 -- settings, its certificate
 pub data IsReadFault (words : List (List ℕ)) (told : Option Files) (risen : Type 0) : Type 0 where
   no_script : (command : Command) (name : List ℕ) → command_of words ≡ Some command → script_name command ≡ Some name → IsNotHad told risen name → IsReadFault words told risen
-  no_settings : (command : Command) (a : Accepted) (name : List ℕ) → command_of words ≡ Some command → GivesProblem told command a → Takes command a.work.problem.tree → AllowsRange command a.work.problem → settings_name command ≡ Some name → IsNotHad told risen name →
+  no_settings : (command : Command) (a : Accepted) (name : List ℕ) → command_of words ≡ Some command → GivesProblem told command a → Takes command a.work.problem → AllowsRange command a.work.problem → settings_name command ≡ Some name → IsNotHad told risen name →
       IsReadFault words told risen
   no_certificate : (command : Command) (files : HasCertificate words told command) → IsNotHad told risen files.name → IsReadFault words told risen
 

@@ -75,7 +75,7 @@ pub record IsLongCertificate (command : Command) (certificate : List ℕ) : Type
 -- whose range is asked for, or the settings file is at fault, or the certificate is too long
 pub data AreAtFault (command : Command) (script settings certificate : List ℕ) : Type 0 where
   bad_script : IsAtFault script → AreAtFault command script settings certificate
-  has_whole : (h : IsWithoutFault script) → RefusesWhole command → (i : ℕ) → IsWholeAt h.work.problem.tree i → AreAtFault command script settings certificate
+  has_whole : (h : IsWithoutFault script) → RefusesWhole command → (i : ℕ) → IsWholeAt h.work.problem i → AreAtFault command script settings certificate
   lacks_range : (h : IsWithoutFault script) (name : List ℕ) → parameter_name command ≡ Some name → (fault : NotRanged) → LacksRange h.work.problem name fault → AreAtFault command script settings certificate
   bad_settings : IsWithoutFault script → AreFaulty command settings → AreAtFault command script settings certificate
   long_certificate : IsWithoutFault script → AreFaultless command settings → IsLongCertificate command certificate → AreAtFault command script settings certificate
@@ -83,7 +83,7 @@ pub data AreAtFault (command : Command) (script settings certificate : List ℕ)
 -- nothing is
 pub record AreWithoutFault (command : Command) (script settings certificate : List ℕ) : Type 0 where
   pub no_script_fault : IsWithoutFault script
-  pub no_whole : Takes command no_script_fault.work.problem.tree
+  pub no_whole : Takes command no_script_fault.work.problem
   pub no_lack : AllowsRange command no_script_fault.work.problem
   pub no_settings_fault : AreFaultless command settings
   pub not_long : ¬ IsLongCertificate command certificate

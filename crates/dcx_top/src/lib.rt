@@ -12,6 +12,7 @@ pub mod laws;
 mod no_range;
 mod ranging;
 mod solving;
+mod stands;
 mod whole;
 mod write;
 

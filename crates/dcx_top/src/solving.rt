@@ -302,7 +302,7 @@ fn refuses_whole(task: Task) -> bool
 
 /// The refusal of a script that has a variable that is to be whole, where that is refused.
 fn whole_refusal(problem: &Problem, task: Task) -> Option<Refusal>
-    ensures { MatchOption result (IsTrue (task_refuses task) → HasNoWhole problem.now.tree) (λ r. IsTrue (task_refuses task) × IsRefusedForWhole problem.now.tree r) }
+    ensures { MatchOption result (IsTrue (task_refuses task) → HasNoWhole problem.now) (λ r. IsTrue (task_refuses task) × IsRefusedForWhole problem.now r) }
 {
     if refuses_whole(task) {
         refuse_whole(problem)

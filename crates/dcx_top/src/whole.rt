@@ -2,8 +2,9 @@
 ghost use Rattle.std.specs.Prelude.{◌↔◌, ◌≢◌, ◌<◌, length, IsTrue, MatchOption};
 ghost use Rattle.dcx_top.specs.Whole.{IsWholeAt, HasNoWhole, HasWhole, IsFirstWhole, IsRefusedForWhole};
 
+use crate::stands::place_of;
 use dcx_front::{Carried, Refusal, RefusalSource};
-use dcx_tree::{Call, NodeId, Problem, Tree, Variable, Whole};
+use dcx_tree::{Problem, Variable, Whole};
 
 /// Whether a variable's entries are to be whole.
 fn is_marked(variable: &Variable) -> bool
@@ -12,24 +13,21 @@ fn is_marked(variable: &Variable) -> bool
     !matches!(variable.whole, Whole::Not)
 }
 
-/// Whether a node is a variable whose entries are to be whole.
-fn is_whole(tree: &Tree, i: u32) -> bool
-    requires { i < length tree.now }
-    ensures { IsTrue result ↔ IsWholeAt tree.now i }
+/// Whether those of the variable at this position are, in order of declaration.
+fn is_whole(problem: &Problem, k: usize) -> bool
+    requires { k < length problem.now.variables }
+    ensures { IsTrue result ↔ IsWholeAt problem.now k }
 {
-    match tree.call(NodeId(i)) {
-        Call::Variable(variable) => is_marked(variable),
-        _ => false,
-    }
+    is_marked(&problem.variables.as_slice()[k])
 }
 
-/// The first such node.
-fn first_whole(tree: &Tree) -> Option<NodeId>
-    ensures { MatchOption result (HasNoWhole tree.now) (λ node. IsFirstWhole tree.now node.0) }
+/// The position of the first such variable.
+fn first_whole(problem: &Problem) -> Option<usize>
+    ensures { MatchOption result (HasNoWhole problem.now) (IsFirstWhole problem.now) }
 {
-    for i in 0..tree.nodes() {
-        if is_whole(tree, i) {
-            return Some(NodeId(i));
+    for k in 0..problem.variables.as_slice().len() {
+        if is_whole(problem, k) {
+            return Some(k);
         }
     }
     None
@@ -37,20 +35,29 @@ fn first_whole(tree: &Tree) -> Option<NodeId>
 
 /// Whether a problem has such a variable.
 pub(crate) fn has_whole(problem: &Problem) -> bool
-    ensures { IsTrue result ↔ HasWhole problem.now.tree }
+    ensures { IsTrue result ↔ HasWhole problem.now }
 {
-    matches!(first_whole(&problem.tree), Some(_))
+    matches!(first_whole(problem), Some(_))
 }
 
-/// The refusal of a script whose problem has a variable that is to be whole, at the place of the first one.
-pub(crate) fn refuse_whole(problem: &Problem) -> Option<Refusal>
-    ensures { MatchOption result (HasNoWhole problem.now.tree) (IsRefusedForWhole problem.now.tree) }
+/// The refusal of a script for the first of its problem's variables whose entries are to be whole, which stands at this position.
+fn refused(problem: &Problem, k: usize) -> Refusal
+    requires { IsFirstWhole problem.now k }
+    ensures { IsRefusedForWhole problem.now result }
 {
-    let node = first_whole(&problem.tree)?;
-    Some(Refusal {
+    let variable = &problem.variables.as_slice()[k];
+    Refusal {
         source: RefusalSource::Script,
         number: 34,
-        place: problem.tree.place(node),
+        place: place_of(problem, &variable.name),
         carried: Carried::Nothing,
-    })
+    }
+}
+
+/// The refusal of a script whose problem has a variable whose entries are to be whole, at the place of the first one that is declared.
+pub(crate) fn refuse_whole(problem: &Problem) -> Option<Refusal>
+    ensures { MatchOption result (HasNoWhole problem.now) (IsRefusedForWhole problem.now) }
+{
+    let k = first_whole(problem)?;
+    Some(refused(problem, k))
 }

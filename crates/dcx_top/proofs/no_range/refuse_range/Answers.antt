@@ -3,7 +3,7 @@ use Rattle.std.proofs.Common.{sym, subst}
 use Rattle.std.specs.Prelude.{option_copied}
 use Rattle.dcx_range.specs.Parameters.{program_in}
 use Rattle.dcx_tree.specs.declared.problem.Problem.{Problem}
-use Rattle.dcx_outcomes.specs.Ranges.{HasRange, LacksRange, IsKeptProgram}
+use Rattle.dcx_outcomes.specs.Ranges.{HasRange, IsKeptProgram}
 use Rattle.dcx_outcomes.proofs.RangeEnds.{told_has, told_lacks}
 use Rattle.dcx_top.specs.NoRange.{IsRefusedForRange}
 use Rattle.dcx_top.proofs.Standing.{kept_of}

@@ -2,4 +2,4 @@ use Rattle.dcx_top.proofs.Marked.{no_whole}
 use Rattle.dcx_top.proofs.whole.has_whole.Goals as goal
 
 pub returns-in_default : goal.returns-in_default
-returns-in_default c = no_whole c.args.problem.now.tree c.in_default.ensures
+returns-in_default c = no_whole c.args.problem.now c.in_default.ensures

@@ -1,5 +1,8 @@
-use Rattle.dcx_top.proofs.Marked.{marked_is_whole}
+use Rattle.dcx_top.proofs.Marked.{read_at, marked_is_whole}
 use Rattle.dcx_top.proofs.whole.is_whole.Goals as goal
 
-pub returns-in-Variable : goal.returns-in-Variable
-returns-in-Variable c = marked_is_whole c.args.tree.now c.args.i c.call.result.now c.in-Variable.variable c.is_marked.result c.call.ensures c.in-Variable.is c.is_marked.ensures
+pub returns : goal.returns
+returns c =
+    let p = c.args.problem.now in
+    let v = c.index-as_slice-k.result in
+    marked_is_whole p c.args.k v c.is_marked.result (read_at p c.args.k c.as_slice.result.now v c.as_slice.ensures c.requires c.index-as_slice-k.is) c.is_marked.ensures

@@ -1,5 +1,5 @@
 use Rattle.dcx_top.proofs.Standing.{reached}
-use Rattle.dcx_top.proofs.no_range.parameter_place.Goals as goal
+use Rattle.dcx_top.proofs.stands.place_of.Goals as goal
 
 pub unreachable-requires : goal.unreachable-requires
 unreachable-requires c = reached c.args.problem.now c.args.name.now c.requires (c.in_default.ensures {u = tt})

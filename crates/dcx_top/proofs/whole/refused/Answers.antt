@@ -1,0 +1,28 @@
+-- The variable that is read is the first one that is to be whole.
+use Rattle.std.proofs.Common.{◌≡◌, inl, refl, sym, subst, ◌∙◌}
+use Rattle.std.proofs.lemmas.Option.{same_Some}
+use Rattle.dcx_call.specs.declared.attribute.Variable.{Variable}
+use Rattle.dcx_top.specs.Stands.{StandsAt}
+use Rattle.dcx_top.proofs.Marked.{read_at, whole_within}
+use Rattle.dcx_top.proofs.whole.refused.Goals as goal
+
+pub place_of-requires : goal.place_of-requires
+place_of-requires c =
+    let p = c.args.problem.now in
+    let v = c.index-as_slice-k.result in
+    let at = read_at p c.args.k c.as_slice.result.now v c.as_slice.ensures (whole_within p c.args.k c.requires.is) c.index-as_slice-k.is in
+    inl (c.args.k, v, at, refl)
+
+pub returns : goal.returns
+returns c =
+    let p = c.args.problem.now in
+    let v = c.index-as_slice-k.result in
+    let at = read_at p c.args.k c.as_slice.result.now v c.as_slice.ensures (whole_within p c.args.k c.requires.is) c.index-as_slice-k.is in
+    let same : v ≡ c.requires.is.variable = same_Some v c.requires.is.variable (sym at ∙ c.requires.is.there) in
+    record {
+      number = c.args.k;
+      first = c.requires;
+      place = c.place_of.result;
+      stands = subst (λ (x : Variable). StandsAt p.tree x.name c.place_of.result) same c.place_of.ensures;
+      refusal = record { source_is = refl; number_is = refl; place_is = refl; carried_is = refl };
+    }

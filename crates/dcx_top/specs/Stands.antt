@@ -1,0 +1,52 @@
+-- Where a declared name stands in a script: at the node of the variable or the parameter that has it.
+use Rattle.std.specs.Prelude.{◌≡◌, ℕ, ◌<◌, ◌⊎◌, List, Option, Some, None, slice_get}
+use Rattle.dcx_shape.specs.declared.place.Place.{Place}
+use Rattle.dcx_arena.specs.Nodes.{call_at, place_at}
+use Rattle.dcx_call.specs.declared.attribute.Variable.{Variable}
+use Rattle.dcx_call.specs.declared.call.Call.{Call}
+use Rattle.dcx_call.specs.declared.call.Call.TheVariants as calls
+use Rattle.dcx_call.specs.declared.attribute.Parameter.{Parameter}
+use Rattle.dcx_tree.specs.declared.problem.Problem.{Problem}
+use Rattle.dcx_tree.specs.Nodes.{Node}
+use Rattle.dcx_range.specs.Parameters.{HasParameter}
+
+-- the name that a call declares
+abbrev pub name_of : Call → Option (List ℕ)
+name_of (calls.Variable v) = Some v.name
+name_of (calls.Parameter q) = Some q.name
+name_of (calls.Constant x) = None
+name_of (calls.Atom m) = None
+name_of (calls.Linear l) = None
+name_of (calls.Pairing p) = None
+
+-- node i declares the name
+pub record IsNamedAt (nodes : List Node) (name : List ℕ) (i : ℕ) : Type 0 where
+  pub call : Call
+  pub there : call_at nodes i ≡ Some call
+  pub named : name_of call ≡ Some name
+
+abbrev pub LacksName : List Node → List ℕ → Type 0
+LacksName nodes name = (i : ℕ) → ¬ IsNamedAt nodes name i
+
+-- it is the first one
+pub record IsFirstNamed (nodes : List Node) (name : List ℕ) (i : ℕ) : Type 0 where
+  pub is : IsNamedAt nodes name i
+  pub before : (j : ℕ) → j < i → ¬ IsNamedAt nodes name j
+
+-- its place in the script
+pub record StandsAt (nodes : List Node) (name : List ℕ) (place : Place) : Type 0 where
+  pub node : ℕ
+  pub first : IsFirstNamed nodes name node
+  pub stands : place_at nodes node ≡ Some place
+
+-- ---- the names of a problem
+-- the problem reaches a variable of this name
+abbrev pub HasVariable : Problem → List ℕ → Type 0
+HasVariable p name = (k : ℕ) × (v : Variable) × (slice_get p.variables k ≡ Some v) × (v.name ≡ name)
+
+-- the problem reaches a parameter of this name
+abbrev pub Reaches : Problem → List ℕ → Type 0
+Reaches p name = (k : ℕ) × (q : Parameter) × HasParameter p name k q
+
+abbrev pub HasName : Problem → List ℕ → Type 0
+HasName p name = HasVariable p name ⊎ Reaches p name
