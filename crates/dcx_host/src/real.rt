@@ -5,7 +5,7 @@ use crate::{FetchFault, Library, Sink, SinkFault};
 use dcx_shape::Bytes;
 use std::alloc::Global;
 use std::fs;
-use std::io::{Read, Write};
+use std::io::{ErrorKind, Read, Write};
 use std::rt::Files;
 
 /// The files of the host, by their paths. A file that is missing, or no file, is `Failed`.
@@ -25,29 +25,21 @@ impl<'a, R: Files> FileLibrary<'a, R> {
     }
 }
 
-// How many bytes one read asks for at most.
-const BUFFER: usize = 4096;
-
 // All that the reader has left, if that is not more than `most` bytes. At most one byte more is read.
-fn read_at_most<F: Read>(alloc: Global, file: &mut F, most: usize) -> Result<Bytes, FetchFault>
+fn read_at_most<F: Read + Drop>(alloc: Global, file: F, most: usize) -> Result<Bytes, FetchFault>
     ensures size { IfOk result (λ bytes. length bytes ≤ most) }
-    ensures whole { IfOk result (λ bytes. IfSome (F.remaining file.old) (λ all. bytes ≡ all)) }
-    ensures too_long { IsErrOf result FetchFault.TooLong → IfSome (F.remaining file.old) (λ all. most < length all) }
+    ensures whole { IfOk result (λ bytes. IfSome (F.remaining file) (λ all. bytes ≡ all)) }
+    ensures too_long { IsErrOf result FetchFault.TooLong → IfSome (F.remaining file) (λ all. most < length all) }
     ensures present { IsErrOf result FetchFault.Absent → ⊥ }
 {
-    let mut buffer = [0u8; BUFFER];
     let mut bytes = Vec::new(alloc);
-    'reads: while bytes.len() <= most {
-        let room = (most - bytes.len()).min(BUFFER - 1) + 1;
-        let Ok(count) = file.read(&mut buffer[..room]) else {
-            return Err(FetchFault::Failed);
-        };
-        if count == 0 {
-            return Ok(Bytes::from_vec(bytes));
-        }
-        bytes.extend_from_slice(&buffer[..count])?;
+    let mut front = file.take((most as u64).saturating_add(1));
+    match front.read_to_end(&mut bytes) {
+        Ok(_) if bytes.len() <= most => Ok(Bytes::from_vec(bytes)),
+        Ok(_) => Err(FetchFault::TooLong),
+        Err(error) if error.kind() == ErrorKind::OutOfMemory => Err(FetchFault::Memory),
+        Err(_) => Err(FetchFault::Failed),
     }
-    Err(FetchFault::TooLong)
 }
 
 fn read_file<R: Files>(rt: &R, alloc: Global, name: &str, most: usize) -> Result<Bytes, FetchFault>
@@ -55,7 +47,7 @@ fn read_file<R: Files>(rt: &R, alloc: Global, name: &str, most: usize) -> Result
     ensures present { IsErrOf result FetchFault.Absent → ⊥ }
 {
     match fs::open(rt, name) {
-        Ok(mut file) => read_at_most(alloc, &mut file, most),
+        Ok(file) => read_at_most(alloc, file, most),
         Err(_) => Err(FetchFault::Failed),
     }
 }
