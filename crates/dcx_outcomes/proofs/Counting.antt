@@ -17,6 +17,13 @@ pub both_ok : {A E : Type 0} (r : Result A E) (P Q R : Type 0) → (P → Q → 
 both_ok (Ok x) P Q R f h k = f h k
 both_ok (Err e) P Q R f h k = tt
 
+-- what holds of a result that is known
+pub held : {A E : Type 0} (r : Result A E) (x : A) (P : A → Type 0) → r ≡ Ok x → IfOk r P → P x
+held r x P e h = subst (λ s. IfOk s P) e h
+
+pub on_held : {A E : Type 0} (r : Result A E) (x : A) (P : Type 0) → r ≡ Ok x → OnOk r P → P
+on_held r x P e h = subst (λ s. OnOk s P) e h
+
 -- those of the beginning, and those of the settings
 pub counts : (p q : Problem) (cached : Bool) (n old begun new : ℕ) → q ≡ p → (IsTrue cached → begun ≡ old + length p.tree) → (IsTrue cached ↔ HasMap p) → begun ≤ old + length p.tree → (HasMap q → new ≡ begun) →
     new ≤ begun + n * length q.tree → Counts p n old new

@@ -6,7 +6,7 @@ ghost use Rattle.dcx_cache.specs.Programs.{HasMap};
 ghost use Rattle.dcx_outcomes.specs.Outcomes.{Counts};
 ghost use Rattle.dcx_outcomes.specs.Warm.{AreToldFrom, AreFound, counted_where};
 
-use crate::beginning::begin;
+use crate::beginning::{begin, ended};
 use crate::outcome::outcome;
 use dcx_cache::Session;
 use dcx_point::Setting;
@@ -98,7 +98,8 @@ pub fn outcomes<S: Ledger>(
     ensures counted { OnOk result (Counts problem (length settings.now) steps.old steps.new) }
 {
     let mut session = begin(alloc, problem, verdict, steps)?;
-    match all(alloc, &mut session, settings, limit, warm, steps) {
+    let told = all(alloc, &mut session, settings, limit, warm, steps);
+    match ended(session, told) {
         Ok(told) => counted(warm, told),
         Err(e) => Err(e),
     }
