@@ -1,6 +1,7 @@
 -- The laws of sums and differences of entries.
-use Rattle.std.specs.Prelude.{◌≡◌, ◌+◌, ◌<◌, Bool, true, false, ◌&&◌, List, [], ◌∷◌, Some, length, pos, negsuc}
+use Rattle.std.specs.Prelude.{◌≡◌, ◌+◌, ◌<◌, true, ◌&&◌, List, [], ◌∷◌, Some, length, pos, negsuc}
 use Rattle.std.proofs.Common.{refl, sym, ap, inl, inr, arith}
+use Rattle.std.proofs.lemmas.Bool.{and_parts}
 use Rattle.std.proofs.lemmas.List.Elements.{All-cons, All-nil}
 use Rattle.dcx_math.specs.Rational.{ℚ, whole, ◌+ℚ◌, ◌-ℚ◌, ◌*ℚ◌, neg_ℚ, ◌≤ℚ◌}
 use Rattle.dcx_math.specs.Sums.{IsNonnegative}
@@ -79,16 +80,11 @@ difference_is x y = ring (x ∷ y ∷ []) (search reads depth 30) tt
 pub diff_linear : IsLinear diff_meaning
 diff_linear args to e j b a = difference_is (a 0 j) (a 0 (j + 1))
 
-both : (p q : Bool) → p && q ≡ true → (p ≡ true) × (q ≡ true)
-both true true e = (refl, refl)
-both true false e = cc
-both false q e = cc
-
 no_difference : (x y : ℚ) → x ≡ whole (pos 0) → y ≡ whole (pos 0) → y -ℚ x ≡ whole (pos 0)
 no_difference x y e f = rw (e, f) (ring [] (search reads depth 30) tt)
 
 zero_of : (s : Sign) (x : ℚ) → HasSign s x → s.nonneg && s.nonpos ≡ true → x ≡ whole (pos 0)
-zero_of s x h t = let p = both s.nonneg s.nonpos t in ≤ℚ_antisym (h.nonpos p.1) (h.nonneg p.0)
+zero_of s x h t = let p = and_parts s.nonneg s.nonpos t in ≤ℚ_antisym (h.nonpos p.1) (h.nonneg p.0)
 
 pub diff_sign : KeepsSign diff_meaning
 diff_sign args to e j b signs a n h =

@@ -7,9 +7,9 @@ ghost use Rattle.dcx_affine.specs.Places.{same_sides};
 ghost use Rattle.dcx_affine.specs.Pairing.{paired_sides, product_sides, pairs_at, product_pair, met_row, met_column, in_column};
 
 use crate::places::same_shape;
+use dcx_math::List;
 use dcx_shape::{Shape, Sides, matmul_shape};
 use std::alloc::{AllocError, Global};
-use std::marker::Model;
 
 /// How two arrays are multiplied or divided.
 #[derive(Clone, Copy, Debug, PartialEq, Eq)]
@@ -32,80 +32,10 @@ pub struct Pair {
 }
 
 /// The pairs of which one entry of a result is made, in the order of the sum.
-#[derive(Drop)]
-pub struct EntryPairs {
-    items: Vec<Pair>,
-}
-
-impl Model for EntryPairs {
-    ghost use Rattle.std.specs.Prelude.{List};
-    ghost use Rattle.dcx_affine.specs.declared.pairing.Pair.{Pair};
-
-    ghost Value = { List Pair };
-
-    ghost view = { λ x. x.items.items };
-}
-
-impl EntryPairs {
-    /// The list with these items. Takes no memory.
-    pub fn from_vec(items: Vec<Pair>) -> EntryPairs
-        ensures { result ≡ items.items }
-    {
-        EntryPairs { items }
-    }
-
-    /// The items of the list. Takes no memory.
-    pub fn into_vec(self) -> Vec<Pair>
-        ensures { result.items ≡ self }
-    {
-        self.items
-    }
-
-    /// The items of the list.
-    pub fn as_slice(&self) -> &[Pair]
-        ensures { result.now ≡ self.now }
-    {
-        self.items.as_slice()
-    }
-}
+pub type EntryPairs = List<Pair>;
 
 /// For each entry of a result its pairs.
-#[derive(Drop)]
-pub struct Pairs {
-    items: Vec<EntryPairs>,
-}
-
-impl Model for Pairs {
-    ghost use Rattle.std.specs.Prelude.{List};
-    ghost use Rattle.dcx_affine.specs.declared.pairing.Pair.{Pair};
-
-    ghost Value = { List (List Pair) };
-
-    ghost view = { λ x. x.items.items };
-}
-
-impl Pairs {
-    /// The list with these items. Takes no memory.
-    pub fn from_vec(items: Vec<EntryPairs>) -> Pairs
-        ensures { result ≡ items.items }
-    {
-        Pairs { items }
-    }
-
-    /// The items of the list. Takes no memory.
-    pub fn into_vec(self) -> Vec<EntryPairs>
-        ensures { result.items ≡ self }
-    {
-        self.items
-    }
-
-    /// The items of the list.
-    pub fn as_slice(&self) -> &[EntryPairs]
-        ensures { result.now ≡ self.now }
-    {
-        self.items.as_slice()
-    }
-}
+pub type Pairs = List<EntryPairs>;
 
 impl Pairing {
     /// The shape of the result; `None` where the sides don't fit, or the result would have more than 20,000 entries.

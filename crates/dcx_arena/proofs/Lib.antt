@@ -11,3 +11,4 @@ mod Numbers
 mod Results
 mod Parts
 pub mod Unfolds
+pub mod OneGathering

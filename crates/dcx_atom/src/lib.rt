@@ -16,6 +16,7 @@
 //! | curvature, recession and subgradient follow from the graph | `proofs/Sublinear.antt`, `proofs/Duality.antt` |
 //! | where rows that put one unknown beyond some terms hold, and what their weights balance | `proofs/BoundRows.antt` |
 //! | each weight at least 0, then their sum at most the coefficient, or equal to it where the unknown is free | `check_total`, `specs/Bounding.antt` |
+//! | a copy is the same again | `copy_array` |
 #![tactic(auto)]
 
 mod array;
@@ -29,7 +30,7 @@ mod linear;
 mod stops;
 mod terms;
 
-pub use array::Array;
+pub use array::{Array, copy_array};
 pub use atom::Atom;
 pub use axis::{Axis, Stride};
 pub use bounding::{

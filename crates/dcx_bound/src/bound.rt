@@ -11,8 +11,7 @@ ghost use Rattle.dcx_bound.specs.Checks.{bound_checks};
 
 use crate::checking::check_with;
 use dcx_answer::Duals;
-use dcx_atom::Array;
-use dcx_call::copy_array;
+use dcx_atom::{Array, copy_array};
 use dcx_frac::Frac;
 use dcx_point::Setting;
 use dcx_sections::{CertFault, Weights};

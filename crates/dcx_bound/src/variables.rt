@@ -6,11 +6,10 @@ ghost use Rattle.dcx_faults.specs.Checks.{Checked};
 ghost use Rattle.dcx_bound.specs.Variables.{reaching, coefficients_in, variables_check};
 
 use crate::entries::check_entries;
-use dcx_call::copy_name;
 use dcx_collect::Reached;
 use dcx_frac::Frac;
 use dcx_sections::CertFault;
-use dcx_shape::Name;
+use dcx_shape::{Name, copy_name};
 use dcx_tree::{Call, Problem, Tree};
 use std::alloc::{AllocError, Global};
 use std::collections::HashMap;

@@ -2,7 +2,7 @@
 ghost use Rattle.std.specs.Prelude.{◌≡◌, ◌<◌, ℕ, All, IfOk, length};
 ghost use Rattle.dcx_bound.specs.Weights.{numbers_in, indexed_at, weights_at};
 
-use dcx_collect::NodeWeights as ByNode;
+use dcx_collect::CallWeights;
 use dcx_frac::Frac;
 use dcx_sections::NodeWeights;
 use dcx_tree::NodeId;
@@ -27,7 +27,7 @@ fn numbers_at(weights: &[NodeWeights], place: usize) -> &[Frac]
     }
 }
 
-impl ByNode for Indexed<'_> {
+impl CallWeights for Indexed<'_> {
     ghost weights = { λ s. indexed_at s.index.now s.weights.now };
 
     fn of_node(&self, node: NodeId) -> &[Frac] {

@@ -3,13 +3,12 @@ use Rattle.std.proofs.Common.{◌≡◌, ℕ, zero, suc, ◌+◌, arith, List, [
 use Rattle.std.proofs.lemmas.Option.{none-some, same_Some, slice_get-map}
 use Rattle.std.proofs.Math.Logic.{∥∥₁_elim}
 use Rattle.dcx_math.specs.Rational.{ℚ, whole, ◌+ℚ◌, ◌-ℚ◌, ◌*ℚ◌, ◌≤ℚ◌}
-use Rattle.dcx_math.proofs.Ring.{reads}
-use Rattle.dcx_math.proofs.Orders.{≤ℚ_refl, ≤ℚ_trans, ≤ℚ-from_≡, linear, +ℚ-nonpositive, *ℚ-zero, <ℚ-not, whole-≤ℤ}
+use Rattle.dcx_math.proofs.Orders.{≤ℚ_refl, ≤ℚ_trans, ≤ℚ-from_≡, +ℚ-nonpositive, *ℚ-zero, <ℚ-not, whole-≤ℤ}
 use Rattle.dcx_math.proofs.Products.{*ℚ-nonpositive, falls_below, zero-<ℚ-one}
 use Rattle.dcx_frac.specs.declared.fraction.Frac.{Frac}
 use Rattle.dcx_call.specs.declared.attribute.Whole.{Whole}
 use Rattle.dcx_call.specs.declared.attribute.Whole.TheVariants.{Not, Integer, Boolean}
-use Rattle.dcx_convex.proofs.OneAnswer.{without}
+use Rattle.dcx_convex.proofs.OneAnswer.{without, less_by_one}
 use Rattle.dcx_tree.specs.declared.problem.Problem.{Problem}
 use Rattle.dcx_linear.specs.FormTerms.{Unknowns}
 use Rattle.dcx_linear.specs.declared.row.RowKind.{RowKind}
@@ -49,9 +48,6 @@ least_there : (l : LinearProgram) (v : ℚ) (x u : Unknowns) (m : ℕ → ℚ) �
 least_there l v x u m h s =
     without v (l.objective u) (combined_from m 0 l.rows u) (h.bound u s.kinds)
     (rows_nonpositive m u 0 l.rows (λ k r at e. subst (λ n. whole (pos 0) ≤ℚ m n) (sym (zero-add k)) (h.signs k r at e)) s.rows)
-
-less_by_one : (v : ℚ) → v ≤ℚ v -ℚ whole (pos 1) → whole (pos 1) ≤ℚ whole (pos 0)
-less_by_one v h = linear (v ∷ []) h (search reads depth 30) tt
 
 module _ (p : Problem) (q : Program Frac) where
   abbrev l : LinearProgram

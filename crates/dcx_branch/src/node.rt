@@ -219,7 +219,7 @@ fn best_leaf(
         Ok(leaf) => leaf,
         Err(stop) => return Err(NodeStop::Stop(stop)),
     };
-    let point = point_of_unknowns(alloc, problem.variables.as_slice(), numbers)?;
+    let point = point_of_unknowns(alloc, problem, numbers)?;
     Ok(Taken::Best {
         leaf,
         value: node.solved.answer.number,

@@ -1,9 +1,8 @@
 //! Trees that show what whole points there are, as they are handed out.
-ghost use Rattle.std.specs.Prelude.{◌≡◌};
 
 use dcx_answer::Duals;
 use dcx_frac::Frac;
-use std::marker::Model;
+use dcx_math::List;
 
 /// The multiplier of a bound of an entry.
 #[derive(Clone, Copy, Debug, PartialEq, Eq)]
@@ -19,35 +18,7 @@ pub struct BoundDual {
 }
 
 /// Multipliers of bounds, seen by contracts as a list.
-#[derive(Drop)]
-pub struct BoundDuals {
-    items: Vec<BoundDual>,
-}
-
-impl Model for BoundDuals {
-    ghost use Rattle.std.specs.Prelude.{List};
-    ghost use Rattle.dcx_branch.specs.declared.tree.BoundDual.{BoundDual};
-
-    ghost Value = { List BoundDual };
-
-    ghost view = { λ d. d.items.items };
-}
-
-impl BoundDuals {
-    /// The list with these items. Takes no memory.
-    pub fn from_vec(items: Vec<BoundDual>) -> BoundDuals
-        ensures { result ≡ items.items }
-    {
-        BoundDuals { items }
-    }
-
-    /// The items of the list.
-    pub fn as_slice(&self) -> &[BoundDual]
-        ensures { result.now ≡ self.now }
-    {
-        self.items.as_slice()
-    }
-}
+pub type BoundDuals = List<BoundDual>;
 
 /// A node of a tree.
 #[derive(Drop)]
@@ -81,32 +52,4 @@ pub enum BranchNode {
 
 /// The nodes of a tree: first the root, and behind each node that has two sides all nodes of the lower one and then all of the
 /// upper one. Contracts see the list.
-#[derive(Drop)]
-pub struct BranchTree {
-    nodes: Vec<BranchNode>,
-}
-
-impl Model for BranchTree {
-    ghost use Rattle.std.specs.Prelude.{List};
-    ghost use Rattle.dcx_branch.specs.declared.tree.BranchNode.{BranchNode};
-
-    ghost Value = { List BranchNode };
-
-    ghost view = { λ t. t.nodes.items };
-}
-
-impl BranchTree {
-    /// The tree with these nodes. Takes no memory.
-    pub fn from_vec(nodes: Vec<BranchNode>) -> BranchTree
-        ensures { result ≡ nodes.items }
-    {
-        BranchTree { nodes }
-    }
-
-    /// The nodes, each before its two sides, and all of the lower side before the upper one.
-    pub fn nodes(&self) -> &[BranchNode]
-        ensures { result.now ≡ self.now }
-    {
-        self.nodes.as_slice()
-    }
-}
+pub type BranchTree = List<BranchNode>;

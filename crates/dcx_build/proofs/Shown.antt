@@ -15,6 +15,7 @@ use Rattle.dcx_shape.specs.Sides.{HasFewEntries}
 use Rattle.dcx_atom.specs.declared.array.Array.{Array}
 use Rattle.dcx_point.specs.Pairs.{Pairs, same_name, names_of, array_of}
 use Rattle.dcx_point.proofs.Puts.{same_name-refl}
+use Rattle.dcx_point.proofs.Names.{unlike}
 use Rattle.dcx_call.specs.declared.attribute.Variable.{Variable}
 use Rattle.dcx_call.specs.declared.attribute.Parameter.{Parameter}
 use Rattle.dcx_call.specs.Values.{HasArray}
@@ -29,7 +30,7 @@ use Rattle.dcx_postsolve.specs.Points.{IsPointOf}
 use Rattle.dcx_postsolve.specs.Duals.{AreDuals}
 use Rattle.dcx_graph.specs.Fixed.{HaveArrays}
 use Rattle.dcx_build.specs.Built.{value_if, values_in}
-use Rattle.dcx_build.proofs.Copied.{unlike, value_of}
+use Rattle.dcx_build.proofs.Copied.{value_of}
 
 -- shapes with the same sides are equal
 one_shape : (a b : Shape) → sides_of a ≡ sides_of b → a ≡ b

@@ -3,8 +3,9 @@ ghost use Rattle.std.specs.Prelude.{◌≡◌, IfOk};
 ghost use Rattle.dcx_build.specs.Built.{values_in};
 
 use dcx_answer::Duals;
-use dcx_call::{copy_array, copy_name};
+use dcx_atom::copy_array;
 use dcx_point::{Point, Setting};
+use dcx_shape::copy_name;
 use dcx_tree::Problem;
 use std::alloc::{AllocError, Global};
 

@@ -39,11 +39,17 @@ pub(crate) fn answered(
 {
     let solved = match solve_rows(alloc, reduced.rows(), limit) {
         Ok(solved) => solved,
-        Err(stop) => return Err(run_stop(stop)),
+        Err(stop) => {
+            drop(reduced);
+            return Err(run_stop(stop));
+        }
     };
     match map_back(alloc, problem, setting, &reduced, &solved.answer) {
         Ok(answer) => Ok((answer, Last { reduced, solved })),
-        Err(stop) => Err(reading_stop(stop)),
+        Err(stop) => {
+            drop((reduced, solved));
+            Err(reading_stop(stop))
+        }
     }
 }
 

@@ -61,9 +61,12 @@ pub(crate) fn keep(
 {
     let anew = match new_columns(alloc, answer, &found.solved.tableau) {
         Ok(anew) => anew,
-        Err(_) => return Err(AllocError),
+        Err(_) => {
+            drop(found);
+            return Err(AllocError);
+        }
     };
     renew(columns, anew);
-    *last = Some(found);
+    drop(last.replace(found));
     Ok(())
 }

@@ -168,7 +168,7 @@ impl Session {
         ensures counted { HasMap self.old.problem → steps.new ≡ steps.old }
         ensures few { steps.new ≤ steps.old + length self.old.problem.tree }
     {
-        self.last = None; // a stop leaves nothing to show
+        drop(self.last.take()); // a stop leaves nothing to show
         let map = self.map.as_ref();
         let (answer, found) = solved(
             alloc,
@@ -181,7 +181,10 @@ impl Session {
         )?;
         match keep(alloc, &answer, found, &mut self.last, &mut self.columns) {
             Ok(()) => {}
-            Err(_) => return Err(Stop::Memory),
+            Err(_) => {
+                drop(answer);
+                return Err(Stop::Memory);
+            }
         }
         Ok(answer)
     }
@@ -207,7 +210,7 @@ impl Session {
         ensures counted { HasMap self.old.problem → steps.new ≡ steps.old }
         ensures few { steps.new ≤ steps.old + length self.old.problem.tree }
     {
-        self.last = None;
+        drop(self.last.take());
         let map = self.map.as_ref();
         let columns = self.columns.as_ref();
         let (warm, found) = match resolved(
@@ -231,7 +234,10 @@ impl Session {
             &mut self.columns,
         ) {
             Ok(()) => {}
-            Err(_) => return Err(Stop::Memory),
+            Err(_) => {
+                drop(warm);
+                return Err(Stop::Memory);
+            }
         }
         Ok(warm)
     }
@@ -259,7 +265,7 @@ impl Session {
         ensures counted { HasMap self.old.problem → steps.new ≡ steps.old }
         ensures few { steps.new ≤ steps.old + length self.old.problem.tree }
     {
-        self.last = None;
+        drop(self.last.take());
         let map = self.map.as_ref();
         formed(alloc, &self.problem, &self.verdict, map, setting, steps)
     }

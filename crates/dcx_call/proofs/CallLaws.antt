@@ -1,6 +1,7 @@
 -- Each call keeps its sign and its trends: by the laws of nonlinear and of linear calls, and of products.
-use Rattle.std.proofs.Common.{◌≡◌, ◌≢◌, inl, inr, ℕ, zero, suc, ◌<◌, arith, Bool, true, false, ◌&&◌, List, [], ◌∷◌, Some, refl, sym, subst, pos}
+use Rattle.std.proofs.Common.{◌≡◌, ◌≢◌, inl, inr, ℕ, zero, suc, ◌<◌, arith, true, false, List, [], ◌∷◌, Some, sym, subst, pos}
 use Rattle.std.specs.List.{list_all}
+use Rattle.std.proofs.lemmas.Bool.{and_parts}
 use native.Mathlib.Decide.{dec_lt}
 use Rattle.dcx_math.specs.Rational.{ℚ, whole, rat_le, ◌≤ℚ◌}
 use Rattle.dcx_math.proofs.Orders.{≤ℚ_refl}
@@ -32,7 +33,7 @@ use Rattle.dcx_call.specs.Laws.{KeepsSign, KeepsTrend, HoldsForCalls}
 use Rattle.dcx_call.proofs.SignedProducts.{product_has_sign, quotient_has_sign, sum_has_sign, product_beyond, left_beyond, dividend_beyond, sum_beyond}
 
 -- ---- leaves
-own_is : (own : Sides) (args : List Sides) (sides : Sides) → own_sides own args ≡ Some sides → own ≡ sides
+pub own_is : (own : Sides) (args : List Sides) (sides : Sides) → own_sides own args ≡ Some sides → own ≡ sides
 own_is own [] sides e = cc
 own_is own (a ∷ rest) sides e = cc
 
@@ -49,19 +50,15 @@ attribute_has_sign Diag sides x h j b = no_sign (x j)
 le_from : (x y : ℚ) → rat_le x y ≡ true → x ≤ℚ y
 le_from x y e = record { le = rw e tt }
 
-all_first : (a b : Bool) → (a && b) ≡ true → (a ≡ true) × (b ≡ true)
-all_first true b h = (refl, h)
-all_first false b h = cc
-
 numbers_nonneg : (xs : List Frac) → list_all (λ x. rat_le (whole (pos 0)) (value x)) xs ≡ true → (j : ℕ) → whole (pos 0) ≤ℚ number_at xs j
 numbers_nonneg [] h j = ≤ℚ_refl (whole (pos 0))
-numbers_nonneg (x ∷ xs) h zero = le_from (whole (pos 0)) (value x) (all_first _ _ h).0
-numbers_nonneg (x ∷ xs) h (suc j) = numbers_nonneg xs (all_first _ _ h).1 j
+numbers_nonneg (x ∷ xs) h zero = le_from (whole (pos 0)) (value x) (and_parts _ _ h).0
+numbers_nonneg (x ∷ xs) h (suc j) = numbers_nonneg xs (and_parts _ _ h).1 j
 
 numbers_nonpos : (xs : List Frac) → list_all (λ x. rat_le (value x) (whole (pos 0))) xs ≡ true → (j : ℕ) → number_at xs j ≤ℚ whole (pos 0)
 numbers_nonpos [] h j = ≤ℚ_refl (whole (pos 0))
-numbers_nonpos (x ∷ xs) h zero = le_from (value x) (whole (pos 0)) (all_first _ _ h).0
-numbers_nonpos (x ∷ xs) h (suc j) = numbers_nonpos xs (all_first _ _ h).1 j
+numbers_nonpos (x ∷ xs) h zero = le_from (value x) (whole (pos 0)) (and_parts _ _ h).0
+numbers_nonpos (x ∷ xs) h (suc j) = numbers_nonpos xs (and_parts _ _ h).1 j
 
 -- ---- products and quotients
 pairing_has_sign : (p : Pairing) (pairs : List Pair) (l r : Sign) (x y : ℕ → ℚ) → ((j : ℕ) → HasSign l (x j)) → ((j : ℕ) → HasSign r (y j)) →

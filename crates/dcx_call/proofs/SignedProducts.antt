@@ -1,5 +1,6 @@
 -- Signs and moves of products, quotients and their sums.
-use Rattle.std.proofs.Common.{◌≡◌, ◌≢◌, ◌⊎◌, inl, inr, Bool, true, false, ◌&&◌, ◌||◌, IsTrue, List, [], ◌∷◌, refl, sym, ap, ◌∙◌, subst, pos}
+use Rattle.std.proofs.Common.{◌≡◌, ◌≢◌, ◌⊎◌, inl, inr, ◌&&◌, ◌||◌, IsTrue, List, [], ◌∷◌, sym, ap, ◌∙◌, subst, pos}
+use Rattle.std.proofs.lemmas.Bool.{and_parts, or_cases}
 use Rattle.dcx_math.specs.Rational.{ℚ, whole, ◌+ℚ◌, ◌*ℚ◌, ◌/ℚ◌, inverse, ◌≤ℚ◌}
 use Rattle.dcx_math.specs.Sums.{rat_sum_by}
 use Rattle.dcx_math.proofs.FieldLaws.{*ℚ-inverse, inverse-zero}
@@ -14,47 +15,39 @@ use Rattle.dcx_atom.specs.Farthest.{beyond_refl}
 use Rattle.dcx_call.specs.Calls.{is_zero, product_sign, by_other}
 
 -- ---- tests
-either : (a b : Bool) → IsTrue (a || b) → IsTrue a ⊎ IsTrue b
-either true b h = inl refl
-either false b h = inr h
-
-both : (a b : Bool) → IsTrue (a && b) → IsTrue a × IsTrue b
-both true b h = (refl, h)
-both false b h = cc
-
 -- ---- signs
 zero_of : (s : Sign) (x : ℚ) → HasSign s x → IsTrue (is_zero s) → x ≡ whole (pos 0)
-zero_of s x h z = let t = both s.nonneg s.nonpos z in ≤ℚ_antisym (h.nonpos t.1) (h.nonneg t.0)
+zero_of s x h z = let t = and_parts s.nonneg s.nonpos z in ≤ℚ_antisym (h.nonpos t.1) (h.nonneg t.0)
 
 -- a product with 0 is 0
 product_zero : (l r : Sign) (x y : ℚ) → HasSign l x → HasSign r y → IsTrue (is_zero l || is_zero r) → x *ℚ y ≡ whole (pos 0)
-product_zero l r x y h k z = by (either (is_zero l) (is_zero r) z)
+product_zero l r x y h k z = by (or_cases (is_zero l) (is_zero r) z)
   where
     by : IsTrue (is_zero l) ⊎ IsTrue (is_zero r) → x *ℚ y ≡ whole (pos 0)
     by (inl t) = ap (λ u. u *ℚ y) (zero_of l x h t) ∙ zero-*ℚ y
     by (inr t) = ap (λ u. x *ℚ u) (zero_of r y k t) ∙ *ℚ-zero x
 
 product_nonneg : (l r : Sign) (x y : ℚ) → HasSign l x → HasSign r y → IsTrue (product_sign l r).nonneg → whole (pos 0) ≤ℚ x *ℚ y
-product_nonneg l r x y h k t = by (either (is_zero l || is_zero r) _ t)
+product_nonneg l r x y h k t = by (or_cases (is_zero l || is_zero r) _ t)
   where
     same : IsTrue (l.nonneg && r.nonneg) ⊎ IsTrue (l.nonpos && r.nonpos) → whole (pos 0) ≤ℚ x *ℚ y
-    same (inl e) = let s = both l.nonneg r.nonneg e in *ℚ-nonnegative (h.nonneg s.0) (k.nonneg s.1)
-    same (inr e) = let s = both l.nonpos r.nonpos e in *ℚ-nonnegative_both_negative (h.nonpos s.0) (k.nonpos s.1)
+    same (inl e) = let s = and_parts l.nonneg r.nonneg e in *ℚ-nonnegative (h.nonneg s.0) (k.nonneg s.1)
+    same (inr e) = let s = and_parts l.nonpos r.nonpos e in *ℚ-nonnegative_both_negative (h.nonpos s.0) (k.nonpos s.1)
 
     by : IsTrue (is_zero l || is_zero r) ⊎ IsTrue ((l.nonneg && r.nonneg) || (l.nonpos && r.nonpos)) → whole (pos 0) ≤ℚ x *ℚ y
     by (inl z) = ≤ℚ-from_≡ (sym (product_zero l r x y h k z))
-    by (inr e) = same (either (l.nonneg && r.nonneg) (l.nonpos && r.nonpos) e)
+    by (inr e) = same (or_cases (l.nonneg && r.nonneg) (l.nonpos && r.nonpos) e)
 
 product_nonpos : (l r : Sign) (x y : ℚ) → HasSign l x → HasSign r y → IsTrue (product_sign l r).nonpos → x *ℚ y ≤ℚ whole (pos 0)
-product_nonpos l r x y h k t = by (either (is_zero l || is_zero r) _ t)
+product_nonpos l r x y h k t = by (or_cases (is_zero l || is_zero r) _ t)
   where
     other : IsTrue (l.nonneg && r.nonpos) ⊎ IsTrue (l.nonpos && r.nonneg) → x *ℚ y ≤ℚ whole (pos 0)
-    other (inl e) = let s = both l.nonneg r.nonpos e in *ℚ-nonpositive (h.nonneg s.0) (k.nonpos s.1)
-    other (inr e) = let s = both l.nonpos r.nonneg e in subst (λ u. u ≤ℚ whole (pos 0)) (*ℚ_comm y x) (*ℚ-nonpositive (k.nonneg s.1) (h.nonpos s.0))
+    other (inl e) = let s = and_parts l.nonneg r.nonpos e in *ℚ-nonpositive (h.nonneg s.0) (k.nonpos s.1)
+    other (inr e) = let s = and_parts l.nonpos r.nonneg e in subst (λ u. u ≤ℚ whole (pos 0)) (*ℚ_comm y x) (*ℚ-nonpositive (k.nonneg s.1) (h.nonpos s.0))
 
     by : IsTrue (is_zero l || is_zero r) ⊎ IsTrue ((l.nonneg && r.nonpos) || (l.nonpos && r.nonneg)) → x *ℚ y ≤ℚ whole (pos 0)
     by (inl z) = ≤ℚ-from_≡ (product_zero l r x y h k z)
-    by (inr e) = other (either (l.nonneg && r.nonpos) (l.nonpos && r.nonneg) e)
+    by (inr e) = other (or_cases (l.nonneg && r.nonpos) (l.nonpos && r.nonneg) e)
 
 -- a product has the sign that is told of its sides
 pub product_has_sign : (l r : Sign) (x y : ℚ) → HasSign l x → HasSign r y → HasSign (product_sign l r) (x *ℚ y)

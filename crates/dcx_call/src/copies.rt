@@ -5,29 +5,9 @@ use crate::attribute::{Parameter, Variable};
 use crate::call::Call;
 use crate::linears::LinearCall;
 use dcx_affine::Index;
-use dcx_atom::Array;
-use dcx_frac::Fracs;
-use dcx_shape::{Name, Places};
+use dcx_atom::copy_array;
+use dcx_shape::{Places, copy_name};
 use std::alloc::{AllocError, Global};
-
-/// The same name again.
-pub fn copy_name(alloc: Global, name: &Name) -> Result<Name, AllocError>
-    ensures { IfOk result (λ n. n ≡ name.now) }
-{
-    let bytes = Vec::from_slice(alloc, name.as_slice())?;
-    Ok(Name::from_vec(bytes))
-}
-
-/// The same array again.
-pub fn copy_array(alloc: Global, array: &Array) -> Result<Array, AllocError>
-    ensures { IfOk result (λ x. x ≡ array.now) }
-{
-    let entries = Vec::from_slice(alloc, array.entries.as_slice())?;
-    Ok(Array {
-        shape: array.shape,
-        entries: Fracs::from_vec(entries),
-    })
-}
 
 /// The same variable again.
 pub fn copy_variable(alloc: Global, variable: &Variable) -> Result<Variable, AllocError>

@@ -14,7 +14,7 @@
 //! | each value has the sign that is told, and moves with each argument as the trend says | `laws::calls`, `specs/Laws.antt` |
 //! | whether the array that a leaf takes is given, with the shape of the leaf | `Call::is_given` |
 //! | equal calls are told, share a number, and can be copied | `Operator` of `dcx_arena`, `specs/Buckets.antt` |
-//! | a copy is the same again | `copy_array`, `copy_name`, `copy_variable`, `copy_parameter` |
+//! | a copy is the same again | `copy_variable`, `copy_parameter` |
 #![tactic(auto)]
 
 mod atoms;
@@ -32,5 +32,5 @@ mod value;
 pub use atoms::AtomCall;
 pub use attribute::{Attribute, Parameter, Variable, Whole};
 pub use call::Call;
-pub use copies::{copy_array, copy_name, copy_parameter, copy_variable};
+pub use copies::{copy_parameter, copy_variable};
 pub use linears::LinearCall;

@@ -14,11 +14,10 @@ ghost use Rattle.dcx_call.specs.Forming.{added_product, products_in_order, or_pa
 ghost use Rattle.dcx_call.specs.Values.{term_sum, pair_sum, pairing_formed, IsGiven, IsValue, IsValueStop};
 
 use crate::call::Call;
-use crate::copies::copy_array;
 use crate::fill::{Entrywise, fill};
 use crate::linears::LinearCall;
 use dcx_affine::{EntryPairs, Pair, Pairing};
-use dcx_atom::{Array, Atom, EntryTerms, LinearOp, Triple, ValueStop};
+use dcx_atom::{Array, Atom, EntryTerms, LinearOp, Triple, ValueStop, copy_array};
 use dcx_frac::{Frac, Fracs, Passes};
 use dcx_point::{Point, Setting};
 use dcx_shape::{Shape, Sides};

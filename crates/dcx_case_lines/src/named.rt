@@ -2,31 +2,48 @@
 use crate::arrays::array;
 use crate::fault::CaseFault;
 use crate::word::name;
+use dcx_atom::Array;
 use dcx_point::{Point, Setting};
-use std::alloc::Global;
+use dcx_shape::Name;
+use std::alloc::{AllocError, Global};
 
-/// The point that a text says. `Unreadable` where it says none.
-pub fn point(alloc: Global, text: &str) -> Result<Point, CaseFault> {
-    let mut point = Point::empty(alloc);
+/// Arrays under names.
+trait Named {
+    /// Puts an array under a name.
+    fn put(&mut self, name: Name, array: Array) -> Result<(), AllocError>;
+}
+
+impl Named for Point {
+    fn put(&mut self, name: Name, array: Array) -> Result<(), AllocError> {
+        Point::put(self, name, array)
+    }
+}
+
+impl Named for Setting {
+    fn put(&mut self, name: Name, array: Array) -> Result<(), AllocError> {
+        Setting::put(self, name, array)
+    }
+}
+
+/// These arrays, and those that a text says.
+fn with_items<N: Named + Drop>(alloc: Global, named: N, text: &str) -> Result<N, CaseFault> {
+    let mut named = named;
     if text.is_empty() {
-        return Ok(point);
+        return Ok(named);
     }
     for item in text.split(';') {
         let (word, rest) = item.trim().split_once(' ').ok_or(CaseFault::Unreadable)?;
-        point.put(name(alloc, word)?, array(alloc, rest)?)?;
+        named.put(name(alloc, word)?, array(alloc, rest)?)?;
     }
-    Ok(point)
+    Ok(named)
+}
+
+/// The point that a text says. `Unreadable` where it says none.
+pub fn point(alloc: Global, text: &str) -> Result<Point, CaseFault> {
+    with_items(alloc, Point::empty(alloc), text)
 }
 
 /// The setting that a text says. `Unreadable` where it says none.
 pub fn setting(alloc: Global, text: &str) -> Result<Setting, CaseFault> {
-    let mut setting = Setting::empty(alloc);
-    if text.is_empty() {
-        return Ok(setting);
-    }
-    for item in text.split(';') {
-        let (word, rest) = item.trim().split_once(' ').ok_or(CaseFault::Unreadable)?;
-        setting.put(name(alloc, word)?, array(alloc, rest)?)?;
-    }
-    Ok(setting)
+    with_items(alloc, Setting::empty(alloc), text)
 }

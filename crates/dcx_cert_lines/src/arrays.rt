@@ -10,12 +10,11 @@ ghost use Rattle.dcx_cert_lines.specs.Templates.{IsRead, IsStopped, IfMisfit, na
 
 use crate::cursor::{Cursor, ReadStop};
 use dcx_atom::Array;
-use dcx_call::copy_name;
 use dcx_frac::Fracs;
 use dcx_lines::{put_bytes, put_number, put_shape};
 use dcx_point::{Point, Setting};
 use dcx_sections::{AtomRows, NodeWeights, Shown};
-use dcx_shape::Shape;
+use dcx_shape::{Shape, copy_name};
 use std::alloc::{AllocError, Global};
 
 /// Appends how the line of a named array begins.

@@ -155,8 +155,9 @@ pub fn certificate<S: Ledger>(
     match Session::begin(alloc, problem, verdict, steps) {
         Ok(session) => {
             let mut session = session;
-            let found = sections(alloc, &mut session, settings, limit, steps)?;
-            let (list, stopped) = found;
+            let found = sections(alloc, &mut session, settings, limit, steps);
+            drop(session);
+            let (list, stopped) = found?;
             Ok(Found {
                 certificate: Sections {
                     format: Format::Two,

@@ -23,7 +23,7 @@ use Rattle.dcx_call.specs.declared.attribute.Attribute.TheVariants.{Free, Nonneg
 use Rattle.dcx_call.specs.Attributes.{IsSquareFor}
 use Rattle.dcx_convex.specs.Nodes.{Numbers}
 use Rattle.dcx_convex.specs.Certificates.{times, IsInDualCone}
-use Rattle.dcx_domain.proofs.Places.{place_here}
+use Rattle.dcx_shape.proofs.EntryPlaces.{place_here}
 use Rattle.dcx_tree.specs.Nodes.{attribute_of}
 use Rattle.dcx_unknowns.specs.Own.{row_in, column_in, is_own, mirror_of}
 use Rattle.dcx_unknowns.proofs.Sources.{row_is, column_is, turned, mirror_entry, mirror_below}

@@ -1,49 +1,21 @@
 -- The greatest and the least of several arrays: the slopes of their rows, and the conditions that their weights meet.
-use Rattle.std.proofs.Common.{◌≡◌, ◌≢◌, ℕ, ◌<◌, [], ◌∷◌, map, length, refl, sym, ap, ◌∙◌, subst, pos, negsuc}
+use Rattle.std.proofs.Common.{◌≡◌, ◌≢◌, ℕ, ◌<◌, [], refl, ap, ◌∙◌, subst, pos, negsuc}
 use Rattle.std.proofs.lemmas.List.Elements.{All-cons, All-nil}
-use Rattle.dcx_math.specs.Rational.{ℚ, whole, neg_ℚ, ◌+ℚ◌, ◌*ℚ◌}
-use Rattle.dcx_math.specs.Sums.{IsNonnegative, rat_sum, rat_sum_below}
-use Rattle.dcx_math.proofs.Ring.{ring, reads}
-use Rattle.dcx_math.proofs.Sums.{rat_sum_below-same, rat_sum_below-exchange}
+use Rattle.dcx_math.specs.Rational.{ℚ, whole, ◌+ℚ◌, ◌*ℚ◌}
+use Rattle.dcx_math.specs.Sums.{IsNonnegative, rat_sum}
 use Rattle.dcx_shape.specs.Sides.{entries_of}
 use Rattle.dcx_atom.specs.declared.flags.Bend.{Bend}
-use Rattle.dcx_atom.specs.declared.flags.Bend.TheVariants.{Convex, Concave}
 use Rattle.dcx_atom.specs.declared.graph.AuxKind.TheVariants.{Free}
-use Rattle.dcx_atom.specs.Arrays.{Entries, list_below, sides_at}
-use Rattle.dcx_atom.specs.Rows.{Filling, row_at, form_at, weighted}
+use Rattle.dcx_atom.specs.Arrays.{list_below, sides_at}
+use Rattle.dcx_atom.specs.Rows.{Filling, form_at, weighted}
 use Rattle.dcx_atom.specs.Meaning.{IsMet}
 use Rattle.dcx_atom.specs.Bounding.{argument_term, bound_row, outward, unknown_form, total_condition, free_kinds}
-use Rattle.dcx_atom.proofs.Duality.{no_entries, no_filling, AreRowSlopes}
-use Rattle.dcx_atom.proofs.BoundRows.{map-list_below, length-list_below, weighted-list_below, weighted-taken}
+use Rattle.dcx_atom.proofs.Duality.{no_entries}
+use Rattle.dcx_atom.proofs.BoundRows.{length-list_below, weighted-taken}
 use Rattle.dcx_elem.specs.Extremes.{extreme_meaning}
-use Rattle.dcx_elem.specs.ExtremeLaws.{alike_are}
+use Rattle.dcx_elem.specs.ExtremeLaws.{rows_are, row_slopes}
 use Rattle.dcx_certified.specs.Demanded.{AreDemanded, HasDualGraph}
 use Rattle.dcx_certified.proofs.Units.{only_at, at_itself, at_other, one_left, left_over, nothing_over, level_of}
-
-greatest_slope : (w x : ℚ) → w *ℚ x ≡ w *ℚ (whole (pos 1) *ℚ x +ℚ (whole (negsuc 0) *ℚ whole (pos 0) +ℚ whole (pos 0)))
-greatest_slope w x = ring (w ∷ x ∷ []) (search reads depth 30) tt
-
-least_slope : (w x : ℚ) → neg_ℚ w *ℚ x ≡ w *ℚ (whole (pos 1) *ℚ whole (pos 0) +ℚ (neg_ℚ (whole (pos 1)) *ℚ x +ℚ whole (pos 0)))
-least_slope w x = ring (w ∷ x ∷ []) (search reads depth 30) tt
-
-row_slope : (bend : Bend) (w : ℚ) (a : Entries) (i j : ℕ) → outward bend w *ℚ a i j ≡ w *ℚ row_at (bound_row bend j (argument_term i j (whole (pos 1)))) a no_filling
-row_slope Convex w a i j = greatest_slope w (a i j)
-row_slope Concave w a i j = least_slope w (a i j)
-
-row_slopes : (bend : Bend) (count : ℕ) → AreRowSlopes (extreme_meaning bend count)
-row_slopes bend count args sides is w a =
-    let alike = alike_are count args sides is in
-    let n = entries_of sides in
-    let term = λ (i j : ℕ). w j i *ℚ row_at (bound_row bend j (argument_term i j (whole (pos 1)))) a no_filling in
-    rat_sum_below-same (length args) _ _
-    (λ i l. ap (λ s. rat_sum_below (entries_of s) (λ e. outward bend (w e i) *ℚ a i e)) (alike.each i l) ∙ rat_sum_below-same n _ _ (λ j b. row_slope bend (w j i) a i j))
-    ∙ ap (λ k. rat_sum_below k (λ i. rat_sum_below n (term i))) (sym alike.count_is)
-    ∙ rat_sum_below-exchange count n term
-    ∙ rat_sum_below-same n _ _ (λ j b. sym (weighted-list_below count (λ i. bound_row bend j (argument_term i j (whole (pos 1)))) (w j) a no_filling))
-
-rows_are : (bend : Bend) (count j : ℕ) → list_below count (λ i. bound_row bend j (argument_term i j (whole (pos 1)))) ≡
-    map (λ i. bound_row bend j (argument_term i j (whole (pos 1)))) (list_below count (λ i. i))
-rows_are bend count j = sym (map-list_below count (λ i. i) (λ i. bound_row bend j (argument_term i j (whole (pos 1)))))
 
 -- what the unknown of an entry leaves
 entry_over : (bend : Bend) (count : ℕ) (c : ℕ → ℚ) (w : ℕ → ℕ → ℚ) (t : Filling) (j : ℕ) →

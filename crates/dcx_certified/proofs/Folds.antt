@@ -1,5 +1,5 @@
 -- The greatest and the least entry of each group, and its norms: the slopes of their rows, and the conditions that their weights meet.
-use Rattle.std.proofs.Common.{◌≡◌, ◌≢◌, ℕ, zero, suc, ◌+◌, ◌*◌, ◌/◌, ◌<◌, arith, List, [], ◌∷◌, map, length, All, replicate, Some, refl, sym, ap, ap₂, ◌∙◌, subst, pos, negsuc}
+use Rattle.std.proofs.Common.{◌≡◌, ◌≢◌, ℕ, ◌+◌, ◌*◌, ◌/◌, ◌<◌, arith, List, [], ◌∷◌, map, length, All, replicate, Some, refl, sym, ap, ap₂, ◌∙◌, subst, pos, negsuc}
 use Rattle.std.proofs.lemmas.Nat.{div-mul-add}
 use Rattle.std.proofs.lemmas.List.{length-map}
 use Rattle.std.proofs.lemmas.List.Elements.{All-cons, All-nil}
@@ -22,10 +22,10 @@ use Rattle.dcx_atom.specs.Meaning.{IsMet}
 use Rattle.dcx_atom.specs.Bounding.{argument_term, bound_row, outward, unknown_form, total_condition, free_kinds}
 use Rattle.dcx_atom.proofs.LinearSums.{All-list_below}
 use Rattle.dcx_atom.proofs.Duality.{no_entries, no_filling}
-use Rattle.dcx_atom.proofs.BoundRows.{taken, nothing_taken, weighted-taken, weighted-joined, form-list_below, rat_sum-list_below}
+use Rattle.dcx_atom.proofs.BoundRows.{taken, weighted-taken, weighted-joined, form-list_below, rat_sum-list_below}
 use Rattle.dcx_fold.specs.Groups.{groups, member, group_of, member_of, fold_sides}
 use Rattle.dcx_fold.specs.GroupLaws.{is_fold, sum_by_groups, is_member, sum-product}
-use Rattle.dcx_fold.specs.FoldLaws.{groups_of_value}
+use Rattle.dcx_fold.specs.FoldLaws.{groups_of_value, all_taken}
 use Rattle.dcx_fold.specs.Calls.{max_of_meaning, min_of_meaning, norm1_meaning, norm_inf_meaning}
 use Rattle.dcx_certified.specs.Demanded.{HasDualGraph}
 use Rattle.dcx_certified.proofs.Units.{only_at, at_itself, at_other, one_nonnegative, only_nonnegative, one_left, left_over, nothing_over, at_most_of, level_of}
@@ -70,20 +70,6 @@ module _ (bend : Bend) (factors : List ℚ) (unknown : ℕ → ℕ → ℕ → �
       let n = folded_count axis s in
       weighted-joined n (length factors) (λ i. member_rows (unknown n k i) (member axis s k i)) w no_entries t (λ i. rows_counted (unknown n k i) (member axis s k i))
       ∙ rat_sum_below-same n _ _ (λ i b. weighted-taken bend (unknown n k i) (argument_term 0 (member axis s k i)) factors (weights_in w i) t (λ q. refl))
-
-both_taken_convex : (x y t : ℚ) → neg_ℚ (x *ℚ t) +ℚ neg_ℚ (y *ℚ t) ≡ neg_ℚ ((x +ℚ y) *ℚ t)
-both_taken_convex x y t = ring (x ∷ y ∷ t ∷ []) (search reads depth 30) tt
-
-both_taken_concave : (x y t : ℚ) → x *ℚ t +ℚ y *ℚ t ≡ (x +ℚ y) *ℚ t
-both_taken_concave x y t = ring (x ∷ y ∷ t ∷ []) (search reads depth 30) tt
-
-both_taken : (bend : Bend) (x y t : ℚ) → taken bend x t +ℚ taken bend y t ≡ taken bend (x +ℚ y) t
-both_taken Convex x y t = both_taken_convex x y t
-both_taken Concave x y t = both_taken_concave x y t
-
-all_taken : (bend : Bend) (n : ℕ) (f : ℕ → ℚ) (t : ℚ) → rat_sum_below n (λ i. taken bend (f i) t) ≡ taken bend (rat_sum_below n f) t
-all_taken bend zero f t = nothing_taken bend t
-all_taken bend (suc n) f t = ap (λ y. y +ℚ taken bend (f n) t) (all_taken bend n f t) ∙ both_taken bend (rat_sum_below n f) (f n) t
 
 -- ---- one unknown for a group
 module _ (bend : Bend) (factors : List ℚ) where

@@ -12,7 +12,7 @@ use Rattle.dcx_frac.proofs.Results.{difference_of_is}
 use Rattle.dcx_shape.specs.declared.shape.Sides.{Sides}
 use Rattle.dcx_shape.specs.declared.shape.Sides.TheVariants.{Scalar, Vector, Matrix}
 use Rattle.dcx_shape.specs.Sides.{entries_of}
-use Rattle.dcx_domain.proofs.Places.{entry_here}
+use Rattle.dcx_shape.proofs.EntryPlaces.{entry_here}
 use Rattle.dcx_atom.specs.declared.axis.Axis.{Axis}
 use Rattle.dcx_atom.specs.declared.axis.Axis.TheVariants as axes
 use Rattle.dcx_atom.specs.declared.flags.Bend.{Bend}

@@ -42,6 +42,7 @@ use Rattle.dcx_call.specs.Atoms.{atom_meaning}
 use Rattle.dcx_call.specs.Linears.{linear_meaning, linear_lawful}
 use Rattle.dcx_call.specs.Calls.{shape_of, sides_of_two}
 use Rattle.dcx_call.proofs.Products.{value-frac_at}
+use Rattle.dcx_call.proofs.CallLaws.{own_is}
 use Rattle.dcx_exact.specs.Exact.{HaveFewEntries}
 use Rattle.dcx_exact.proofs.Coefficients.{coefficients_fit}
 use Rattle.dcx_tree.specs.Nodes.{Names, Node, arg_sides, number_in}
@@ -60,7 +61,7 @@ use Rattle.dcx_collect.proofs.Starting.{start_next, start_within}
 use Rattle.dcx_collect.proofs.Passing.{same_Ok}
 use Rattle.dcx_collect.proofs.Flat.{dot, flat}
 use Rattle.dcx_collect.proofs.Bound.{number_of, IsBefore, worth_of, below_dot, joined_dot, IsWorth}
-use Rattle.dcx_collect.proofs.Points.{first_in, argument_place, place_before, own_is}
+use Rattle.dcx_collect.proofs.Points.{first_in, argument_place, place_before}
 use Rattle.dcx_collect.proofs.Worth.{linear_worth, products_worth_right, products_worth_left, quotients_worth}
 use Rattle.dcx_certified.specs.Demanded.{GiveFractions}
 use Rattle.dcx_certified.specs.Families.{IsFamily, AreFilled, AreWeighed, atom_rows, call_rows, rows_below, variable_if, variable_numbers}

@@ -6,40 +6,21 @@ use Rattle.dcx_math.specs.Sums.{IsNonnegative, rat_sum_below}
 use Rattle.dcx_math.proofs.Ring.{ring, reads}
 use Rattle.dcx_math.proofs.Orders.{≤ℚ_refl, ≤ℚ_antisym, +ℚ_idl, +ℚ_idr, linear}
 use Rattle.dcx_math.proofs.Sums.{rat_sum_below-same, rat_sum_below-zero}
-use Rattle.dcx_shape.specs.declared.shape.Sides.{Sides}
 use Rattle.dcx_shape.specs.Sides.{entries_of}
 use Rattle.dcx_atom.specs.declared.flags.Bend.{Bend}
 use Rattle.dcx_atom.specs.declared.flags.Bend.TheVariants.{Convex, Concave}
 use Rattle.dcx_atom.specs.declared.graph.AuxKind.TheVariants.{Free, Nonneg}
-use Rattle.dcx_atom.specs.Arrays.{Entries, list_below, sides_at}
+use Rattle.dcx_atom.specs.Arrays.{list_below, sides_at}
 use Rattle.dcx_atom.specs.Rows.{Filling, row_at, form_at, KindsHold, weighted}
 use Rattle.dcx_atom.specs.Meaning.{IsMet}
 use Rattle.dcx_atom.specs.Bounding.{outward}
-use Rattle.dcx_atom.proofs.Duality.{no_entries, no_filling, AreRowSlopes}
+use Rattle.dcx_atom.proofs.Duality.{no_entries}
 use Rattle.dcx_atom.proofs.LinearSums.{All-list_below}
 use Rattle.dcx_atom.proofs.BoundRows.{map-list_below, weighted-list_below, form-list_below, rat_sum-list_below}
 use Rattle.dcx_fold.specs.Largest.{level_row, level_form, each_condition, sum_condition, level_conditions, largest_meaning}
-use Rattle.dcx_fold.specs.LargestLaws.{is_chosen}
+use Rattle.dcx_fold.specs.LargestLaws.{is_chosen, row_slopes}
 use Rattle.dcx_certified.specs.Demanded.{AreDemanded, HasDualGraph}
 use Rattle.dcx_certified.proofs.Units.{only_at, at_itself, at_other, one_nonnegative, only_nonnegative, one_left}
-
-convex_slope : (w x : ℚ) → w *ℚ x ≡ w *ℚ (whole (pos 1) *ℚ x +ℚ (whole (negsuc 0) *ℚ whole (pos 0) +ℚ (whole (negsuc 0) *ℚ whole (pos 0) +ℚ whole (pos 0))))
-convex_slope w x = ring (w ∷ x ∷ []) (search reads depth 30) tt
-
-concave_slope : (w x : ℚ) → neg_ℚ w *ℚ x ≡ w *ℚ (whole (pos 1) *ℚ whole (pos 0) +ℚ (whole (negsuc 0) *ℚ whole (pos 0) +ℚ (whole (negsuc 0) *ℚ x +ℚ whole (pos 0))))
-concave_slope w x = ring (w ∷ x ∷ []) (search reads depth 30) tt
-
-row_slope : (bend : Bend) (w : ℚ) (i : ℕ) (a : Entries) → outward bend w *ℚ a 0 i ≡ w *ℚ row_at (level_row bend i) a no_filling
-row_slope Convex w i a = convex_slope w (a 0 i)
-row_slope Concave w i a = concave_slope w (a 0 i)
-
-row_slopes : (bend : Bend) (k : ℕ) → AreRowSlopes (largest_meaning bend k)
-row_slopes bend k [] sides is w a = cc
-row_slopes bend k (s ∷ []) sides is w a =
-    let f = is_chosen k (s ∷ []) sides is in
-    ap (λ z. whole (pos 0) +ℚ z) (rat_sum_below-same (entries_of s) _ _ (λ e b. row_slope bend (w 0 e) e a) ∙ sym (weighted-list_below (entries_of s) (level_row bend) (w 0) a no_filling))
-    ∙ ap (λ (r : Sides). rat_sum_below (entries_of r) (λ j. weighted (list_below (entries_of s) (level_row bend)) (w j) a no_filling)) (sym f.is)
-row_slopes bend k (q ∷ r ∷ rs) sides is w a = cc
 
 -- ---- what the unknowns leave
 -- of the level, and of the unknown of an entry

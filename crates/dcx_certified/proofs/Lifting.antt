@@ -25,10 +25,12 @@ use Rattle.dcx_call.specs.declared.call.Call.{Call}
 use Rattle.dcx_call.specs.declared.call.Call.TheVariants as calls
 use Rattle.dcx_call.specs.Atoms.{atom_meaning}
 use Rattle.dcx_call.specs.Calls.{shape_of, own_sides}
+use Rattle.dcx_call.proofs.CallLaws.{own_is}
 use Rattle.dcx_tree.specs.declared.problem.Problem.{Problem}
 use Rattle.dcx_tree.specs.Nodes.{Node, arg_sides, convex_node, head_of}
 use Rattle.dcx_tree.specs.Meaning.{names_in, IsInDomain, setting_of}
 use Rattle.dcx_tree.specs.Values.{array_at}
+use Rattle.dcx_tree.proofs.AllReached.{convex_at}
 use Rattle.dcx_linear.specs.Rows.{AreOfKinds}
 use Rattle.dcx_unknowns.specs.Unknowns.{point_at}
 use Rattle.dcx_unknowns.specs.Layout.{is_reduced, call_aux, aux_if, aux_at, unknown_kinds}
@@ -40,10 +42,9 @@ use Rattle.dcx_reduced.proofs.CallEntries.{first_same}
 use Rattle.dcx_reduced.proofs.Lift.{filling_if, lift, lift_filling}
 use Rattle.dcx_reduced.proofs.Lifted.{lifted_kinds, lifted_point}
 use Rattle.dcx_reduced.proofs.Variables.{AreSameAt, node_same, same_value}
-use Rattle.dcx_reduced.proofs.NodeForms.{nodes_of, nodes_ordered, convex_at, node_at, reducible, constant_form, reduced_form, not_reduced}
+use Rattle.dcx_reduced.proofs.NodeForms.{nodes_of, nodes_ordered, node_at, reducible, constant_form, reduced_form, not_reduced}
 use Rattle.dcx_reduced.proofs.Sound.{aux_is}
 use Rattle.dcx_affine.specs.declared.pairing.Pairing.TheVariants.{Times, MatTimes, Over}
-use Rattle.dcx_collect.proofs.Points.{own_is}
 use Rattle.dcx_build.proofs.Fixed.{unfixed_is_reduced}
 use Rattle.dcx_bound.specs.Fixed.{AreFixedValues}
 use Rattle.dcx_bound.proofs.OneTable.{value_of_fixed}

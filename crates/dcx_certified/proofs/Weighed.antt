@@ -23,6 +23,7 @@ use Rattle.dcx_convex.specs.Reductions.{Unknowns}
 use Rattle.dcx_tree.specs.declared.problem.Problem.{Problem}
 use Rattle.dcx_tree.specs.Nodes.{Node, arg_sides}
 use Rattle.dcx_tree.specs.Meaning.{convex_problem, setting_of}
+use Rattle.dcx_tree.proofs.NodeValues.{number_there}
 use Rattle.dcx_outline.proofs.Rows.{range_more}
 use Rattle.dcx_linear.specs.declared.row.RowKind.TheVariants.{AtMost}
 use Rattle.dcx_linear.specs.Rows.{HaveSigns}
@@ -44,7 +45,6 @@ use Rattle.dcx_graph.specs.declared.origin.Origin.TheVariants as origins
 use Rattle.dcx_graph.specs.Program.{Program, entry_origin, constraint_entries}
 use Rattle.dcx_graph.specs.Answers.{rows_of, IsAnswered}
 use Rattle.dcx_graph.proofs.AsLinear.{entry_at, all_constraints}
-use Rattle.dcx_graph.proofs.AtSetting.{number_there}
 use Rattle.dcx_build.specs.Origins.{entry_count, node_rows}
 use Rattle.dcx_build.specs.Weights.{graph_multiplier, note_of, node_multipliers}
 use Rattle.dcx_build.specs.Built.{AreWeightsIn}

@@ -1,8 +1,6 @@
 -- Behind the checks at a point the value of each node is kept.
-use Rattle.std.proofs.Common.{◌≡◌, inl, inr, ℕ, suc, ◌+◌, ◌<◌, arith, true, List, [], ◌∷◌, length, Option, Some, IsSome, slice_get, refl, sym, ap, ◌∙◌, subst}
+use Rattle.std.proofs.Common.{◌≡◌, inl, inr, ℕ, suc, ◌<◌, true, List, [], ◌∷◌, length, Option, Some, IsSome, slice_get, refl, sym, subst}
 use Rattle.std.specs.List.{range_with_len}
-use Rattle.std.proofs.lemmas.Option.{slice_get-get_or}
-use Rattle.std.proofs.lemmas.List.FromFn.{length-range_with_len, get_or-range_with_len}
 use Rattle.dcx_atom.specs.declared.array.Array.{Array}
 use Rattle.dcx_point.specs.Pairs.{Pairs}
 use Rattle.dcx_arena.specs.Gather.{has}
@@ -14,14 +12,9 @@ use Rattle.dcx_tree.specs.declared.constraint.Constraint.{Constraint}
 use Rattle.dcx_tree.specs.declared.problem.Problem.{Problem}
 use Rattle.dcx_tree.specs.Problems.{roots_of, sides_in}
 use Rattle.dcx_tree.specs.Values.{array_at}
+use Rattle.dcx_tree.proofs.AllReached.{range_at}
 use Rattle.dcx_values.specs.Tables.{AreKeptValues, AreKeptBelow}
 use Rattle.dcx_rays.specs.Steepness.{AreFixedValues}
-
-range_at : (n i : ℕ) → i < n → slice_get (range_with_len 0 n) i ≡ Some i
-range_at n i b =
-    let c : i < length (range_with_len 0 n) = let l = length-range_with_len 0 n in omega (arith, l, b) in
-    let z : 0 + i ≡ i = omega arith in
-    slice_get-get_or (range_with_len 0 n) i 0 c ∙ ap Some (get_or-range_with_len 0 n i 0 b ∙ z)
 
 -- it is one of two
 of_left : (a b : ℕ) → has (a ∷ b ∷ []) a ≡ true

@@ -23,6 +23,7 @@ use Rattle.dcx_call.specs.declared.attribute.Variable.{Variable}
 use Rattle.dcx_call.specs.declared.call.Call.{Call}
 use Rattle.dcx_call.specs.declared.call.Call.TheVariants as calls
 use Rattle.dcx_call.specs.Calls.{shape_of}
+use Rattle.dcx_call.proofs.CallLaws.{own_is}
 use Rattle.dcx_tree.specs.declared.problem.Problem.{Problem}
 use Rattle.dcx_tree.specs.Nodes.{Names, Node, number_in, variable_attribute, head_of, arg_sides, convex_node, convex_nodes}
 use Rattle.dcx_tree.specs.Meaning.{names_in}
@@ -35,7 +36,7 @@ use Rattle.dcx_collect.specs.Pass.{Kept, begin, or_passes, handed, with_below, w
 use Rattle.dcx_collect.specs.Laws.{table_times, reached_times, AreKnown, MayReachIn, AreSquareIn, TotalIsABound, TotalShowsAnswers}
 use Rattle.dcx_collect.proofs.Starting.{start_all}
 use Rattle.dcx_collect.proofs.Passing.{same_Ok, node_shape}
-use Rattle.dcx_collect.proofs.Points.{first_in, own_is, at_point, node_value}
+use Rattle.dcx_collect.proofs.Points.{first_in, at_point, node_value}
 use Rattle.dcx_collect.proofs.Bounded.{parts, step_count, total_bounds}
 use Rattle.dcx_collect.proofs.Multiplied.{start_count, start_lagrangian, start_penalty}
 

@@ -7,13 +7,10 @@ use Rattle.std.proofs.lemmas.Option.{slice_get-map, get_or_from_slice_get}
 use Rattle.dcx_math.specs.Rational.{ℚ, whole, ◌+ℚ◌, ◌-ℚ◌, ◌*ℚ◌, neg_ℚ}
 use Rattle.dcx_math.specs.Sums.{rat_sum_below}
 use Rattle.dcx_math.proofs.Ring.{ring, reads}
-use Rattle.dcx_math.proofs.Orders.{+ℚ_idl, +ℚ_assoc, *ℚ_idl, whole-neg_ℤ}
+use Rattle.dcx_math.proofs.Orders.{+ℚ_idl, +ℚ_assoc, *ℚ_idl}
 use Rattle.dcx_math.proofs.Sums.{rat_sum_below-same, rat_sum_below-first, rat_sum_below-+ℚ}
 use Rattle.dcx_frac.specs.declared.fraction.Frac.{Frac}
-use Rattle.dcx_frac.specs.Fits.{IsRepresentable}
 use Rattle.dcx_frac.specs.Frac.{value}
-use Rattle.std.proofs.Common.{lit<}
-use native.Mathlib.Nat.{eq-one_of_dvd-one}
 use Rattle.dcx_shape.specs.Shape.{sides_of}
 use Rattle.dcx_shape.specs.Sides.{entries_of}
 use Rattle.dcx_atom.specs.declared.array.Array.{Array}
@@ -33,6 +30,7 @@ use Rattle.dcx_tree.specs.declared.constraint.Constraint.{Constraint}
 use Rattle.dcx_tree.specs.declared.problem.Problem.{Problem}
 use Rattle.dcx_tree.specs.Nodes.{Node}
 use Rattle.dcx_tree.specs.Meaning.{sense_of, convex_constraint, convex_problem}
+use Rattle.dcx_exact.proofs.Coefficients.{one_fits, minus_one_fits}
 use Rattle.dcx_collect.specs.Shares.{frac_in, share_of, with_shares}
 use Rattle.dcx_collect.specs.Starts.{start_of, place_of}
 use Rattle.dcx_collect.specs.Laws.{table_times, StartIsLagrangian}
@@ -41,20 +39,6 @@ use Rattle.dcx_collect.proofs.Starting.{start_next, start_within}
 use Rattle.dcx_collect.proofs.Passing.{shares_count}
 use Rattle.dcx_collect.proofs.Flat.{frac_value, dot, dot-zeros, dot-table, flat, flat-place}
 use Rattle.dcx_collect.proofs.Bound.{number_of, IsBefore, IsWorth, worth_of, share_dot, below_dot, joined_dot, first_then, single}
-
--- ---- 1 and -1 are fractions
-one_frac : Frac
-one_frac = record { num = pos 1; den = pos 1; positive = record { lt = tt }; lowest = λ d z h. eq-one_of_dvd-one h; num_fits = lit< tt; den_fits = lit< tt }
-
-value-one_frac : value one_frac ≡ whole (pos 1)
-unfolding whole one_frac
-value-one_frac = refl
-
-one_fits : IsRepresentable (whole (pos 1))
-one_fits = subst IsRepresentable value-one_frac (value_representable one_frac)
-
-minus_one_fits : IsRepresentable (whole (negsuc 0))
-minus_one_fits = subst IsRepresentable (sym (whole-neg_ℤ (pos 1))) (negative_fits (whole (pos 1)) one_fits)
 
 -- ---- arithmetic
 times_one : (x : ℚ) → whole (pos 1) *ℚ x ≡ x

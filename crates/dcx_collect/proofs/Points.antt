@@ -3,7 +3,7 @@ use Rattle.std.proofs.Common.{◌≡◌, ℕ, zero, suc, ◌+◌, ◌-◌, ◌<�
 use Rattle.std.specs.Prelude.{option_map, unwrap_or}
 use Rattle.std.proofs.lemmas.Bool.{false≢true, lt-ltb, le-ltb, ltb-true, ltb-false}
 use Rattle.std.proofs.lemmas.List.{length-map, get_or_past}
-use Rattle.std.proofs.lemmas.Option.{same_Some, slice_get-map, slice_get-get_or, get_or_from_slice_get, slice_get_within}
+use Rattle.std.proofs.lemmas.Option.{slice_get-map, slice_get-get_or, get_or_from_slice_get, slice_get_within}
 use Rattle.dcx_math.specs.Rational.{whole}
 use Rattle.dcx_shape.specs.declared.shape.Sides.{Sides}
 use Rattle.dcx_shape.specs.declared.shape.Sides.TheVariants.{Scalar}
@@ -14,9 +14,10 @@ use Rattle.dcx_convex.specs.Nodes.{Numbers, Setting, Point, first_of, arguments,
 use Rattle.dcx_convex.proofs.Told.{value_tells}
 use Rattle.dcx_call.specs.declared.call.Call.{Call}
 use Rattle.dcx_call.specs.declared.call.Call.TheVariants as calls
-use Rattle.dcx_call.specs.Calls.{own_sides, shape_of}
+use Rattle.dcx_call.specs.Calls.{shape_of}
 use Rattle.dcx_call.specs.Atoms.{atom_meaning}
 use Rattle.dcx_call.specs.Linears.{linear_meaning}
+use Rattle.dcx_call.proofs.CallLaws.{own_is}
 use Rattle.dcx_convex.specs.Pairs.{products_at, quotients_at}
 use Rattle.dcx_affine.specs.declared.pairing.Pairing.TheVariants.{Times, MatTimes, Over}
 use Rattle.dcx_tree.specs.Nodes.{Names, Node, number_in, pairs_of, head_of, arg_sides, convex_node, convex_nodes}
@@ -41,10 +42,6 @@ first_past n g j b = by (nat_lt j n) (le-ltb j n b)
     by : (t : Bool) → t ≡ false → (if t then g j else whole (pos 0)) ≡ whole (pos 0)
     by true e = absurd (false≢true (sym e))
     by false e = refl
-
-pub own_is : (own : Sides) (args : List Sides) (sides : Sides) → own_sides own args ≡ Some sides → own ≡ sides
-own_is own [] sides e = same_Some own sides e
-own_is own (a ∷ rest) sides e = cc
 
 -- the value of a call is 0 from its size on
 pub past_size : (names : Names) (s : Setting) (y : Point) (call : Call) (args : List Sides) (sides : Sides) (values : List Numbers) → shape_of call args ≡ Some sides → (j : ℕ) → entries_of sides ≤ j →

@@ -1,9 +1,8 @@
 //! What is collected over the nodes of a problem.
-ghost use Rattle.std.specs.Prelude.{◌≡◌};
 
 use dcx_frac::{Frac, Fracs};
+use dcx_math::List;
 use dcx_tree::NodeId;
-use std::marker::Model;
 
 /// The coefficients that reach the entries of a variable.
 #[derive(Drop)]
@@ -15,35 +14,7 @@ pub struct Reached {
 }
 
 /// Variables with what reaches them, in falling order of their nodes.
-#[derive(Drop)]
-pub struct ReachedList {
-    items: Vec<Reached>,
-}
-
-impl Model for ReachedList {
-    ghost use Rattle.std.specs.Prelude.{List};
-    ghost use Rattle.dcx_collect.specs.declared.collected.Reached.{Reached};
-
-    ghost Value = { List Reached };
-
-    ghost view = { λ x. x.items.items };
-}
-
-impl ReachedList {
-    /// The list with these items. Takes no memory.
-    pub fn from_vec(items: Vec<Reached>) -> ReachedList
-        ensures { result ≡ items.items }
-    {
-        ReachedList { items }
-    }
-
-    /// The items of the list.
-    pub fn as_slice(&self) -> &[Reached]
-        ensures { result.now ≡ self.now }
-    {
-        self.items.as_slice()
-    }
-}
+pub type ReachedList = List<Reached>;
 
 /// What the pass gives.
 #[derive(Drop)]

@@ -36,7 +36,7 @@ mod stop;
 
 pub use collected::{Collected, Reached, ReachedList};
 pub use multipliers::start_table;
-pub use node::NodeWeights;
+pub use node::CallWeights;
 pub use pass::collect;
 pub use places::{Given, starts_of};
 pub use stop::CollectStop;

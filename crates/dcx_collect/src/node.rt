@@ -31,7 +31,7 @@ use dcx_tree::{NodeId, Tree};
 use std::alloc::{AllocError, Global};
 
 /// The weights of nonlinear calls, by node.
-pub trait NodeWeights {
+pub trait CallWeights {
     /// The weights of each node.
     ghost weights: { Self → ℕ → List Frac };
 

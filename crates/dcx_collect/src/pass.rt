@@ -9,7 +9,7 @@ ghost use Rattle.dcx_collect.specs.Starts.{start_of, AreStarts};
 ghost use Rattle.dcx_collect.specs.Pass.{kept_of, begin, counted, or_passes, with_below, node_reached, node_shares, handed, passed, step, pass_down, IsOrMemory, HasWeights, HaveWeights, HasFractions, HaveFractions, IsGiven};
 
 use crate::collected::{Collected, Collecting, ReachedList};
-use crate::node::{NodeWeights, add_products, hand_call, keep};
+use crate::node::{CallWeights, add_products, hand_call, keep};
 use crate::places::Given;
 use crate::stop::CollectStop;
 use dcx_atom::Array;
@@ -88,7 +88,7 @@ fn pass_node(
 }
 
 /// Passes one node: takes its coefficients off the list of all, and counts them or hands them on.
-fn pass_one<W: NodeWeights>(
+fn pass_one<W: CallWeights>(
     alloc: Global,
     given: &Given,
     weights: &W,
@@ -118,7 +118,7 @@ fn pass_one<W: NodeWeights>(
 ///
 /// `Slope` where the weights of a nonlinear call break a condition, and `Passes` where an operation passes 128 bits: the first of
 /// both, nodes falling.
-pub fn collect<W: NodeWeights>(
+pub fn collect<W: CallWeights>(
     alloc: Global,
     given: &Given,
     weights: &W,

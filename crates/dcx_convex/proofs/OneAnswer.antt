@@ -30,7 +30,7 @@ weighed_nonpositive gap (c ∷ constraints) m h k =
 pub without : (v a b : ℚ) → v ≤ℚ a +ℚ b → b ≤ℚ whole (pos 0) → v ≤ℚ a
 without v a b h k = linear (v ∷ a ∷ b ∷ []) (+ℚ-≤ℚ h k) (search reads depth 30) tt
 
-less_by_one : (v : ℚ) → v ≤ℚ v -ℚ whole (pos 1) → whole (pos 1) ≤ℚ whole (pos 0)
+pub less_by_one : (v : ℚ) → v ≤ℚ v -ℚ whole (pos 1) → whole (pos 1) ≤ℚ whole (pos 0)
 less_by_one v h = linear (v ∷ []) h (search reads depth 30) tt
 
 module _ (p : Problem) (s : Setting) where

@@ -16,7 +16,7 @@ use Rattle.dcx_call.specs.declared.attribute.Attribute.TheVariants.{Free, Nonneg
 use Rattle.dcx_call.specs.Attributes.{counted, IsWithin}
 use Rattle.dcx_domain.specs.Entries.{HasMirrorBelow, IsItsMirror, IsZeroOffDiagonal, KeepsAt, DiffersFromMirror, IsNonzeroOffDiagonal, LeavesAt}
 use Rattle.dcx_domain.specs.Laws.{HoldsForEntries}
-use Rattle.dcx_domain.proofs.Places.{entry_here, place_here, only_here}
+use Rattle.dcx_shape.proofs.EntryPlaces.{entry_here, place_here, only_here}
 
 module _ (s : Sides) (x : ℕ → ℚ) (k : ℕ) (lt : k < entries_of s) where
   -- ---- an entry and its mirror

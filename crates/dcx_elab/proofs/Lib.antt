@@ -9,4 +9,4 @@ pub mod Lines
 pub mod Alone
 mod Samples
 mod Rows
-mod Turned
+pub mod Turned

@@ -9,6 +9,7 @@ use Rattle.indexmap.specs.IndexMap.{insert_entry}
 use Rattle.dcx_shape.specs.declared.place.Place.{Place}
 use Rattle.dcx_point.specs.Pairs.{same_name}
 use Rattle.dcx_point.proofs.Puts.{same_name-refl, same_name-true}
+use Rattle.dcx_point.proofs.Names.{unlike}
 use Rattle.dcx_syntax.specs.Statements.{Lines, no_lines, lines}
 use Rattle.dcx_kinds.specs.declared.fault.ElabFault.{ElabFault}
 use Rattle.dcx_kinds.specs.Values.{Value, State, Act, and_then, ◌>>=◌, ◌>>◌, done, bind, restore, step, room, bound_to, most_steps}
@@ -84,13 +85,6 @@ gone names name distinct = lookup-remove_entry nat_list_eq_equiv (same_name name
     one x y e = ap (λ n. same_name n y) (same_name-true name x e)
 
 -- a name that is bound stands once
-other_way : (a b : List ℕ) → same_name a b ≡ false → same_name b a ≡ false
-other_way a b e = by (same_name b a) refl
-  where
-    by : (t : Bool) → same_name b a ≡ t → same_name b a ≡ false
-    by true p = absurd (true≢false (sym (same_name-refl a) ∙ ap (same_name a) (sym (same_name-true b a p)) ∙ e))
-    by false p = p
-
 all-insert : (P : List ℕ → Type 0) (names : List (List ℕ × Value)) (name : List ℕ) (v : Value) → AllByRecursion P (keys_of names) → P name → AllByRecursion P (keys_of (insert_entry same_name names name v))
 all-insert P [] name v all h = (h, tt)
 all-insert P (e ∷ es) name v all h = by (same_name name e.0) (all-insert P es name v all.1 h)
@@ -99,14 +93,14 @@ all-insert P (e ∷ es) name v all h = by (same_name name e.0) (all-insert P es 
     by true later = all
     by false later = (all.0, later)
 
-insert-distinct : (names : List (List ℕ × Value)) (name : List ℕ) (v : Value) → IsDistinct same_name (keys_of names) → IsDistinct same_name (keys_of (insert_entry same_name names name v))
+pub insert-distinct : (names : List (List ℕ × Value)) (name : List ℕ) (v : Value) → IsDistinct same_name (keys_of names) → IsDistinct same_name (keys_of (insert_entry same_name names name v))
 unfolding IsDistinct
 insert-distinct [] name v d = (tt, tt)
 insert-distinct (e ∷ es) name v d = by (same_name name e.0) refl (insert-distinct es name v d.1)
   where
     by : (t : Bool) → same_name name e.0 ≡ t → IsDistinct same_name (keys_of (insert_entry same_name es name v)) → IsDistinct same_name (keys_of (cond t ((e.0, v) ∷ es) (e ∷ insert_entry same_name es name v)))
     by true p later = d
-    by false p later = (all-insert (λ y. same_name e.0 y ≡ false) es name v d.0 (other_way name e.0 p), later)
+    by false p later = (all-insert (λ y. same_name e.0 y ≡ false) es name v d.0 (unlike name e.0 p), later)
 
 -- the names that are left
 names_after : {A : Type 0} → Result (A × State) ElabFault → List (List ℕ × Value)

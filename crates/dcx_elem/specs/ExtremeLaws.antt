@@ -1,7 +1,7 @@
 -- The laws of the greatest and the least.
 use Rattle.std.proofs.Common.{◌≡◌, ℕ, zero, suc, ◌<◌, ◌==◌, ◌&&◌, ◌||◌, arith, Bool, true, false, if◌then◌else◌, List, [], ◌∷◌, map, length, Some, None, refl, sym, ap, ap₂, ◌∙◌, subst, pos, negsuc}
 use Rattle.std.specs.List.{list_any, list_all}
-use Rattle.std.proofs.lemmas.Bool.{eqb-true}
+use Rattle.std.proofs.lemmas.Bool.{eqb-true, and_parts}
 use Rattle.std.proofs.lemmas.List.Elements.{All-head}
 use Rattle.dcx_math.specs.Rational.{ℚ, whole, neg_ℚ, ◌+ℚ◌, ◌*ℚ◌}
 use Rattle.dcx_math.specs.Sums.{IsNonnegative, rat_sum, rat_sum_below}
@@ -28,25 +28,17 @@ use Rattle.dcx_atom.specs.Farthest.{extreme, beyond_trans, extreme_each, extreme
 use Rattle.dcx_elem.specs.Extremes.{same_sides, alike, extreme_meaning}
 
 -- ---- arguments of one shape
-eq_of : (m n : ℕ) → m == n ≡ true → m ≡ n
-eq_of m n e = eqb-true m n e
-
-both : (a b : Bool) → a && b ≡ true → (a ≡ true) × (b ≡ true)
-both true true e = (refl, refl)
-both true false e = cc
-both false b e = cc
-
 -- sides that pass the test are the same
 same_is : (s r : Sides) → same_sides s r ≡ true → r ≡ s
 same_is Scalar Scalar e = refl
 same_is Scalar (Vector n) e = cc
 same_is Scalar (Matrix m n) e = cc
 same_is (Vector n) Scalar e = cc
-same_is (Vector n) (Vector k) e = ap Vector (sym (eq_of n k e))
+same_is (Vector n) (Vector k) e = ap Vector (sym (eqb-true n k e))
 same_is (Vector n) (Matrix m k) e = cc
 same_is (Matrix m n) Scalar e = cc
 same_is (Matrix m n) (Vector k) e = cc
-same_is (Matrix m n) (Matrix k l) e = let p = both (m == k) (n == l) e in ap₂ Matrix (sym (eq_of m k p.0)) (sym (eq_of n l p.1))
+same_is (Matrix m n) (Matrix k l) e = let p = and_parts (m == k) (n == l) e in ap₂ Matrix (sym (eqb-true m k p.0)) (sym (eqb-true n l p.1))
 
 -- as many arguments as the call takes, two or more, all of these sides
 pub record AreAlike (count : ℕ) (args : List Sides) (s : Sides) : Type 0 where
@@ -57,8 +49,8 @@ pub record AreAlike (count : ℕ) (args : List Sides) (s : Sides) : Type 0 where
 
 each_same : (s : Sides) (rs : List Sides) → list_all (same_sides s) rs ≡ true → (i : ℕ) → i < length rs → sides_at rs i ≡ s
 each_same s [] e i b = absurd (omega arith)
-each_same s (r ∷ rs) e zero b = same_is s r (both (same_sides s r) (list_all (same_sides s) rs) e).0
-each_same s (r ∷ rs) e (suc i) b = each_same s rs (both (same_sides s r) (list_all (same_sides s) rs) e).1 i (omega arith)
+each_same s (r ∷ rs) e zero b = same_is s r (and_parts (same_sides s r) (list_all (same_sides s) rs) e).0
+each_same s (r ∷ rs) e (suc i) b = each_same s rs (and_parts (same_sides s r) (list_all (same_sides s) rs) e).1 i (omega arith)
 
 pub alike_are : (count : ℕ) (args : List Sides) (s : Sides) → alike count args ≡ Some s → AreAlike count args s
 alike_are count [] s e = cc
@@ -68,15 +60,15 @@ alike_are count (r ∷ q ∷ qs) s e = by (count == length (r ∷ q ∷ qs)) (li
     by : (a b : Bool) → count == length (r ∷ q ∷ qs) ≡ a → list_all (same_sides r) (r ∷ q ∷ qs) ≡ b → (if a && b then Some r else None) ≡ Some s → AreAlike count (r ∷ q ∷ qs) s
     by true true f g h =
         let k : r ≡ s = cc in
-        record { count_is = eq_of count (length (r ∷ q ∷ qs)) f; some = omega arith; first = k; each = λ i b. each_same r (r ∷ q ∷ qs) g i b ∙ k }
+        record { count_is = eqb-true count (length (r ∷ q ∷ qs)) f; some = omega arith; first = k; each = λ i b. each_same r (r ∷ q ∷ qs) g i b ∙ k }
     by true false f g h = cc
     by false b f g h = cc
 
 -- ---- signs
 all_each : (p : Sign → Bool) (signs : List Sign) → list_all p signs ≡ true → (i : ℕ) → i < length signs → p (sign_at signs i) ≡ true
 all_each p [] e i b = absurd (omega arith)
-all_each p (s ∷ signs) e zero b = (both (p s) (list_all p signs) e).0
-all_each p (s ∷ signs) e (suc i) b = all_each p signs (both (p s) (list_all p signs) e).1 i (omega arith)
+all_each p (s ∷ signs) e zero b = (and_parts (p s) (list_all p signs) e).0
+all_each p (s ∷ signs) e (suc i) b = all_each p signs (and_parts (p s) (list_all p signs) e).1 i (omega arith)
 
 -- what follows of each argument that passes a test follows where some does
 any_of : (p : Sign → Bool) (signs : List Sign) (Q : Type 0) → list_any p signs ≡ true → ((i : ℕ) → i < length signs → p (sign_at signs i) ≡ true → Q) → Q
@@ -125,7 +117,7 @@ extreme_monotonicity bend count args sides is j below signs a b h f =
     (λ i l. beyond_trans bend _ _ _ (follows_rising bend (a i j) (b i j) (f i j)) (each_argument bend count b j i l))
 
 -- the rows of an entry, as those of a list of arguments
-rows_are : (bend : Bend) (count j : ℕ) → list_below count (λ i. bound_row bend j (argument_term i j (whole (pos 1)))) ≡
+pub rows_are : (bend : Bend) (count j : ℕ) → list_below count (λ i. bound_row bend j (argument_term i j (whole (pos 1)))) ≡
     map (λ i. bound_row bend j (argument_term i j (whole (pos 1)))) (list_below count (λ i. i))
 rows_are bend count j = sym (map-list_below count (λ i. i) (λ i. bound_row bend j (argument_term i j (whole (pos 1)))))
 
@@ -166,7 +158,7 @@ row_slope : (bend : Bend) (w : ℚ) (a : Entries) (i j : ℕ) → outward bend w
 row_slope Convex w a i j = greatest_slope w (a i j)
 row_slope Concave w a i j = least_slope w (a i j)
 
-row_slopes : (bend : Bend) (count : ℕ) → AreRowSlopes (extreme_meaning bend count)
+pub row_slopes : (bend : Bend) (count : ℕ) → AreRowSlopes (extreme_meaning bend count)
 row_slopes bend count args sides is w a =
     let alike = alike_are count args sides is in
     let n = entries_of sides in

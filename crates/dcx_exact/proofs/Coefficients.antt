@@ -48,10 +48,10 @@ value-one_frac : value one_frac ≡ whole (pos 1)
 unfolding whole one_frac
 value-one_frac = refl
 
-one_fits : IsRepresentable (whole (pos 1))
+pub one_fits : IsRepresentable (whole (pos 1))
 one_fits = subst IsRepresentable value-one_frac (value_representable one_frac)
 
-minus_one_fits : IsRepresentable (whole (negsuc 0))
+pub minus_one_fits : IsRepresentable (whole (negsuc 0))
 minus_one_fits = subst IsRepresentable (sym (whole-neg_ℤ (pos 1))) (negative_fits (whole (pos 1)) one_fits)
 
 -- ---- lists of terms

@@ -4,3 +4,4 @@ pub mod Misfits
 pub mod Each
 pub mod First
 pub mod Fitting
+pub mod Divisors

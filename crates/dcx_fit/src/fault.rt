@@ -3,9 +3,8 @@ ghost use Rattle.std.specs.Prelude.{◌≡◌};
 ghost use Rattle.dcx_fit.specs.Faults.{IsOrMemory, stop_of};
 
 use dcx_answer::Stop;
-use dcx_call::copy_name;
 use dcx_frac::Frac;
-use dcx_shape::{Name, Shape};
+use dcx_shape::{Name, Shape, copy_name};
 use std::alloc::Global;
 
 /// What is wrong with a name.

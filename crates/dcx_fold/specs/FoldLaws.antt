@@ -270,7 +270,7 @@ both_taken : (bend : Bend) (x y t : ℚ) → taken bend x t +ℚ taken bend y t 
 both_taken Convex x y t = both_taken_convex x y t
 both_taken Concave x y t = both_taken_concave x y t
 
-all_taken : (bend : Bend) (n : ℕ) (f : ℕ → ℚ) (t : ℚ) → rat_sum_below n (λ i. taken bend (f i) t) ≡ taken bend (rat_sum_below n f) t
+pub all_taken : (bend : Bend) (n : ℕ) (f : ℕ → ℚ) (t : ℚ) → rat_sum_below n (λ i. taken bend (f i) t) ≡ taken bend (rat_sum_below n f) t
 all_taken bend zero f t = nothing_taken bend t
 all_taken bend (suc n) f t = ap (λ y. y +ℚ taken bend (f n) t) (all_taken bend n f t) ∙ both_taken bend (rat_sum_below n f) (f n) t
 

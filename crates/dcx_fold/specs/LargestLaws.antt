@@ -256,7 +256,7 @@ row_slope : (bend : Bend) (w : ℚ) (i : ℕ) (a : Entries) → outward bend w *
 row_slope Convex w i a = convex_slope w (a 0 i)
 row_slope Concave w i a = concave_slope w (a 0 i)
 
-row_slopes : (bend : Bend) (k : ℕ) → AreRowSlopes (largest_meaning bend k)
+pub row_slopes : (bend : Bend) (k : ℕ) → AreRowSlopes (largest_meaning bend k)
 row_slopes bend k [] sides is w a = cc
 row_slopes bend k (s ∷ []) sides is w a =
     let f = is_chosen k (s ∷ []) sides is in

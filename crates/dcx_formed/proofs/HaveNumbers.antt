@@ -25,6 +25,7 @@ use Rattle.dcx_call.specs.Values.{given_by, entry_formed}
 use Rattle.dcx_tree.specs.declared.problem.Problem.{Problem}
 use Rattle.dcx_tree.specs.Nodes.{Node, head_of, arg_sides, convex_node}
 use Rattle.dcx_tree.specs.Meaning.{names_in}
+use Rattle.dcx_tree.proofs.AllReached.{convex_at}
 use Rattle.dcx_linear.specs.declared.change.Change.{Change}
 use Rattle.dcx_linear.specs.declared.form.FormTerm.{FormTerm}
 use Rattle.dcx_linear.specs.declared.form.Form.{Form}
@@ -34,7 +35,7 @@ use Rattle.dcx_linear.specs.Parameters.{Parameters}
 use Rattle.dcx_linear.proofs.Coefficients.{sum_keeps, change_keeps, multiple_keeps}
 use Rattle.dcx_unknowns.specs.Layout.{is_reduced, first_aux}
 use Rattle.dcx_reduced.proofs.OwnGraphs.{atom_own}
-use Rattle.dcx_reduced.proofs.NodeForms.{nodes_of, nodes_ordered, convex_at, node_at}
+use Rattle.dcx_reduced.proofs.NodeForms.{nodes_of, nodes_ordered, node_at}
 use Rattle.dcx_entries.specs.declared.entries.EntryForms.{EntryForms}
 use Rattle.dcx_entries.specs.Parts.{Arguments, unknown_form, form_of_unknown}
 use Rattle.dcx_entries.specs.Standing.{args_among}

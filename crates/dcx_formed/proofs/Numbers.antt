@@ -34,13 +34,14 @@ use Rattle.dcx_tree.specs.declared.problem.Problem.{Problem}
 use Rattle.dcx_tree.specs.Nodes.{Node, pairing_call, head_of, arg_sides, convex_node, source_value}
 use Rattle.dcx_tree.specs.Meaning.{names_in}
 use Rattle.dcx_tree.proofs.NodeValues.{node_told}
+use Rattle.dcx_tree.proofs.AllReached.{convex_at}
 use Rattle.dcx_linear.specs.declared.change.Change.{Change}
 use Rattle.dcx_linear.specs.declared.form.Form.{Form}
 use Rattle.dcx_linear.specs.FormTerms.{Unknowns}
 use Rattle.dcx_linear.specs.Forms.{linear_value, is_constant as constant_form}
 use Rattle.dcx_linear.specs.Parameters.{Parameters}
 use Rattle.dcx_unknowns.specs.Layout.{is_reduced}
-use Rattle.dcx_reduced.proofs.NodeForms.{nodes_of, nodes_ordered, convex_at, node_at, not_reduced}
+use Rattle.dcx_reduced.proofs.NodeForms.{nodes_of, nodes_ordered, node_at, not_reduced}
 use Rattle.dcx_entries.specs.declared.entries.EntryForms.{EntryForms}
 use Rattle.dcx_entries.specs.Parts.{zero_form, number_in}
 use Rattle.dcx_entries.specs.Entries.{alone}

@@ -42,11 +42,12 @@ use Rattle.dcx_tree.specs.declared.problem.Problem.{Problem}
 use Rattle.dcx_tree.specs.Nodes.{Node, pairing_call, head_of, arg_sides, convex_node}
 use Rattle.dcx_tree.specs.Meaning.{names_in, value_at}
 use Rattle.dcx_tree.proofs.Lawful.{tree_lawful}
+use Rattle.dcx_tree.proofs.AllReached.{convex_at}
 use Rattle.dcx_unknowns.specs.Unknowns.{point_at}
 use Rattle.dcx_unknowns.specs.Layout.{is_reduced}
 use Rattle.dcx_reduced.specs.Equations.{Forms, call_entry, filling_of, Stands}
 use Rattle.dcx_reduced.proofs.Constants.{call_constant}
-use Rattle.dcx_reduced.proofs.NodeForms.{nodes_of, nodes_ordered, convex_at, node_at, not_constant, not_reduced}
+use Rattle.dcx_reduced.proofs.NodeForms.{nodes_of, nodes_ordered, node_at, not_constant, not_reduced}
 use Rattle.dcx_formed.proofs.Settled.{settled_zero}
 
 -- ---- what a call that is convex and concave asks of its arguments

@@ -11,6 +11,7 @@ mod list;
 mod order;
 mod text;
 
+pub use dcx_math::List;
 pub use divisor::gcd;
 pub use fraction::{Frac, LARGEST, Op, Passes};
 pub use list::Fracs;

@@ -19,8 +19,8 @@ use Rattle.dcx_front.specs.declared.fault.FrontFault.TheVariants.{Refused, Memor
 use Rattle.dcx_front.specs.Accepts.{Ending, refused, without_memory, read_ending, elab_ending, IsRefusedBy, WantsMemory, Given, EndsAs, Judges, GivesOfScript, stands_for, faulty, Gives, spells, unread}
 use Rattle.dcx_front.specs.OneAnswer.{AreOneAnswer, HasOneAnswer}
 use Rattle.dcx_front.proofs.OneCheck.{one_refusal, beside_memory, one_judged}
-use Rattle.dcx_front.proofs.OneReading.{one_fault, script_apart, one_script}
-use Rattle.dcx_front.proofs.OneProblem.{one_problem}
+use Rattle.dcx_read.proofs.OneReading.{one_fault, script_apart, one_script}
+use Rattle.dcx_tree.proofs.OneProblem.{one_problem}
 
 -- ---- how a fault ends
 -- an answer that ends so is a refusal, or wants memory

@@ -26,7 +26,7 @@ use Rattle.dcx_front.specs.Refusals.{is_refusal}
 use Rattle.dcx_front.specs.Checks.{IsRefusedAs, IsRefusedFor, IsFoundOf, site_place}
 use Rattle.dcx_front.specs.Accepts.{Given}
 use Rattle.dcx_front.specs.OneAnswer.{AreOneAnswer, HasOneJudgement}
-use Rattle.dcx_front.proofs.OneGathering.{one_list}
+use Rattle.dcx_arena.proofs.OneGathering.{one_list}
 
 -- ---- refusals
 -- a number, a place and what is said beside them make one refusal

@@ -14,7 +14,7 @@ use Rattle.dcx_front.specs.declared.fault.FrontFault.TheVariants.{Refused, Memor
 use Rattle.dcx_front.specs.declared.accepted.Accepted.{Accepted}
 use Rattle.dcx_front.specs.Accepts.{read_ending, elab_ending, Given, EndsAs, IsJudged, stands_for, faulty, Gives, spells, unread}
 use Rattle.dcx_front.specs.OneAnswer.{IsAtFault, unreadable, fails, breaks_rules, IsWithoutFault, IsVerdictOn}
-use Rattle.dcx_front.proofs.OneReading.{script_apart, one_script}
+use Rattle.dcx_read.proofs.OneReading.{script_apart, one_script}
 use Rattle.dcx_front.proofs.OneAnswer.{one_work, work_apart}
 
 -- bytes that are accepted are not at fault

@@ -2,7 +2,7 @@
 use Rattle.std.proofs.Common.{◌≡◌, ℕ, zero, suc, ◌<◌, arith, List, [], ◌∷◌, length, map, get_or, Option, Some, None, option_map, IsSome, Result, Ok, Err, slice_get, refl, sym, ap, ap₂, ◌∙◌, subst}
 use Rattle.std.specs.Option.{unwrap_or, option_and_then}
 use Rattle.std.proofs.Math.Path.{fun_ext}
-use Rattle.std.proofs.lemmas.Option.{none-some, same_Some, slice_get-map, slice_get_within, get_or_from_slice_get}
+use Rattle.std.proofs.lemmas.Option.{none-some, slice_get-map, slice_get_within, get_or_from_slice_get}
 use Rattle.dcx_math.specs.Rational.{ℚ}
 use Rattle.dcx_frac.specs.declared.fraction.Frac.{Frac}
 use Rattle.dcx_frac.specs.declared.fraction.Passes.{Passes}
@@ -17,6 +17,7 @@ use Rattle.dcx_call.specs.Values.{given_by, HasArray}
 use Rattle.dcx_tree.specs.declared.problem.Problem.{Problem}
 use Rattle.dcx_tree.specs.Meaning.{names_in, setting_of}
 use Rattle.dcx_tree.proofs.Lawful.{mapped}
+use Rattle.dcx_tree.proofs.NodeValues.{number_there}
 use Rattle.dcx_linear.specs.declared.form.Form.{Form}
 use Rattle.dcx_linear.specs.declared.row.Row.{Row}
 use Rattle.dcx_linear.specs.declared.param_form.ParamForm.{ParamForm}
@@ -38,11 +39,6 @@ use Rattle.dcx_graph.specs.Fixing.{FixGives}
 use Rattle.dcx_graph.specs.Fixed.{IsKnownProgram, HaveArrays, KnownAreListed, FixedAreReductions}
 
 -- ---- arrays
-pub number_there : (xs : List Frac) (j : ℕ) (x : Frac) → slice_get xs j ≡ Some x → number_at xs j ≡ value x
-number_there [] j x e = absurd (none-some x e)
-number_there (y ∷ xs) zero x e = ap value (same_Some y x e)
-number_there (y ∷ xs) (suc j) x e = number_there xs j x e
-
 -- a form that is told by its row is the form
 pub on_row : (n : ℕ) (r : Result (Form Frac) Passes) (g : Form Frac) → at_row n r ≡ Ok g → r ≡ Ok g
 on_row n (Ok f) g e = let d : f ≡ g = cc in ap Ok d

@@ -27,6 +27,7 @@
 //! | what is read from a right answer of the integer rows is right for the problem | `map_back`, `specs/Answers.antt`: `IsRightFor` |
 //! | it has the numbers of that answer, or the first multiplier that passes 128 bits is told, with its row | `map_back`, `specs/Answers.antt`: `IsRead`, `StopsReading` |
 //! | one answer is read, or one stop | `laws::readings_are_one` |
+//! | the point of the unknowns that columns tell, an array for each variable | `point_read` |
 #![tactic(auto)]
 
 mod constraint;
@@ -45,7 +46,7 @@ mod stop;
 
 pub use fixing::fix;
 pub use origin::Origin;
-pub use reading::{AnswerStop, map_back};
+pub use reading::{AnswerStop, map_back, point_read};
 pub use reduced::Reduced;
 pub use reducible::Reducible;
 pub use reducing::reduce;

@@ -50,8 +50,9 @@ fn answer_stop(stop: MultiplierStop) -> AnswerStop
     }
 }
 
-/// The point of the unknowns whose columns have these numbers.
-fn point_read(
+/// The point of the unknowns whose columns have these numbers: an array for each variable, in order of declaration. `AllocError`
+/// where there is no memory.
+pub fn point_read(
     alloc: Global,
     problem: &Problem,
     kinds: &[UnknownKind],
@@ -61,7 +62,7 @@ fn point_read(
     ensures { IfOk result (λ x. IsPointRead problem.now kinds.now columns.now x) }
 {
     let unknowns = unknown_numbers(alloc, kinds, columns)?;
-    point_of_unknowns(alloc, problem.variables.as_slice(), unknowns.as_slice())
+    point_of_unknowns(alloc, problem, unknowns.as_slice())
 }
 
 /// The multipliers of the constraints, where they are formed.

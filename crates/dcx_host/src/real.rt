@@ -1,5 +1,6 @@
 //! The files of the host as a library, and a writer of the host as a sink. What they hold is not told.
 ghost use Rattle.std.specs.Prelude.{◌≡◌, ◌<◌, ◌≤◌, length, IfOk, IfSome, IsErrOf, None};
+ghost use Rattle.std.specs.Io.KnownBytes.{WriteAppends};
 
 use crate::{FetchFault, Library, Sink, SinkFault};
 use dcx_shape::Bytes;
@@ -85,13 +86,28 @@ impl<W: Write> OutSink<W> {
     }
 }
 
+// One write, made again where a signal interrupts it, as the reader's `read_to_end` does with a read.
+fn write_some<W: Write>(writer: &mut W, piece: &[u8]) -> Result<usize, SinkFault>
+    ensures size { IfOk result (λ n. n ≤ length piece.now) }
+    ensures written { WriteAppends (W.contents writer.old) (W.contents writer.new) result piece.now }
+{
+    'tries: for _ in 0..u64::MAX {
+        match writer.write(piece) {
+            Ok(count) => return Ok(count),
+            Err(error) if error.kind() == ErrorKind::Interrupted => {}
+            Err(_) => return Err(SinkFault::Failed),
+        }
+    }
+    Err(SinkFault::Failed)
+}
+
 impl<W: Write> Sink for OutSink<W> {
     ghost written = { λ s. W.contents s.writer };
 
     ghost faults = { λ s. s.faults };
 
     fn write(&mut self, piece: &[u8]) -> Result<usize, SinkFault> {
-        match self.writer.write(piece) {
+        match write_some(&mut self.writer, piece) {
             Ok(count) if count > 0 || piece.is_empty() => Ok(count),
             _ => {
                 self.faults = self.faults.saturating_add(1);

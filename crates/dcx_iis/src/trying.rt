@@ -1,18 +1,16 @@
 //! One step: whether some point keeps the constraints that are kept.
 ghost use Rattle.std.specs.Prelude.{◌≡◌, ◌≤◌, length, map, sum_by, IfOk, IfErr};
 ghost use Rattle.dcx_unknowns.specs.Layout.{constraint_rows};
-ghost use Rattle.dcx_graph.specs.Answers.{TellUnknowns, IsPointRead};
+ghost use Rattle.dcx_graph.specs.Answers.{TellUnknowns};
 ghost use Rattle.dcx_iis.specs.Sets.{flagged};
 ghost use Rattle.dcx_iis.specs.Runs.{IsShownBy, IsTried, StopsTry, step_stop};
 
 use crate::program::solve_kept;
 use dcx_answer::{FilterStop, Stop};
 use dcx_frac::Frac;
-use dcx_graph::Reduced;
-use dcx_linear::UnknownKind;
+use dcx_graph::{Reduced, point_read};
 use dcx_lp_answer::{LpAnswer, LpStatus};
 use dcx_point::Point;
-use dcx_postsolve::{point_of_unknowns, unknown_numbers};
 use dcx_solved::SolveStop;
 use dcx_tree::Problem;
 use std::alloc::{AllocError, Global};
@@ -30,20 +28,6 @@ pub(crate) enum Tried {
         /// The answer of the step's program.
         answer: LpAnswer,
     },
-}
-
-/// The point of the unknowns whose columns have these numbers.
-fn point_read(
-    alloc: Global,
-    problem: &Problem,
-    kinds: &[UnknownKind],
-    columns: &[Frac],
-) -> Result<Point, AllocError>
-    requires told { TellUnknowns kinds.now columns.now }
-    ensures { IfOk result (λ x. IsPointRead problem.now kinds.now columns.now x) }
-{
-    let unknowns = unknown_numbers(alloc, kinds, columns)?;
-    point_of_unknowns(alloc, problem.variables.as_slice(), unknowns.as_slice())
 }
 
 /// What an answer shows.

@@ -1,8 +1,8 @@
 -- Rows of numbers: as many numbers as their array has entries.
-use Rattle.std.specs.Prelude.{◌≡◌, ℕ, ◌*◌, ◌<◌, ◌≤◌, take, nat_eq, Bool, true, false, ◌&&◌, ◌||◌, List, [], ◌∷◌, map, length, None, if◌then◌else◌}
+use Rattle.std.specs.Prelude.{◌≡◌, ℕ, ◌*◌, ◌<◌, ◌≤◌, take, nat_eq, Bool, true, false, ◌||◌, List, [], ◌∷◌, map, length, None, if◌then◌else◌}
 use Rattle.std.specs.List.{list_all, flat_map}
 use Rattle.std.proofs.Common.{refl, ap, ◌∙◌, arith, length-append, take_all}
-use Rattle.std.proofs.lemmas.Bool.{eqb-true}
+use Rattle.std.proofs.lemmas.Bool.{eqb-true, and_parts}
 use Rattle.std.proofs.lemmas.List.{length-map}
 use Rattle.dcx_frac.specs.declared.fraction.Frac.{Frac}
 use Rattle.dcx_shape.specs.declared.shape.Sides.TheVariants.{Vector, Matrix}
@@ -15,10 +15,6 @@ use Rattle.dcx_kinds.proofs.ShapesAsked.{few_sides}
 use Rattle.dcx_kinds.specs.Values.{Value, plain, list, items_of}
 use Rattle.dcx_kinds.specs.Kinds.{is_number, number_of, is_list, list_items, is_long, are_rows, rows_sides, row_numbers, rows_array}
 
-both : (a b : Bool) → (a && b) ≡ true → (a ≡ true) × (b ≡ true)
-both true b e = (refl, e)
-both false b e = cc
-
 or_false : (b : Bool) → (b || false) ≡ true → b ≡ true
 or_false true e = refl
 or_false false e = cc
@@ -26,14 +22,14 @@ or_false false e = cc
 -- a row has as many numbers as it is long
 row_length : (n : ℕ) (v : Value) → is_long n v ≡ true → length (row_numbers v) ≡ n
 row_length n (list vs) e =
-    let long : nat_eq (length (items_of vs)) n ≡ true = (both (list_all is_number (items_of vs)) (nat_eq (length (items_of vs)) n) e).1 in
+    let long : nat_eq (length (items_of vs)) n ≡ true = (and_parts (list_all is_number (items_of vs)) (nat_eq (length (items_of vs)) n) e).1 in
     length-map (items_of vs) number_of ∙ eqb-true (length (items_of vs)) n long
 row_length n v e = cc
 
 rows_length : (n : ℕ) (vs : List Value) → list_all (is_long n) vs ≡ true → length (flat_map row_numbers vs) ≡ length vs * n
 rows_length n [] e = omega arith
 rows_length n (v ∷ vs) e =
-    let p = both (is_long n v) (list_all (is_long n) vs) e in
+    let p = and_parts (is_long n v) (list_all (is_long n) vs) e in
     omega (arith, length-append (row_numbers v) (flat_map row_numbers vs), row_length n v p.0, rows_length n vs p.1)
 
 -- a number is a row of one
@@ -44,7 +40,7 @@ number_length v e = cc
 numbers_length : (vs : List Value) → list_all is_number vs ≡ true → length (flat_map row_numbers vs) ≡ length vs
 numbers_length [] e = refl
 numbers_length (v ∷ vs) e =
-    let p = both (is_number v) (list_all is_number vs) e in
+    let p = and_parts (is_number v) (list_all is_number vs) e in
     omega (arith, length-append (row_numbers v) (flat_map row_numbers vs), number_length v p.0, numbers_length vs p.1)
 
 pub length-rows : (vs : List Value) → are_rows vs ≡ true → length (flat_map row_numbers vs) ≡ entries_of (rows_sides vs)

@@ -1,7 +1,8 @@
 -- What lines do to the names.
 use Rattle.std.proofs.Common.{◌≡◌, ℕ, Bool, true, false, cond, ◌||◌, List, [], ◌∷◌, ◌++◌, Option, Some, Ok, refl, sym, ap, subst, ◌∙◌, append_assoc, append-nil, true≢false}
-use Rattle.std.specs.List.{AllByRecursion, IsDistinct}
+use Rattle.std.specs.List.{IsDistinct}
 use Rattle.std.specs.Map.{keys_of, lookup}
+use Rattle.std.proofs.lemmas.Bool.{or_parts}
 use Rattle.indexmap.specs.IndexMap.{insert_entry}
 use Rattle.dcx_point.specs.Pairs.{same_name}
 use Rattle.dcx_point.proofs.Puts.{same_name-refl, same_name-true}
@@ -15,6 +16,7 @@ use Rattle.dcx_elab.specs.Expressions.{expr_means, postfix_means, primary_means}
 use Rattle.dcx_elab.specs.Turns.{turn, turns}
 use Rattle.dcx_elab.specs.Statements.{bound_name, line_means, lines_mean}
 use Rattle.dcx_elab.specs.Laws.{HasDistinctNames, KeepsNamesDistinct}
+use Rattle.dcx_elab.proofs.Turned.{insert-distinct}
 use Rattle.dcx_laws.specs.Bindings.{LeavesNames, HoldsForExpressions, HoldsForBindings, binds, one_binds}
 use Rattle.dcx_laws.proofs.Carried.{Moves, ok-moved}
 use Rattle.dcx_laws.proofs.CarriedNodes.{step-moves, give-moves, items_through-moves}
@@ -66,30 +68,6 @@ module _ (R : State → State → Type 0) (by_names : (s t u : State) → R s t 
   }
 
 -- ---- no name twice
-other_way : (a b : List ℕ) → same_name a b ≡ false → same_name b a ≡ false
-other_way a b e = by (same_name b a) refl
-  where
-    by : (t : Bool) → same_name b a ≡ t → same_name b a ≡ false
-    by true p = absurd (true≢false (sym (same_name-refl a) ∙ ap (same_name a) (sym (same_name-true b a p)) ∙ e))
-    by false p = p
-
-all-insert : (P : List ℕ → Type 0) (names : List (List ℕ × Value)) (name : List ℕ) (v : Value) → AllByRecursion P (keys_of names) → P name → AllByRecursion P (keys_of (insert_entry same_name names name v))
-all-insert P [] name v all h = (h, tt)
-all-insert P (e ∷ es) name v all h = by (same_name name e.0) (all-insert P es name v all.1 h)
-  where
-    by : (t : Bool) → AllByRecursion P (keys_of (insert_entry same_name es name v)) → AllByRecursion P (keys_of (cond t ((e.0, v) ∷ es) (e ∷ insert_entry same_name es name v)))
-    by true later = all
-    by false later = (all.0, later)
-
-insert-distinct : (names : List (List ℕ × Value)) (name : List ℕ) (v : Value) → IsDistinct same_name (keys_of names) → IsDistinct same_name (keys_of (insert_entry same_name names name v))
-unfolding IsDistinct
-insert-distinct [] name v d = (tt, tt)
-insert-distinct (e ∷ es) name v d = by (same_name name e.0) refl (insert-distinct es name v d.1)
-  where
-    by : (t : Bool) → same_name name e.0 ≡ t → IsDistinct same_name (keys_of (insert_entry same_name es name v)) → IsDistinct same_name (keys_of (cond t ((e.0, v) ∷ es) (e ∷ insert_entry same_name es name v)))
-    by true p later = d
-    by false p later = (all-insert (λ y. same_name e.0 y ≡ false) es name v d.0 (other_way name e.0 p), later)
-
 abbrev Distinct : State → State → Type 0
 Distinct s t = HasDistinctNames s → HasDistinctNames t
 
@@ -132,10 +110,6 @@ SameAt name s t = lookup (same_name name) t.names ≡ lookup (same_name name) s.
 abbrev Other : List ℕ → List ℕ → Type 0
 Other name other = same_name name other ≡ false
 
-or-false : (a b : Bool) → (a || b) ≡ false → (a ≡ false) × (b ≡ false)
-or-false true b e = absurd (true≢false e)
-or-false false b e = (refl, e)
-
 mutual
   binds-others : (name : List ℕ) (x : Line) → binds name x ≡ false → BindsOnly (Other name) x
   binds-others name (importing i) e = e
@@ -145,13 +119,13 @@ mutual
   binds-others name (evaluate x) e = tt
   binds-others name (prints place open_place inner) e = tt
   binds-others name (repeats place n x first rest) e =
-      let p = or-false (same_name name n.name) (binds name first || one_binds name rest) e in
-      let q = or-false (binds name first) (one_binds name rest) p.1 in
+      let p = or_parts (same_name name n.name) (binds name first || one_binds name rest) e in
+      let q = or_parts (binds name first) (one_binds name rest) p.1 in
       (p.0, binds-others name first q.0, bind-others name rest q.1)
 
   bind-others : (name : List ℕ) (ls : Lines) → one_binds name ls ≡ false → BindOnly (Other name) ls
   bind-others name no_lines e = tt
-  bind-others name (lines x rest) e = let p = or-false (binds name x) (one_binds name rest) e in (binds-others name x p.0, bind-others name rest p.1)
+  bind-others name (lines x rest) e = let p = or_parts (binds name x) (one_binds name rest) e in (binds-others name x p.0, bind-others name rest p.1)
 
 others_are_carried : (name : List ℕ) → IsCarriedByLines (SameAt name) (Other name)
 others_are_carried name = by_bindings (SameAt name) (λ s t u h names. ap (lookup (same_name name)) names ∙ h) (Other name) (λ s t other v may h. other-name t.names other name v may ∙ h)
@@ -170,7 +144,7 @@ binds-none (add_to n place x) h = not-bound n.name (h n.name)
 binds-none (set_value n place x) h = tt
 binds-none (evaluate x) h = tt
 binds-none (prints place open_place inner) h = tt
-binds-none (repeats place n x first rest) h = absurd (not-bound n.name (or-false (same_name n.name n.name) (binds n.name first || one_binds n.name rest) (h n.name)).0)
+binds-none (repeats place n x first rest) h = absurd (not-bound n.name (or_parts (same_name n.name n.name) (binds n.name first || one_binds n.name rest) (h n.name)).0)
 
 quiet_is_carried : IsCarriedByLines SameNames NoName
 quiet_is_carried = by_expressions SameNames names_are_carried NoName (λ name v may s t h. absurd may)

@@ -3,6 +3,7 @@ use Rattle.std.proofs.Common.{◌≡◌, ℕ, zero, suc, ◌+◌, ◌<◌, ◌�
 use Rattle.std.specs.Bool.{Decides}
 use Rattle.std.specs.List.{AllByRecursion, list_all, position_from, slice_get}
 use Rattle.std.specs.Cmp.Lexicographic.{pointwise, bytes_decides}
+use Rattle.std.proofs.lemmas.Bool.{and_parts}
 use Rattle.std.proofs.lemmas.Bool.Decides.{Decides-ltb, leb_tells}
 use Rattle.std.proofs.lemmas.List.Elements.{All-from_recursion}
 use Rattle.std.proofs.lemmas.Option.{none-some, same_Some}
@@ -19,7 +20,7 @@ use Rattle.dcx_kinds.specs.declared.fault.ElabFault.TheVariants.{BadArgument, Sh
 use Rattle.dcx_kinds.specs.Values.{State, and_then, unless, or_fault, too_many}
 use Rattle.dcx_kinds.specs.Nodes.{is_of, are_there, found_or_added, push}
 use Rattle.dcx_kinds.specs.Same.{same_call}
-use Rattle.dcx_state.proofs.SameCalls.{both, two, calls_decide}
+use Rattle.dcx_state.proofs.SameCalls.{two, calls_decide}
 
 -- ---- where a test first passes
 module _ {X : Type 0} (p : X → Bool) where
@@ -50,7 +51,7 @@ below_all n args e = All-from_recursion (λ a. a < n) args (by args e)
   where
     by : (xs : List ℕ) → list_all (λ a. nat_lt a n) xs ≡ true → AllByRecursion (λ a. a < n) xs
     by [] t = tt
-    by (x ∷ xs) t = let q = both (nat_lt x n) (list_all (λ a. nat_lt a n) xs) t in ((Decides-ltb x n).0 q.0, by xs q.1)
+    by (x ∷ xs) t = let q = and_parts (nat_lt x n) (list_all (λ a. nat_lt a n) xs) t in ((Decides-ltb x n).0 q.0, by xs q.1)
 
 is_of-decides : (call : Call) (args : List ℕ) (n : Node Call) → Decides (is_of call args n) (IsOf n call args)
 is_of-decides call args n =

@@ -5,6 +5,7 @@ pub mod ParamForms
 pub mod Settings
 pub mod RowAnswers
 pub mod Widths
+pub mod Narrow
 pub mod Answered
 pub mod SlotSums
 pub mod PartSums

@@ -2,12 +2,12 @@
 use crate::change::Change;
 use crate::coef::Coef;
 use crate::entry::entry_at;
-use crate::param_term::{ParamTerm, ParamTerms, change_number, copy_name};
+use crate::param_term::{ParamTerm, ParamTerms, change_number};
 use crate::stop::CoefStop;
 use crate::term::{change_terms, copy_terms, sum_terms};
 use dcx_frac::{Frac, Passes};
 use dcx_point::Setting;
-use dcx_shape::Name;
+use dcx_shape::{Name, copy_name};
 use std::alloc::{AllocError, Global};
 
 /// An affine number: a constant, and coefficients at entries of parameters.

@@ -6,7 +6,7 @@ use crate::change::Change;
 use crate::stop::CoefStop;
 use crate::term::Term;
 use dcx_frac::{Frac, Passes};
-use dcx_shape::Name;
+use dcx_shape::{Name, copy_name};
 use std::alloc::{AllocError, Global};
 use std::cmp::Ordering;
 use std::marker::Model;
@@ -88,13 +88,6 @@ impl ParamTerms {
     {
         self.items.as_slice()
     }
-}
-
-/// A copy of the name.
-pub(crate) fn copy_name(alloc: Global, name: &Name) -> Result<Name, AllocError>
-    ensures { IfOk result (λ n. n ≡ name.now) }
-{
-    Ok(Name::from_vec(Vec::from_slice(alloc, name.as_slice())?))
 }
 
 /// Whether the fraction is 0.

@@ -1,9 +1,8 @@
 //! Rows over unknowns, and the kinds of unknowns.
-ghost use Rattle.std.specs.Prelude.{◌≡◌};
 
 use crate::coef::Coef;
 use crate::form::Form;
-use std::marker::Model;
+use dcx_math::List;
 
 /// How the form of a row stands to 0.
 #[derive(Clone, Copy, Debug, PartialEq, Eq)]
@@ -24,42 +23,7 @@ pub struct Row<C: Coef> {
 }
 
 /// Rows, in order.
-#[derive(Drop)]
-pub struct RowList<C: Coef> {
-    items: Vec<Row<C>>,
-}
-
-impl<C: Coef> Model for RowList<C> {
-    ghost use Rattle.std.specs.Prelude.{List};
-    ghost use Rattle.dcx_linear.specs.declared.row.Row.{Row};
-
-    ghost Value = { List (Row C) };
-
-    ghost view = { λ x. x.items.items };
-}
-
-impl<C: Coef> RowList<C> {
-    /// The list of these rows. Takes no memory.
-    pub fn from_vec(items: Vec<Row<C>>) -> RowList<C>
-        ensures { result ≡ items.items }
-    {
-        RowList { items }
-    }
-
-    /// The rows as a `Vec`. Takes no memory.
-    pub fn into_vec(self) -> Vec<Row<C>>
-        ensures { result.items ≡ self }
-    {
-        self.items
-    }
-
-    /// The rows.
-    pub fn as_slice(&self) -> &[Row<C>]
-        ensures { result.now ≡ self.now }
-    {
-        self.items.as_slice()
-    }
-}
+pub type RowList<C> = List<Row<C>>;
 
 /// Which numbers an unknown may be.
 #[derive(Clone, Copy, Debug, PartialEq, Eq)]
@@ -73,39 +37,4 @@ pub enum UnknownKind {
 }
 
 /// The kinds of unknowns, in order.
-#[derive(Drop)]
-pub struct UnknownKinds {
-    items: Vec<UnknownKind>,
-}
-
-impl Model for UnknownKinds {
-    ghost use Rattle.std.specs.Prelude.{List};
-    ghost use Rattle.dcx_linear.specs.declared.row.UnknownKind.{UnknownKind};
-
-    ghost Value = { List UnknownKind };
-
-    ghost view = { λ x. x.items.items };
-}
-
-impl UnknownKinds {
-    /// The list of these kinds. Takes no memory.
-    pub fn from_vec(items: Vec<UnknownKind>) -> UnknownKinds
-        ensures { result ≡ items.items }
-    {
-        UnknownKinds { items }
-    }
-
-    /// The kinds as a `Vec`. Takes no memory.
-    pub fn into_vec(self) -> Vec<UnknownKind>
-        ensures { result.items ≡ self }
-    {
-        self.items
-    }
-
-    /// The kinds.
-    pub fn as_slice(&self) -> &[UnknownKind]
-        ensures { result.now ≡ self.now }
-    {
-        self.items.as_slice()
-    }
-}
+pub type UnknownKinds = List<UnknownKind>;

@@ -4,7 +4,7 @@ use Rattle.std.proofs.Math.Nat.{mul-le-mul_right}
 use Rattle.dcx_links.specs.declared.store.Cell.{Cell}
 use Rattle.dcx_links.specs.Lines.{Has}
 use Rattle.dcx_links.specs.Cells.{cell_at, IsAt, IsStore, AreFree}
-use Rattle.dcx_links.proofs.Pigeons.{pigeons}
+use Rattle.dcx_math.proofs.Pigeons.{pigeons}
 
 -- a place before the first of a later row
 place_below : (w a b c : ℕ) → b < w → a < c → a * w + b < c * w

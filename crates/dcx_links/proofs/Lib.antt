@@ -2,7 +2,6 @@ pub mod Lines
 pub mod Numbers
 pub mod Stores
 pub mod Inserts
-pub mod Pigeons
 pub mod Free
 pub mod Removes
 pub mod Empty

@@ -1,8 +1,7 @@
 //! The answer of a linear program.
-ghost use Rattle.std.specs.Prelude.{◌≡◌};
 
 use dcx_frac::{Frac, Fracs};
-use std::marker::Model;
+use dcx_math::List;
 
 /// What a linear program turns out to be.
 #[derive(Clone, Copy, Debug, PartialEq, Eq)]
@@ -27,42 +26,7 @@ pub struct RowNote {
 }
 
 /// What is kept of each row, seen by contracts as a list.
-#[derive(Drop)]
-pub struct RowNotes {
-    items: Vec<RowNote>,
-}
-
-impl Model for RowNotes {
-    ghost use Rattle.std.specs.Prelude.{List};
-    ghost use Rattle.dcx_lp_answer.specs.declared.answer.RowNote.{RowNote};
-
-    ghost Value = { List RowNote };
-
-    ghost view = { λ l. l.items.items };
-}
-
-impl RowNotes {
-    /// The list with these items. Takes no memory.
-    pub fn from_vec(items: Vec<RowNote>) -> RowNotes
-        ensures { result ≡ items.items }
-    {
-        RowNotes { items }
-    }
-
-    /// The items of the list. Takes no memory.
-    pub fn into_vec(self) -> Vec<RowNote>
-        ensures { result.items ≡ self }
-    {
-        self.items
-    }
-
-    /// The items of the list.
-    pub fn as_slice(&self) -> &[RowNote]
-        ensures { result.now ≡ self.now }
-    {
-        self.items.as_slice()
-    }
-}
+pub type RowNotes = List<RowNote>;
 
 /// The answer of a linear program of whole numbers.
 #[derive(Drop)]

@@ -25,10 +25,11 @@ use Rattle.dcx_tree.specs.Meaning.{names_in}
 use Rattle.dcx_tree.proofs.Names.{found_in}
 use Rattle.dcx_tree.proofs.NodeValues.{sides_are}
 use Rattle.dcx_tree.proofs.Sublists.{contains_at}
-use Rattle.dcx_domain.proofs.Few.{few_parameters}
+use Rattle.dcx_tree.proofs.Few.{few_parameters}
 use Rattle.dcx_unknowns.specs.Own.{own_count}
 use Rattle.dcx_unknowns.specs.Unknowns.{demanded, sides_in, variable_unknowns, variable_kinds, first_unknown, unknown_from}
 use Rattle.dcx_call.specs.Attributes.{IsSquare}
+use Rattle.dcx_call.proofs.CallLaws.{own_is}
 use Rattle.dcx_unknowns.specs.Layout.{marked, aux_kind, aux_below}
 use Rattle.dcx_unknowns.proofs.Domains.{number_is}
 use Rattle.dcx_unknowns.proofs.Owners.{are_numbered, first_fits}
@@ -41,7 +42,7 @@ use Rattle.dcx_entries.specs.Entries.{alone, ParameterEntry}
 use Rattle.dcx_entries.specs.Nodes.{ReducedEntry}
 use Rattle.dcx_nodes.specs.Given.{HasFewUnknowns, AreFirstsOf}
 use Rattle.dcx_nodes.specs.Formed.{ReducedGives}
-use Rattle.dcx_nodes.proofs.AtNode.{own_is, call_is, shape_given}
+use Rattle.dcx_nodes.proofs.AtNode.{call_is, shape_given}
 use Rattle.dcx_nodes.proofs.Numbers.{mapped_at}
 
 -- ---- few unknowns

@@ -37,6 +37,7 @@ use Rattle.dcx_tree.specs.declared.problem.Problem.{Problem}
 use Rattle.dcx_tree.specs.Nodes.{Node, arg_sides}
 use Rattle.dcx_reduced.proofs.NodeForms.{node_at}
 use Rattle.dcx_tree.proofs.NodeValues.{args_are, sides_are as sides_are_at}
+use Rattle.dcx_tree.proofs.NodeValues.{number_there, number_past}
 use Rattle.dcx_linear.specs.declared.change.Change.{Change}
 use Rattle.dcx_linear.specs.declared.form.Form.{Form}
 use Rattle.dcx_linear.specs.Forms.{is_constant}
@@ -54,16 +55,6 @@ use Rattle.dcx_nodes.specs.Formed.{value_entries, IsOfSides, AreOfSides, ValueGi
 use Rattle.dcx_nodes.specs.Numbers.{HasNumbersOf, HasNumbersAt, HaveNumbersOf, AreOnlyNumbers}
 
 -- ---- numbers of lists
-number_past : (xs : List Frac) (j : ℕ) → length xs ≤ j → number_at xs j ≡ whole (pos 0)
-number_past [] j h = refl
-number_past (x ∷ xs) zero h = absurd (omega (arith, h))
-number_past (x ∷ xs) (suc j) h = number_past xs j (omega (arith, h))
-
-number_get : (xs : List Frac) (j : ℕ) (x : Frac) → slice_get xs j ≡ Some x → number_at xs j ≡ value x
-number_get [] j x e = absurd (none-some x e)
-number_get (y ∷ ys) zero x e = ap value (same_Some y x e)
-number_get (y ∷ ys) (suc j) x e = number_get ys j x e
-
 pub mapped_at : {A B : Type 0} (f : A → B) (xs : List A) (j : ℕ) (y : B) → slice_get (map f xs) j ≡ Some y → (x : A) × (slice_get xs j ≡ Some x) × (f x ≡ y)
 mapped_at f [] j y e = absurd (none-some y e)
 mapped_at f (x ∷ xs) zero y e = (x, refl, same_Some (f x) y e)
@@ -226,7 +217,7 @@ module _ {C : Type 0} (of_number : Frac → C) (number_of : C → Option Frac) (
           let below : j < entries_of (sides_of x.shape) = omega (arith, there, x.full) in
           let formed = formed_is (formed_at n.call setting [] xs j) (is.forms j below) in
           let exact = forms_exactly n.call setting [] (array_sides xs) n.sides (numbers_of xs) shape_is (few_entries xs) (entries_fit xs) j (subst (λ s. j < entries_of s) sides_are below) formed.0 formed.1 in
-          let same : formed.0 ≡ z = value_injective formed.0 z (exact ∙ sym (is.numbers j below) ∙ number_get x.entries j z e) in
+          let same : formed.0 ≡ z = value_injective formed.0 z (exact ∙ sym (is.numbers j below) ∙ number_there x.entries j z e) in
           formed.1 ∙ ap Ok same
 
       pub value_formed : FormsEach Entry (entries_of n.sides) (Ok (value_entries of_number x))

@@ -14,7 +14,7 @@ use std::alloc::Global;
 fn give_back<C: Coef>(alloc: Global, standing: &mut Standing<C>)
     ensures { standing.new ≡ Forms [] }
 {
-    *standing = Standing::Forms(EntryList::from_vec(Vec::new(alloc)));
+    *standing = Standing::Forms(EntryList::new(alloc));
 }
 
 /// Gives back what stands for those of these nodes that are last asked for by `node`.

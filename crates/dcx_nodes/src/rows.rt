@@ -74,7 +74,7 @@ fn take_entry<C: Coef>(
     ensures form { entry.new.form ≡ entry.old.form }
     ensures rows { OnOk result (rows.new.items ≡ rows.old.items ++ entry_rows C.of_number node.0 j entry.old) }
 {
-    let own = mem::replace(&mut entry.rows, FormList::empty(alloc));
+    let own = mem::replace(&mut entry.rows, FormList::new(alloc));
     push_rows(rows, node, j, own)
 }
 

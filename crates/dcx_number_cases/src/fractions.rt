@@ -24,6 +24,7 @@ impl Cases for Fractions {
     }
 }
 
+/// What is asked of fractions, as many as there are.
 fn told(alloc: Global, words: &[&str], out: &mut String) -> Result<(), CaseFault> {
     match *words {
         ["list", ref items @ ..] => put_list(out, fractions_of(alloc, items)?),
@@ -31,10 +32,24 @@ fn told(alloc: Global, words: &[&str], out: &mut String) -> Result<(), CaseFault
         ["weights", entry, ref weights @ ..] => {
             put_weighed(out, count(entry)?, &fractions_of(alloc, weights)?)
         }
+        _ => few_told(words, out),
+    }
+}
+
+/// What is asked of one fraction, or of the integers that form one.
+fn few_told(words: &[&str], out: &mut String) -> Result<(), CaseFault> {
+    match *words {
         ["text", word] => put_written(out, fraction(word)?),
         ["lowest", num, den] => put_lowest(out, whole(num)?, whole(den)?),
         ["gcd", a, b] => put_divisor(out, size(a)?, size(b)?),
         ["is", ref rest @ ..] => put_truth(out, is_so(rest)?),
+        _ => two_told(words, out),
+    }
+}
+
+/// What is asked of two fractions.
+fn two_told(words: &[&str], out: &mut String) -> Result<(), CaseFault> {
+    match *words {
         [left, sign, right] => put_operated(out, fraction(left)?, sign, fraction(right)?),
         [verb, entry, left, right] => {
             put_compared(out, verb, count(entry)?, fraction(left)?, fraction(right)?)

@@ -20,20 +20,30 @@ impl Cases for Picks {
     fn answer(&self, alloc: Global, parts: &[&str], out: &mut String) -> Result<(), CaseFault> {
         match *parts {
             [verb, text, ref texts @ ..] => {
-                let from = array(alloc, text)?;
-                match *texts {
-                    [] => told(alloc, verb, &from, &[], out),
-                    [a] => told(alloc, verb, &from, &[pick_of(a)?], out),
-                    [a, b] => told(alloc, verb, &from, &[pick_of(a)?, pick_of(b)?], out),
-                    [a, b, c] => {
-                        let picks = [pick_of(a)?, pick_of(b)?, pick_of(c)?];
-                        told(alloc, verb, &from, &picks, out)
-                    }
-                    _ => Err(CaseFault::Unreadable),
-                }
+                picked(alloc, verb, &array(alloc, text)?, texts, out)
             }
             _ => Err(CaseFault::Unreadable),
         }
+    }
+}
+
+/// What is asked of an array and the picks of some texts, at most three.
+fn picked(
+    alloc: Global,
+    verb: &str,
+    from: &Array,
+    texts: &[&str],
+    out: &mut String,
+) -> Result<(), CaseFault> {
+    match *texts {
+        [] => told(alloc, verb, from, &[], out),
+        [a] => told(alloc, verb, from, &[pick_of(a)?], out),
+        [a, b] => told(alloc, verb, from, &[pick_of(a)?, pick_of(b)?], out),
+        [a, b, c] => {
+            let picks = [pick_of(a)?, pick_of(b)?, pick_of(c)?];
+            told(alloc, verb, from, &picks, out)
+        }
+        _ => Err(CaseFault::Unreadable),
     }
 }
 

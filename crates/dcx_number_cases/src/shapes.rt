@@ -28,8 +28,16 @@ fn told(alloc: Global, words: &[&str], out: &mut String) -> Result<(), CaseFault
         ["shape", size] => put_shape(out, size.parse::<Size>()?),
         ["slice", size, text] => sliced(alloc, count(size)?, slice(text)?, out),
         ["reshape", from, to, order] => reshaped(alloc, shape(from)?, shape(to)?, order, out),
-        [a, "with", b] => put_sides(out, broadcast(shape(a)?, shape(b)?)),
-        [a, "@", b] => put_sides(out, matmul_shape(shape(a)?, shape(b)?)),
+        [a, sign, b] => both_told(shape(a)?, sign, shape(b)?, out),
+        _ => Err(CaseFault::Unreadable),
+    }
+}
+
+/// The shape that two give.
+fn both_told(a: Shape, sign: &str, b: Shape, out: &mut String) -> Result<(), CaseFault> {
+    match sign {
+        "with" => put_sides(out, broadcast(a, b)),
+        "@" => put_sides(out, matmul_shape(a, b)),
         _ => Err(CaseFault::Unreadable),
     }
 }

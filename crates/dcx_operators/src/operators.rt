@@ -13,8 +13,8 @@ use crate::plain::{plain_added, plain_scaled};
 use dcx_affine::{Minus, Pairing, Plus};
 use dcx_arena::NodeId;
 use dcx_array::negate;
-use dcx_atom::Array;
-use dcx_call::{Call, LinearCall, copy_array};
+use dcx_atom::{Array, copy_array};
+use dcx_call::{Call, LinearCall};
 use dcx_kinds::{
     ElabFault, Items, Operand, Reading, Value, as_plain, joined, operand_read, read_value,
 };

@@ -14,7 +14,7 @@ ghost use Rattle.dcx_cache.specs.Programs.{IsMapOf, HasMap, SessionGives, IsProg
 ghost use Rattle.dcx_outcomes.specs.Outcomes.{Counts};
 ghost use Rattle.dcx_outcomes.specs.Asking.{IsAnswered, IsAskedOutcome, AreAskedOutcomes};
 
-use crate::beginning::{begin, ended};
+use crate::beginning::begin;
 use crate::outcome::stop_place;
 use dcx_answer::Stop;
 use dcx_cache::Session;
@@ -154,5 +154,6 @@ pub(crate) fn ask_problem<Q: Question, S: Ledger>(
 {
     let mut session = begin(alloc, problem, verdict, steps)?;
     let outcomes = ask_session(alloc, question, &mut session, settings, steps);
-    ended(session, outcomes)
+    drop(session);
+    outcomes
 }

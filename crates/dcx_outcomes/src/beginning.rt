@@ -1,4 +1,4 @@
-//! Where the session of a problem begins, and where it ends.
+//! Where the session of a problem begins.
 ghost use Rattle.std.specs.Prelude.{◌≡◌, ◌↔◌, ◌+◌, ◌≤◌, length, IsTrue, None, IfOk};
 ghost use Rattle.dcx_rules.specs.Verdicts.{IsVerdictOf};
 ghost use Rattle.dcx_tree.specs.Meaning.{IsAccepted};
@@ -30,11 +30,4 @@ pub(crate) fn begin<S: Ledger>(
         Ok(session) => Ok(session),
         Err(_) => Err(AllocError),
     }
-}
-
-/// What was found, behind the end of what found it. Here its type is a variable, which keeps the proof of its end short.
-pub(crate) fn ended<T: Drop, U>(_owner: T, found: U) -> U
-    ensures { result ≡ found }
-{
-    found
 }

@@ -6,7 +6,7 @@ ghost use Rattle.dcx_cache.specs.Programs.{HasMap};
 ghost use Rattle.dcx_outcomes.specs.Outcomes.{Counts};
 ghost use Rattle.dcx_outcomes.specs.Warm.{AreToldFrom, AreFound, counted_where};
 
-use crate::beginning::{begin, ended};
+use crate::beginning::begin;
 use crate::outcome::outcome;
 use dcx_cache::Session;
 use dcx_point::Setting;
@@ -99,7 +99,8 @@ pub fn outcomes<S: Ledger>(
 {
     let mut session = begin(alloc, problem, verdict, steps)?;
     let told = all(alloc, &mut session, settings, limit, warm, steps);
-    match ended(session, told) {
+    drop(session);
+    match told {
         Ok(told) => counted(warm, told),
         Err(e) => Err(e),
     }

@@ -5,9 +5,8 @@ ghost use Rattle.dcx_outline.specs.Drawn.{problem_outline};
 
 use crate::atoms::atoms_of;
 use crate::fixed::fixed_nodes;
-use dcx_call::copy_name;
 use dcx_sections::{Outline, Shown};
-use dcx_shape::Shape;
+use dcx_shape::{Shape, copy_name};
 use dcx_tree::{Constraint, Parameter, Problem, Variable};
 use std::alloc::{AllocError, Global};
 

@@ -1,8 +1,9 @@
 //! Copies of settings.
 ghost use Rattle.std.specs.Prelude.{◌≡◌, IfOk};
 
-use dcx_call::{copy_array, copy_name};
+use dcx_atom::copy_array;
 use dcx_point::Setting;
+use dcx_shape::copy_name;
 use std::alloc::{AllocError, Global};
 
 /// The same setting again.

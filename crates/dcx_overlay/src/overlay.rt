@@ -6,10 +6,10 @@ ghost use Rattle.dcx_overlay.specs.Settings.{HasNumbers, LaidOver, AreLaidOver};
 
 use crate::copies::copy_setting;
 use dcx_atom::Array;
-use dcx_call::copy_name;
 use dcx_frac::Fracs;
 use dcx_point::Setting;
 use dcx_settings::{SettingItem, SettingLine};
+use dcx_shape::copy_name;
 use std::alloc::{AllocError, Global};
 
 /// The array that an item gives.

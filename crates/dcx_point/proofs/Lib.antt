@@ -1,2 +1,3 @@
 -- The lemmas.
 pub mod Puts
+pub mod Names

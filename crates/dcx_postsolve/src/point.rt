@@ -9,9 +9,11 @@ ghost use Rattle.dcx_call.specs.Attributes.{IsSquare, AreSquare};
 ghost use Rattle.dcx_postsolve.specs.Points.{numbered, IsArrayFrom, PutsArray, IsPointOf};
 
 use dcx_atom::Array;
-use dcx_call::{Variable, copy_name};
+use dcx_call::Variable;
 use dcx_frac::{Frac, Fracs};
 use dcx_point::Point;
+use dcx_shape::copy_name;
+use dcx_tree::Problem;
 use dcx_unknowns::{entry_unknowns, first_unknowns};
 use std::alloc::{AllocError, Global};
 
@@ -79,9 +81,8 @@ fn put_array(
     point.put(name, array)
 }
 
-/// The point of unknowns: for each variable, in order, an array of its shape, each entry the number of the unknown that stands
-/// for it, and 0 where there is none. A number that `unknowns` doesn't list counts as 0.
-pub fn point_of_unknowns(
+/// The point of unknowns for variables whose names are distinct, and whose unknowns are few.
+fn point_of_variables(
     alloc: Global,
     variables: &[Variable],
     unknowns: &[Frac],
@@ -97,4 +98,17 @@ pub fn point_of_unknowns(
         put_array(alloc, &mut point, variable, firsts[place], unknowns)?;
     }
     Ok(point)
+}
+
+/// The point of unknowns: for each variable of the problem, in order of declaration, an array of its shape, each entry the number
+/// of the unknown that stands for it, and 0 where there is none. A number that `unknowns` doesn't list counts as 0. `AllocError`
+/// where there is no memory.
+pub fn point_of_unknowns(
+    alloc: Global,
+    problem: &Problem,
+    unknowns: &[Frac],
+) -> Result<Point, AllocError>
+    ensures { IfOk result (λ p. IsPointOf problem.now.variables unknowns.now p) }
+{
+    point_of_variables(alloc, problem.variables.as_slice(), unknowns)
 }

@@ -1,5 +1,5 @@
-//! Rows over unknowns as they are written: the kinds of the unknowns, what is to be small, and up to three rows.
-ghost use Rattle.std.specs.Prelude.{◌≤◌, ◌<◌, IfOk};
+//! Rows over unknowns as they are written: the kinds of the unknowns, what is to be small, and the rows.
+ghost use Rattle.std.specs.Prelude.{◌≤◌, ◌<◌, IfOk, OnOk};
 ghost use Rattle.dcx_linear.specs.Widths.{form_width, rows_width};
 
 use dcx_case_lines::{CaseFault, numbers};
@@ -104,26 +104,28 @@ fn row(alloc: Global, count: u32, text: &str) -> Result<Row<Frac>, CaseFault>
     Ok(Row { kind, form })
 }
 
-/// One to three rows.
+/// Puts the row of a text at the end.
+fn push_row(
+    alloc: Global,
+    count: u32,
+    text: &str,
+    rows: &mut Vec<Row<Frac>>,
+) -> Result<(), CaseFault>
+    requires { rows_width rows.old.items ≤ count }
+    ensures { OnOk result (rows_width rows.new.items ≤ count) }
+{
+    Ok(rows.push(row(alloc, count, text)?)?)
+}
+
+/// The rows of texts, in order.
 fn list(alloc: Global, count: u32, texts: &[&str]) -> Result<RowList<Frac>, CaseFault>
     ensures { IfOk result (λ l. rows_width l ≤ count) }
 {
-    match *texts {
-        [a] => Ok(RowList::from_vec(vec![in alloc; row(alloc, count, a)?]?)),
-        [a, b] => {
-            let rows = vec![in alloc; row(alloc, count, a)?, row(alloc, count, b)?]?;
-            Ok(RowList::from_vec(rows))
-        }
-        [a, b, c] => {
-            let rows = vec![in alloc;
-                row(alloc, count, a)?,
-                row(alloc, count, b)?,
-                row(alloc, count, c)?,
-            ]?;
-            Ok(RowList::from_vec(rows))
-        }
-        _ => Err(CaseFault::Unreadable),
+    let mut rows = Vec::new(alloc);
+    'texts: for text in texts {
+        push_row(alloc, count, *text, &mut rows)?;
     }
+    Ok(RowList::from_vec(rows))
 }
 
 /// The rows of texts: the kinds of the unknowns, what is to be small, and the rows.

@@ -18,7 +18,7 @@ use Rattle.dcx_atom.specs.declared.flags.Bend.{Bend}
 use Rattle.dcx_atom.specs.declared.flags.Bend.TheVariants.{Convex, Concave}
 use Rattle.dcx_atom.specs.declared.stops.ValueStop.TheVariants as stops
 use Rattle.dcx_atom.specs.Formed.{frac_at}
-use Rattle.dcx_affine.specs.declared.pairing.Pairing.TheVariants.{Times, MatTimes, Over}
+use Rattle.dcx_affine.specs.declared.pairing.Pairing.TheVariants.{Over}
 use Rattle.dcx_point.specs.Pairs.{Pairs}
 use Rattle.dcx_arena.specs.Nodes as arena
 use Rattle.dcx_arena.specs.Nodes.{IsNode}
@@ -29,7 +29,7 @@ use Rattle.dcx_call.specs.Forming.{divided, or_passes}
 use Rattle.dcx_call.specs.Values.{given_by, entry_formed}
 use Rattle.dcx_convex.specs.Calls as convex_calls
 use Rattle.dcx_convex.specs.Nodes as nodes
-use Rattle.dcx_convex.specs.Nodes.{Numbers, Setting, Point, EachNode, HasNoZeroDivisor, arguments}
+use Rattle.dcx_convex.specs.Nodes.{Setting, Point, arguments}
 use Rattle.dcx_convex.specs.Rules.{Rules, Plain, Parametrized, Judgement, argument, is_constant, bends, judgement_by, judgement_at}
 use Rattle.dcx_convex.specs.Problems.{accepted_by}
 use Rattle.dcx_convex.proofs.SideInduction.{both_constant}
@@ -37,13 +37,15 @@ use Rattle.dcx_convex.proofs.Told.{judgement_tells}
 use Rattle.dcx_tree.specs.declared.problem.Problem.{Problem}
 use Rattle.dcx_tree.specs.Nodes.{Node, head_of, arg_sides, pairing_call, convex_node}
 use Rattle.dcx_tree.specs.Meaning.{names_in, convex_problem, value_at as problem_value}
-use Rattle.dcx_tree.proofs.Lawful.{mapped}
+use Rattle.dcx_tree.proofs.AllReached.{convex_at}
+use Rattle.dcx_fit.specs.Laws.{DividesByNoZero}
+use Rattle.dcx_fit.proofs.Divisors.{divides as divides_where}
 use Rattle.dcx_linear.specs.declared.change.Change.{Change}
 use Rattle.dcx_linear.specs.declared.form.Form.{Form}
 use Rattle.dcx_linear.specs.Parameters.{Parameters}
 use Rattle.dcx_unknowns.specs.Layout.{is_reduced}
 use Rattle.dcx_reduced.proofs.Constants.{call_constant}
-use Rattle.dcx_reduced.proofs.NodeForms.{nodes_of, nodes_ordered, convex_at, node_at, not_constant, not_reduced}
+use Rattle.dcx_reduced.proofs.NodeForms.{nodes_of, nodes_ordered, node_at, not_constant, not_reduced}
 use Rattle.dcx_entries.specs.declared.entries.EntryForms.{EntryForms}
 use Rattle.dcx_entries.specs.declared.scaling.Scaling.TheVariants.{Divisor}
 use Rattle.dcx_entries.specs.Parts.{number_in, has_zero_divisor}
@@ -183,18 +185,5 @@ module _ {C : Type 0} (value_at : C → Parameters → ℚ) (of_number : Frac �
     divisor_nonzero x j b e = nonzero j b (sym (second n.args (arena.sides_at p.tree) two (p.nodes.earlier i n at) (divisor_constant (is_reduced rules p i) refl) x j) ∙ e)
 
   -- ---- all nodes
-  node_divides : (x : Point) (i : ℕ) (n : Node) → IsNode p.tree i n → (call : Call) → n.call ≡ call →
-      HasNoZeroDivisor (head_of (names_in p) call (arg_sides p.tree n) n.sides) (map (λ a. problem_value p s x a) n.args)
-  node_divides x i n at (calls.Variable v) is = tt
-  node_divides x i n at (calls.Parameter q) is = tt
-  node_divides x i n at (calls.Constant c) is = tt
-  node_divides x i n at (calls.Atom m) is = tt
-  node_divides x i n at (calls.Linear l) is = tt
-  node_divides x i n at (calls.Pairing Times) is = tt
-  node_divides x i n at (calls.Pairing MatTimes) is = tt
-  node_divides x i n at (calls.Pairing Over) is = λ j b. divisor_nonzero i n at is x j b
-
-  pub divides : (x : Point) → EachNode (convex_problem p).nodes (λ m. HasNoZeroDivisor m.head (map (nodes.value_at (convex_problem p).nodes s x) m.args))
-  divides x i m there =
-      let (n, at, same) = mapped (convex_node (names_in p) p.tree) p.tree i m there in
-      subst (λ (m : nodes.Node). HasNoZeroDivisor m.head (map (nodes.value_at (convex_problem p).nodes s x) m.args)) same (node_divides x i n at n.call refl)
+  pub divides : DividesByNoZero p s
+  divides = divides_where p s (λ x i n at is j b. divisor_nonzero i n at is x j b)

@@ -1,7 +1,6 @@
 -- The rate at which the cost changes, by the multipliers of the rows.
-use Rattle.std.proofs.Common.{◌≡◌, ◌≢◌, ℕ, ◌<◌, ◌≤◌, Bool, true, false, not, List, [], ◌∷◌, length, map, get_or, arith, refl, sym, ap, ap₂, ◌∙◌, subst, ℤ, pos, negsuc, ◌*ℤ◌, ◌⊎◌, inl, inr}
+use Rattle.std.proofs.Common.{◌≡◌, ℕ, ◌<◌, Bool, true, false, not, List, [], ◌∷◌, length, map, get_or, refl, sym, ap, ap₂, ◌∙◌, subst, ℤ, pos, negsuc, ◌*ℤ◌, ◌⊎◌, inl, inr}
 use Rattle.std.specs.Prelude.{◌&&◌, if◌then◌else◌}
-use Rattle.std.proofs.lemmas.Bool.{cases_lt}
 use Rattle.dcx_math.specs.Rational.{ℚ, whole, ◌+ℚ◌, ◌-ℚ◌, ◌*ℚ◌, ◌/ℚ◌, neg_ℚ, inverse}
 use Rattle.dcx_math.specs.Sums.{rat_dot, rat_at, rat_sum_below}
 use Rattle.dcx_math.proofs.Orders.{linear_eq, whole-*ℤ}
@@ -25,8 +24,8 @@ use Rattle.dcx_simplex.specs.Whole.{objective_row}
 use Rattle.dcx_simplex.specs.Basis.{lead_at}
 use Rattle.dcx_simplex.specs.Reading.{IsReading, IsOwnColumn}
 use Rattle.dcx_simplex.proofs.EndFacts.{IsEnded}
-use Rattle.dcx_simplex.proofs.Owns.{own_low}
-use Rattle.dcx_simplex.proofs.Slacks.{Own, own_of, own_other, own_cost, sign_slack, sign_artificial}
+use Rattle.dcx_simplex.proofs.OwnColumns.{own_column, own_column_is, own_column_low, sign_square, other_zero, own_cost_zero}
+use Rattle.dcx_simplex.proofs.Slacks.{Own, sign_slack, sign_artificial}
 use Rattle.dcx_simplex.proofs.Bounds.{solves_first}
 use Rattle.dcx_simplex.proofs.Last.{at_cost_of}
 use Rattle.dcx_range.proofs.Placing.{zero_right, no_sum, less, less_length, dot_less, first, first_low, at_first}
@@ -48,14 +47,6 @@ same_sums a b l r e = linear_eq (a ∷ b ∷ l ∷ r ∷ []) e (search reads dep
 twice : (s : ℤ) (t : ℚ) → s *ℤ s ≡ pos 1 → (whole s *ℚ t) *ℚ whole s ≡ t
 twice s t e = ring (whole s ∷ t ∷ []) (search reads depth 30) tt ∙ ap (λ z. z *ℚ t) (sym (whole-*ℤ s s) ∙ ap whole e) ∙ ring (t ∷ []) (search reads depth 30) tt
 
-square : (s : ℤ) → (s ≡ pos 1) ⊎ (s ≡ negsuc 0) → s *ℤ s ≡ pos 1
-square s (inl e) = rw e refl
-square s (inr e) = rw e refl
-
-one_or : (b : Bool) (s : ℤ) → s ≡ (if b then negsuc 0 else pos 1) → (s ≡ pos 1) ⊎ (s ≡ negsuc 0)
-one_or true s e = inr e
-one_or false s e = inl e
-
 -- a multiplier times the change of its row, with q for the rate of the row's own column
 product_by : (negated inequality : Bool) (q f c : ℚ) (s : ℤ) → (inequality ≡ true → s ≡ (if negated then negsuc 0 else pos 1)) → (inequality ≡ false → s ≡ pos 1)
     → turned_if (not inequality && negated) ((neg_ℚ q -ℚ whole (pos 0)) *ℚ f) *ℚ c ≡ (whole s *ℚ turned_if negated (f *ℚ neg_ℚ c)) *ℚ q
@@ -65,44 +56,16 @@ product_by true false q f c s hs ha = rw (ha refl) (ring (q ∷ f ∷ c ∷ []) 
 product_by false false q f c s hs ha = rw (ha refl) (ring (q ∷ f ∷ c ∷ []) (search reads depth 30) tt)
 
 module _ (q : Program) where
-  own_by : (k : ℕ) → (k < length q.rows) ⊎ (length q.rows ≤ k) → ℕ
-  own_by k (inl h) = (own_of q k h).column
-  own_by k (inr h) = 0
-
-  pub own : ℕ → ℕ
-  own k = own_by k (cases_lt k (length q.rows))
-
-  own_is_by : (k : ℕ) → k < length q.rows → (c : (k < length q.rows) ⊎ (length q.rows ≤ k)) → (o : Own q.columns k) × (own_by k c ≡ o.column)
-  unfolding own_by
-  own_is_by k h (inl l) = (own_of q k l, refl)
-  own_is_by k h (inr l) = absurd (omega arith)
-
-  own_is : (k : ℕ) → k < length q.rows → (o : Own q.columns k) × (own k ≡ o.column)
-  unfolding own
-  own_is k h = own_is_by k h (cases_lt k (length q.rows))
-
-  own_column_low : (k : ℕ) → k < length q.rows → own k < length q.columns
-  own_column_low k h = let o = own_is k h in let l = own_low q.columns k o.0.column o.0.own in let e = o.1 in omega (arith, l, e)
-
   -- what row k has at its own column: 1 or -1
   sign : ℕ → ℤ
-  sign k = entry (entries_at q.rows k) (own k)
+  sign k = entry (entries_at q.rows k) (own_column q k)
 
   Kind : (k : ℕ) → Own q.columns k → Type 0
   Kind k o = ((kind_at q.columns o.column ≡ Slack k) × (is_inequality q.columns k ≡ true)) ⊎ ((kind_at q.columns o.column ≡ Artificial k) × (is_inequality q.columns k ≡ false))
 
-  sign_by : (k : ℕ) → k < length q.rows → (o : Own q.columns k) → Kind k o → (entry (entries_at q.rows k) o.column ≡ pos 1) ⊎ (entry (entries_at q.rows k) o.column ≡ negsuc 0)
-  unfolding Kind
-  sign_by k h o (inl e) = one_or (is_negated_at q.rows k) (entry (entries_at q.rows k) o.column) (sign_slack q k h o e.0)
-  sign_by k h o (inr e) = inl (sign_artificial q k h o e.0)
-
   kind_of : (k : ℕ) (o : Own q.columns k) → Kind k o
   unfolding Kind
   kind_of k o = o.kind
-
-  sign_square : (k : ℕ) → k < length q.rows → sign k *ℤ sign k ≡ pos 1
-  unfolding sign
-  sign_square k h = let o = own_is k h in subst (λ j. entry (entries_at q.rows k) j *ℤ entry (entries_at q.rows k) j ≡ pos 1) (sym o.1) (square _ (sign_by k h o.0 (kind_of k o.0)))
 
   slack_sign : (k : ℕ) → k < length q.rows → (o : Own q.columns k) → Kind k o → is_inequality q.columns k ≡ true → entry (entries_at q.rows k) o.column ≡ (if is_negated_at q.rows k then negsuc 0 else pos 1)
   unfolding Kind
@@ -114,29 +77,23 @@ module _ (q : Program) where
   artificial_sign k h o (inl e) t = let f = sym t ∙ e.1 in cc
   artificial_sign k h o (inr e) t = sign_artificial q k h o e.0
 
-  other_zero : (i k : ℕ) → i < length q.rows → k < length q.rows → k ≢ i → entry (entries_at q.rows i) (own k) ≡ pos 0
-  other_zero i k h l n = let o = own_is k l in ap (entry (entries_at q.rows i)) o.1 ∙ own_other q k i h o.0 (λ e. n (sym e))
-
-  own_cost_zero : (k : ℕ) → k < length q.rows → entry q.objective.entries (own k) ≡ pos 0
-  own_cost_zero k l = let o = own_is k l in ap (entry q.objective.entries) o.1 ∙ own_cost q k o.0
-
   -- what is put at own columns, turned by their signs, less the same at the first basic columns, solves the rows
   module _ (h : ℕ → ℚ) where
     pub signed : ℕ → ℚ
     signed k = whole (sign k) *ℚ h k
 
     excess : List ℚ
-    excess = less q signed own h (first q)
+    excess = less q signed (own_column q) h (first q)
 
     excess_length : length excess ≡ length q.columns
     unfolding excess
-    excess_length = less_length q signed own h (first q) own_column_low (first_low q)
+    excess_length = less_length q signed (own_column q) h (first q) (own_column_low q) (first_low q)
 
-    at_own : (i : ℕ) → i < length q.rows → rat_sum_below (length q.rows) (λ k. signed k *ℚ whole (entry (entries_at q.rows i) (own k))) ≡ h i
+    at_own : (i : ℕ) → i < length q.rows → rat_sum_below (length q.rows) (λ k. signed k *ℚ whole (entry (entries_at q.rows i) (own_column q k))) ≡ h i
     unfolding signed sign
     at_own i l =
-        rat_sum_below-one (length q.rows) i (λ k. signed k *ℚ whole (entry (entries_at q.rows i) (own k))) l (λ k b n. zero_right (signed k) _ (ap whole (other_zero i k l b n)))
-        ∙ twice (sign i) (h i) (sign_square i l)
+        rat_sum_below-one (length q.rows) i (λ k. signed k *ℚ whole (entry (entries_at q.rows i) (own_column q k))) l (λ k b n. zero_right (signed k) _ (ap whole (other_zero q i k l b n)))
+        ∙ twice (sign i) (h i) (sign_square q i l)
 
     rest : ℚ
     rest = neg_ℚ (rat_dot (wholes q.phase.entries) excess)
@@ -145,22 +102,22 @@ module _ (q : Program) where
     unfolding excess rest
     excess_solves =
         solves_first q excess (whole (pos 0)) rest (whole (pos 0)) excess_length
-        (λ i l. ap (λ d. d +ℚ whole (right_side_at q.rows i) *ℚ whole (pos 0)) (dot_less q (entries_at q.rows i) signed own h (first q) ∙ ap₂ (λ a b. a +ℚ whole (negsuc 0) *ℚ b) (at_own i l) (at_first q i h l)) ∙ none_left (h i) (whole (right_side_at q.rows i)))
+        (λ i l. ap (λ d. d +ℚ whole (right_side_at q.rows i) *ℚ whole (pos 0)) (dot_less q (entries_at q.rows i) signed (own_column q) h (first q) ∙ ap₂ (λ a b. a +ℚ whole (negsuc 0) *ℚ b) (at_own i l) (at_first q i h l)) ∙ none_left (h i) (whole (right_side_at q.rows i)))
         (ap (λ d. (d +ℚ whole q.objective.lead *ℚ whole (pos 0)) +ℚ whole q.objective.right *ℚ whole (pos 0))
-        (dot_less q q.objective.entries signed own h (first q)
-        ∙ ap₂ (λ a b. a +ℚ whole (negsuc 0) *ℚ b) (no_sum (length q.rows) _ (λ k l. zero_right (signed k) _ (ap whole (own_cost_zero k l)))) (no_sum (length q.rows) _ (λ k l. zero_right (h k) _ (ap whole (placing.first_cost q k l)))))
+        (dot_less q q.objective.entries signed (own_column q) h (first q)
+        ∙ ap₂ (λ a b. a +ℚ whole (negsuc 0) *ℚ b) (no_sum (length q.rows) _ (λ k l. zero_right (signed k) _ (ap whole (own_cost_zero q k l)))) (no_sum (length q.rows) _ (λ k l. zero_right (h k) _ (ap whole (placing.first_cost q k l)))))
         ∙ costs_nothing (whole q.objective.lead) (whole q.objective.right))
         (made_up (rat_dot (wholes q.phase.entries) excess) (whole q.phase.right) q.phase.lead q.form.sum.lead)
 
     -- so the objective row of the last tableau has the same sum at both
     module _ (u : Table) (end : IsEnded (first_tableau q).rows (first_tableau q) u) where
-      pub own_sum : rat_sum_below (length q.rows) (λ k. signed k *ℚ whole (entry_at u (objective_row u) (own k))) ≡ change q u end h (objective_row u)
+      pub own_sum : rat_sum_below (length q.rows) (λ k. signed k *ℚ whole (entry_at u (objective_row u) (own_column q k))) ≡ change q u end h (objective_row u)
       unfolding excess change
       own_sum =
           let c = columns_are q u end in
           let l = excess_length in
           same_sums _ _ (whole (lead_at u (objective_row u))) (whole (right_at u (objective_row u)))
-          (ap (λ d. (d +ℚ whole (lead_at u (objective_row u)) *ℚ whole (pos 0)) +ℚ whole (right_at u (objective_row u)) *ℚ whole (pos 0)) (sym (dot_less q (row_at u.rows (objective_row u)) signed own h (first q)))
+          (ap (λ d. (d +ℚ whole (lead_at u (objective_row u)) *ℚ whole (pos 0)) +ℚ whole (right_at u (objective_row u)) *ℚ whole (pos 0)) (sym (dot_less q (row_at u.rows (objective_row u)) signed (own_column q) h (first q)))
           ∙ sym (at_cost_of (first_tableau q).rows (first_tableau q) (start q u end) u end excess (whole (pos 0)) rest (whole (pos 0)) (l ∙ sym c))
           ∙ solves_rational (first_tableau q).rows u.rows end.tableau.holds _ excess_solves (objective_row u) (objective_low q u end))
 
@@ -175,20 +132,20 @@ module _ (q : Program) where
     no_offset status.Infeasible e b = cc
     no_offset status.Unbounded e b = cc
 
-    product_is : (k : ℕ) → k < length q.rows → multiplier_at q.columns a k *ℚ c k ≡ signed right_change k *ℚ (whole (entry_at u (objective_row u) (own k)) /ℚ whole (lead_at u (objective_row u)))
+    product_is : (k : ℕ) → k < length q.rows → multiplier_at q.columns a k *ℚ c k ≡ signed right_change k *ℚ (whole (entry_at u (objective_row u) (own_column q k)) /ℚ whole (lead_at u (objective_row u)))
     unfolding signed sign right_change
     product_is k h =
-        let o = own_is k h in
+        let o = own_column_is q k h in
         let inequality = is_inequality q.columns k in
-        let rated = whole (entry_at u (objective_row u) (own k)) /ℚ whole (lead_at u (objective_row u)) in
+        let rated = whole (entry_at u (objective_row u) (own_column q k)) /ℚ whole (lead_at u (objective_row u)) in
         let f = rat_at (map row_factor q.rows) k in
         let negated = ap (λ (bs : List Bool). get_or bs k false) reading.negated in
         let factors = ap (λ xs. rat_at xs k) reading.factors in
-        let reduced = reading.reduced_costs k (own k) h (subst (IsOwnColumn q.columns k) (sym o.1) o.0.own) in
+        let reduced = reading.reduced_costs k (own_column q k) h (subst (IsOwnColumn q.columns k) (sym o.1) o.0.own) in
         ap (λ m. m *ℚ c k)
         (ap₂ (λ b x. turned_if (not inequality && b) ((rat_at (map reduced_cost_of a.rows) k -ℚ x) *ℚ rat_at (map factor_of a.rows) k)) negated (no_offset a.status reading.status inequality)
         ∙ ap₂ (λ r g. turned_if (not inequality && is_negated_at q.rows k) ((r -ℚ whole (pos 0)) *ℚ g)) reduced factors)
-        ∙ product_by (is_negated_at q.rows k) inequality rated f (c k) (entry (entries_at q.rows k) (own k))
+        ∙ product_by (is_negated_at q.rows k) inequality rated f (c k) (entry (entries_at q.rows k) (own_column q k))
         (λ t. ap (entry (entries_at q.rows k)) o.1 ∙ slack_sign k h o.0 (kind_of k o.0) t)
         (λ t. ap (entry (entries_at q.rows k)) o.1 ∙ artificial_sign k h o.0 (kind_of k o.0) t)
 
@@ -200,7 +157,7 @@ module _ (q : Program) where
     unfolding rate
     rate_is =
         let lead = whole (lead_at u (objective_row u)) in
-        rat_sum_below-same (length q.rows) _ (λ k. (signed right_change k *ℚ whole (entry_at u (objective_row u) (own k))) *ℚ inverse lead)
-        (λ k h. product_is k h ∙ over_both (signed right_change k) (whole (entry_at u (objective_row u) (own k))) lead)
-        ∙ rat_sum_below-*ℚ_right (length q.rows) (inverse lead) (λ k. signed right_change k *ℚ whole (entry_at u (objective_row u) (own k)))
+        rat_sum_below-same (length q.rows) _ (λ k. (signed right_change k *ℚ whole (entry_at u (objective_row u) (own_column q k))) *ℚ inverse lead)
+        (λ k h. product_is k h ∙ over_both (signed right_change k) (whole (entry_at u (objective_row u) (own_column q k))) lead)
+        ∙ rat_sum_below-*ℚ_right (length q.rows) (inverse lead) (λ k. signed right_change k *ℚ whole (entry_at u (objective_row u) (own_column q k)))
         ∙ ap (λ z. z *ℚ inverse lead) (own_sum right_change u end) ∙ sym (/ℚ-is (change q u end right_change (objective_row u)) lead)

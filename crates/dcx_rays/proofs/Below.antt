@@ -13,7 +13,7 @@ use Rattle.dcx_tree.proofs.Forming.{All-from_has}
 use Rattle.dcx_sections.specs.declared.fault.CertFault.{CertFault}
 use Rattle.dcx_sections.specs.declared.fault.CertFault.TheVariants.{Memory}
 use Rattle.dcx_rays.specs.Steepness.{IsUnformed, forming, AreKept, IsKnown, StaysKnown}
-use Rattle.dcx_rays.proofs.Marking.{reached_more, reached_root}
+use Rattle.dcx_tree.proofs.Marking.{reached_more, reached_root}
 use Rattle.dcx_rays.proofs.Tables.{known_formed}
 
 -- of the nodes before n, those that the roots reach are known

@@ -1,12 +1,10 @@
 -- What is known of a problem's nodes: their calls as the rules read them, and what a ray gives their variables.
-use Rattle.std.proofs.Common.{◌≡◌, ℕ, true, false, List, map, All, Option, Some, None, option_map, slice_get, refl, sym, ap, subst, ◌∙◌, true≢false, [], ◌∷◌, inl, inr, length, arith}
+use Rattle.std.proofs.Common.{◌≡◌, ℕ, true, false, List, map, All, Option, Some, None, option_map, slice_get, refl, sym, ap, subst, ◌∙◌, true≢false, [], ◌∷◌, length, arith}
 use Rattle.std.specs.Prelude.{IsTrue, IsFalse, ◌&&◌}
 use Rattle.std.proofs.Props.{props}
 use Rattle.std.proofs.Math.Logic.{∥∥₁_elim}
 use Rattle.std.proofs.lemmas.Option.{none-some, same_Some, slice_get-map, slice_get_within, get_or_from_slice_get}
 use Rattle.std.specs.Option.{unwrap_or}
-use Rattle.std.specs.List.{list_all}
-use Rattle.std.proofs.lemmas.Bool.{and_parts}
 use mathlib.Core.Logic.{∥∥₁_map}
 use Rattle.dcx_math.proofs.Orders.{≡ℚ_prop}
 use Rattle.dcx_shape.specs.declared.shape.Sides.{Sides}
@@ -15,13 +13,12 @@ use Rattle.dcx_atom.specs.declared.array.Array.{Array}
 use Rattle.dcx_point.specs.Pairs.{Pairs, array_of}
 use Rattle.dcx_arena.specs.Nodes.{IsNode, args_at, sides_at}
 use Rattle.dcx_arena.specs.Gather.{has}
-use Rattle.dcx_arena.proofs.Orders.{head_or}
 use Rattle.dcx_convex.specs.Nodes as convex
 use Rattle.dcx_convex.specs.Nodes.{zeros}
 use Rattle.dcx_convex.specs.Rules.{Plain, Judgement, judgement_at, fixed_by}
 use Rattle.dcx_convex.proofs.Told.{judgement_tells}
 use Rattle.dcx_convex.proofs.LawsHold.{constants_are_fixed}
-use Rattle.dcx_call.specs.Calls.{own_sides, shape_of}
+use Rattle.dcx_call.specs.Calls.{shape_of}
 use Rattle.dcx_call.specs.declared.attribute.Variable.{Variable}
 use Rattle.dcx_call.specs.declared.attribute.Parameter.{Parameter}
 use Rattle.dcx_call.specs.declared.call.Call.{Call}
@@ -32,28 +29,16 @@ use Rattle.dcx_tree.specs.Nodes.{Node, arg_sides, head_of, convex_node, number_i
 use Rattle.dcx_tree.specs.Problems.{IsListed}
 use Rattle.dcx_tree.specs.Values.{IsNamed, array_at}
 use Rattle.dcx_tree.specs.Meaning.{names_in, convex_problem, setting_of, point_of}
+use Rattle.dcx_tree.proofs.Arguments.{no_args, all_fixed}
 use Rattle.dcx_tree.proofs.Lawful.{tree_lawful}
 use Rattle.dcx_tree.proofs.Sublists.{contains_at}
 use Rattle.dcx_tree.proofs.Values.{taken}
+use Rattle.dcx_tree.proofs.AllReached.{convex_at}
 use Rattle.dcx_rays.specs.Steepness.{is_fixed, AreFixedValues, IsArgument}
 
 -- what holds of each holds of the one at a place
 pub holds_at : {X : Type 0} (P : X → Type 0) (xs : List X) (k : ℕ) (x : X) → All P xs → slice_get xs k ≡ Some x → P x
 holds_at P xs k x all at = subst P (get_or_from_slice_get xs k x x at) (all k x (slice_get_within xs k x at))
-
--- what has its own sides has no arguments
-no_args : (own sides : Sides) (f : ℕ → Sides) (ids : List ℕ) (a : ℕ) → own_sides own (map f ids) ≡ Some sides → has ids a ≡ true → ⊥
-no_args own sides f [] a e h = cc
-no_args own sides f (i ∷ ids) a e h = cc
-
-all_fixed : (judged : ℕ → Judgement) (ids : List ℕ) (a : ℕ) → list_all (λ g. g.fixed) (map judged ids) ≡ true → has ids a ≡ true → (judged a).fixed ≡ true
-all_fixed judged [] a t h = absurd (cc)
-all_fixed judged (b ∷ ids) a t h =
-    let q = and_parts (judged b).fixed (list_all (λ g. g.fixed) (map judged ids)) t in
-    elim (head_or b a ids h) [
-      | inl e ↦ subst (λ z. (judged z).fixed ≡ true) e q.0
-      | inr r ↦ all_fixed judged ids a q.1 r
-    ]
 
 -- a call that has a variable below it, as far as it tells by itself
 abbrev pub MayMove : Call → Type 0
@@ -86,11 +71,8 @@ module _ (p : Problem) where
   pub ordered : convex.IsOrdered (convex_problem p).nodes
   ordered = (tree_lawful (names_in p) p.tree p.nodes).ordered
 
-  pub convex_at : (i : ℕ) (n : Node) → IsNode p.tree i n → convex.IsNode (convex_problem p).nodes i (convex_node (names_in p) p.tree n)
-  convex_at i n at = slice_get-map (convex_node (names_in p) p.tree) p.tree i ∙ ap (option_map (convex_node (names_in p) p.tree)) at
-
   fixed_call : (i : ℕ) (n : Node) → IsNode p.tree i n → is_fixed p i ≡ fixed_by (head_of (names_in p) n.call (arg_sides p.tree n) n.sides) (map (judgement_at Plain (convex_problem p).nodes) n.args)
-  fixed_call i n at = ap (λ g. g.fixed) (judgement_tells Plain (convex_problem p).nodes ordered i (convex_node (names_in p) p.tree n) (convex_at i n at))
+  fixed_call i n at = ap (λ g. g.fixed) (judgement_tells Plain (convex_problem p).nodes ordered i (convex_node (names_in p) p.tree n) (convex_at p i n at))
 
   moves_by : (call : Call) (args : List Sides) (sides : Sides) (gs : List Judgement) → fixed_by (head_of (names_in p) call args sides) gs ≡ false → MayMove call
   moves_by (calls.Variable v) args sides gs e = tt

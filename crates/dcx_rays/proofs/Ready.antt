@@ -26,9 +26,10 @@ use Rattle.dcx_call.specs.Values.{given_by, entry_formed}
 use Rattle.dcx_tree.specs.declared.problem.Problem.{Problem}
 use Rattle.dcx_tree.specs.Nodes.{Node, head_of, arg_sides, convex_node}
 use Rattle.dcx_tree.specs.Meaning.{names_in, convex_problem, IsAccepted, IsFitting}
+use Rattle.dcx_tree.proofs.AllReached.{convex_at}
 use Rattle.dcx_recession.proofs.Reached.{tree_side_fixed}
 use Rattle.dcx_rays.specs.Steepness.{is_fixed, fixed_value, steepness_at, value_side, is_side, taken_numbers, is_first_fixed, node_numbers, IsKnown, AreReady}
-use Rattle.dcx_rays.proofs.Known.{holds_at, convex_at}
+use Rattle.dcx_rays.proofs.Known.{holds_at}
 
 -- ---- divisors
 passes_alone : (j e : ℕ) (r : Result Frac Passes) → or_passes j r ≡ Err (stops.ZeroDivisor e) → ⊥

@@ -1,11 +1,9 @@
 -- What is formed of a node at the arrays of its arguments is its steepness.
-use Rattle.std.proofs.Common.{◌≡◌, ℕ, zero, suc, ◌<◌, ◌≤◌, Bool, true, false, if◌then◌else◌, List, [], ◌∷◌, length, map, get_or, Some, slice_get, Result, Ok, Err, IsOk, IfOk, refl, sym, ap, ap₂, ◌∙◌, subst, arith, pos}
+use Rattle.std.proofs.Common.{◌≡◌, ℕ, zero, suc, ◌<◌, Bool, true, false, if◌then◌else◌, List, [], ◌∷◌, length, map, get_or, Some, slice_get, Result, Ok, Err, IsOk, IfOk, refl, sym, ap, ap₂, ◌∙◌, subst, arith, pos}
 use Rattle.std.specs.Prelude.{nat_lt, IsTrue, IsFalse}
 use Rattle.std.proofs.Math.Path.{fun_ext}
-use Rattle.std.proofs.lemmas.Bool.{ltb-true, ltb-false}
 use Rattle.std.proofs.lemmas.Option.{same_Some}
-use Rattle.dcx_math.specs.Rational.{ℚ, whole, ◌+ℚ◌, ◌*ℚ◌, ◌/ℚ◌}
-use Rattle.dcx_math.specs.Sums.{rat_sum_by}
+use Rattle.dcx_math.specs.Rational.{ℚ, whole}
 use Rattle.dcx_frac.specs.declared.fraction.Passes.{Passes}
 use Rattle.dcx_shape.specs.declared.shape.Sides.{Sides}
 use Rattle.dcx_shape.specs.declared.shape.Shape.{Shape}
@@ -17,51 +15,30 @@ use Rattle.dcx_atom.specs.Arrays as atom_arrays
 use Rattle.dcx_atom.specs.Arrays.{Entries, number_at, numbers_of, array_sides}
 use Rattle.dcx_atom.specs.Formed.{zero_frac}
 use Rattle.dcx_affine.specs.declared.pairing.Pairing.TheVariants.{Times, MatTimes, Over}
-use Rattle.dcx_affine.specs.declared.pairing.Pair.{Pair}
 use Rattle.dcx_affine.specs.Pairing.{pairs_at}
 use Rattle.dcx_point.specs.Pairs.{Pairs}
 use Rattle.dcx_arena.specs.Nodes.{IsNode, sides_at}
-use Rattle.dcx_convex.specs.Pairs as convex_pairs
 use Rattle.dcx_convex.specs.Nodes.{Numbers, zeros, first_of, arguments}
 use Rattle.dcx_convex.specs.Rules.{Plain, argument, judgement_at}
 use Rattle.dcx_call.specs.declared.call.Call.{Call}
 use Rattle.dcx_call.specs.declared.call.Call.TheVariants as calls
-use Rattle.dcx_call.specs.Calls.{own_sides, shape_of}
+use Rattle.dcx_call.specs.Calls.{shape_of}
 use Rattle.dcx_call.specs.Values as call_values
 use Rattle.dcx_call.specs.Values.{given_by, call_value, entry_formed, formed_at, IsValue}
 use Rattle.dcx_call.specs.Forming.{IsFirst}
 use Rattle.dcx_call.proofs.Entries.{stop_alike}
+use Rattle.dcx_call.proofs.CallLaws.{own_is}
 use Rattle.dcx_tree.specs.declared.problem.Problem.{Problem}
 use Rattle.dcx_tree.specs.Nodes.{Node, number_in, head_of, arg_sides, convex_node}
 use Rattle.dcx_tree.specs.Meaning.{names_in, convex_problem, setting_of, point_of}
-use Rattle.dcx_tree.proofs.NodeValues.{number_past, sides_are}
+use Rattle.dcx_tree.proofs.NodeValues.{number_past, first_alike, products_same, quotients_same, sides_are}
+use Rattle.dcx_tree.proofs.AllReached.{convex_at}
 use Rattle.dcx_recession.specs.Steepness.{steep_by}
 use Rattle.dcx_recession.proofs.Told.{level as steep_level}
 use Rattle.dcx_recession.proofs.LawsHold.{steepness_is_told}
 use Rattle.dcx_sections.specs.declared.fault.CertFault.TheVariants.{Wide}
 use Rattle.dcx_rays.specs.Steepness.{is_fixed, fixed_value, steepness_at, value_side, is_side, taken_numbers, is_first_fixed, node_numbers, steepness_formed, IsUnformed, IsSteepness, IsArgument, AreArguments}
-use Rattle.dcx_rays.proofs.Known.{MayMove, IsTaken, ordered, convex_at, may_move, node_taken}
-
--- ---- numbers
--- a number that is that of f below a size, and 0 from there on
-first_alike : (n : ℕ) (f : Numbers) (x : ℚ) (j : ℕ) → (j < n → x ≡ f j) → (n ≤ j → x ≡ whole (pos 0)) → x ≡ first_of n f j
-first_alike n f x j below past = by (nat_lt j n) refl
-  where
-    by : (b : Bool) → nat_lt j n ≡ b → x ≡ (if b then f j else whole (pos 0))
-    by true e = below (ltb-true j n e)
-    by false e = past (ltb-false j n e)
-
-own_is : (own : Sides) (args : List Sides) (sides : Sides) → own_sides own args ≡ Some sides → own ≡ sides
-own_is own [] sides e = same_Some own sides e
-own_is own (a ∷ rest) sides e = cc
-
-products_same : (a : Entries) (xs : List Pair) → convex_pairs.products_at (map (λ x. record { left = x.left; right = x.right }) xs) a ≡ rat_sum_by (λ p. a 0 p.left *ℚ a 1 p.right) xs
-products_same a [] = refl
-products_same a (x ∷ xs) = ap (λ u. a 0 x.left *ℚ a 1 x.right +ℚ u) (products_same a xs)
-
-quotients_same : (a : Entries) (xs : List Pair) → convex_pairs.quotients_at (map (λ x. record { left = x.left; right = x.right }) xs) a ≡ rat_sum_by (λ p. a 0 p.left /ℚ a 1 p.right) xs
-quotients_same a [] = refl
-quotients_same a (x ∷ xs) = ap (λ u. a 0 x.left /ℚ a 1 x.right +ℚ u) (quotients_same a xs)
+use Rattle.dcx_rays.proofs.Known.{MayMove, IsTaken, ordered, may_move, node_taken}
 
 -- ---- arrays as arguments
 sides_alike : (f : ℕ → Sides) (ids : List ℕ) (args : List Array) → length args ≡ length ids → ((k a : ℕ) (v : Array) → slice_get ids k ≡ Some a → slice_get args k ≡ Some v → sides_of v.shape ≡ f a) →

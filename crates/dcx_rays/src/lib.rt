@@ -15,7 +15,6 @@ mod along;
 mod checks;
 pub mod laws;
 mod node;
-mod reached;
 mod table;
 
 pub use checks::check_ray;

@@ -11,8 +11,8 @@ ghost use Rattle.dcx_rays.specs.Steepness.{is_fixed, value_side, is_side, IsGive
 
 use crate::along::Along;
 use dcx_affine::Pairing;
-use dcx_atom::{Array, ValueStop};
-use dcx_call::{Call, copy_array};
+use dcx_atom::{Array, ValueStop, copy_array};
+use dcx_call::Call;
 use dcx_frac::{Frac, Fracs};
 use dcx_sections::CertFault;
 use dcx_shape::Shape;

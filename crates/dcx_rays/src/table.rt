@@ -9,11 +9,10 @@ ghost use Rattle.dcx_rays.specs.Steepness.{steepness_at, forming, IsGiven, IsUnf
 
 use crate::along::Along;
 use crate::node::form;
-use crate::reached::reached_from;
 use dcx_atom::Array;
 use dcx_frac::Frac;
 use dcx_sections::CertFault;
-use dcx_tree::NodeId;
+use dcx_tree::{NodeId, reached_from};
 use std::alloc::{AllocError, Global};
 
 /// A table for so many nodes, without arrays.

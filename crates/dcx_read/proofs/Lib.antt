@@ -17,3 +17,4 @@ pub mod LineRules
 pub mod LineDescent
 pub mod Whole
 pub mod Parsing
+pub mod OneReading

@@ -28,7 +28,8 @@ use Rattle.dcx_call.specs.declared.call.Call.{Call}
 use Rattle.dcx_call.specs.declared.call.Call.TheVariants as calls
 use Rattle.dcx_call.specs.Atoms.{atom_meaning, atom_lawful}
 use Rattle.dcx_call.specs.Linears.{linear_meaning, linear_lawful}
-use Rattle.dcx_call.specs.Calls.{own_sides, shape_of}
+use Rattle.dcx_call.specs.Calls.{shape_of}
+use Rattle.dcx_call.proofs.CallLaws.{own_is}
 use Rattle.dcx_tree.specs.Nodes.{Names, head_of}
 use Rattle.dcx_reduced.specs.Equations.{call_entry}
 use Rattle.dcx_reduced.proofs.Constants.{value_stands, call_constant, numbers_constant}
@@ -54,10 +55,6 @@ CallHolds (calls.Pairing q) args size a t = Unit {0}
 -- numbers that are the same below a size
 pub first_same : (n : ℕ) (f g : Numbers) (j : ℕ) → (j < n → f j ≡ g j) → first_of n f j ≡ first_of n g j
 first_same n f g j h = at_test n j (λ b. (if b then f j else whole (pos 0)) ≡ (if b then g j else whole (pos 0))) h refl
-
-pub own_is : (own : Sides) (args : List Sides) (sides : Sides) → own_sides own args ≡ Some sides → own ≡ sides
-own_is own [] sides e = cc
-own_is own (a ∷ rest) sides e = cc
 
 sum_mapped : {A B : Type 0} (f : B → ℚ) (g : A → B) (xs : List A) → rat_sum_by (λ x. f (g x)) xs ≡ rat_sum_by f (map g xs)
 sum_mapped f g [] = refl

@@ -17,6 +17,7 @@ use Rattle.dcx_convex.proofs.Told.{map-same, value_tells}
 use Rattle.dcx_tree.specs.declared.problem.Problem.{Problem}
 use Rattle.dcx_tree.specs.Nodes.{Node, arg_sides, convex_node}
 use Rattle.dcx_tree.specs.Meaning.{names_in, convex_problem, IsInDomain}
+use Rattle.dcx_tree.proofs.AllReached.{convex_at}
 use Rattle.dcx_linear.specs.Rows.{IsOfKind, AreOfKinds}
 use Rattle.dcx_unknowns.specs.Unknowns.{variable_kinds, point_at, unknowns_of}
 use Rattle.dcx_unknowns.specs.Laws.{AreAlike}
@@ -30,7 +31,7 @@ use Rattle.dcx_reduced.proofs.CallGraphs.{call_filling, filled_kinds, filled_row
 use Rattle.dcx_reduced.proofs.OfKinds.{nonneg_from, nonpos_from, kinds_both, IsOfAuxKind, taken_kinds, zipped_kinds}
 use Rattle.dcx_reduced.proofs.Lift.{filling_if, filling_at, numbers_at, aux_numbers, lift, lift_variable, lift_aux, lift_filling}
 use Rattle.dcx_reduced.proofs.Variables.{point_local, node_same, same_value}
-use Rattle.dcx_reduced.proofs.NodeForms.{nodes_of, nodes_ordered, convex_at, nodes_counted, node_at, reducible, constant_form, reduced_form, not_reduced}
+use Rattle.dcx_reduced.proofs.NodeForms.{nodes_of, nodes_ordered, nodes_counted, node_at, reducible, constant_form, reduced_form, not_reduced}
 use Rattle.dcx_reduced.proofs.Sound.{IsKept, aux_is}
 
 -- ---- unknowns with given fillings

@@ -1,9 +1,8 @@
 -- What holds of each item of joined lists, and where an item of a part stands in the whole.
 use Rattle.std.proofs.Common.{◌≡◌, ℕ, zero, suc, ◌+◌, ◌<◌, arith, List, [], ◌∷◌, ◌++◌, length, map, Some, slice_get, refl, sym, ap, ◌∙◌, subst, ⊎_elim}
 use Rattle.std.specs.List.{flat_map, range_with_len, AllZip}
-use Rattle.std.proofs.lemmas.Option.{none-some, same_Some, slice_get-get_or}
+use Rattle.std.proofs.lemmas.Option.{none-some, same_Some}
 use Rattle.std.proofs.lemmas.List.{length-append}
-use Rattle.std.proofs.lemmas.List.FromFn.{length-range_with_len, get_or-range_with_len}
 use Rattle.dcx_atom.specs.Arrays.{joined_below}
 use Rattle.dcx_atom.proofs.BoundRows.{below_or_last}
 use Rattle.dcx_unknowns.proofs.Places.{in_left, in_right}
@@ -70,12 +69,6 @@ each_unmap P f (x ∷ xs) h = each_cons (λ x. P (f x)) x xs (h 0 (f x) refl) (e
 pub each_range : (Q : ℕ → Type 0) (a n : ℕ) → ((i : ℕ) → i < a + n → Q i) → Each Q (range_with_len a n)
 each_range Q a zero h = each_nil Q
 each_range Q a (suc n) h = each_cons Q a (range_with_len (a + 1) n) (h a (omega arith)) (each_range Q (a + 1) n (λ i b. h i (omega arith)))
-
-pub range_at : (n i : ℕ) → i < n → slice_get (range_with_len 0 n) i ≡ Some i
-range_at n i b =
-    let c : i < length (range_with_len 0 n) = let l = length-range_with_len 0 n in omega (arith, l, b) in
-    let z : 0 + i ≡ i = omega arith in
-    slice_get-get_or (range_with_len 0 n) i 0 c ∙ ap Some (get_or-range_with_len 0 n i 0 b ∙ z)
 
 -- ---- places
 -- item k of list i stands behind the lists before it

@@ -1,9 +1,9 @@
 -- What the equations say of node i: its form is its value, or its entries.
-use Rattle.std.proofs.Common.{◌≡◌, inl, inr, ℕ, ◌<◌, arith, Bool, true, false, not, IsTrue, List, length, map, option_map, refl, sym, ap, ◌∙◌, subst}
+use Rattle.std.proofs.Common.{◌≡◌, inl, inr, ℕ, ◌<◌, arith, Bool, true, false, not, IsTrue, List, length, map, refl, sym, ap, ◌∙◌, subst}
 use Rattle.std.proofs.Math.Path.{fun_ext}
 use Rattle.std.proofs.lemmas.Bool.{false≢true}
 use Rattle.std.proofs.lemmas.List.{length-map}
-use Rattle.std.proofs.lemmas.Option.{slice_get-map, slice_get_cases}
+use Rattle.std.proofs.lemmas.Option.{slice_get_cases}
 use Rattle.dcx_shape.specs.Sides.{entries_of}
 use Rattle.dcx_arena.specs.Nodes.{IsNode}
 use Rattle.dcx_call.specs.declared.call.Call.{Call}
@@ -17,6 +17,7 @@ use Rattle.dcx_tree.specs.declared.problem.Problem.{Problem}
 use Rattle.dcx_tree.specs.Nodes.{Node, head_of, arg_sides, convex_node}
 use Rattle.dcx_tree.specs.Meaning.{names_in, convex_problem}
 use Rattle.dcx_tree.proofs.Lawful.{tree_lawful}
+use Rattle.dcx_tree.proofs.AllReached.{convex_at}
 use Rattle.dcx_unknowns.specs.Layout.{is_reduced}
 use Rattle.dcx_reduced.specs.Equations.{Forms, entry_by, Stands, AllStand}
 use Rattle.dcx_reduced.proofs.Constants.{numbers_constant}
@@ -29,10 +30,6 @@ module _ (p : Problem) where
   pub nodes_ordered : IsOrdered nodes_of
   nodes_ordered = (tree_lawful (names_in p) p.tree p.nodes).ordered
 
-  -- a node of the tree is one in the terms of disciplined convex programming
-  pub convex_at : (i : ℕ) (n : Node) → IsNode p.tree i n → convex.IsNode nodes_of i (convex_node (names_in p) p.tree n)
-  convex_at i n at = slice_get-map (convex_node (names_in p) p.tree) p.tree i ∙ ap (option_map (convex_node (names_in p) p.tree)) at
-
   pub nodes_counted : length nodes_of ≡ length p.tree
   nodes_counted = length-map p.tree (convex_node (names_in p) p.tree)
 
@@ -43,7 +40,7 @@ module _ (p : Problem) where
   module _ (rules : Rules) (i : ℕ) (n : Node) (at : IsNode p.tree i n) (reduced : is_reduced rules p i ≡ true) where
     pub not_constant : ¬ IsTrue (is_constant rules (judgement_by rules (head_of (names_in p) n.call (arg_sides p.tree n) n.sides) (map (judgement_at rules nodes_of) n.args)))
     not_constant t =
-        let told = subst (λ (g : Judgement). IsTrue (is_constant rules g)) (sym (judgement_tells rules nodes_of nodes_ordered i (convex_node (names_in p) p.tree n) (convex_at i n at))) t in
+        let told = subst (λ (g : Judgement). IsTrue (is_constant rules g)) (sym (judgement_tells rules nodes_of nodes_ordered i (convex_node (names_in p) p.tree n) (convex_at p i n at))) t in
         false≢true (sym (ap not told) ∙ reduced)
 
     pub reducible : IsReducible n.call

@@ -3,8 +3,8 @@ ghost use Rattle.std.specs.Prelude.{◌≡◌, is_some};
 ghost use Rattle.dcx_report.specs.NodeStops.{filter_names_node};
 
 use crate::{FilterStop, Filtered, Stop};
+use dcx_math::List;
 use dcx_shape::Place;
-use std::marker::Model;
 
 /// A setting's constraints are filtered, or it is stopped.
 #[derive(Drop)]
@@ -28,32 +28,4 @@ pub struct FilterOutcome {
 }
 
 /// The outcome of each setting, in order.
-#[derive(Drop)]
-pub struct FilterOutcomes {
-    items: Vec<FilterOutcome>,
-}
-
-impl Model for FilterOutcomes {
-    ghost use Rattle.std.specs.Prelude.{List};
-    ghost use Rattle.dcx_report.specs.declared.filter_outcome.FilterOutcome.{FilterOutcome};
-
-    ghost Value = { List FilterOutcome };
-
-    ghost view = { λ o. o.items.items };
-}
-
-impl FilterOutcomes {
-    /// The list with these items. Takes no memory.
-    pub fn from_vec(items: Vec<FilterOutcome>) -> FilterOutcomes
-        ensures { result ≡ items.items }
-    {
-        FilterOutcomes { items }
-    }
-
-    /// The items of the list.
-    pub fn as_slice(&self) -> &[FilterOutcome]
-        ensures { result.now ≡ self.now }
-    {
-        self.items.as_slice()
-    }
-}
+pub type FilterOutcomes = List<FilterOutcome>;

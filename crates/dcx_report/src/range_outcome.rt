@@ -3,8 +3,8 @@ ghost use Rattle.std.specs.Prelude.{◌≡◌, is_some};
 ghost use Rattle.dcx_report.specs.NodeStops.{range_names_node};
 
 use crate::{RangeStop, Ranged, Stop};
+use dcx_math::List;
 use dcx_shape::Place;
-use std::marker::Model;
 
 /// A parameter's range is told at a setting, or it is stopped.
 #[derive(Drop)]
@@ -28,32 +28,4 @@ pub struct RangeOutcome {
 }
 
 /// The outcome of each setting, in order.
-#[derive(Drop)]
-pub struct RangeOutcomes {
-    items: Vec<RangeOutcome>,
-}
-
-impl Model for RangeOutcomes {
-    ghost use Rattle.std.specs.Prelude.{List};
-    ghost use Rattle.dcx_report.specs.declared.range_outcome.RangeOutcome.{RangeOutcome};
-
-    ghost Value = { List RangeOutcome };
-
-    ghost view = { λ o. o.items.items };
-}
-
-impl RangeOutcomes {
-    /// The list with these items. Takes no memory.
-    pub fn from_vec(items: Vec<RangeOutcome>) -> RangeOutcomes
-        ensures { result ≡ items.items }
-    {
-        RangeOutcomes { items }
-    }
-
-    /// The items of the list.
-    pub fn as_slice(&self) -> &[RangeOutcome]
-        ensures { result.now ≡ self.now }
-    {
-        self.items.as_slice()
-    }
-}
+pub type RangeOutcomes = List<RangeOutcome>;

@@ -3,8 +3,8 @@ ghost use Rattle.std.specs.Prelude.{◌≡◌, is_some};
 ghost use Rattle.dcx_report.specs.NodeStops.{whole_names_node};
 
 use crate::{BranchStop, Stop, WholeAnswer};
+use dcx_math::List;
 use dcx_shape::Place;
-use std::marker::Model;
 
 /// A setting has a whole answer, or it is stopped.
 #[derive(Drop)]
@@ -28,32 +28,4 @@ pub struct WholeOutcome {
 }
 
 /// The outcome of each setting, in order.
-#[derive(Drop)]
-pub struct WholeOutcomes {
-    items: Vec<WholeOutcome>,
-}
-
-impl Model for WholeOutcomes {
-    ghost use Rattle.std.specs.Prelude.{List};
-    ghost use Rattle.dcx_report.specs.declared.whole_outcome.WholeOutcome.{WholeOutcome};
-
-    ghost Value = { List WholeOutcome };
-
-    ghost view = { λ o. o.items.items };
-}
-
-impl WholeOutcomes {
-    /// The list with these items. Takes no memory.
-    pub fn from_vec(items: Vec<WholeOutcome>) -> WholeOutcomes
-        ensures { result ≡ items.items }
-    {
-        WholeOutcomes { items }
-    }
-
-    /// The items of the list.
-    pub fn as_slice(&self) -> &[WholeOutcome]
-        ensures { result.now ≡ self.now }
-    {
-        self.items.as_slice()
-    }
-}
+pub type WholeOutcomes = List<WholeOutcome>;

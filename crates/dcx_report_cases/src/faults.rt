@@ -104,6 +104,13 @@ pub(crate) fn fault(alloc: Global, words: &[&str]) -> Result<CertFault, CaseFaul
         ["Form", line] => Ok(CertFault::Form { line: count(line)? }),
         ["Fit", ref rest @ ..] => Ok(CertFault::Fit(misfit(alloc, rest)?)),
         ["Wide", left, sign, right] => Ok(CertFault::Wide(passes(left, sign, right)?)),
+        _ => with_numbers_of(words),
+    }
+}
+
+/// The fault of a name and the words of its numbers.
+fn with_numbers_of(words: &[&str]) -> Result<CertFault, CaseFault> {
+    match *words {
         [name, value] => with_number(name, fraction(value)?),
         [name, stated, found] => with_numbers(name, fraction(stated)?, fraction(found)?),
         [name, index, entry, value] => {

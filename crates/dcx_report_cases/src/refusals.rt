@@ -48,6 +48,13 @@ pub(crate) fn refusal(words: &[&str]) -> Result<Refusal, CaseFault> {
             bare(RefusalSource::Certificate, number, place(line, column)?)
         }
         [number, line, column] => bare(RefusalSource::Script, number, place(line, column)?),
+        _ => carrying(words),
+    }
+}
+
+/// The refusal of a script that carries something.
+fn carrying(words: &[&str]) -> Result<Refusal, CaseFault> {
+    match *words {
         ["18", line, column, "items", items] => Ok(Refusal {
             source: RefusalSource::Script,
             number: 18,

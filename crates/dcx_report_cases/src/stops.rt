@@ -58,6 +58,18 @@ fn of_parameter(alloc: Global, words: &[&str]) -> Result<Stop, CaseFault>
     }
 }
 
+/// A stop where an operation of a row passes.
+fn of_row(word: &str, row: u32, passes: Passes) -> Result<Stop, CaseFault>
+    ensures { IfOk result (λ s. names_node (ends.Stop s) ≡ false) }
+{
+    match word {
+        "row" => Ok(Stop::Wide(Site::Row { row, passes })),
+        "map" => Ok(Stop::Wide(Site::Map { row, passes })),
+        "answer" => Ok(Stop::Wide(Site::Answer { row, passes })),
+        _ => Err(CaseFault::Unreadable),
+    }
+}
+
 /// A stop that names no node.
 pub(crate) fn stop(alloc: Global, words: &[&str]) -> Result<Stop, CaseFault>
     ensures { IfOk result (λ s. names_node (ends.Stop s) ≡ false) }
@@ -76,18 +88,7 @@ pub(crate) fn stop(alloc: Global, words: &[&str]) -> Result<Stop, CaseFault>
             row: count(row)?,
             column: count(column)?,
         })),
-        ["row", row, left, sign, right] => Ok(Stop::Wide(Site::Row {
-            row: count(row)?,
-            passes: passes(left, sign, right)?,
-        })),
-        ["map", row, left, sign, right] => Ok(Stop::Wide(Site::Map {
-            row: count(row)?,
-            passes: passes(left, sign, right)?,
-        })),
-        ["answer", row, left, sign, right] => Ok(Stop::Wide(Site::Answer {
-            row: count(row)?,
-            passes: passes(left, sign, right)?,
-        })),
+        [word, row, left, sign, right] => { of_row(word, count(row)?, passes(left, sign, right)?) }
         _ => of_parameter(alloc, words),
     }
 }

@@ -1,10 +1,11 @@
 -- A file is read one way.
-use Rattle.std.proofs.Common.{◌≡◌, ℕ, ◌+◌, ◌-◌, ◌<◌, ◌≤◌, List, [], ◌∷◌, ◌++◌, length, take, drop, Option, Some, None, refl, sym, ap, ◌∙◌, subst, arith, append_assoc, length-append, ◌⊎◌, ⊎_elim}
+use Rattle.std.proofs.Common.{◌≡◌, ℕ, ◌+◌, ◌-◌, ◌<◌, ◌≤◌, List, ◌∷◌, ◌++◌, length, take, drop, Option, Some, None, sym, ap, ◌∙◌, subst, arith, append_assoc, length-append, ◌⊎◌, ⊎_elim}
 use Rattle.std.proofs.lemmas.List.{length-map, length-drop}
 use Rattle.std.proofs.lemmas.Option.{slice_get_past}
 use Rattle.dcx_tokens.specs.declared.fault.ReadFault.{ReadFault}
 use Rattle.dcx_tokens.specs.declared.fault.ReadFault.TheVariants as fault
 use Rattle.dcx_tokens.specs.declared.token.Token.{Token}
+use Rattle.dcx_tokens.proofs.Fronts.{further}
 use Rattle.dcx_tokens.proofs.OneReading.{one_reading}
 use Rattle.dcx_tokens.proofs.Texts.{text_apart, no_text_one}
 use Rattle.dcx_settings.specs.declared.settings.SettingItem.{SettingItem}
@@ -17,24 +18,6 @@ use Rattle.dcx_settings.proofs.Viability.{one_spelling}
 use Rattle.dcx_settings.proofs.Files.{before_or_from, length-lines}
 
 -- ---- the token that is unexpected
--- of two fronts of one list the longer goes on with what stands behind the shorter
-record GoesFurther (front rest longer : List Terminal) : Type 0 where
-  token : Terminal
-  behind : List Terminal
-  more : List Terminal
-  rest_is : rest ≡ token ∷ behind
-  longer_is : longer ≡ front ++ token ∷ more
-
-further : (xs ys us vs : List Terminal) → xs ++ us ≡ ys ++ vs → length xs < length ys → GoesFurther xs us ys
-further [] [] us vs e l = absurd (omega (arith, l))
-further [] (y ∷ ys) us vs e l = record { token = y; behind = ys ++ vs; more = ys; rest_is = e; longer_is = refl }
-further (x ∷ xs) [] us vs e l = absurd (omega (arith, l))
-further (x ∷ xs) (y ∷ ys) us vs e l =
-    let same : y ≡ x = cc in
-    let rest : xs ++ us ≡ ys ++ vs = cc in
-    let r = further xs ys us vs rest (omega (arith, l)) in
-    record { token = r.token; behind = r.behind; more = r.more; rest_is = r.rest_is; longer_is = ap (λ z. z ∷ ys) same ∙ ap (λ zs. x ∷ zs) r.longer_is }
-
 no_further : (us rest other : List Terminal) (u : IsUnexpected us rest) (v : IsUnexpected us other) → length u.front < length v.front → ⊥
 no_further us rest other u v l =
     let r = further u.front v.front rest other (sym u.parts ∙ v.parts) l in

@@ -102,7 +102,7 @@ pub fn line<'a>(
         Some(behind) => {
             let inner = expect(text, behind, Mark::CloseCurly)?;
             let rest = expect(text, inner, Mark::Newline)?;
-            Ok((SettingLine::from_vec(Vec::new(alloc)), rest))
+            Ok((SettingLine::new(alloc), rest))
         }
     }
 }

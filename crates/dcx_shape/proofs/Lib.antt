@@ -8,3 +8,4 @@ pub mod Faults
 pub mod Indices
 pub mod SliceLaws
 pub mod IndexLaws
+pub mod EntryPlaces

@@ -21,7 +21,7 @@ pub use bytes::Bytes;
 pub use combine::{broadcast, matmul_shape};
 pub use fault::ShapeFault;
 pub use index::{Pick, index_map};
-pub use name::Name;
+pub use name::{Name, copy_name};
 pub use place::Place;
 pub use places::Places;
 pub use reshape::reshape_map;

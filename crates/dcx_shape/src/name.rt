@@ -1,11 +1,12 @@
 //! The name of a variable or a parameter, seen by contracts as the list of its bytes.
-ghost use Rattle.std.specs.Prelude.{nat_eq};
+ghost use Rattle.std.specs.Prelude.{◌≡◌, IfOk, nat_eq};
 ghost use Rattle.std.proofs.Common.{rules};
 ghost use Rattle.std.specs.Cmp.{partial_equiv_from_equiv};
 ghost use Rattle.std.specs.Cmp.Lexicographic.{pointwise, nat_list_eq_equiv};
 ghost use Rattle.std.specs.Cmp.Rules.{hashing};
 ghost use Rattle.std.specs.Hash as fed;
 
+use std::alloc::{AllocError, Global};
 use std::hash::{Hash, Hasher};
 use std::marker::Model;
 
@@ -46,6 +47,14 @@ impl Name {
     {
         self.bytes.as_slice()
     }
+}
+
+/// The same name again. `AllocError` where there is no memory.
+pub fn copy_name(alloc: Global, name: &Name) -> Result<Name, AllocError>
+    ensures { IfOk result (λ n. n ≡ name.now) }
+{
+    let bytes = Vec::from_slice(alloc, name.as_slice())?;
+    Ok(Name::from_vec(bytes))
 }
 
 impl PartialEq for Name {

@@ -1,6 +1,5 @@
 -- Any numbers of the unknowns' columns are put out by slacks and artificials to a solution of the rows, and so bound the cost.
-use Rattle.std.proofs.Common.{◌≡◌, ◌≢◌, ℕ, ◌+◌, ◌<◌, ◌≤◌, Bool, true, false, List, [], ◌∷◌, ◌++◌, length, ℤ, pos, negsuc, ◌*ℤ◌, ◌<ℤ◌, arith, refl, sym, ap, ap₂, ◌∙◌, subst, ◌⊎◌, inl, inr}
-use Rattle.std.specs.Prelude.{if◌then◌else◌}
+use Rattle.std.proofs.Common.{◌≡◌, ◌≢◌, ℕ, ◌+◌, ◌<◌, ◌≤◌, List, [], ◌∷◌, ◌++◌, length, ℤ, pos, negsuc, ◌*ℤ◌, ◌<ℤ◌, arith, refl, sym, ap, ap₂, ◌∙◌, ◌⊎◌, inl, inr}
 use Rattle.std.proofs.lemmas.Bool.{cases_lt}
 use Rattle.dcx_math.specs.Rational.{ℚ, whole, ◌+ℚ◌, ◌-ℚ◌, ◌*ℚ◌, ◌/ℚ◌, ◌≤ℚ◌}
 use Rattle.dcx_math.specs.Sums.{rat_dot, rat_added, rat_sum_below}
@@ -10,17 +9,15 @@ use Rattle.dcx_math.proofs.Orders.{linear, <ℚ-≢, *ℚ-zero, +ℚ_idr, whole-
 use Rattle.dcx_math.proofs.Products.{/ℚ-*ℚ, *ℚ-≤ℚ_cancel, whole-<ℤ}
 use Rattle.dcx_math.proofs.Sums.{rat_sum_below-same, rat_sum_below-one, rat_sum_below-zero, rat_sum_below-*ℚ_right}
 use Rattle.dcx_math.proofs.Vectors.{rat_dot-added_right}
-use Rattle.dcx_tab.specs.declared.rows.ColumnKind.TheVariants.{Slack, Artificial}
 use Rattle.dcx_tab.specs.declared.program.Program.{Program}
 use Rattle.dcx_tab.specs.First.{first_tableau}
 use Rattle.dcx_tab.specs.Rows.{Row, entry, row_at}
-use Rattle.dcx_tab.specs.Program.{kind_at, entries_at, entries_of, right_side_at, right_of, is_negated_at}
+use Rattle.dcx_tab.specs.Program.{entries_at, entries_of, right_side_at, right_of}
 use Rattle.dcx_tab.proofs.Programs.{has_row, map_at, length_first, at_row, at_objective, at_phase}
 use Rattle.dcx_tab.proofs.RationalRows.{SolvesRational, full, dot_full, dot_front, placed, dot_placed, length_placed, length_added}
-use Rattle.dcx_lp_answer.specs.Right.{IsAssignment, is_inequality, row_at_columns, cost_at_columns}
+use Rattle.dcx_lp_answer.specs.Right.{IsAssignment, row_at_columns, cost_at_columns}
 use Rattle.dcx_simplex.proofs.Starts.{entry_z, entry_w, entry_right}
-use Rattle.dcx_simplex.proofs.Slacks.{Own, own_of, own_other, own_cost, sign_slack, sign_artificial}
-use Rattle.dcx_simplex.proofs.Owns.{own_low}
+use Rattle.dcx_simplex.proofs.OwnColumns.{own_column, own_column_low, sign_square, other_zero, own_cost_zero}
 
 -- ---- the first tableau's rows at a full assignment
 plain_row : (d a z b w c v : ℚ) → a ≡ whole (pos 0) → b ≡ whole (pos 0) → ((d +ℚ a *ℚ z) +ℚ b *ℚ w) +ℚ c *ℚ v ≡ d +ℚ c *ℚ v
@@ -86,62 +83,24 @@ lead_some_of l h e = <ℚ-≢ (whole-<ℤ (pos 0) l h) (sym e)
 
 -- ---- the slacks and artificials
 module _ (p : Program) (ys : List ℚ) (assigned : IsAssignment p ys) where
-  column_by : (i : ℕ) → (i < length p.rows) ⊎ (length p.rows ≤ i) → ℕ
-  column_by i (inl h) = (own_of p i h).column
-  column_by i (inr h) = 0
-
-  pub own_column : ℕ → ℕ
-  own_column i = column_by i (cases_lt i (length p.rows))
-
-  own_column_by : (i : ℕ) → i < length p.rows → (c : (i < length p.rows) ⊎ (length p.rows ≤ i)) → (o : Own p.columns i) × (column_by i c ≡ o.column)
-  unfolding column_by
-  own_column_by i h (inl l) = (own_of p i l, refl)
-  own_column_by i h (inr l) = absurd (omega arith)
-
-  pub own_column_is : (i : ℕ) → i < length p.rows → (o : Own p.columns i) × (own_column i ≡ o.column)
-  unfolding own_column
-  own_column_is i h = own_column_by i h (cases_lt i (length p.rows))
-
   -- what row i is short of its right side, with the sign of its own column
   unfoldable pub short : ℕ → ℚ
-  short i = whole (entry (entries_at p.rows i) (own_column i)) *ℚ (whole (right_side_at p.rows i) -ℚ row_at_columns p i ys)
+  short i = whole (entry (entries_at p.rows i) (own_column p i)) *ℚ (whole (right_side_at p.rows i) -ℚ row_at_columns p i ys)
 
   pub put_out : List ℚ
-  put_out = rat_added ys (placed short own_column (length p.rows))
-
-  pub own_column_low : (i : ℕ) → i < length p.rows → own_column i < length p.columns
-  own_column_low i h = let o = own_column_is i h in let l = own_low p.columns i o.0.column o.0.own in let e = o.1 in omega (arith, l, e)
+  put_out = rat_added ys (placed short (own_column p) (length p.rows))
 
   pub length_put_out : length put_out ≡ length p.columns
   unfolding put_out
-  length_put_out = let c = assigned.count in let l = length_placed short own_column (length p.rows) (length p.columns) own_column_low in length_added ys (placed short own_column (length p.rows)) (omega (arith, c, l)) ∙ c
+  length_put_out = let c = assigned.count in let l = length_placed short (own_column p) (length p.rows) (length p.columns) (own_column_low p) in length_added ys (placed short (own_column p) (length p.rows)) (omega (arith, c, l)) ∙ c
 
   -- a row's sum over the columns that were put out
-  pub dot_put_out : (row : Row) → rat_dot (wholes row) put_out ≡ rat_dot (wholes row) ys +ℚ rat_sum_below (length p.rows) (λ k. short k *ℚ whole (entry row (own_column k)))
+  pub dot_put_out : (row : Row) → rat_dot (wholes row) put_out ≡ rat_dot (wholes row) ys +ℚ rat_sum_below (length p.rows) (λ k. short k *ℚ whole (entry row (own_column p k)))
   unfolding put_out
-  dot_put_out row = rat_dot-added_right (wholes row) ys (placed short own_column (length p.rows)) ∙ ap (λ u. rat_dot (wholes row) ys +ℚ u) (dot_placed row short own_column (length p.rows))
+  dot_put_out row = rat_dot-added_right (wholes row) ys (placed short (own_column p) (length p.rows)) ∙ ap (λ u. rat_dot (wholes row) ys +ℚ u) (dot_placed row short (own_column p) (length p.rows))
 
   zero_right : (x y : ℚ) → y ≡ whole (pos 0) → x *ℚ y ≡ whole (pos 0)
   zero_right x y e = rw e (*ℚ-zero x)
-
-  square : (s : ℤ) → (s ≡ pos 1) ⊎ (s ≡ negsuc 0) → s *ℤ s ≡ pos 1
-  square s (inl e) = rw e refl
-  square s (inr e) = rw e refl
-
-  one_or : (b : Bool) (s : ℤ) → s ≡ (if b then negsuc 0 else pos 1) → (s ≡ pos 1) ⊎ (s ≡ negsuc 0)
-  one_or true s e = inr e
-  one_or false s e = inl e
-
-  sign_by : (i : ℕ) → i < length p.rows → (o : Own p.columns i) → ((kind_at p.columns o.column ≡ Slack i) × (is_inequality p.columns i ≡ true)) ⊎ ((kind_at p.columns o.column ≡ Artificial i) × (is_inequality p.columns i ≡ false))
-      → (entry (entries_at p.rows i) o.column ≡ pos 1) ⊎ (entry (entries_at p.rows i) o.column ≡ negsuc 0)
-  sign_by i h o (inl k) = one_or (is_negated_at p.rows i) (entry (entries_at p.rows i) o.column) (sign_slack p i h o k.0)
-  sign_by i h o (inr k) = inl (sign_artificial p i h o k.0)
-
-  sign_square : (i : ℕ) → i < length p.rows → entry (entries_at p.rows i) (own_column i) *ℤ entry (entries_at p.rows i) (own_column i) ≡ pos 1
-  sign_square i h = let o = own_column_is i h in subst (λ j. entry (entries_at p.rows i) j *ℤ entry (entries_at p.rows i) j ≡ pos 1) (sym o.1) (square _ (sign_by i h o.0 o.0.kind))
-
-  other_zero : (i k : ℕ) → i < length p.rows → k < length p.rows → k ≢ i → entry (entries_at p.rows i) (own_column k) ≡ pos 0
-  other_zero i k h l n = let o = own_column_is k l in ap (entry (entries_at p.rows i)) o.1 ∙ own_other p k i h o.0 (λ e. n (sym e))
 
   twice : (s : ℤ) (t : ℚ) → s *ℤ s ≡ pos 1 → (whole s *ℚ t) *ℚ whole s ≡ t
   twice s t e = ring (whole s ∷ t ∷ []) (search reads depth 30) tt ∙ ap (λ u. u *ℚ t) (sym (whole-*ℤ s s) ∙ ap whole e) ∙ *ℚ_idl t
@@ -149,21 +108,21 @@ module _ (p : Program) (ys : List ℚ) (assigned : IsAssignment p ys) where
   regain : (a b : ℚ) → a +ℚ (b -ℚ a) ≡ b
   regain a b = ring (a ∷ b ∷ []) (search reads depth 30) tt
 
-  short_twice : (i : ℕ) → i < length p.rows → short i *ℚ whole (entry (entries_at p.rows i) (own_column i)) ≡ whole (right_side_at p.rows i) -ℚ row_at_columns p i ys
+  short_twice : (i : ℕ) → i < length p.rows → short i *ℚ whole (entry (entries_at p.rows i) (own_column p i)) ≡ whole (right_side_at p.rows i) -ℚ row_at_columns p i ys
   unfolding short
-  short_twice i h = twice (entry (entries_at p.rows i) (own_column i)) (whole (right_side_at p.rows i) -ℚ row_at_columns p i ys) (sign_square i h)
+  short_twice i h = twice (entry (entries_at p.rows i) (own_column p i)) (whole (right_side_at p.rows i) -ℚ row_at_columns p i ys) (sign_square p i h)
 
   pub row_put_out : (i : ℕ) → i < length p.rows → row_at_columns p i put_out ≡ whole (right_side_at p.rows i)
   row_put_out i h =
       dot_put_out (entries_at p.rows i)
       ∙ ap (λ u. row_at_columns p i ys +ℚ u)
-      (rat_sum_below-one (length p.rows) i (λ k. short k *ℚ whole (entry (entries_at p.rows i) (own_column k))) h (λ k l n. zero_right (short k) _ (ap whole (other_zero i k h l n))) ∙ short_twice i h)
+      (rat_sum_below-one (length p.rows) i (λ k. short k *ℚ whole (entry (entries_at p.rows i) (own_column p k))) h (λ k l n. zero_right (short k) _ (ap whole (other_zero p i k h l n))) ∙ short_twice i h)
       ∙ regain (row_at_columns p i ys) (whole (right_side_at p.rows i))
 
   pub cost_put_out : rat_dot (wholes p.objective.entries) put_out ≡ rat_dot (wholes p.objective.entries) ys
   cost_put_out =
       dot_put_out p.objective.entries
-      ∙ ap (λ u. rat_dot (wholes p.objective.entries) ys +ℚ u) (rat_sum_below-same (length p.rows) _ (λ _. whole (pos 0)) (λ k l. zero_right (short k) _ (ap whole (let o = own_column_is k l in ap (entry p.objective.entries) o.1 ∙ own_cost p k o.0))) ∙ rat_sum_below-zero (length p.rows))
+      ∙ ap (λ u. rat_dot (wholes p.objective.entries) ys +ℚ u) (rat_sum_below-same (length p.rows) _ (λ _. whole (pos 0)) (λ k l. zero_right (short k) _ (ap whole (own_cost_zero p k l))) ∙ rat_sum_below-zero (length p.rows))
       ∙ +ℚ_idr (rat_dot (wholes p.objective.entries) ys)
 
   pub rest : ℚ
@@ -191,17 +150,17 @@ module _ (p : Program) (ys : List ℚ) (assigned : IsAssignment p ys) where
 
   -- what the own columns have in a row, over its lead, times what the rows are short
   abbrev pub rates : Row → ℤ → ℚ
-  rates row lead = rat_sum_below (length p.rows) (λ k. short k *ℚ (whole (entry row (own_column k)) /ℚ whole lead))
+  rates row lead = rat_sum_below (length p.rows) (λ k. short k *ℚ (whole (entry row (own_column p k)) /ℚ whole lead))
 
   -- ---- the bound of a row of costs
   module _ (row : Row) (lead : ℤ) (x right : ℚ) (positive : pos 0 <ℤ lead) (holds : rat_dot (wholes row) put_out +ℚ whole lead *ℚ x ≡ right) (low : rat_dot (wholes row) ys ≤ℚ whole (pos 0)) where
     back : (a e l : ℚ) → l ≢ whole (pos 0) → (a *ℚ (e /ℚ l)) *ℚ l ≡ a *ℚ e
     back a e l n = ring (a ∷ e /ℚ l ∷ l ∷ []) (search reads depth 30) tt ∙ ap (λ u. a *ℚ u) (/ℚ-*ℚ e l n)
 
-    rates_is : rates row lead *ℚ whole lead ≡ rat_sum_below (length p.rows) (λ k. short k *ℚ whole (entry row (own_column k)))
+    rates_is : rates row lead *ℚ whole lead ≡ rat_sum_below (length p.rows) (λ k. short k *ℚ whole (entry row (own_column p k)))
     rates_is =
-        sym (rat_sum_below-*ℚ_right (length p.rows) (whole lead) (λ k. short k *ℚ (whole (entry row (own_column k)) /ℚ whole lead)))
-        ∙ rat_sum_below-same (length p.rows) _ _ (λ k l. back (short k) (whole (entry row (own_column k))) (whole lead) (lead_some_of lead positive))
+        sym (rat_sum_below-*ℚ_right (length p.rows) (whole lead) (λ k. short k *ℚ (whole (entry row (own_column p k)) /ℚ whole lead)))
+        ∙ rat_sum_below-same (length p.rows) _ _ (λ k l. back (short k) (whole (entry row (own_column p k))) (whole lead) (lead_some_of lead positive))
 
     scaled_bound : (d s t l x r q : ℚ) → d ≤ℚ whole (pos 0) → (d +ℚ s) +ℚ l *ℚ x ≡ r → t *ℚ l ≡ s → q *ℚ l ≡ r → l *ℚ q ≤ℚ l *ℚ (x +ℚ t)
     scaled_bound d s t l x r q h e f g =

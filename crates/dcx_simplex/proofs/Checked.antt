@@ -1,12 +1,12 @@
 -- Rows that pass the test have the form of a program.
 use Rattle.std.proofs.Common.{◌≡◌, ℕ, zero, suc, ◌+◌, ◌<◌, ◌≤◌, ◌^◌, Bool, true, false, not, nat_eq, nat_lt, nat_le, List, [], ◌∷◌, ◌++◌, map, length, get_or, slice_get, Some, ℤ, pos, neg_ℤ, ◌<ℤ◌, ◌≤ℤ◌, ◌+ℤ◌, unsigned_abs, arith, refl, sym, ap, ap₂, ◌∙◌, subst, ◌⊎◌, inl, inr}
-use Rattle.std.specs.Prelude.{◌&&◌, ◌||◌, if◌then◌else◌, int_lt, All}
+use Rattle.std.specs.Prelude.{◌||◌, if◌then◌else◌, int_lt, All}
 use Rattle.std.specs.Option.{unwrap_or}
 use Rattle.std.proofs.lemmas.Option.{slice_get_within, unwrap_or-slice_get}
 use Rattle.dcx_math.proofs.Products.{whole-<ℤ}
 use Rattle.std.specs.Ordering.{int_eq}
 use Rattle.std.proofs.lemmas.Int.{ints}
-use Rattle.std.proofs.lemmas.Bool.{cases_lt}
+use Rattle.std.proofs.lemmas.Bool.{cases_lt, eqb-true, and_parts}
 use Rattle.std.proofs.lemmas.Bool.Decides.{nat_tests, Decides-int_eq}
 use Rattle.std.proofs.lemmas.List.{length-map, get_or_past}
 use Rattle.dcx_math.specs.Divisors.{gcd, gcd_within, gcd_of}
@@ -20,21 +20,16 @@ use Rattle.dcx_tab.specs.Rows.{entry, AllSmall}
 use Rattle.dcx_tab.specs.Program.{IsProgram, IsProgramRow, IsTurned, kind_at, plain_count, is_plain, told_entry, may_start, unknown_entry, sum_started, first_basic_at, entries_of, entries_at, right_of}
 use Rattle.dcx_tab.proofs.Programs.{has_row, map_at, plain_count_le}
 use Rattle.dcx_simplex.specs.Checked.{Shape, shape_of, each_below, same_bool, each_small, low, divisor_of, right_order, is_slack_of, basic_of, right_kind, right_kinds, right_pair, right_pairs, right_row, right_rows, right_cost, sum_of, right_sum, has_form}
-use Rattle.dcx_simplex.proofs.ReadLists.{same_nat}
 use Rattle.dcx_simplex.proofs.Owns.{slack_low, artificial_low}
 
 -- ---- tests
-split : (a b : Bool) → a && b ≡ true → (a ≡ true) × (b ≡ true)
-split true b h = (refl, h)
-split false b h = cc
-
 each_at_by : (n : ℕ) (f : ℕ → Bool) (j : ℕ) → j < suc n → f n ≡ true → (j < n → f j ≡ true) → (j < n) ⊎ (n ≤ j) → f j ≡ true
 each_at_by n f j h e k (inl l) = k l
 each_at_by n f j h e k (inr l) = let q : n ≡ j = omega arith in subst (λ i. f i ≡ true) q e
 
 each_at : (n : ℕ) (f : ℕ → Bool) → each_below n f ≡ true → (j : ℕ) → j < n → f j ≡ true
 each_at zero f h j l = absurd (omega arith)
-each_at (suc n) f h j l = let s = split (f n) (each_below n f) h in each_at_by n f j l s.0 (each_at n f s.1 j) (cases_lt j n)
+each_at (suc n) f h j l = let s = and_parts (f n) (each_below n f) h in each_at_by n f j l s.0 (each_at n f s.1 j) (cases_lt j n)
 
 same_bools : (a b : Bool) → same_bool a b ≡ true → a ≡ b
 same_bools true b h = sym h
@@ -74,8 +69,8 @@ nat_lt-no a b h = grind (arith, nat_tests)
 
 smalls : (zs : List ℤ) → each_small zs ≡ true → AllSmall zs
 smalls [] h j = omega arith
-smalls (z ∷ zs) h zero = let s = split (nat_lt (unsigned_abs z) (2 ^ 127)) (each_small zs) h in low_nat (unsigned_abs z) (2 ^ 127) s.0
-smalls (z ∷ zs) h (suc j) = let s = split (nat_lt (unsigned_abs z) (2 ^ 127)) (each_small zs) h in smalls zs s.1 j
+smalls (z ∷ zs) h zero = let s = and_parts (nat_lt (unsigned_abs z) (2 ^ 127)) (each_small zs) h in low_nat (unsigned_abs z) (2 ^ 127) s.0
+smalls (z ∷ zs) h (suc j) = let s = and_parts (nat_lt (unsigned_abs z) (2 ^ 127)) (each_small zs) h in smalls zs s.1 j
 
 gcd_is : (a b : ℕ) → gcd a b ≡ gcd_within (suc b) a b
 unfolding gcd
@@ -99,9 +94,9 @@ rows_at : (kinds : List ColumnKind) (rows : List IntRow) (k i : ℕ) (r : IntRow
 rows_at kinds [] k i r h e = cc
 rows_at kinds (s ∷ rows) k zero r h e =
     let q : s ≡ r = cc in
-    subst (λ t. right_row kinds (k + 0) (shape_of t) ≡ true) q (subst (λ n. right_row kinds n (shape_of s) ≡ true) (omega arith) (split (right_row kinds k (shape_of s)) (right_rows kinds (suc k) (map shape_of rows)) h).0)
+    subst (λ t. right_row kinds (k + 0) (shape_of t) ≡ true) q (subst (λ n. right_row kinds n (shape_of s) ≡ true) (omega arith) (and_parts (right_row kinds k (shape_of s)) (right_rows kinds (suc k) (map shape_of rows)) h).0)
 rows_at kinds (s ∷ rows) k (suc i) r h e =
-    subst (λ n. right_row kinds n (shape_of r) ≡ true) (omega arith) (rows_at kinds rows (suc k) i r (split (right_row kinds k (shape_of s)) (right_rows kinds (suc k) (map shape_of rows)) h).1 e)
+    subst (λ n. right_row kinds n (shape_of r) ≡ true) (omega arith) (rows_at kinds rows (suc k) i r (and_parts (right_row kinds k (shape_of s)) (right_rows kinds (suc k) (map shape_of rows)) h).1 e)
 
 -- ---- the two columns of a free unknown
 pair_by : (u v : ℕ) (a b : ℤ) → u ≡ v → not (nat_eq u v) || int_eq b (neg_ℤ a) ≡ true → b ≡ neg_ℤ a
@@ -131,12 +126,12 @@ record PassedRow (kinds : List ColumnKind) (i : ℕ) (s : Shape) : Type 0 where
 
 passed_row : (kinds : List ColumnKind) (i : ℕ) (s : Shape) → right_row kinds i s ≡ true → PassedRow kinds i s
 passed_row kinds i s h =
-    let a = split _ _ h in
-    let b = split _ _ a.0 in
-    let c = split _ _ b.0 in
-    let d = split _ _ c.0 in
-    let e = split _ _ d.0 in
-    let f = split _ _ e.0 in
+    let a = and_parts _ _ h in
+    let b = and_parts _ _ a.0 in
+    let c = and_parts _ _ b.0 in
+    let d = and_parts _ _ c.0 in
+    let e = and_parts _ _ d.0 in
+    let f = and_parts _ _ e.0 in
     record { width = f.0; small = f.1; right = e.1; told = d.1; basic = c.1; starts = b.1; pairs = a.1 }
 
 record PassedCost (kinds : List ColumnKind) (c : CostRow) : Type 0 where
@@ -149,11 +144,11 @@ record PassedCost (kinds : List ColumnKind) (c : CostRow) : Type 0 where
 
 passed_cost : (kinds : List ColumnKind) (c : CostRow) → right_cost kinds c ≡ true → PassedCost kinds c
 passed_cost kinds c h =
-    let a = split _ _ h in
-    let b = split _ _ a.0 in
-    let c = split _ _ b.0 in
-    let d = split _ _ c.0 in
-    let e = split _ _ d.0 in
+    let a = and_parts _ _ h in
+    let b = and_parts _ _ a.0 in
+    let c = and_parts _ _ b.0 in
+    let d = and_parts _ _ c.0 in
+    let e = and_parts _ _ d.0 in
     record { width = e.0; small = e.1; told = d.1; lead = c.1; one = b.1; pairs = a.1 }
 
 record PassedSum (shapes : List Shape) (kinds : List ColumnKind) (c : CostRow) : Type 0 where
@@ -165,10 +160,10 @@ record PassedSum (shapes : List Shape) (kinds : List ColumnKind) (c : CostRow) :
 
 passed_sum : (shapes : List Shape) (kinds : List ColumnKind) (c : CostRow) → right_sum shapes kinds c ≡ true → PassedSum shapes kinds c
 passed_sum shapes kinds c h =
-    let a = split _ _ h in
-    let b = split _ _ a.0 in
-    let c = split _ _ b.0 in
-    let d = split _ _ c.0 in
+    let a = and_parts _ _ h in
+    let b = and_parts _ _ a.0 in
+    let c = and_parts _ _ b.0 in
+    let d = and_parts _ _ c.0 in
     record { width = d.0; small = d.1; each = c.1; lead = b.1; right = a.1 }
 
 record Passed (shapes : List Shape) (kinds : List ColumnKind) (objective phase : CostRow) : Type 0 where
@@ -182,18 +177,18 @@ record Passed (shapes : List Shape) (kinds : List ColumnKind) (objective phase :
 
 passed : (shapes : List Shape) (kinds : List ColumnKind) (objective phase : CostRow) → has_form shapes kinds objective phase ≡ true → Passed shapes kinds objective phase
 passed shapes kinds objective phase h =
-    let a = split _ _ h in
-    let b = split _ _ a.0 in
-    let c = split _ _ b.0 in
-    let d = split _ _ c.0 in
-    let e = split _ _ d.0 in
-    let f = split _ _ e.0 in
+    let a = and_parts _ _ h in
+    let b = and_parts _ _ a.0 in
+    let c = and_parts _ _ b.0 in
+    let d = and_parts _ _ c.0 in
+    let e = and_parts _ _ d.0 in
+    let f = and_parts _ _ e.0 in
     record { rows = f.0; columns = f.1; order = e.1; each_kind = d.1; each = c.1; cost = b.1; sum = a.1 }
 
 one_slack_by : (i k j : ℕ) (t : ColumnKind) → t ≡ Slack i → not (is_slack_of i t) || nat_eq j k ≡ true → j ≡ k
 one_slack_by i k j (Unknown u n) e h = cc
 one_slack_by i k j (Artificial r) e h = cc
-one_slack_by i k j (Slack r) e h = let q : r ≡ i = cc in same_nat j k (second_by (nat_eq r i) (nat_eq j k) (grind (arith, nat_tests)) h)
+one_slack_by i k j (Slack r) e h = let q : r ≡ i = cc in eqb-true j k (second_by (nat_eq r i) (nat_eq j k) (grind (arith, nat_tests)) h)
   where
     second_by : (s t : Bool) → s ≡ true → not s || t ≡ true → t ≡ true
     second_by true t e h = h
@@ -217,7 +212,7 @@ module _ (rows : List IntRow) (kinds : List ColumnKind) (objective phase : CostR
   row_form i r e =
       let p = row_at i r e in
       record {
-        width = same_nat (length r.entries) (length kinds) p.width;
+        width = eqb-true (length r.entries) (length kinds) p.width;
         small = smalls (r.entries ++ pos 0 ∷ pos 0 ∷ r.right ∷ []) p.small;
         right = lows (pos 0) r.right p.right;
         told = λ j l. equal (entry r.entries j) (told_entry i r.negated (kind_at kinds j) (entry r.entries j)) (each_at (length kinds) (λ j. int_eq (entry r.entries j) (told_entry i r.negated (kind_at kinds j) (entry r.entries j))) p.told j l);
@@ -258,26 +253,26 @@ module _ (rows : List IntRow) (kinds : List ColumnKind) (objective phase : CostR
         ordered = λ j l. same_bools (is_plain (kind_at kinds j)) (nat_lt j (plain_count kinds)) (each_at (length kinds) (λ j. same_bool (is_plain (kind_at kinds j)) (nat_lt j (plain_count kinds))) all.order j l);
         each_row = row_form;
         slack = λ j i e.
-            let k = low_nat i (length (map shape_of rows)) (split _ _ (kind j (Slack i) (slack_low kinds j i e) e)).0 in
+            let k = low_nat i (length (map shape_of rows)) (and_parts _ _ (kind j (Slack i) (slack_low kinds j i e) e)).0 in
             omega (arith, k, n);
         one_slack = λ j k i e f.
             one_slack_by i k j (kind_at kinds k) f
-            (each_at (length kinds) (λ k. not (is_slack_of i (kind_at kinds k)) || nat_eq j k) (split _ _ (kind j (Slack i) (slack_low kinds j i e) e)).1 k (slack_low kinds k i f));
+            (each_at (length kinds) (λ k. not (is_slack_of i (kind_at kinds k)) || nat_eq j k) (and_parts _ _ (kind j (Slack i) (slack_low kinds j i e) e)).1 k (slack_low kinds k i f));
         artificial = λ j i e.
-            let k = low_nat i (length (map shape_of rows)) (split _ _ (kind j (Artificial i) (artificial_low kinds j i e) e)).0 in
+            let k = low_nat i (length (map shape_of rows)) (and_parts _ _ (kind j (Artificial i) (artificial_low kinds j i e) e)).0 in
             omega (arith, k, n);
-        starting = λ j i e. sym (basics rows i) ∙ same_nat (basic_of (map shape_of rows) i) j (split _ _ (kind j (Artificial i) (artificial_low kinds j i e) e)).1;
+        starting = λ j i e. sym (basics rows i) ∙ eqb-true (basic_of (map shape_of rows) i) j (and_parts _ _ (kind j (Artificial i) (artificial_low kinds j i e) e)).1;
         turned = λ i. turned_by i (cases_lt i (length rows));
         turned_cost = pairs kinds objective.entries c.pairs;
         cost = record {
-          width = same_nat (length objective.entries) (length kinds) c.width;
+          width = eqb-true (length objective.entries) (length kinds) c.width;
           small = smalls (objective.entries ++ objective.lead ∷ pos 0 ∷ objective.right ∷ []) c.small;
           told = λ j l. equal (entry objective.entries j) (unknown_entry (kind_at kinds j) (entry objective.entries j)) (each_at (length kinds) (λ j. int_eq (entry objective.entries j) (unknown_entry (kind_at kinds j) (entry objective.entries j))) c.told j l);
           lead = above (pos 0) objective.lead c.lead;
-          primitive = record { one = divisors (objective.entries ++ objective.lead ∷ pos 0 ∷ objective.right ∷ []) ∙ same_nat (divisor_of (objective.entries ++ objective.lead ∷ pos 0 ∷ objective.right ∷ [])) 1 c.one };
+          primitive = record { one = divisors (objective.entries ++ objective.lead ∷ pos 0 ∷ objective.right ∷ []) ∙ eqb-true (divisor_of (objective.entries ++ objective.lead ∷ pos 0 ∷ objective.right ∷ [])) 1 c.one };
         };
         sum = record {
-          width = same_nat (length phase.entries) (length kinds) s.width;
+          width = eqb-true (length phase.entries) (length kinds) s.width;
           small = smalls (phase.entries ++ pos 0 ∷ phase.lead ∷ phase.right ∷ []) s.small;
           plain = plain_part;
           artificial = artificial_part;

@@ -7,7 +7,7 @@ use Rattle.dcx_tab.specs.Table.{Table}
 use Rattle.dcx_simplex.specs.Basis.{IsBasic, HasSameColumns}
 use Rattle.dcx_simplex.proofs.Chains.{Chain, IsKin}
 use Rattle.dcx_simplex.proofs.Cycle.{is_basic, no_cycle}
-use Rattle.dcx_tab.proofs.Pigeons.{pigeons}
+use Rattle.dcx_math.proofs.Pigeons.{pigeons}
 
 -- ---- a set of columns as a number
 abbrev pub digit : (t : Table) (j w : ℕ) → IsBasic t j ⊎ ¬ (IsBasic t j) → ℕ

@@ -18,7 +18,8 @@ use Rattle.dcx_lp_answer.specs.declared.answer.LpStatus.TheVariants as status
 use Rattle.dcx_lp_answer.specs.Notes.{reduced_cost_of, factor_of, was_negated, row_factor}
 use Rattle.dcx_lp_answer.specs.Right.{IsAssignment, is_inequality, turned_if, offset, row_at_columns, form_at, multiplier_at, combined_rows}
 use Rattle.dcx_simplex.proofs.Slacks.{Own, sign_slack, sign_artificial}
-use Rattle.dcx_simplex.proofs.Bounds.{own_column, own_column_is, short}
+use Rattle.dcx_simplex.proofs.OwnColumns.{own_column, own_column_is}
+use Rattle.dcx_simplex.proofs.Bounds.{short}
 
 -- a factor cancels
 cancel : (a b f : ℚ) → f ≢ whole (pos 0) → (a *ℚ f) *ℚ (b /ℚ f) ≡ a *ℚ b
@@ -56,7 +57,7 @@ module _ (p : Program) where
   factor_some : (i : ℕ) → i < length p.rows → rat_at (map row_factor p.rows) i ≢ whole (pos 0)
   factor_some i h e = <ℚ-≢ (factor_positive i h) (sym e)
 
-  module _ (ys : List ℚ) (assigned : IsAssignment p ys) (a : LpAnswer) (row : Row) (lead : ℤ) (notes : HasNotes p a row lead (own_column p ys assigned)) where
+  module _ (ys : List ℚ) (assigned : IsAssignment p ys) (a : LpAnswer) (row : Row) (lead : ℤ) (notes : HasNotes p a row lead (own_column p)) where
     sign_of : (i : ℕ) → i < length p.rows → is_inequality p.columns i ≡ true → (o : Own p.columns i) → ((kind_at p.columns o.column ≡ Slack i) × (is_inequality p.columns i ≡ true)) ⊎ ((kind_at p.columns o.column ≡ Artificial i) × (is_inequality p.columns i ≡ false))
         → entry (entries_at p.rows i) o.column ≡ (if is_negated_at p.rows i then negsuc 0 else pos 1)
     sign_of i h t o (inl k) = sign_slack p i h o k.0
@@ -68,12 +69,12 @@ module _ (p : Program) where
     one_of i h t o (inr k) = sign_artificial p i h o k.0
 
     product_is : (i : ℕ) → i < length p.rows
-        → multiplier_at p.columns a i *ℚ form_at p i ys ≡ short p ys assigned i *ℚ (whole (entry row (own_column p ys assigned i)) /ℚ whole lead) +ℚ short p ys assigned i *ℚ offset a.status (is_inequality p.columns i)
+        → multiplier_at p.columns a i *ℚ form_at p i ys ≡ short p ys assigned i *ℚ (whole (entry row (own_column p i)) /ℚ whole lead) +ℚ short p ys assigned i *ℚ offset a.status (is_inequality p.columns i)
     unfolding short
     product_is i h =
-        let o = own_column_is p ys assigned i h in
+        let o = own_column_is p i h in
         let inequality = is_inequality p.columns i in
-        let q = whole (entry row (own_column p ys assigned i)) /ℚ whole lead in
+        let q = whole (entry row (own_column p i)) /ℚ whole lead in
         let off = offset a.status inequality in
         let f = rat_at (map row_factor p.rows) i in
         let negated = ap (λ (bs : List Bool). get_or bs i false) notes.negated in
@@ -81,11 +82,11 @@ module _ (p : Program) where
         ap (λ m. m *ℚ form_at p i ys)
         (ap (λ b. turned_if (not inequality && b) ((rat_at (map reduced_cost_of a.rows) i -ℚ off) *ℚ rat_at (map factor_of a.rows) i)) negated
         ∙ ap₂ (λ r g. turned_if (not inequality && is_negated_at p.rows i) ((r -ℚ off) *ℚ g)) (notes.reduced i h) factors)
-        ∙ product_by (is_negated_at p.rows i) inequality q off (row_at_columns p i ys) (whole (right_side_at p.rows i)) f (entry (entries_at p.rows i) (own_column p ys assigned i)) (factor_some i h)
+        ∙ product_by (is_negated_at p.rows i) inequality q off (row_at_columns p i ys) (whole (right_side_at p.rows i)) f (entry (entries_at p.rows i) (own_column p i)) (factor_some i h)
         (λ t. ap (entry (entries_at p.rows i)) o.1 ∙ sign_of i h t o.0 o.0.kind)
         (λ t. offset_none a.status inequality t)
         (λ t. ap (entry (entries_at p.rows i)) o.1 ∙ one_of i h t o.0 o.0.kind)
 
     -- the rows together
-    pub combined_is : combined_rows p a ys ≡ rat_sum_below (length p.rows) (λ k. short p ys assigned k *ℚ (whole (entry row (own_column p ys assigned k)) /ℚ whole lead)) +ℚ rat_sum_below (length p.rows) (λ k. short p ys assigned k *ℚ offset a.status (is_inequality p.columns k))
+    pub combined_is : combined_rows p a ys ≡ rat_sum_below (length p.rows) (λ k. short p ys assigned k *ℚ (whole (entry row (own_column p k)) /ℚ whole lead)) +ℚ rat_sum_below (length p.rows) (λ k. short p ys assigned k *ℚ offset a.status (is_inequality p.columns k))
     combined_is = rat_sum_below-same (length p.rows) _ _ product_is ∙ rat_sum_below-+ℚ (length p.rows) _ _

@@ -39,7 +39,8 @@ use Rattle.dcx_simplex.proofs.EndFacts.{IsEnded, readable, not_basic_of}
 use Rattle.dcx_simplex.proofs.Cycle.{is_basic}
 use Rattle.dcx_simplex.proofs.Owns.{slack_low, own_low}
 use Rattle.dcx_simplex.proofs.Slacks.{Own, find_slack, HasSlack, HasNone}
-use Rattle.dcx_simplex.proofs.Bounds.{own_column, own_column_is, short, put_out, length_put_out, dot_put_out, rest, put_out_solves, rates, cost_bound, first_solved, first_cost, lead_some_of}
+use Rattle.dcx_simplex.proofs.OwnColumns.{own_column, own_column_is}
+use Rattle.dcx_simplex.proofs.Bounds.{short, put_out, length_put_out, dot_put_out, rest, put_out_solves, rates, cost_bound, first_solved, first_cost, lead_some_of}
 use Rattle.dcx_simplex.proofs.Multipliers.{HasNotes, combined_is, factor_positive}
 use Rattle.dcx_simplex.proofs.Sides.{columns_opposite, not_both}
 use Rattle.dcx_simplex.proofs.Last.{rat_at-past, dot_none, dot_low, quotient_low, negative_high, at_cost_of, at_phase_of, numbers_solve, numbers_high, numbers_none, changes_solve, changes_high, changes_none}
@@ -172,9 +173,9 @@ module _ (p : Program) (u : Table) (end : IsEnded (first_tableau p).rows (first_
       slack_plain : (i j : ℕ) → kind_at p.columns j ≡ Slack i → j < length p.columns → j < u.plain
       slack_plain i j e h = let f = plain_is in let t = low_plain j (plain_count p.columns) (sym (p.form.ordered j h) ∙ ap is_plain e) in omega (arith, f, t)
 
-      notes : (ys : List ℚ) (assigned : IsAssignment p ys) → HasNotes p a (row_at u.rows k) (lead_at u k) (own_column p ys assigned)
+      notes : (ys : List ℚ) (assigned : IsAssignment p ys) → HasNotes p a (row_at u.rows k) (lead_at u k) (own_column p)
       notes ys assigned = record {
-        reduced = λ i h. let o = own_column_is p ys assigned i h in reduced i _ h (subst (IsOwnColumn p.columns i) (sym o.1) o.0.own);
+        reduced = λ i h. let o = own_column_is p i h in reduced i _ h (subst (IsOwnColumn p.columns i) (sym o.1) o.0.own);
         factors = reading.factors;
         negated = reading.negated;
       }
@@ -270,9 +271,9 @@ module _ (p : Program) (u : Table) (end : IsEnded (first_tableau p).rows (first_
 
       rest_offsets : rest p ys assigned ≡ rat_sum_below (length p.rows) (λ l. short p ys assigned l *ℚ offset status.Infeasible (is_inequality p.columns l))
       rest_offsets =
-          rest_is ∙ dot_put_out p ys assigned row ∙ ap (λ d. d +ℚ rat_sum_below (length p.rows) (λ l. short p ys assigned l *ℚ whole (entry row (own_column p ys assigned l)))) ys_none
+          rest_is ∙ dot_put_out p ys assigned row ∙ ap (λ d. d +ℚ rat_sum_below (length p.rows) (λ l. short p ys assigned l *ℚ whole (entry row (own_column p l)))) ys_none
           ∙ +ℚ_idl _
-          ∙ rat_sum_below-same (length p.rows) _ _ (λ l q. ap (λ x. short p ys assigned l *ℚ x) (let o = own_column_is p ys assigned l q in ap (λ j. whole (entry row j)) o.1 ∙ offset_is l q o.0 o.0.kind))
+          ∙ rat_sum_below-same (length p.rows) _ _ (λ l q. ap (λ x. short p ys assigned l *ℚ x) (let o = own_column_is p l q in ap (λ j. whole (entry row j)) o.1 ∙ offset_is l q o.0 o.0.kind))
 
   -- ---- an optimal answer
   optimal_offset : (s : LpStatus) → s ≡ status.Optimal → (b : Bool) → offset s b ≡ whole (pos 0)

@@ -2,7 +2,7 @@
 use Rattle.std.proofs.Common.{◌≡◌, ◌≢◌, ℕ, zero, suc, ◌+◌, ◌-◌, ◌<◌, ◌≤◌, Bool, true, false, not, nat_eq, List, [], ◌∷◌, ◌++◌, length, ℤ, pos, negsuc, ◌+ℤ◌, ◌-ℤ◌, ◌*ℤ◌, ◌<ℤ◌, ◌≤ℤ◌, unsigned_abs, arith, refl, sym, ap, ap₂, ◌∙◌, subst, ◌⊎◌, inl, inr}
 use Rattle.std.specs.Prelude.{Some, slice_get, nat_le, if◌then◌else◌, ◌&&◌}
 use Rattle.std.proofs.lemmas.Int.{ints}
-use Rattle.std.proofs.lemmas.Bool.{cases_lt, cases_eq}
+use Rattle.std.proofs.lemmas.Bool.{cases_lt, cases_eq, eqb-true}
 use Rattle.std.proofs.lemmas.Bool.Decides.{nat_tests}
 use Rattle.std.proofs.lemmas.List.{get_or_append_left, get_or_at, get_or-append_right}
 use native.Mathlib.Nat.{eq-one_of_dvd-one}
@@ -20,7 +20,7 @@ use Rattle.dcx_tab.specs.Program.{IsProgram, kind_at, plain_count, told_entry, u
 use Rattle.dcx_tab.proofs.RowLaws.{gcd_of-dvd_entry, entry-added, entry-scaled}
 use Rattle.dcx_tab.proofs.Programs.{has_row, map_at, from_plain, plain_count_le, length_first, length_basis, at_row, at_objective, at_phase, basic_row, basic_objective, basic_phase, widths}
 use Rattle.dcx_simplex.specs.Start.{IsStart, IsSumRow}
-use Rattle.dcx_simplex.proofs.ReadLists.{same_nat, both_true}
+use Rattle.dcx_simplex.proofs.ReadLists.{both_true}
 
 -- ---- a row with three more numbers
 module _ (es : List ℤ) (a b c : ℤ) where
@@ -133,8 +133,8 @@ same_test a = grind (arith, nat_tests)
 
 told_other : (k : ColumnKind) (i l : ℕ) (start negated : Bool) (z : ℤ) → may_start i start k ≡ true → l ≢ i → told_entry l negated k z ≡ pos 0
 told_other (Unknown u n) i l start negated z h m = cc
-told_other (Slack r) i l start negated z h m = let e = same_nat r i (both_true (nat_eq r i) (not start) h) in let d = different r l (λ q. m (sym q ∙ e)) in rw d refl
-told_other (Artificial r) i l start negated z h m = let e = same_nat r i h in let d = different r l (λ q. m (sym q ∙ e)) in rw d refl
+told_other (Slack r) i l start negated z h m = let e = eqb-true r i (both_true (nat_eq r i) (not start) h) in let d = different r l (λ q. m (sym q ∙ e)) in rw d refl
+told_other (Artificial r) i l start negated z h m = let e = eqb-true r i h in let d = different r l (λ q. m (sym q ∙ e)) in rw d refl
 
 second_true : (a b : Bool) → a && b ≡ true → b ≡ true
 second_true true b h = h

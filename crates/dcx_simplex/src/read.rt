@@ -217,7 +217,7 @@ pub fn read_costs<T: Tableau>(
         slope: Frac::zero(),
         columns: Fracs::from_vec(columns),
         rows: RowNotes::from_vec(notes),
-        ray: Fracs::from_vec(Vec::new(alloc)),
+        ray: Fracs::new(alloc),
     })
 }
 

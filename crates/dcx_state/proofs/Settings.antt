@@ -1,42 +1,13 @@
 -- Values by name, and those of some names.
-use Rattle.std.proofs.Common.{◌≡◌, ◌≢◌, ℕ, zero, suc, ◌+◌, ◌<◌, Bool, true, false, List, [], ◌∷◌, ◌++◌, length, take, Option, Some, None, option_map, refl, sym, ap, ap₂, ◌∙◌, arith, cond, true≢false, subst}
+use Rattle.std.proofs.Common.{◌≡◌, ℕ, zero, suc, ◌+◌, ◌<◌, Bool, true, false, List, [], ◌∷◌, ◌++◌, length, take, Option, Some, None, option_map, refl, sym, ap, ap₂, ◌∙◌, cond}
 use Rattle.std.specs.Prelude.{filter}
-use Rattle.std.specs.List.{slice_get, AllByRecursion, IsDistinct}
+use Rattle.std.specs.List.{slice_get, IsDistinct}
 use Rattle.std.proofs.lemmas.Option.{none-some, same_Some, slice_get_within, get_or_from_slice_get}
 use Rattle.dcx_atom.specs.declared.array.Array.{Array}
 use Rattle.dcx_point.specs.Pairs.{Pairs, same_name, names_of, array_of, with_array, AreDistinct}
 use Rattle.dcx_tree.proofs.Sublists.{filter_kept, filter_dropped}
-use Rattle.dcx_point.proofs.Puts.{same_name-refl, same_name-false, absent}
-
--- the pair that has a name
-pair_at : (ps : Pairs) (i : ℕ) (name : List ℕ) → slice_get (names_of ps) i ≡ Some name → (a : Array) × (slice_get ps i ≡ Some (name, a))
-pair_at [] i name e = absurd (none-some name e)
-pair_at (p ∷ ps) zero name e = (p.1, ap (λ n. Some (n, p.1)) (same_Some p.0 name e))
-pair_at (p ∷ ps) (suc i) name e = pair_at ps i name e
-
-name_there : (ps : Pairs) (i : ℕ) → i < length ps → ¬ (slice_get (names_of ps) i ≡ None)
-name_there [] i lt e = omega arith
-name_there (p ∷ ps) zero lt e = cc
-name_there (p ∷ ps) (suc i) lt e = name_there ps i (omega arith) e
-
-all_at : (P : List ℕ → Type 0) (ps : Pairs) (i : ℕ) (x : List ℕ × Array) → AllByRecursion P (names_of ps) → slice_get ps i ≡ Some x → P x.0
-all_at P [] i x all e = absurd (none-some x e)
-all_at P (p ∷ ps) zero x all e = subst (λ (z : List ℕ × Array). P z.0) (same_Some p x e) all.0
-all_at P (p ∷ ps) (suc i) x all e = all_at P ps i x all.1 e
-
-unlike : (a b : List ℕ) → same_name a b ≡ false → a ≢ b
-unlike a b e f = true≢false (sym (same_name-refl a) ∙ ap (same_name a) f ∙ e)
-
--- its array is that of its name
-array_at : (ps : Pairs) (i : ℕ) (x : List ℕ × Array) → AreDistinct ps → slice_get ps i ≡ Some x → array_of ps x.0 ≡ Some x.1
-unfolding IsDistinct
-array_at [] i x d e = absurd (none-some x e)
-array_at (p ∷ ps) zero x d e =
-    let s : same_name x.0 p.0 ≡ true = ap (λ (z : List ℕ × Array). same_name x.0 z.0) (same_Some p x e) ∙ same_name-refl x.0 in
-    rw s (ap (λ (z : List ℕ × Array). Some z.1) (same_Some p x e))
-array_at (p ∷ ps) (suc i) x d e =
-    let s : same_name x.0 p.0 ≡ false = same_name-false x.0 p.0 (λ f. unlike p.0 x.0 (all_at (λ n. same_name p.0 n ≡ false) ps i x d.0 e) (sym f)) in
-    rw s (array_at ps i x d.1 e)
+use Rattle.dcx_point.proofs.Puts.{absent}
+use Rattle.dcx_point.proofs.Names.{pair_at, name_there, all_at, unlike, array_at}
 
 -- a name has no array among those that are left of the pairs before it
 none_before : (test : List ℕ × Array → Bool) (ps : Pairs) (i : ℕ) (x : List ℕ × Array) → AreDistinct ps → slice_get ps i ≡ Some x → array_of (filter test (take i ps)) x.0 ≡ None
@@ -46,7 +17,7 @@ none_before test (p ∷ ps) zero x d e = refl
 none_before test (p ∷ ps) (suc i) x d e = by (none_before test ps i x d.1 e) (test p)
   where
     s : same_name x.0 p.0 ≡ false
-    s = same_name-false x.0 p.0 (λ f. unlike p.0 x.0 (all_at (λ n. same_name p.0 n ≡ false) ps i x d.0 e) (sym f))
+    s = unlike p.0 x.0 (all_at (λ n. same_name p.0 n ≡ false) ps i x d.0 e)
 
     by : array_of (filter test (take i ps)) x.0 ≡ None → (b : Bool) → array_of (cond b (p ∷ filter test (take i ps)) (filter test (take i ps))) x.0 ≡ None
     by rest true = rw s rest

@@ -2,6 +2,7 @@
 use Rattle.std.proofs.Common.{◌≡◌, ℕ, zero, suc, ◌≤◌, ◌<◌, ◌^◌, Bool, true, nat_lt, nat_eq, List, [], ◌∷◌, ◌++◌, length, map, take, get_or, append-nil, ◌+◌, Some, refl, sym, ap, ◌∙◌, subst, arith}
 use Rattle.std.specs.Bool.{Decides, one_answer}
 use Rattle.std.specs.List.{slice_get, list_all}
+use Rattle.std.proofs.lemmas.Bool.{and_parts}
 use Rattle.std.proofs.lemmas.Bool.Decides.{Decides-ltb, Decides-eqb}
 use Rattle.std.proofs.lemmas.List.{take_more, map-append, length-map}
 use Rattle.std.proofs.lemmas.List.Elements.{filter_map-append}
@@ -20,7 +21,7 @@ use Rattle.dcx_kinds.specs.declared.value.Value.TheVariants as values
 use Rattle.dcx_kinds.specs.Meant.{meant}
 use Rattle.dcx_kinds.specs.Values.{Value, plain, text, truth, nothing, tuple, list, range, library, expression, constraint, objective, problem, result}
 use Rattle.dcx_state.specs.Declarations.{as_constraint, constraint_list, is_objective, has_sides, are_sides}
-use Rattle.dcx_state.proofs.SameCalls.{both, two, sides_decide}
+use Rattle.dcx_state.proofs.SameCalls.{two, sides_decide}
 
 -- ---- nodes
 -- the node may be an objective
@@ -41,8 +42,8 @@ constraint_decides nodes c =
 
 test_at : {X : Type 0} (p : X → Bool) (xs : List X) (k : ℕ) (x : X) → list_all p xs ≡ true → slice_get xs k ≡ Some x → p x ≡ true
 test_at p [] k x e at = absurd (none-some x at)
-test_at p (y ∷ xs) zero x e at = ap p (sym (same_Some y x at)) ∙ (both (p y) (list_all p xs) e).0
-test_at p (y ∷ xs) (suc k) x e at = test_at p xs k x (both (p y) (list_all p xs) e).1 at
+test_at p (y ∷ xs) zero x e at = ap p (sym (same_Some y x at)) ∙ (and_parts (p y) (list_all p xs) e).0
+test_at p (y ∷ xs) (suc k) x e at = test_at p xs k x (and_parts (p y) (list_all p xs) e).1 at
 
 all_pass : {X : Type 0} (p : X → Bool) (xs : List X) → ((k : ℕ) (x : X) → slice_get xs k ≡ Some x → p x ≡ true) → list_all p xs ≡ true
 all_pass p [] h = refl

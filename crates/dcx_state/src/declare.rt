@@ -9,10 +9,10 @@ ghost use Rattle.dcx_state.specs.Declarations.{declared_shape, variable_with, pa
 use crate::flags::Flags;
 use crate::state::State;
 use dcx_arena::Count;
-use dcx_atom::Array;
-use dcx_call::{Call, Parameter, Variable, copy_array, copy_name};
+use dcx_atom::{Array, copy_array};
+use dcx_call::{Call, Parameter, Variable};
 use dcx_kinds::{ElabFault, Extent, Reading, Value, numbers_read, too_many};
-use dcx_shape::{Name, Place, Shape};
+use dcx_shape::{Name, Place, Shape, copy_name};
 use std::alloc::{AllocError, Global};
 use std::rc::Rc;
 

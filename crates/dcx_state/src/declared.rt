@@ -6,8 +6,8 @@ ghost use Rattle.dcx_call.specs.Attributes.{IsSquare, AreSquare};
 ghost use Rattle.dcx_tree.specs.Problems.{declared_names};
 ghost use Rattle.dcx_state.specs.Lists.{is_among};
 
-use dcx_call::{Parameter, Variable, copy_name};
-use dcx_shape::Name;
+use dcx_call::{Parameter, Variable};
+use dcx_shape::{Name, copy_name};
 use std::alloc::{AllocError, Global};
 use std::collections::HashSet;
 use std::marker::Model;

@@ -13,10 +13,11 @@ ghost use Rattle.dcx_state.specs.Ends.{asked_for, roots_in, Stands, Ends};
 
 use crate::state::{Asked, State};
 use dcx_arena::Count;
-use dcx_call::{Parameter, Variable, copy_array, copy_name, copy_parameter, copy_variable};
+use dcx_atom::copy_array;
+use dcx_call::{Parameter, Variable, copy_parameter, copy_variable};
 use dcx_kinds::{ElabFault, Objective, Value, too_many};
 use dcx_point::Setting;
-use dcx_shape::{Name, Place};
+use dcx_shape::{Name, Place, copy_name};
 use dcx_tree::{Constraint, Constraints, Parameters, Problem, Roots, Variables, gather};
 use std::alloc::{AllocError, Global};
 use std::collections::HashSet;

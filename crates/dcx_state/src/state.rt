@@ -9,10 +9,9 @@ ghost use Rattle.dcx_state.specs.Declarations.{start};
 
 use crate::declared::Declared;
 use dcx_arena::Count;
-use dcx_call::copy_name;
 use dcx_kinds::{ElabFault, Objective, Value, too_many};
 use dcx_point::Setting;
-use dcx_shape::{Name, Place};
+use dcx_shape::{Name, Place, copy_name};
 use dcx_syntax::Named;
 use dcx_tree::{Constraint, Tree};
 use indexmap::IndexMap;

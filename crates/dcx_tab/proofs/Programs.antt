@@ -14,7 +14,7 @@ use Rattle.dcx_tab.specs.Program.{IsProgram, IsProgramRow, kind_at, first_basic_
 use Rattle.dcx_tab.specs.Cells.{row_of, table_rows, joined}
 use Rattle.dcx_tab.proofs.CellLaws.{row_at-table}
 use Rattle.dcx_tab.proofs.Joined.{length-joined, table_rows-joined}
-use Rattle.dcx_tab.proofs.Pigeons.{pigeons}
+use Rattle.dcx_math.proofs.Pigeons.{pigeons}
 
 -- ---- a row that there is
 pub record HasRow (rows : List IntRow) (i : ℕ) : Type 0 where

@@ -3,6 +3,7 @@ pub mod Bytes
 pub mod Digits
 pub mod Faults
 pub mod Fractions
+pub mod Fronts
 pub mod Kept
 pub mod Lengths
 pub mod Nesting

@@ -1,13 +1,12 @@
 -- The nodes that a node reaches, and marks for them.
-use Rattle.std.proofs.Common.{◌≡◌, ℕ, zero, suc, ◌+◌, ◌<◌, ◌≤◌, ◌⊎◌, inl, inr, Bool, true, false, List, [], ◌∷◌, ◌++◌, length, get_or, take, Option, refl, sym, subst, ◌∙◌, ◌↔◌, arith, replicate}
+use Rattle.std.proofs.Common.{◌≡◌, ℕ, zero, suc, ◌+◌, ◌<◌, ◌≤◌, ◌⊎◌, inl, inr, Bool, true, false, List, [], ◌∷◌, ◌++◌, length, get_or, take, refl, sym, subst, ◌∙◌, ◌↔◌, arith, replicate}
 use Rattle.std.proofs.Math.ListN.{set}
 use Rattle.std.proofs.lemmas.Bool.{cases_eq}
-use Rattle.std.proofs.lemmas.List.{get_or-set_same, get_or-set_other, take_more, length-replicate, get_or_default}
-use Rattle.dcx_shape.specs.declared.shape.Sides.{Sides}
-use Rattle.dcx_arena.specs.Nodes.{Node, AreNodes, args_at}
+use Rattle.std.proofs.lemmas.List.{get_or-set_same, get_or-set_other, take_more, get_or_default}
+use Rattle.dcx_arena.specs.Nodes.{Node, args_at}
 use Rattle.dcx_arena.specs.Gather.{has}
 use Rattle.dcx_arena.specs.Unfold.{Leads, IsReached}
-use Rattle.dcx_arena.proofs.Orders.{has_one, one_is, has_left, has_right, has_split, arg_below, not_true}
+use Rattle.dcx_arena.proofs.Orders.{has_one, one_is, has_left, has_right, has_split, not_true}
 use Rattle.dcx_tree.specs.Values.{IsMarked}
 
 module _ {C : Type 0} (nodes : List (Node C)) where
@@ -104,47 +103,6 @@ pub unmarked : (n i : ℕ) → IsMarked (replicate n false) i → ⊥
 unmarked zero i m = cc
 unmarked (suc n) zero m = cc
 unmarked (suc n) (suc i) m = unmarked n i m
-
--- marks of nodes that `root` reaches, where all arguments of marked nodes from n on are marked
-pub record IsMarking {C : Type 0} (nodes : List (Node C)) (root n : ℕ) (marks : List Bool) : Type 0 where
-  pub root_marked : IsMarked marks root
-  pub sound : (j : ℕ) → IsMarked marks j → IsReached nodes (root ∷ []) j
-  pub closed : AreClosed nodes marks n
-
-module _ {C : Type 0} (gives : C → List Sides → Option Sides) (nodes : List (Node C)) (are : AreNodes gives nodes) (root : ℕ) where
-  pub marking_none : (size : ℕ) → root < size → IsMarking nodes root (root + 1) (set (replicate size false) root true)
-  marking_none size lt =
-      let l : length (replicate size false) ≡ size = length-replicate size false in
-      let one : (j : ℕ) → IsMarked (set (replicate size false) root true) j → root ≡ j = λ j m. elim ((mark_one (replicate size false) root (omega (arith, l, lt)) j).0 m) [
-        | inl was ↦ absurd (unmarked size j was)
-        | inr e ↦ e
-      ] in
-      record {
-        root_marked = (mark_one (replicate size false) root (omega (arith, l, lt)) root).1 (inr refl);
-        sound = λ j m. subst (λ z. IsReached nodes (root ∷ []) z) (one j m) (reached_self nodes root);
-        closed = λ i a le m of. let e = one i m in absurd (omega (arith, e, le));
-      }
-
-  -- the arguments of a node that is marked are marked
-  pub marking_more : (i n : ℕ) (marks now : List Bool) → n ≡ i + 1 → IsMarking nodes root n marks →
-      ((j : ℕ) → IsMarked now j ↔ (IsMarked marks j ⊎ (IsMarked marks i × (has (args_at nodes i) j ≡ true)))) → IsMarking nodes root i now
-  marking_more i n marks now e h more = record {
-    root_marked = (more root).1 (inl h.root_marked);
-    sound = λ j k. elim ((more j).0 k) [
-      | inl was ↦ h.sound j was
-      | inr p ↦ reached_through nodes root i j (h.sound i p.0) (reached_arg nodes i j p.1)
-    ];
-    closed = λ j a le k of. elim ((more j).0 k) [
-      | inl was ↦ elim (cases_eq j i) [
-        | inl z ↦ (more a).1 (inr (subst (IsMarked marks) z was, subst (λ y. has (args_at nodes y) a ≡ true) z of))
-        | inr other ↦ (more a).1 (inl (h.closed j a (omega (arith, le, e, other)) was of))
-      ]
-      | inr p ↦ let less = arg_below gives nodes are i j p.1 in absurd (omega (arith, less, le))
-    ];
-  }
-
-  pub marking_all : (marks : List Bool) → IsMarking nodes root 0 marks → (i : ℕ) → IsMarked marks i ↔ IsReached nodes (root ∷ []) i
-  marking_all marks h i = (h.sound i, all_marked nodes marks root h.closed h.root_marked i)
 
 -- ---- what is read of marks
 pub mark_at : (marks : List Bool) (i : ℕ) (b : Bool) → i < length marks → b ≡ get_or marks i b → get_or marks i false ≡ b

@@ -1,14 +1,15 @@
 -- What is formed of a node from the values of its arguments is the node's value.
-use Rattle.std.proofs.Common.{◌≡◌, ℕ, zero, suc, ◌<◌, ◌≤◌, inl, inr, IsOk, Bool, true, false, if◌then◌else◌, List, [], ◌∷◌, length, map, get_or, Option, Some, option_map, refl, sym, ap, ap₂, ◌∙◌, subst, arith, pos}
+use Rattle.std.proofs.Common.{◌≡◌, ℕ, zero, suc, ◌<◌, ◌≤◌, inl, inr, IsOk, Bool, true, false, if◌then◌else◌, List, [], ◌∷◌, length, map, replicate, get_or, Option, Some, option_map, refl, sym, ap, ap₂, ◌∙◌, subst, arith, pos}
 use Rattle.std.specs.Prelude.{nat_lt}
 use Rattle.std.specs.List.{slice_get}
 use Rattle.std.specs.Option.{unwrap_or}
 use Rattle.std.proofs.Math.Path.{fun_ext}
 use Rattle.std.proofs.lemmas.Bool.{ltb-true, ltb-false}
-use Rattle.std.proofs.lemmas.Option.{same_Some, slice_get-map}
+use Rattle.std.proofs.lemmas.Option.{none-some, same_Some, slice_get-map}
 use Rattle.dcx_math.specs.Rational.{ℚ, whole, ◌+ℚ◌, ◌*ℚ◌, ◌/ℚ◌}
 use Rattle.dcx_math.specs.Sums.{rat_sum_by}
 use Rattle.dcx_frac.specs.declared.fraction.Frac.{Frac}
+use Rattle.dcx_frac.specs.Frac.{value}
 use Rattle.dcx_shape.specs.declared.shape.Sides.{Sides}
 use Rattle.dcx_shape.specs.declared.shape.Sides.TheVariants.{Scalar}
 use Rattle.dcx_shape.specs.Shape.{sides_of}
@@ -29,11 +30,12 @@ use Rattle.dcx_convex.specs.Nodes.{Numbers, first_of, arguments, value_by}
 use Rattle.dcx_convex.proofs.LawsHold.{nodes_are_told}
 use Rattle.dcx_call.specs.declared.call.Call.{Call}
 use Rattle.dcx_call.specs.declared.call.Call.TheVariants as calls
-use Rattle.dcx_call.specs.Calls.{own_sides, shape_of}
+use Rattle.dcx_call.specs.Calls.{shape_of}
 use Rattle.dcx_call.specs.Values as call_values
 use Rattle.dcx_call.specs.Values.{given_by, call_value, entry_formed, formed_at, IsValue}
 use Rattle.dcx_call.specs.Forming.{IsStop}
 use Rattle.dcx_call.proofs.Entries.{stop_alike}
+use Rattle.dcx_call.proofs.CallLaws.{own_is}
 use Rattle.dcx_tree.specs.Nodes.{Names, Node, head_of, arg_sides, convex_node, convex_nodes, numbers_by, source_value}
 use Rattle.dcx_tree.specs.Values.{IsNamed, AreNamed, node_formed, IsFormed, IsValueOf, AreArguments, IsNodeStop}
 use Rattle.dcx_tree.proofs.Lawful.{tree_lawful}
@@ -42,13 +44,24 @@ use Rattle.dcx_tree.proofs.Values.{taken}
 use Rattle.dcx_tree.proofs.Marks.{reached_self, reached_arg, reached_through, reached_cases}
 
 -- ---- entries
+pub number_there : (xs : List Frac) (j : ℕ) (x : Frac) → slice_get xs j ≡ Some x → number_at xs j ≡ value x
+number_there [] j x e = absurd (none-some x e)
+number_there (y ∷ xs) zero x e = ap value (same_Some y x e)
+number_there (y ∷ xs) (suc j) x e = number_there xs j x e
+
+-- zeros alone are 0 past their end too
+pub all_zero : (n : ℕ) (x : Frac) → value x ≡ whole (pos 0) → (j : ℕ) → number_at (replicate n x) j ≡ whole (pos 0)
+all_zero zero x e j = refl
+all_zero (suc n) x e zero = e
+all_zero (suc n) x e (suc j) = all_zero n x e j
+
 pub number_past : (xs : List Frac) (j : ℕ) → length xs ≤ j → number_at xs j ≡ whole (pos 0)
 number_past [] j h = refl
 number_past (x ∷ xs) zero h = absurd (omega arith)
 number_past (x ∷ xs) (suc j) h = number_past xs j (omega arith)
 
 -- a number that is that of f below a size, and 0 from there on
-first_alike : (n : ℕ) (f : Numbers) (x : ℚ) (j : ℕ) → (j < n → x ≡ f j) → (n ≤ j → x ≡ whole (pos 0)) → x ≡ first_of n f j
+pub first_alike : (n : ℕ) (f : Numbers) (x : ℚ) (j : ℕ) → (j < n → x ≡ f j) → (n ≤ j → x ≡ whole (pos 0)) → x ≡ first_of n f j
 first_alike n f x j below past = by (nat_lt j n) refl
   where
     by : (b : Bool) → nat_lt j n ≡ b → x ≡ (if b then f j else whole (pos 0))
@@ -56,15 +69,11 @@ first_alike n f x j below past = by (nat_lt j n) refl
     by false e = past (ltb-false j n e)
 
 -- ---- the value of a call
-own_is : (own : Sides) (args : List Sides) (sides : Sides) → own_sides own args ≡ Some sides → own ≡ sides
-own_is own [] sides e = same_Some own sides e
-own_is own (a ∷ rest) sides e = cc
-
-products_same : (a : Entries) (xs : List Pair) → convex_pairs.products_at (map (λ x. record { left = x.left; right = x.right }) xs) a ≡ rat_sum_by (λ p. a 0 p.left *ℚ a 1 p.right) xs
+pub products_same : (a : Entries) (xs : List Pair) → convex_pairs.products_at (map (λ x. record { left = x.left; right = x.right }) xs) a ≡ rat_sum_by (λ p. a 0 p.left *ℚ a 1 p.right) xs
 products_same a [] = refl
 products_same a (x ∷ xs) = ap (λ u. a 0 x.left *ℚ a 1 x.right +ℚ u) (products_same a xs)
 
-quotients_same : (a : Entries) (xs : List Pair) → convex_pairs.quotients_at (map (λ x. record { left = x.left; right = x.right }) xs) a ≡ rat_sum_by (λ p. a 0 p.left /ℚ a 1 p.right) xs
+pub quotients_same : (a : Entries) (xs : List Pair) → convex_pairs.quotients_at (map (λ x. record { left = x.left; right = x.right }) xs) a ≡ rat_sum_by (λ p. a 0 p.left /ℚ a 1 p.right) xs
 quotients_same a [] = refl
 quotients_same a (x ∷ xs) = ap (λ u. a 0 x.left /ℚ a 1 x.right +ℚ u) (quotients_same a xs)
 

@@ -12,8 +12,8 @@ use crate::problem::Problem;
 use crate::roots::Roots;
 use crate::tree::Tree;
 use dcx_arena::{NodeId, TreeFault};
-use dcx_call::{Call, Parameter, Variable, copy_name, copy_parameter, copy_variable};
-use dcx_shape::Name;
+use dcx_call::{Call, Parameter, Variable, copy_parameter, copy_variable};
+use dcx_shape::{Name, copy_name};
 use std::alloc::{AllocError, Global};
 use std::collections::HashSet;
 

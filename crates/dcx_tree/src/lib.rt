@@ -17,6 +17,7 @@
 //! | the value of a node is that of the finite tree to which its arguments unfold | `laws::values_unfold`, `specs/Expressions.antt` |
 //! | the value of a node from what is kept of its arguments, or why it isn't formed | `node_value` |
 //! | whether each leaf is given an array of its shape | `Tree::is_given` |
+//! | which nodes some roots reach is told of each node | `reached_from` |
 //! | ids are nodes, arguments stand first, each node is reached and numbered as it is first finished, both sides of a constraint have its shape, what is listed is what stands in the tree, symmetric and diagonal variables are square | the type `Problem`, `specs/Problems.antt` |
 //! | whether nodes may be the objective and the sides of the constraints of a problem | `Tree::is_objective`, `Tree::has_shape`, `Tree::is_constraint`, `Tree::are_constraints` |
 //! | a problem is gathered whole and without anything else, and want of memory is the only fault | `gather`, `specs/Gather.antt` |
@@ -45,6 +46,7 @@ pub use dcx_point::{Point, Setting};
 pub use gathering::gather;
 pub use lists::{Constraints, Parameters, Variables};
 pub use problem::Problem;
+pub use reached::reached_from;
 pub use roots::Roots;
 pub use tree::Tree;
 pub use value::{kept_value, node_value};

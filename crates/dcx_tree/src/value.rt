@@ -8,11 +8,10 @@ ghost use Rattle.dcx_call.specs.Values.{IsGiven};
 ghost use Rattle.dcx_tree.specs.Nodes.{Node};
 ghost use Rattle.dcx_tree.specs.Values.{AreGiven, IsValueOf, IsValueStop, IsMarked, array_at, AreValues, AreArguments, IsNodeStop};
 
-use crate::reached::reached_by;
+use crate::reached::reached_from;
 use crate::tree::Tree;
 use dcx_arena::NodeId;
-use dcx_atom::{Array, ValueStop};
-use dcx_call::copy_array;
+use dcx_atom::{Array, ValueStop, copy_array};
 use dcx_point::{Point, Setting};
 use std::alloc::{AllocError, Global};
 use std::slice;
@@ -46,7 +45,7 @@ impl Tree {
         ensures ok { IfOk result (IsValueOf self.now setting.now point.now node.0) }
         ensures stop { IfErr result (IsValueStop self.now setting.now point.now node.0) }
     {
-        let reached = match reached_by(alloc, self, node) {
+        let reached = match reached_from(alloc, self, &[node]) {
             Ok(reached) => reached,
             Err(_) => return Err(ValueStop::Memory),
         };

@@ -94,7 +94,7 @@ fn roots(alloc: Global) -> Result<Roots, CaseFault> {
         objective_place: START,
         constraints,
         variables: variables(alloc)?,
-        parameters: Parameters::from_vec(Vec::new(alloc)),
+        parameters: Parameters::new(alloc),
     })
 }
 

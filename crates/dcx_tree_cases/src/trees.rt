@@ -60,14 +60,22 @@ fn asked(
         ["nodes"] => Ok(put_nodes(out, tree)?),
         ["node", node] => Ok(put_node(out, tree, count(node)?)?),
         ["args", node] => Ok(put_args(alloc, tree, count(node)?, out)?),
-        ["part", ref roots @ ..] => {
-            let roots = ids(alloc, roots)?;
-            put_part(out, &gathered(tree, alloc, &roots)?)
-        }
-        ["ends", ref roots @ ..] => {
-            let roots = ids(alloc, roots)?;
-            put_ends(out, &gathered(tree, alloc, &roots)?)
-        }
+        [verb, ref roots @ ..] => part_asked(alloc, tree, verb, &ids(alloc, roots)?, out),
+        _ => Err(CaseFault::Unreadable),
+    }
+}
+
+/// What is asked of the part that roots reach.
+fn part_asked(
+    alloc: Global,
+    tree: &Tree<Call>,
+    verb: &str,
+    roots: &[NodeId],
+    out: &mut String,
+) -> Result<(), CaseFault> {
+    match verb {
+        "part" => put_part(out, &gathered(tree, alloc, roots)?),
+        "ends" => put_ends(out, &gathered(tree, alloc, roots)?),
         _ => Err(CaseFault::Unreadable),
     }
 }

@@ -21,7 +21,7 @@ use Rattle.dcx_tree.specs.Meaning.{names_in, IsInDomain}
 use Rattle.dcx_tree.proofs.Lawful.{mapped}
 use Rattle.dcx_tree.proofs.Names.{found_in}
 use Rattle.dcx_tree.proofs.Sublists.{contains_at, distinct_front}
-use Rattle.dcx_domain.proofs.Few.{few_variables}
+use Rattle.dcx_tree.proofs.Few.{few_variables}
 use Rattle.dcx_unknowns.specs.Unknowns.{sides_in, variable_unknowns, point_at}
 use Rattle.dcx_unknowns.specs.Laws.{IsVariable, KeepsDomain, AreKept, StandForDomain}
 use Rattle.dcx_unknowns.proofs.Owners.{few_unknowns}

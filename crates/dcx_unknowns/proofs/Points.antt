@@ -24,7 +24,7 @@ use Rattle.dcx_tree.specs.Nodes.{attribute_of, variable_attribute}
 use Rattle.dcx_linear.specs.declared.row.UnknownKind.{UnknownKind}
 use Rattle.dcx_linear.specs.FormTerms.{Unknowns}
 use Rattle.dcx_linear.specs.Rows.{IsOfKind, AreOfKinds}
-use Rattle.dcx_domain.proofs.Places.{entry_here, place_here}
+use Rattle.dcx_shape.proofs.EntryPlaces.{entry_here, place_here}
 use Rattle.dcx_unknowns.specs.Own.{row_in, column_in, mirror_of, source_of, own_before}
 use Rattle.dcx_unknowns.specs.Unknowns.{demanded, sides_in, Owner, kind_of, variable_kinds, first_unknown, unknown_in, unknown_from, number_at, array_from, point_at, nobody, owners, unknowns_of}
 use Rattle.dcx_unknowns.specs.Laws.{IsVariable, HasOwn, AreKept, AreAlike, StandForPoints}

@@ -12,7 +12,7 @@ use Rattle.dcx_shape.specs.Places.{HasEntry, row_place, places_below}
 use Rattle.dcx_shape.proofs.Entries.{place_below}
 use Rattle.dcx_call.specs.declared.attribute.Attribute.{Attribute}
 use Rattle.dcx_call.specs.declared.attribute.Attribute.TheVariants.{Free, Nonneg, Nonpos, Symmetric, Diag}
-use Rattle.dcx_domain.proofs.Places.{entry_here, place_here}
+use Rattle.dcx_shape.proofs.EntryPlaces.{entry_here, place_here}
 use Rattle.dcx_unknowns.specs.Own.{row_in, column_in, is_own, mirror_of, source_of, own_before, listed_for}
 use Rattle.dcx_unknowns.specs.Unknowns.{unknown_in}
 use Rattle.dcx_call.specs.Attributes.{IsSquareFor}

@@ -1,41 +1,26 @@
 -- Nodes that reach no variable, and that a divisor of an accepted problem is one of them.
-use Rattle.std.proofs.Common.{◌≡◌, inl, inr, ℕ, Bool, true, false, List, [], ◌∷◌, map, Option, Some, None, option_map, slice_get, refl, sym, ap, ◌∙◌, subst}
+use Rattle.std.proofs.Common.{◌≡◌, ℕ, Bool, true, false, List, [], ◌∷◌, map, Option, Some, None, option_map, slice_get, refl, sym, ap, ◌∙◌, subst}
 use Rattle.std.specs.Option.{unwrap_or}
-use Rattle.std.specs.List.{list_all}
-use Rattle.std.proofs.lemmas.Bool.{and_parts, false≢true}
+use Rattle.std.proofs.lemmas.Bool.{false≢true}
 use Rattle.std.proofs.lemmas.Option.{none-some, slice_get-map, get_or_from_slice_get}
-use Rattle.dcx_shape.specs.declared.shape.Sides.{Sides}
 use Rattle.dcx_affine.specs.declared.pairing.Pairing.TheVariants.{Times, MatTimes, Over}
 use Rattle.dcx_arena.specs.Nodes.{IsNode, args_at}
 use Rattle.dcx_arena.specs.Gather.{has}
 use Rattle.dcx_arena.specs.Unfold.{IsReached, Leads}
-use Rattle.dcx_arena.proofs.Orders.{has_from, head_or, one_is}
+use Rattle.dcx_arena.proofs.Orders.{has_from, one_is}
 use Rattle.dcx_convex.specs.Rules.{Plain, Judgement, no_argument, argument, fixed_by, judgement_by, judgement_at}
 use Rattle.dcx_convex.proofs.Told.{judgement_tells}
 use Rattle.dcx_call.specs.declared.attribute.Variable.{Variable}
 use Rattle.dcx_call.specs.declared.call.Call.{Call}
 use Rattle.dcx_call.specs.declared.call.Call.TheVariants as calls
-use Rattle.dcx_call.specs.Calls.{own_sides, shape_of}
+use Rattle.dcx_call.specs.Calls.{shape_of}
 use Rattle.dcx_tree.specs.declared.problem.Problem.{Problem}
 use Rattle.dcx_tree.specs.Nodes.{Node, head_of, arg_sides, convex_node}
 use Rattle.dcx_tree.specs.Meaning.{names_in, convex_problem, IsAccepted}
+use Rattle.dcx_tree.proofs.Arguments.{no_args, all_fixed}
 use Rattle.dcx_tree.proofs.Lawful.{tree_lawful}
 use Rattle.dcx_recession.proofs.Reached.{tree_side_fixed}
 use Rattle.dcx_values.specs.Forming.{IsFixedNode, divisor_if, divisor_in, IsBelowDivisor}
-
--- what has its own sides has no arguments
-no_args : (own sides : Sides) (f : ℕ → Sides) (ids : List ℕ) (a : ℕ) → own_sides own (map f ids) ≡ Some sides → has ids a ≡ true → ⊥
-no_args own sides f [] a e h = cc
-no_args own sides f (i ∷ ids) a e h = cc
-
-all_fixed : (judged : ℕ → Judgement) (ids : List ℕ) (a : ℕ) → list_all (λ g. g.fixed) (map judged ids) ≡ true → has ids a ≡ true → (judged a).fixed ≡ true
-all_fixed judged [] a t h = absurd (cc)
-all_fixed judged (b ∷ ids) a t h =
-    let q = and_parts (judged b).fixed (list_all (λ g. g.fixed) (map judged ids)) t in
-    elim (head_or b a ids h) [
-      | inl e ↦ subst (λ z. (judged z).fixed ≡ true) e q.0
-      | inr r ↦ all_fixed judged ids a q.1 r
-    ]
 
 -- the quotient of a divisor
 over : (call : Call) (o : Option ℕ) (d : ℕ) → divisor_if (Some call) o ≡ Some d → (call ≡ calls.Pairing Over) × (o ≡ Some d)

@@ -4,23 +4,23 @@ use Rattle.std.proofs.lemmas.Option.{slice_get-map, slice_get_within, get_or_fro
 use Rattle.dcx_math.specs.Rational.{whole}
 use Rattle.dcx_shape.specs.declared.shape.Sides.{Sides}
 use Rattle.dcx_shape.specs.Sides.{entries_of}
-use Rattle.dcx_affine.specs.declared.pairing.Pairing.TheVariants.{Times, MatTimes, Over}
+use Rattle.dcx_affine.specs.declared.pairing.Pairing.TheVariants.{Over}
 use Rattle.dcx_point.specs.Pairs.{Pairs}
 use Rattle.dcx_arena.specs.Nodes as arena
 use Rattle.dcx_arena.specs.Nodes.{IsNode}
 use Rattle.dcx_convex.specs.Nodes as nodes
-use Rattle.dcx_convex.specs.Nodes.{Numbers, Point, EachNode, HasNoZeroDivisor, zeros, arguments}
+use Rattle.dcx_convex.specs.Nodes.{Numbers, Point, zeros, arguments}
 use Rattle.dcx_convex.specs.Rules.{Plain}
 use Rattle.dcx_convex.proofs.Signs.{value_fixed}
 use Rattle.dcx_call.specs.declared.call.Call.{Call}
 use Rattle.dcx_call.specs.declared.call.Call.TheVariants as calls
 use Rattle.dcx_call.specs.Calls.{shape_of, sides_of_two}
 use Rattle.dcx_tree.specs.declared.problem.Problem.{Problem}
-use Rattle.dcx_tree.specs.Nodes.{Node, head_of, arg_sides, convex_node, numbers_by, source_value}
+use Rattle.dcx_tree.specs.Nodes.{Node, arg_sides, numbers_by, source_value}
 use Rattle.dcx_tree.specs.Meaning.{names_in, convex_problem, setting_of, IsAccepted, value_at as problem_value}
-use Rattle.dcx_tree.proofs.Lawful.{mapped}
 use Rattle.dcx_tree.proofs.NodeValues.{sides_are}
 use Rattle.dcx_fit.specs.Laws.{DividesByNoZero}
+use Rattle.dcx_fit.proofs.Divisors.{divides}
 use Rattle.dcx_fit.proofs.Fitting.{fitting_holds}
 use Rattle.dcx_values.specs.Forming.{dividing_if, divisors}
 use Rattle.dcx_values.specs.Laws.{DivisorsAreNotZero}
@@ -47,24 +47,11 @@ module _ (p : Problem) (setting : Pairs) (ok : IsAccepted p) (passes : (divisors
       value_fixed Plain (convex_problem p).nodes (setting_of p setting) (numbers_by (names_in p).variables []) x d (divisor_fixed p ok i d found) in
       here j (subst (λ (s : Sides). j < entries_of s) (sym (sides_are p.tree i n at)) b) (ap (λ (f : Numbers). f j) same ∙ sym (ap (λ (f : Numbers). f j) one) ∙ e)
 
-  node_divides : (x : Point) (i : ℕ) (n : Node) → IsNode p.tree i n → (call : Call) → n.call ≡ call →
-      HasNoZeroDivisor (head_of (names_in p) call (arg_sides p.tree n) n.sides) (map (λ a. problem_value p (setting_of p setting) x a) n.args)
-  node_divides x i n at (calls.Variable v) is = tt
-  node_divides x i n at (calls.Parameter q) is = tt
-  node_divides x i n at (calls.Constant c) is = tt
-  node_divides x i n at (calls.Atom m) is = tt
-  node_divides x i n at (calls.Linear l) is = tt
-  node_divides x i n at (calls.Pairing Times) is = tt
-  node_divides x i n at (calls.Pairing MatTimes) is = tt
-  node_divides x i n at (calls.Pairing Over) is = λ j b. divisor_nonzero x i n at is j b
-
-  pub divides : DividesByNoZero p (setting_of p setting)
-  divides x i m there =
-      let (n, at, same) = mapped (convex_node (names_in p) p.tree) p.tree i m there in
-      subst (λ (m : nodes.Node). HasNoZeroDivisor m.head (map (nodes.value_at (convex_problem p).nodes (setting_of p setting) x) m.args)) same (node_divides x i n at n.call refl)
+  not_zero : DividesByNoZero p (setting_of p setting)
+  not_zero = divides p (setting_of p setting) divisor_nonzero
 
 pub divisors_hold : DivisorsAreNotZero
 divisors_hold = record {
-  nonzero = λ p setting ok h. divides p setting ok h;
-  fitting = λ p setting ok fits h. (fitting_holds p setting).1 (fits, divides p setting ok h);
+  nonzero = λ p setting ok h. not_zero p setting ok h;
+  fitting = λ p setting ok fits h. (fitting_holds p setting).1 (fits, not_zero p setting ok h);
 }

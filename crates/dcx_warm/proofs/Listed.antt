@@ -3,7 +3,7 @@ use Rattle.std.proofs.Common.{◌≡◌, ◌≢◌, ℕ, suc, ◌+◌, ◌<◌, 
 use Rattle.std.proofs.lemmas.Bool.{cases_lt}
 use Rattle.dcx_tab.specs.Rows.{basic_at}
 use Rattle.dcx_tab.specs.Table.{Table}
-use Rattle.dcx_tab.proofs.Pigeons.{pigeons}
+use Rattle.dcx_math.proofs.Pigeons.{pigeons}
 use Rattle.dcx_warm.specs.Install.{IsColumnList, AllBasic}
 
 module _ (columns : List ℕ) (t : Table) (list : IsColumnList t.plain columns) (count : length columns + 2 ≡ length t.rows) (all : AllBasic columns t) where

@@ -1,7 +1,7 @@
 -- Points in boxes: the sides of a box, and the box of all whole points.
-use Rattle.std.proofs.Common.{◌≡◌, ℕ, ◌<◌, Bool, true, false, ◌&&◌, if◌then◌else◌, nat_lt, nat_eq, ◌⊎◌, inl, inr, ℤ, pos, ◌+ℤ◌, ◌≤ℤ◌, ◌<ℤ◌, Option, Some, None, slice_get, refl, sym, subst, arith}
+use Rattle.std.proofs.Common.{◌≡◌, ℕ, ◌<◌, Bool, true, false, if◌then◌else◌, nat_lt, nat_eq, ◌⊎◌, inl, inr, ℤ, pos, ◌+ℤ◌, ◌≤ℤ◌, ◌<ℤ◌, Option, Some, None, slice_get, refl, sym, subst, arith}
+use Rattle.std.proofs.lemmas.Bool.{eqb-true, and_parts, ltb-true}
 use Rattle.std.proofs.lemmas.Int.{ints}
-use Rattle.std.proofs.lemmas.Bool.Decides.{nat_tests}
 use Rattle.dcx_math.specs.Rational.{ℚ, whole, ◌≤ℚ◌}
 use Rattle.dcx_math.proofs.IntegerLaws.{≤ℤ-or-<ℤ}
 use Rattle.dcx_math.proofs.Orders.{whole-≤ℤ, ≤ℚ-from_≡}
@@ -16,23 +16,16 @@ use Rattle.dcx_whole.specs.Points.{IsMarked, IsWhole, KeepsMark, KeepsMarks}
 use Rattle.dcx_whole.specs.Boxes.{Bounds, unbounded, IsWithin, Box, IsInBox, mark_bounds, root_bounds, root_box, is_entry, at_most, at_least}
 
 -- ---- the sides of a box
-equal : (a b : ℕ) → nat_eq a b ≡ true → a ≡ b
-equal a b h = grind (arith, nat_tests)
-
 -- a number within two bounds is within the chosen ones
 chosen : (c : Bool) (b d : Bounds) (x : ℚ) → (c ≡ true → IsWithin b x) → IsWithin d x → IsWithin (if c then b else d) x
 chosen true b d x h w = h refl
 chosen false b d x h w = w
 
-both : (a b : Bool) → (a && b) ≡ true → (a ≡ true) × (b ≡ true)
-both true b h = (refl, h)
-both false b h = absurd (cc)
-
 -- what is told of the entry is told where the test holds
 at_entry : (P : ℕ → ℕ → Type 0) (k j i h : ℕ) → is_entry k j i h ≡ true → P k j → P i h
 at_entry P k j i h e w =
-    let (a, b) = both (nat_eq i k) (nat_eq h j) e in
-    subst (λ i'. P i' h) (sym (equal i k a)) (subst (λ h'. P k h') (sym (equal h j b)) w)
+    let (a, b) = and_parts (nat_eq i k) (nat_eq h j) e in
+    subst (λ i'. P i' h) (sym (eqb-true i k a)) (subst (λ h'. P k h') (sym (eqb-true h j b)) w)
 
 pub in_at_most : (box : Box) (x : Point) (k j : ℕ) (n : ℤ) → IsInBox box x → x k j ≤ℚ whole n → IsInBox (at_most box k j n) x
 in_at_most box x k j n b w i h =
@@ -78,14 +71,11 @@ mark_within Boolean x h =
     let below : pos 0 ≤ℤ pos 1 = omega (arith, ints) in
     record { lower = tt; upper = elim h [ inl e ↦ subst (λ u. u ≤ℚ whole (pos 1)) (sym e) (whole-≤ℤ (pos 0) (pos 1) below) | inr e ↦ ≤ℚ-from_≡ e ] }
 
-below_test : (a b : ℕ) → nat_lt a b ≡ true → a < b
-below_test a b h = grind (arith, nat_tests)
-
 root_within : (p : Problem) (x : Point) (k j : ℕ) (o : Option Variable) → slice_get p.variables k ≡ o → KeepsMarks p x → IsWithin (root_bounds o j) (x k j)
 root_within p x k j None e h = free (x k j)
 root_within p x k j (Some v) e h =
     chosen (nat_lt j (entries_of (sides_of v.shape))) (mark_bounds v.whole) unbounded (x k j)
-    (λ t. mark_within v.whole (x k j) (h k j v (record { variable = e; entry = below_test j (entries_of (sides_of v.shape)) t })))
+    (λ t. mark_within v.whole (x k j) (h k j v (record { variable = e; entry = ltb-true j (entries_of (sides_of v.shape)) t })))
     (free (x k j))
 
 pub root_has_all : (p : Problem) (x : Point) → KeepsMarks p x → IsInBox (root_box p) x

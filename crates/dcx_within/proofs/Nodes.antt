@@ -24,6 +24,7 @@ use Rattle.dcx_call.specs.Atoms.{atom_meaning}
 use Rattle.dcx_call.specs.Linears.{linear_meaning}
 use Rattle.dcx_call.specs.Calls.{shape_of}
 use Rattle.dcx_call.specs.Values.{given_by, entry_formed}
+use Rattle.dcx_call.proofs.CallLaws.{own_is}
 use Rattle.dcx_convex.specs.Rules.{Rules}
 use Rattle.dcx_tree.specs.declared.problem.Problem.{Problem}
 use Rattle.dcx_tree.specs.Nodes.{Node, arg_sides, number_in as number_of_name}
@@ -38,7 +39,6 @@ use Rattle.dcx_unknowns.specs.Layout.{is_reduced, first_aux, aux_at, call_aux, a
 use Rattle.dcx_unknowns.proofs.Domains.{number_is}
 use Rattle.dcx_reduced.proofs.Lists.{Each, each_nil, each_map}
 use Rattle.dcx_reduced.proofs.OwnGraphs.{atom_own}
-use Rattle.dcx_reduced.proofs.CallEntries.{own_is}
 use Rattle.dcx_reduced.proofs.NodeForms.{node_at}
 use Rattle.dcx_entries.specs.declared.entries.EntryForms.{EntryForms}
 use Rattle.dcx_entries.specs.declared.scaling.Scaling.{Scaling}

@@ -4,7 +4,7 @@ use Rattle.std.specs.List.{slice_get}
 use Rattle.std.proofs.lemmas.Option.{slice_get_read}
 use Rattle.std.proofs.lemmas.Result.{err_from_is_err_and}
 use Rattle.dcx_call.specs.declared.attribute.Variable.{Variable}
-use Rattle.dcx_domain.proofs.Few.{few_variables}
+use Rattle.dcx_tree.proofs.Few.{few_variables}
 use Rattle.dcx_bound.specs.Variables.{variable_check}
 use Rattle.dcx_bound.proofs.Stepping.{first_fails, one_more, variable_passes, variable_fails}
 use Rattle.dcx_bound.proofs.variables.check_variables.Goals as goal

@@ -3,7 +3,7 @@ use Rattle.std.proofs.Common.{◌<◌, List, length, Ok, sym, subst, arith}
 use Rattle.std.proofs.lemmas.Result.{err_from_is_err_and}
 use Rattle.dcx_call.specs.declared.attribute.Variable.{Variable}
 use Rattle.dcx_tree.specs.Meaning.{setting_of}
-use Rattle.dcx_domain.proofs.Few.{few_variables}
+use Rattle.dcx_tree.proofs.Few.{few_variables}
 use Rattle.dcx_unknowns.specs.Unknowns.{variable_unknowns}
 use Rattle.dcx_unknowns.proofs.Domains.{unknowns_few}
 use Rattle.dcx_branch.specs.declared.answer.WholeAnswer.{WholeAnswer}

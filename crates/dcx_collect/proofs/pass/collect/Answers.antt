@@ -20,9 +20,9 @@ loop-k-preserved g c =
     let m = c.nodes-count.result - 1 - k in
     let start : Kept = record { below = c.args.table.items; reached = c.new.result.items; total = c.zero.result } in (
       c.in_ok-pass_one.ensures.below ∙ ap (start_of nodes) (omega (arith, c.nodes-count.ensures.count, c.loop-k-test.true)),
-      pass_next nodes c.args.given.now.values.now (g.W.NodeWeights.weights c.args.weights.now) n k m start (kept_of c.loop-k.state) (kept_of c.pass_one.new.state)
+      pass_next nodes c.args.given.now.values.now (g.W.CallWeights.weights c.args.weights.now) n k m start (kept_of c.loop-k.state) (kept_of c.pass_one.new.state)
           (omega (arith, c.nodes-count.ensures.count, c.loop-k-test.true)) c.loop-k.invariant.1 c.in_ok-pass_one.ensures.ok,
-      one_more (λ i. array_at c.args.given.now.values.now i ≡ None → HasFractions nodes i (g.W.NodeWeights.weights c.args.weights.now i)) n k m (omega (arith, c.nodes-count.ensures.count, c.loop-k-test.true))
+      one_more (λ i. array_at c.args.given.now.values.now i ≡ None → HasFractions nodes i (g.W.CallWeights.weights c.args.weights.now i)) n k m (omega (arith, c.nodes-count.ensures.count, c.loop-k-test.true))
           c.in_ok-pass_one.ensures.fractions c.loop-k.invariant.2,
     )
 
@@ -31,7 +31,7 @@ returns-in_err-pass_one-clause-stop g c =
     let r = err_from_is_err_and c.from_residual.result c.from_residual.ensures.1 in
     let nodes = c.args.given.now.tree.now in
     let values = c.args.given.now.values.now in
-    let weights = g.W.NodeWeights.weights c.args.weights.now in
+    let weights = g.W.CallWeights.weights c.args.weights.now in
     let n = length nodes in
     let k = c.loop-k.k in
     let m = c.nodes-count.result - 1 - k in
@@ -44,7 +44,7 @@ pub returns-clause-ok : goal.returns-clause-ok
 returns-clause-ok g c =
     let nodes = c.args.given.now.tree.now in
     let values = c.args.given.now.values.now in
-    let weights = g.W.NodeWeights.weights c.args.weights.now in
+    let weights = g.W.CallWeights.weights c.args.weights.now in
     let n = length nodes in
     let start : Kept = record { below = c.args.table.items; reached = c.new.result.items; total = c.zero.result } in
     all_passed nodes values weights n (n - c.loop-k.k) c.args.table.items start (kept_of c.loop-k.state) c.from_vec.result (omega (arith, c.nodes-count.ensures.count, c.loop-k-test.false))

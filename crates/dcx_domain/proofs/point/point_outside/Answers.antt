@@ -3,7 +3,7 @@ use Rattle.std.proofs.Common.{List, length, IsNone, ◌↔◌, ap, subst, arith}
 use Rattle.std.specs.List.{All}
 use Rattle.dcx_call.specs.declared.attribute.Variable.{Variable}
 use Rattle.dcx_domain.specs.Points.{IsInside}
-use Rattle.dcx_domain.proofs.Few.{few_variables}
+use Rattle.dcx_tree.proofs.Few.{few_variables}
 use Rattle.dcx_domain.proofs.Points.{points_hold}
 use Rattle.dcx_domain.proofs.point.point_outside.Goals as goal
 

@@ -1,5 +1,5 @@
 use Rattle.std.proofs.Common.{subst, sym, arith, length, ◌<◌}
-use Rattle.dcx_domain.proofs.Few.{few_variables, few_parameters}
+use Rattle.dcx_tree.proofs.Few.{few_variables, few_parameters}
 use Rattle.dcx_front.proofs.accepted.found.Goals as goal
 
 pub variable_entries-requires : goal.variable_entries-requires

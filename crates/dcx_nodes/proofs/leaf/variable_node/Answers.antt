@@ -1,6 +1,6 @@
 -- The variable is listed, and its unknowns are its own.
 use Rattle.std.proofs.Common.{◌≡◌, [], get_or, map, ap, ◌∙◌, arith}
-use Rattle.dcx_domain.proofs.Few.{few_variables}
+use Rattle.dcx_tree.proofs.Few.{few_variables}
 use Rattle.dcx_tree.specs.Nodes.{number_in}
 use Rattle.dcx_nodes.proofs.AtNode.{the_node}
 use Rattle.dcx_call.specs.declared.call.Call.TheVariants as calls

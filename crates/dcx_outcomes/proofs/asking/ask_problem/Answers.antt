@@ -1,9 +1,8 @@
 -- The outcomes of the session's problem; the steps of the beginning and those of the settings.
 use Rattle.std.proofs.Common.{length, sym, subst}
-use Rattle.std.specs.Prelude.{IfOk, OnOk}
+use Rattle.std.specs.Prelude.{IfOk}
 use Rattle.dcx_tree.specs.declared.problem.Problem.{Problem}
 use Rattle.dcx_outcomes.specs.Asking.{AreAskedOutcomes}
-use Rattle.dcx_outcomes.specs.Outcomes.{Counts}
 use Rattle.dcx_outcomes.proofs.Counting.{both_ok, counts}
 use Rattle.dcx_outcomes.proofs.asking.ask_problem.Goals as goal
 
@@ -12,15 +11,12 @@ ask_session-outcomes-requires g c = subst (g.Q.Question.can_ask c.args.question.
 
 pub returns-clause-outcomes : goal.returns-clause-outcomes
 returns-clause-outcomes g c =
-    let asked = c.ask_session-outcomes.result in
-    let here = subst (λ (z : Problem). IfOk asked (λ v. AreAskedOutcomes (g.Q.Question.gives c.args.question.now) g.Q.Question.told_end g.Q.Question.told_place z c.args.settings.now v.items))
-    c.in_ok-session.ensures.problem c.ask_session-outcomes.ensures.outcomes in
-    subst (λ r. IfOk r (λ v. AreAskedOutcomes (g.Q.Question.gives c.args.question.now) g.Q.Question.told_end g.Q.Question.told_place c.args.problem c.args.settings.now v.items)) (sym c.ended.ensures) here
+    subst (λ (z : Problem). IfOk c.ask_session-outcomes.result (λ v. AreAskedOutcomes (g.Q.Question.gives c.args.question.now) g.Q.Question.told_end g.Q.Question.told_place z c.args.settings.now v.items))
+    c.in_ok-session.ensures.problem c.ask_session-outcomes.ensures.outcomes
 
 pub returns-clause-counted : goal.returns-clause-counted
 returns-clause-counted g c =
-    subst (λ r. OnOk r (Counts c.args.problem (length c.args.settings.now) c.args.steps.now c.ask_session-outcomes.new.steps)) (sym c.ended.ensures)
-    (both_ok c.ask_session-outcomes.result _ _ _
+    both_ok c.ask_session-outcomes.result _ _ _
     (λ kept few. counts c.args.problem c.in_ok-session.session.problem c.in_ok-session.session.cached (length c.args.settings.now) c.args.steps.now c.begin.new.steps c.ask_session-outcomes.new.steps c.in_ok-session.ensures.problem c.in_ok-session.ensures.counted
     c.in_ok-session.ensures.cached c.in_ok-session.ensures.few kept few)
-    c.ask_session-outcomes.ensures.counted c.ask_session-outcomes.ensures.few)
+    c.ask_session-outcomes.ensures.counted c.ask_session-outcomes.ensures.few

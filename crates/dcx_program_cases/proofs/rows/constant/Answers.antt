@@ -1,5 +1,5 @@
 -- A constant names no unknown.
-use Rattle.dcx_program_cases.proofs.Widths.{constant_narrow}
+use Rattle.dcx_linear.proofs.Narrow.{constant_narrow}
 use Rattle.dcx_program_cases.proofs.rows.constant.Goals as goal
 
 pub returns : goal.returns

@@ -1,5 +1,5 @@
 -- A multiple of an unknown below the count.
-use Rattle.dcx_program_cases.proofs.Widths.{unknown_narrow, multiple_narrow}
+use Rattle.dcx_linear.proofs.Narrow.{unknown_narrow, multiple_narrow}
 use Rattle.dcx_program_cases.proofs.rows.multiple.Goals as goal
 
 pub returns : goal.returns

@@ -1,5 +1,5 @@
 -- A sum names no other unknowns.
-use Rattle.dcx_program_cases.proofs.Widths.{sum_narrow}
+use Rattle.dcx_linear.proofs.Narrow.{sum_narrow}
 use Rattle.dcx_program_cases.proofs.rows.sum.Goals as goal
 
 pub returns : goal.returns

@@ -1,15 +1,9 @@
 -- Each number is 0.
-use Rattle.std.proofs.Common.{◌≡◌, ℕ, zero, suc, List, replicate, refl, ap, ◌∙◌, pos}
-use Rattle.dcx_math.specs.Rational.{whole}
+use Rattle.std.proofs.Common.{List, ap, ◌∙◌}
 use Rattle.dcx_frac.specs.declared.fraction.Frac.{Frac}
-use Rattle.dcx_frac.specs.Frac.{value}
 use Rattle.dcx_atom.specs.Arrays.{number_at}
+use Rattle.dcx_tree.proofs.NodeValues.{all_zero}
 use Rattle.dcx_rays.proofs.node.zeros.Goals as goal
-
-all_zero : (n : ℕ) (x : Frac) → value x ≡ whole (pos 0) → (j : ℕ) → number_at (replicate n x) j ≡ whole (pos 0)
-all_zero zero x e j = refl
-all_zero (suc n) x e zero = e
-all_zero (suc n) x e (suc j) = all_zero n x e j
 
 pub returns-clause-numbers : goal.returns-clause-numbers
 returns-clause-numbers c = λ j.

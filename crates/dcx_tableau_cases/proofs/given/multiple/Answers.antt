@@ -1,5 +1,5 @@
 -- A multiple of an unknown names no other.
-use Rattle.dcx_tableau_cases.proofs.Widths.{unknown_narrow, multiple_narrow}
+use Rattle.dcx_linear.proofs.Narrow.{unknown_narrow, multiple_narrow}
 use Rattle.dcx_tableau_cases.proofs.given.multiple.Goals as goal
 
 pub returns : goal.returns

@@ -1,5 +1,5 @@
 -- A sum names no unknowns but those of its parts.
-use Rattle.dcx_tableau_cases.proofs.Widths.{sum_narrow}
+use Rattle.dcx_linear.proofs.Narrow.{sum_narrow}
 use Rattle.dcx_tableau_cases.proofs.given.sum.Goals as goal
 
 pub returns : goal.returns

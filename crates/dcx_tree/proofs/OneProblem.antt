@@ -16,7 +16,7 @@ use Rattle.dcx_tree.specs.Nodes.{Node}
 use Rattle.dcx_tree.specs.Kept.{AreNodes-prop, AreSquare-prop}
 use Rattle.dcx_tree.specs.Problems.{IsObjective, AreConstraints, IsNumbered, AreDeclared, sides_in, roots_of}
 use Rattle.dcx_tree.specs.Gather.{positions_of, has_variable, has_parameter, Demand, demand_of, IsProblemOf}
-use Rattle.dcx_front.proofs.OneGathering.{one_gathering}
+use Rattle.dcx_arena.proofs.OneGathering.{one_gathering}
 
 -- a demand on two nodes is one constraint
 one_constraint : (c d : Constraint) → demand_of c ≡ demand_of d → c.left.0 ≡ d.left.0 → c.right.0 ≡ d.right.0 → c ≡ d

@@ -1,8 +1,8 @@
 -- The arguments of the marked nodes from the last down are marked.
 use Rattle.std.proofs.Common.{◌≡◌, ℕ, ◌+◌, length}
 use Rattle.dcx_arena.specs.Nodes.{positions}
-use Rattle.dcx_rays.proofs.Marking.{IsMarking}
-use Rattle.dcx_rays.proofs.reached.reached_from.Given as goal
+use Rattle.dcx_tree.proofs.Marking.{IsMarking}
+use Rattle.dcx_tree.proofs.reached.reached_from.Given as goal
 
 abbrev pub invariant-loop-k : goal.invariant-loop-k
 invariant-loop-k l = record {

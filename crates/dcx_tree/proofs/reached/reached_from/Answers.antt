@@ -5,15 +5,15 @@ use Rattle.dcx_arena.specs.Nodes.{positions}
 use Rattle.dcx_arena.specs.Gather.{has}
 use Rattle.dcx_tree.specs.Values.{IsMarked}
 use Rattle.dcx_tree.proofs.Forming.{args_below}
-use Rattle.dcx_rays.proofs.Marking.{IsMarking, marking_none, marking_more, marking_all}
-use Rattle.dcx_rays.proofs.reached.reached_from.Goals as goal
+use Rattle.dcx_tree.proofs.Marking.{IsMarking, marking_none, marking_more, marking_all}
+use Rattle.dcx_tree.proofs.reached.reached_from.Goals as goal
 
 pub mark_all-requires : goal.mark_all-requires
 mark_all-requires c =
     let made : c.in_ok-marks.marks.items ≡ replicate c.nodes-count.result false = search rules in
     let l = length-replicate c.nodes-count.result false in
     let size : length c.args.tree.now ≡ length c.in_ok-marks.marks.items = omega (arith, ap length made, l, c.nodes-count.ensures.count) in
-    subst (λ n. All (λ (r : ℕ). r < n) (positions c.args.roots.now)) size c.requires.roots
+    subst (λ n. All (λ (r : ℕ). r < n) (positions c.args.roots.now)) size c.requires
 
 pub loop-k-init : goal.loop-k-init
 loop-k-init c =
@@ -33,7 +33,7 @@ loop-k-init c =
 pub mark_args-requires-clause-below : goal.mark_args-requires-clause-below
 mark_args-requires-clause-below c =
     let i : (c.nodes-count.result - 1) - c.loop-k.k < length c.loop-k.marks.items = omega (arith, c.loop-k-test.true, c.loop-k.invariant.count, c.nodes-count.ensures.count) in
-    args_below c.args.tree.now c.requires.nodes ((c.nodes-count.result - 1) - c.loop-k.k) (length c.loop-k.marks.items) i
+    args_below c.args.tree.now c.nodes-count.ensures.nodes ((c.nodes-count.result - 1) - c.loop-k.k) (length c.loop-k.marks.items) i
 
 pub loop-k-preserved : goal.loop-k-preserved
 loop-k-preserved c =
@@ -46,7 +46,7 @@ loop-k-preserved c =
           let z : at ≡ n = omega (arith, e, c.nodes-count.ensures.count) in
           let up : (n + 1) + c.loop-k.k ≡ length nodes = omega (arith, e) in
           subst (λ m. IsMarking nodes roots m c.mark_args.new.marks.items) z
-          (marking_more nodes roots c.requires.nodes at (n + 1) c.loop-k.marks.items c.mark_args.new.marks.items (omega (arith, z)) (c.loop-k.invariant.marking (n + 1) up) c.in_ok-mark_args.ensures.marked);
+          (marking_more nodes roots c.nodes-count.ensures.nodes at (n + 1) c.loop-k.marks.items c.mark_args.new.marks.items (omega (arith, z)) (c.loop-k.invariant.marking (n + 1) up) c.in_ok-mark_args.ensures.marked);
     }
 
 pub returns-clause-marked : goal.returns-clause-marked

@@ -3,7 +3,7 @@ use Rattle.std.proofs.Common.{◌≡◌, ℕ, ◌⊎◌, ◌↔◌, true, length
 use Rattle.dcx_arena.specs.Nodes.{positions}
 use Rattle.dcx_arena.specs.Gather.{has}
 use Rattle.dcx_tree.specs.Values.{IsMarked}
-use Rattle.dcx_rays.proofs.reached.mark_all.Given as goal
+use Rattle.dcx_tree.proofs.reached.mark_all.Given as goal
 
 abbrev pub invariant-loop-a : goal.invariant-loop-a
 invariant-loop-a l = record {

@@ -5,7 +5,7 @@ use Rattle.dcx_arena.specs.Nodes.{positions}
 use Rattle.dcx_arena.proofs.Positions.{length-positions, position_at}
 use Rattle.dcx_tree.proofs.Forming.{each_id}
 use Rattle.dcx_tree.proofs.Marks.{marks_more}
-use Rattle.dcx_rays.proofs.reached.mark_all.Goals as goal
+use Rattle.dcx_tree.proofs.reached.mark_all.Goals as goal
 
 pub loop-a-init : goal.loop-a-init
 loop-a-init c = record { count = refl; marked = λ i. ((λ m. inl m), elim [ inl m ↦ m | inr p ↦ absurd (cc) ]) }

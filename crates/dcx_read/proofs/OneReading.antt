@@ -6,6 +6,7 @@ use Rattle.dcx_tokens.specs.declared.fault.ReadFault.{ReadFault}
 use Rattle.dcx_tokens.specs.declared.fault.ReadFault.TheVariants as fault
 use Rattle.dcx_tokens.specs.declared.token.Token.{Token}
 use Rattle.dcx_tokens.specs.Position.{end_of}
+use Rattle.dcx_tokens.proofs.Fronts.{further}
 use Rattle.dcx_tokens.proofs.OneReading.{one_reading}
 use Rattle.dcx_tokens.proofs.Texts.{text_apart, no_text_one}
 use Rattle.dcx_syntax.specs.declared.tree.Script.{Script}
@@ -18,24 +19,6 @@ use Rattle.dcx_read.specs.Parses.{first_place, IsUnexpectedAt, HasTokens, HasNoT
 use Rattle.dcx_read.proofs.Whole.{apart}
 
 -- ---- the token that is unexpected
--- of two fronts of one list the longer goes on with what stands behind the shorter
-record GoesFurther (front rest longer : List Terminal) : Type 0 where
-  token : Terminal
-  behind : List Terminal
-  more : List Terminal
-  rest_is : rest ≡ token ∷ behind
-  longer_is : longer ≡ front ++ token ∷ more
-
-further : (xs ys us vs : List Terminal) → xs ++ us ≡ ys ++ vs → length xs < length ys → GoesFurther xs us ys
-further [] [] us vs e l = absurd (omega (arith, l))
-further [] (y ∷ ys) us vs e l = record { token = y; behind = ys ++ vs; more = ys; rest_is = e; longer_is = refl }
-further (x ∷ xs) [] us vs e l = absurd (omega (arith, l))
-further (x ∷ xs) (y ∷ ys) us vs e l =
-    let same : y ≡ x = cc in
-    let rest : xs ++ us ≡ ys ++ vs = cc in
-    let r = further xs ys us vs rest (omega (arith, l)) in
-    record { token = r.token; behind = r.behind; more = r.more; rest_is = r.rest_is; longer_is = ap (λ z. z ∷ ys) same ∙ ap (λ zs. x ∷ zs) r.longer_is }
-
 no_further : (us rest other : List Terminal) (u : IsUnexpected us rest) (v : IsUnexpected us other) → length u.front < length v.front → ⊥
 no_further us rest other u v l =
     let r = further u.front v.front rest other (sym u.parts ∙ v.parts) l in

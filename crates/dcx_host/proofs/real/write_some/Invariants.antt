@@ -1,0 +1,6 @@
+-- A write that a signal interrupts appends nothing.
+use Rattle.std.specs.Io.KnownBytes.{Keeps}
+use Rattle.dcx_host.proofs.real.write_some.Given as goal
+
+abbrev pub invariant-tries : goal.invariant-tries
+invariant-tries g l = Keeps (g.W.Write.contents l.initial.writer) (g.W.Write.contents l.writer)
