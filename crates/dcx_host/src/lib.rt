@@ -6,6 +6,7 @@
 //! | a write appends a front of the piece and says how much, or nothing | `Sink` |
 //! | a fault of reading or writing is counted in the call that answers it | `Library`, `Sink`, `Rose` of `specs/Faults.antt` |
 //! | a library and a sink in memory tell what they hold, and fail exactly at the calls that are listed, or never | `MemoryLibrary`, `MemorySink`, `SteadyLibrary`, `SteadySink` |
+//! | a write that a signal interrupts is made again and is no fault, as a read is by the `read_to_end` of the standard library | `retried` of `write_some` in `real.rt` |
 //! | the files and the standard output of the host tell nothing | `FileLibrary`, `OutSink` |
 #![tactic(auto)]
 

@@ -1,12 +1,13 @@
 //! The files of the host as a library, and a writer of the host as a sink. What they hold is not told.
-ghost use Rattle.std.specs.Prelude.{◌≡◌, ◌<◌, ◌≤◌, length, IfOk, IfSome, IsErrOf, None};
+ghost use Rattle.std.specs.Prelude.{◌≡◌, ◌≢◌, ◌<◌, ◌≤◌, length, IfErr, IfOk, IfSome, IsErrOf, None};
+ghost use Rattle.std.specs.IoError.{error_kind};
 ghost use Rattle.std.specs.Io.KnownBytes.{WriteAppends};
 
 use crate::{FetchFault, Library, Sink, SinkFault};
 use dcx_shape::Bytes;
 use std::alloc::Global;
 use std::fs;
-use std::io::{ErrorKind, Read, Write};
+use std::io::{self, Error, ErrorKind, Read, Write};
 use std::rt::Files;
 
 /// The files of the host, by their paths. A file that is missing, or no file, is `Failed`.
@@ -86,19 +87,20 @@ impl<W: Write> OutSink<W> {
     }
 }
 
-// One write, made again where a signal interrupts it, as the reader's `read_to_end` does with a read.
-fn write_some<W: Write>(writer: &mut W, piece: &[u8]) -> Result<usize, SinkFault>
+// One write, made again where a signal interrupts it, as the reader's `read_to_end` does with a read. The limit is there because each
+// function has to end.
+fn write_some<W: Write>(writer: &mut W, piece: &[u8]) -> io::Result<usize>
     ensures size { IfOk result (λ n. n ≤ length piece.now) }
     ensures written { WriteAppends (W.contents writer.old) (W.contents writer.new) result piece.now }
+    ensures retried { IfErr result (λ e. error_kind e ≢ ErrorKind.Interrupted) }
 {
     'tries: for _ in 0..u64::MAX {
         match writer.write(piece) {
-            Ok(count) => return Ok(count),
             Err(error) if error.kind() == ErrorKind::Interrupted => {}
-            Err(_) => return Err(SinkFault::Failed),
+            done => return done,
         }
     }
-    Err(SinkFault::Failed)
+    Err(Error::from(ErrorKind::TimedOut))
 }
 
 impl<W: Write> Sink for OutSink<W> {
