@@ -7,21 +7,17 @@ use Rattle.dcx_report.specs.ReportText.{text_of}
 use Rattle.dcx_answer.specs.declared.stop.Stop.TheVariants.{Memory as StopMemory}
 use Rattle.dcx_report.specs.declared.run.Run.{Run}
 use Rattle.dcx_report.specs.declared.run.Run.TheVariants.{Usage, Refused, Checked, Solved, Branched, Certificates, Certified, CertRefused, Trial, Filtered, Ranged, ReadFault, Memory}
-use Rattle.dcx_report.specs.declared.outcome.Outcome.{Outcome}
 use Rattle.dcx_report.specs.declared.outcome.OutcomeEnd.{OutcomeEnd}
 use Rattle.dcx_report.specs.declared.outcome.OutcomeEnd.TheVariants.{Answer, Stop}
 use Rattle.dcx_answer.specs.declared.filter_stop.FilterStop.TheVariants.{Memory as FilterMemory}
 use Rattle.dcx_report.specs.declared.filter_outcome.FilterEnd.{FilterEnd}
 use Rattle.dcx_report.specs.declared.filter_outcome.FilterEnd.TheVariants as filter
-use Rattle.dcx_report.specs.declared.filter_outcome.FilterOutcome.{FilterOutcome}
 use Rattle.dcx_branch.specs.declared.answer.BranchStop.TheVariants.{Memory as BranchMemory}
 use Rattle.dcx_report.specs.declared.whole_outcome.WholeEnd.{WholeEnd}
 use Rattle.dcx_report.specs.declared.whole_outcome.WholeEnd.TheVariants as whole
-use Rattle.dcx_report.specs.declared.whole_outcome.WholeOutcome.{WholeOutcome}
 use Rattle.dcx_ranged.specs.declared.stop.RangeStop.TheVariants.{Memory as RangeMemory}
 use Rattle.dcx_report.specs.declared.range_outcome.RangeEnd.{RangeEnd}
 use Rattle.dcx_report.specs.declared.range_outcome.RangeEnd.TheVariants as range
-use Rattle.dcx_report.specs.declared.range_outcome.RangeOutcome.{RangeOutcome}
 use Rattle.dcx_top.specs.declared.ended.Ended.{Ended}
 
 -- the setting stopped
@@ -34,9 +30,9 @@ abbrev pub wants_memory : OutcomeEnd → Bool
 wants_memory (Stop StopMemory) = true
 wants_memory _ = false
 
--- the status of outcomes: 5 where one stopped for want of memory, 6 where another one stopped, else 0
-abbrev pub outcomes_status : List Outcome → ℕ
-outcomes_status outcomes = if list_any (λ o. wants_memory o.end) outcomes then 5 else (if list_any (λ o. is_stop o.end) outcomes then 6 else 0)
+-- the status of settings' outcomes: 5 where one stopped for want of memory, 6 where another one stopped, else 0
+abbrev pub status_of_all : {A : Type 0} → (A → Bool) → (A → Bool) → List A → ℕ
+status_of_all stopped wanted outcomes = if list_any wanted outcomes then 5 else (if list_any stopped outcomes then 6 else 0)
 
 -- the same where constraints are filtered
 abbrev pub is_filter_stop : FilterEnd → Bool
@@ -49,9 +45,6 @@ filter_wants_memory (filter.Filter FilterMemory) = true
 filter_wants_memory (filter.Stop StopMemory) = true
 filter_wants_memory _ = false
 
-abbrev pub filters_status : List FilterOutcome → ℕ
-filters_status outcomes = if list_any (λ o. filter_wants_memory o.end) outcomes then 5 else (if list_any (λ o. is_filter_stop o.end) outcomes then 6 else 0)
-
 -- the same of a problem with variables that are to be whole
 abbrev pub is_whole_stop : WholeEnd → Bool
 is_whole_stop (whole.Whole answer) = false
@@ -62,9 +55,6 @@ abbrev pub whole_wants_memory : WholeEnd → Bool
 whole_wants_memory (whole.Branch BranchMemory) = true
 whole_wants_memory (whole.Stop StopMemory) = true
 whole_wants_memory _ = false
-
-abbrev pub wholes_status : List WholeOutcome → ℕ
-wholes_status outcomes = if list_any (λ o. whole_wants_memory o.end) outcomes then 5 else (if list_any (λ o. is_whole_stop o.end) outcomes then 6 else 0)
 
 -- the same where the range of a parameter is told
 abbrev pub is_range_stop : RangeEnd → Bool
@@ -77,22 +67,19 @@ range_wants_memory (range.Range RangeMemory) = true
 range_wants_memory (range.Stop StopMemory) = true
 range_wants_memory _ = false
 
-abbrev pub ranges_status : List RangeOutcome → ℕ
-ranges_status outcomes = if list_any (λ o. range_wants_memory o.end) outcomes then 5 else (if list_any (λ o. is_range_stop o.end) outcomes then 6 else 0)
-
 -- the status where the whole report is written
 abbrev pub status_of : Run → ℕ
 status_of Usage = 2
 status_of (Refused refusal) = 1
 status_of (Checked checked) = 0
-status_of (Solved word sense outcomes warm) = outcomes_status outcomes
-status_of (Branched word sense outcomes) = wholes_status outcomes
+status_of (Solved word sense outcomes warm) = status_of_all (λ o. is_stop o.end) (λ o. wants_memory o.end) outcomes
+status_of (Branched word sense outcomes) = status_of_all (λ o. is_whole_stop o.end) (λ o. whole_wants_memory o.end) outcomes
 status_of (Certificates text stopped) = if stopped then 6 else 0
 status_of (Certified sections) = 0
 status_of (CertRefused section fault) = 7
-status_of (Trial size outcomes) = outcomes_status outcomes
-status_of (Filtered outcomes) = filters_status outcomes
-status_of (Ranged parameter sense outcomes) = ranges_status outcomes
+status_of (Trial size outcomes) = status_of_all (λ o. is_stop o.end) (λ o. wants_memory o.end) outcomes
+status_of (Filtered outcomes) = status_of_all (λ o. is_filter_stop o.end) (λ o. filter_wants_memory o.end) outcomes
+status_of (Ranged parameter sense outcomes) = status_of_all (λ o. is_range_stop o.end) (λ o. range_wants_memory o.end) outcomes
 status_of ReadFault = 3
 status_of Memory = 5
 

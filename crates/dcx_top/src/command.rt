@@ -14,27 +14,23 @@
 //! | an `iis` tells of each setting a feasible point, or the filter's set with a point for each member that keeps the others | `headline`, `causes` |
 //! | no file changes | `same` |
 ghost use Rattle.std.specs.Prelude.{◌≡◌, ◌↔◌, map, string_bytes, None};
-ghost use Rattle.std.specs.List.{list_any};
 ghost use Rattle.dcx_host.specs.Faults.{Rose};
 ghost use Rattle.dcx_words.specs.Commands.{command_of};
 ghost use Rattle.dcx_top.specs.Runs.{Causes};
 ghost use Rattle.dcx_top.specs.Headline.{IsRightRun};
 ghost use Rattle.dcx_top.specs.OneRun.{IsOnlyRun};
 ghost use Rattle.dcx_top.specs.Verdicts.{IsRightVerdict};
-ghost use Rattle.dcx_top.specs.Ended.{Reports, outcomes_status as outcomes_status_of, filters_status as filters_status_of, ranges_status as ranges_status_of, wholes_status as wholes_status_of, status_of, is_stop, wants_memory, is_filter_stop, filter_wants_memory, is_range_stop, range_wants_memory, is_whole_stop, whole_wants_memory};
+ghost use Rattle.dcx_top.specs.Ended.{Reports};
 
 use crate::certifying::{certify, migrate};
 use crate::checking::check;
 use crate::ended::Ended;
 use crate::ranging::range;
 use crate::solving::{Task, resolve, solve, trial};
+use crate::status::status;
 use crate::write::write_all;
-use dcx_answer::Stop;
 use dcx_host::{Library, Sink, SinkFault};
-use dcx_report::{
-    BranchStop, FilterEnd, FilterOutcome, FilterStop, Outcome, OutcomeEnd, RangeEnd, RangeOutcome,
-    RangeStop, Run, WholeEnd, WholeOutcome, report_text,
-};
+use dcx_report::{Run, report_text};
 use dcx_steps::Steps;
 use dcx_words::{Form, plain_form};
 use std::alloc::Global;
@@ -109,158 +105,12 @@ fn answer<L: Library, S: Ledger>(
     }
 }
 
-/// Whether a setting stopped.
-fn has_stop(outcomes: &[Outcome]) -> bool
-    ensures { result ≡ list_any (λ o. is_stop o.end) outcomes.now }
-{
-    outcomes
-        .iter()
-        .any(|outcome| matches!(&outcome.end, OutcomeEnd::Stop(_)))
-}
-
-/// Whether a setting stopped for want of memory.
-fn has_want_of_memory(outcomes: &[Outcome]) -> bool
-    ensures { result ≡ list_any (λ o. wants_memory o.end) outcomes.now }
-{
-    outcomes.iter().any(|outcome| matches!(&outcome.end, OutcomeEnd::Stop(Stop::Memory)))
-}
-
-/// The status of outcomes.
-fn outcomes_status(outcomes: &[Outcome]) -> u8
-    ensures { result ≡ outcomes_status_of outcomes.now }
-{
-    if has_want_of_memory(outcomes) {
-        5
-    } else if has_stop(outcomes) {
-        6
-    } else {
-        0
-    }
-}
-
-/// Whether a setting at which constraints are filtered stopped.
-fn has_filter_stop(outcomes: &[FilterOutcome]) -> bool
-    ensures { result ≡ list_any (λ o. is_filter_stop o.end) outcomes.now }
-{
-    outcomes.iter().any(|outcome| matches!(&outcome.end, FilterEnd::Filter(_) | FilterEnd::Stop(_)))
-}
-
-/// Whether a setting at which constraints are filtered stopped for want of memory.
-fn has_filter_want(outcomes: &[FilterOutcome]) -> bool
-    ensures { result ≡ list_any (λ o. filter_wants_memory o.end) outcomes.now }
-{
-    outcomes.iter().any(|outcome| {
-        matches!(
-            &outcome.end,
-            FilterEnd::Filter(FilterStop::Memory) | FilterEnd::Stop(Stop::Memory)
-        )
-    })
-}
-
-/// The status of outcomes at which constraints are filtered.
-fn filters_status(outcomes: &[FilterOutcome]) -> u8
-    ensures { result ≡ filters_status_of outcomes.now }
-{
-    if has_filter_want(outcomes) {
-        5
-    } else if has_filter_stop(outcomes) {
-        6
-    } else {
-        0
-    }
-}
-
-/// Whether a setting at which a problem with variables that are to be whole is solved stopped.
-fn has_whole_stop(outcomes: &[WholeOutcome]) -> bool
-    ensures { result ≡ list_any (λ o. is_whole_stop o.end) outcomes.now }
-{
-    outcomes.iter().any(|outcome| matches!(&outcome.end, WholeEnd::Branch(_) | WholeEnd::Stop(_)))
-}
-
-/// Whether one stopped for want of memory.
-fn has_whole_want(outcomes: &[WholeOutcome]) -> bool
-    ensures { result ≡ list_any (λ o. whole_wants_memory o.end) outcomes.now }
-{
-    outcomes.iter().any(|outcome| {
-        matches!(
-            &outcome.end,
-            WholeEnd::Branch(BranchStop::Memory) | WholeEnd::Stop(Stop::Memory)
-        )
-    })
-}
-
-/// The status of outcomes at which a problem with variables that are to be whole is solved.
-fn wholes_status(outcomes: &[WholeOutcome]) -> u8
-    ensures { result ≡ wholes_status_of outcomes.now }
-{
-    if has_whole_want(outcomes) {
-        5
-    } else if has_whole_stop(outcomes) {
-        6
-    } else {
-        0
-    }
-}
-
-/// Whether a setting at which a parameter's range is told stopped.
-fn has_range_stop(outcomes: &[RangeOutcome]) -> bool
-    ensures { result ≡ list_any (λ o. is_range_stop o.end) outcomes.now }
-{
-    outcomes.iter().any(|outcome| matches!(&outcome.end, RangeEnd::Range(_) | RangeEnd::Stop(_)))
-}
-
-/// Whether a setting at which a parameter's range is told stopped for want of memory.
-fn has_range_want(outcomes: &[RangeOutcome]) -> bool
-    ensures { result ≡ list_any (λ o. range_wants_memory o.end) outcomes.now }
-{
-    outcomes.iter().any(|outcome| {
-        matches!(
-            &outcome.end,
-            RangeEnd::Range(RangeStop::Memory) | RangeEnd::Stop(Stop::Memory)
-        )
-    })
-}
-
-/// The status of outcomes at which a parameter's range is told.
-fn ranges_status(outcomes: &[RangeOutcome]) -> u8
-    ensures { result ≡ ranges_status_of outcomes.now }
-{
-    if has_range_want(outcomes) {
-        5
-    } else if has_range_stop(outcomes) {
-        6
-    } else {
-        0
-    }
-}
-
-/// The status of a run whose whole report is written.
-fn status(run: &Run) -> u8
-    ensures { result ≡ status_of run.now }
-{
-    match run {
-        Run::Usage => 2,
-        Run::Refused(_) => 1,
-        Run::Checked(_) => 0,
-        Run::Solved { outcomes, .. } => outcomes_status(outcomes.as_slice()),
-        Run::Branched { outcomes, .. } => wholes_status(outcomes.as_slice()),
-        Run::Certificates { stopped: true, .. } => 6,
-        Run::Certificates { stopped: false, .. } => 0,
-        Run::Certified { .. } => 0,
-        Run::CertRefused { .. } => 7,
-        Run::Trial { outcomes, .. } => outcomes_status(outcomes.as_slice()),
-        Run::Filtered { outcomes } => filters_status(outcomes.as_slice()),
-        Run::Ranged { outcomes, .. } => ranges_status(outcomes.as_slice()),
-        Run::ReadFault => 3,
-        Run::Memory => 5,
-    }
-}
-
 /// All that the program does: it carries out the words and writes the report of the run to the sink.
 ///
 /// `words` are the words after the program's name. Files are fetched from `library`: the script first, the settings file once the
-/// script gives an accepted problem, which for a `range` has a range for its parameter, and the certificate once the settings are read. `steps` counts the nodes that are reduced. Want of memory is the one free answer: as
-/// `Run::Memory`, as the stop of an outcome, or in place of the report, and each has the status 5.
+/// script gives an accepted problem, which for a `range` has a range for its parameter, and the certificate once the settings are
+/// read. `steps` counts the nodes that are reduced. Want of memory is the one free answer: as `Run::Memory`, as the stop of an
+/// outcome, or in place of the report, and each has the status 5.
 pub fn run<L: Library, K: Sink, S: Ledger>(
     alloc: Global,
     words: &[String],

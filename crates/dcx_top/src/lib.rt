@@ -13,6 +13,7 @@ mod no_range;
 mod ranging;
 mod solving;
 mod stands;
+mod status;
 mod whole;
 mod write;
 

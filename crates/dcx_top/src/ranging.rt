@@ -17,12 +17,14 @@ use crate::files::{read_script, read_settings};
 use crate::no_range::refuse_range;
 use crate::whole::refuse_whole;
 use dcx_cache::Session;
+use dcx_elab::Work;
 use dcx_front::Accepted;
 use dcx_host::Library;
 use dcx_outcomes::range_outcomes;
 use dcx_overlay::all_laid_over;
 use dcx_point::Setting;
 use dcx_report::Run;
+use dcx_rules::Verdict;
 use dcx_settings::Settings;
 use dcx_shape::Name;
 use dcx_steps::Steps;
@@ -91,7 +93,49 @@ fn range_session<L: Library, S: Ledger>(
     }
 }
 
-/// The range of a parameter of an accepted problem at the settings of a file.
+/// The range of a parameter of a script's problem at the settings of a file.
+fn range_work<L: Library, S: Ledger>(
+    alloc: Global,
+    work: Work,
+    verdict: Verdict,
+    settings: &str,
+    name: Name,
+    limit: u64,
+    library: &mut L,
+    steps: &mut Steps<S>,
+) -> Run
+    requires { IsJudged work.problem verdict }
+    ensures run { RangesFrom (L.told library.old) (Rose (L.faults library.old) (L.faults library.new)) work settings.now name limit steps.old steps.new result }
+    ensures same { L.told library.new ≡ L.told library.old }
+    ensures never_falls { L.faults library.old ≤ L.faults library.new }
+{
+    let Work {
+        problem,
+        events,
+        last,
+    } = work;
+    drop(events);
+    match Session::begin(alloc, problem, verdict, steps) {
+        Ok(session) => {
+            let mut session = session;
+            let run = range_session(
+                alloc,
+                &mut session,
+                &last,
+                settings,
+                name,
+                limit,
+                library,
+                steps,
+            );
+            drop(session);
+            run
+        }
+        Err(_) => Run::Memory,
+    }
+}
+
+/// The range of a parameter of an accepted problem at the settings of a file, or its refusal where a variable is to be whole.
 fn range_file<L: Library, S: Ledger>(
     alloc: Global,
     accepted: Accepted,
@@ -109,25 +153,17 @@ fn range_file<L: Library, S: Ledger>(
     if let Some(refusal) = refuse_whole(&accepted.work.problem) {
         return Run::Refused(refusal);
     }
-    let Ok(name) = name_of(alloc, parameter) else {
-        return Run::Memory;
-    };
-    let Accepted { work, verdict } = accepted;
-    let last = work.last;
-    match Session::begin(alloc, work.problem, verdict, steps) {
-        Ok(session) => {
-            let mut session = session;
-            range_session(
-                alloc,
-                &mut session,
-                &last,
-                settings,
-                name,
-                limit,
-                library,
-                steps,
-            )
-        }
+    match name_of(alloc, parameter) {
+        Ok(name) => range_work(
+            alloc,
+            accepted.work,
+            accepted.verdict,
+            settings,
+            name,
+            limit,
+            library,
+            steps,
+        ),
         Err(_) => Run::Memory,
     }
 }
