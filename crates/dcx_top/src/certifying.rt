@@ -47,6 +47,32 @@ pub(crate) fn written(alloc: Global, sections: &Sections, stopped: bool) -> Run
     }
 }
 
+/// What the certificate gives for a problem at settings.
+fn read_at<L: Library>(
+    alloc: Global,
+    problem: Problem,
+    settings: Vec<Setting>,
+    certificate: &str,
+    library: &mut L,
+) -> Result<Certified, Run>
+    ensures reads { IfOk result (λ f. (f.problem ≡ problem) × (f.settings.items ≡ settings.items) × HasTextOf (L.told library.old) certificate.now f.problem f.settings.items f.sections) }
+    ensures ends { IfErr result (λ r. (r ≡ Run.Memory) ⊎ ReadsCertificate (L.told library.old) (Rose (L.faults library.old) (L.faults library.new)) certificate.now problem (length settings.items) (Err r)) }
+    ensures same { L.told library.new ≡ L.told library.old }
+    ensures never_falls { L.faults library.old ≤ L.faults library.new }
+{
+    let Ok(count) = u32::try_from(settings.len()) else {
+        return Err(Run::Memory);
+    };
+    match read_certificate(alloc, certificate, &problem, count, library) {
+        Ok(sections) => Ok(Certified {
+            problem,
+            settings,
+            sections,
+        }),
+        Err(run) => Err(run),
+    }
+}
+
 /// What the certificate gives for an accepted problem at the lines of a settings file.
 fn read_sections<L: Library>(
     alloc: Global,
@@ -61,21 +87,9 @@ fn read_sections<L: Library>(
     ensures same { L.told library.new ≡ L.told library.old }
     ensures never_falls { L.faults library.old ≤ L.faults library.new }
 {
-    let Accepted { work, .. } = accepted;
-    let Ok(settings) = all_laid_over(alloc, &work.last, lines.as_slice()) else {
-        return Err(Run::Memory);
-    };
-    let Ok(count) = u32::try_from(settings.len()) else {
-        return Err(Run::Memory);
-    };
-    let problem = work.problem;
-    match read_certificate(alloc, certificate, &problem, count, library) {
-        Ok(sections) => Ok(Certified {
-            problem,
-            settings,
-            sections,
-        }),
-        Err(run) => Err(run),
+    match all_laid_over(alloc, &accepted.work.last, lines.as_slice()) {
+        Ok(settings) => read_at(alloc, accepted.work.problem, settings, certificate, library),
+        Err(_) => Err(Run::Memory),
     }
 }
 

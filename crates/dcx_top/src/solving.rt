@@ -19,6 +19,7 @@ use crate::certifying::written;
 use crate::files::{ended, read_script, read_settings};
 use crate::whole::{has_whole, refuse_whole};
 use dcx_certificates::certificate;
+use dcx_elab::Work;
 use dcx_front::{Accepted, Refusal, accept};
 use dcx_host::Library;
 use dcx_outcomes::{filter_outcomes, outcomes, whole_outcomes};
@@ -247,6 +248,30 @@ fn do_lines<S: Ledger>(
 }
 
 /// The trial problem is solved at its two settings.
+fn tried_at<S: Ledger>(
+    alloc: Global,
+    work: Work,
+    verdict: Verdict,
+    size: u32,
+    limit: u64,
+    steps: &mut Steps<S>,
+) -> Run
+    requires { IsJudged work.problem verdict }
+    ensures { TriesAt work size limit steps.old steps.new result }
+{
+    let Ok(settings) = trial_settings(alloc, &work.last) else {
+        return Run::Memory;
+    };
+    match outcomes(alloc, work.problem, verdict, &settings, limit, false, steps) {
+        Ok(found) => Run::Trial {
+            size,
+            outcomes: found.outcomes,
+        },
+        Err(_) => Run::Memory,
+    }
+}
+
+/// The trial problem is solved, or refused where a variable of it is to be whole.
 fn solve_trial<S: Ledger>(
     alloc: Global,
     accepted: Accepted,
@@ -257,19 +282,9 @@ fn solve_trial<S: Ledger>(
     requires { IsJudged accepted.work.problem accepted.verdict }
     ensures { OrWhole ⊤ accepted.work.problem (TriesAt accepted.work size limit steps.old steps.new) steps.old steps.new result }
 {
-    if let Some(refusal) = refuse_whole(&accepted.work.problem) {
-        return Run::Refused(refusal);
-    }
-    let Accepted { work, verdict } = accepted;
-    let Ok(settings) = trial_settings(alloc, &work.last) else {
-        return Run::Memory;
-    };
-    match outcomes(alloc, work.problem, verdict, &settings, limit, false, steps) {
-        Ok(found) => Run::Trial {
-            size,
-            outcomes: found.outcomes,
-        },
-        Err(_) => Run::Memory,
+    match refuse_whole(&accepted.work.problem) {
+        Some(refusal) => Run::Refused(refusal),
+        None => tried_at(alloc, accepted.work, accepted.verdict, size, limit, steps),
     }
 }
 
