@@ -81,7 +81,7 @@ fn counted(warm: bool, told: Told) -> Result<Found, AllocError>
 
 /// The outcome of an accepted problem at each setting, in order, with at most `limit` pivots each: what one session answers there, with
 /// the place in the script of the node that a stop names. Where `warm` says so, each setting is answered from the columns that the
-/// settings before it left, and these are counted. `AllocError` where there is no memory for the session or for the list, or where
+/// settings before it left, where that can be, and those that are answered so are counted. `AllocError` where there is no memory for the session or for the list, or where
 /// more settings are warm than a `u32` counts; want of memory at a setting is that setting's stop.
 pub fn outcomes<S: Ledger>(
     alloc: Global,

@@ -5,7 +5,7 @@
 //! | there is one outcome for each setting, in order: the session's answer, or its stop with the place of the node that it names | `outcomes`, `specs/Outcomes.antt`: `AreOutcomes` |
 //! | each answer among them is right for the problem at its setting, which fits, and has the names and shapes of the problem | `laws::outcomes_are_right` |
 //! | settings have one list of outcomes; want of memory is free | `laws::outcomes_are_one` |
-//! | where it is wanted, each setting is answered from the columns that the settings before it left, and these outcomes are counted | `outcomes`, `specs/Warm.antt`: `AreWarmOutcomes` |
+//! | where it is wanted, each setting is answered from the columns that the settings before it left, where that can be, and those that are answered so are counted | `outcomes`, `specs/Warm.antt`: `AreWarmOutcomes` |
 //! | a warm answer is right too; it has the status and the value of the fresh one whenever both answer, and a warm stop is the fresh one's | `laws::warm_outcomes_are_right`, `laws::warm_outcomes_agree` |
 //! | settings have one list of warm outcomes and one count of them, until memory runs out at a setting | `laws::warm_outcomes_are_one` |
 //! | a question is asked of the session's program at each setting, in order: its answer, or what stops the program with the place of the node that it names | `asking.rt`: `Question`, `specs/Asking.antt`: `AreAskedOutcomes` |

@@ -8,7 +8,7 @@
 //! | files are refused exactly where they are at fault, and the problem checked or solved exactly where they are not | `verdict` |
 //! | the usage line comes exactly where the words are no plain form | `usage` |
 //! | the report's text or a front of it is written, with its status | `reports` |
-//! | a `resolve` with `--warm` answers each setting from the columns that the settings before it left, and counts these | `causes` |
+//! | a `resolve` with `--warm` answers each setting from the columns that the settings before it left, where that can be, and counts those | `causes` |
 //! | a `range` tells of each setting how far the parameter may move, and the line that the value of the problem goes along meanwhile | `headline`, `causes` |
 //! | a problem with variables that are to be whole is solved by branch and bound: a whole optimum, or that there is no whole point, with the number of nodes of the run | `headline`, `causes` |
 //! | an `iis` tells of each setting a feasible point, or the filter's set with a point for each member that keeps the others | `headline`, `causes` |
