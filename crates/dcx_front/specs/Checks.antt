@@ -6,9 +6,8 @@ use Rattle.dcx_shape.specs.declared.shape.Shape.{Shape}
 use Rattle.dcx_shape.specs.Shape.{sides_of}
 use Rattle.dcx_shape.specs.Sides.{entries_of}
 use Rattle.dcx_arena.specs.Nodes.{place_at}
-use Rattle.dcx_convex.specs.Nodes.{Setting}
 use Rattle.dcx_tree.specs.declared.problem.Problem.{Problem}
-use Rattle.dcx_tree.specs.Meaning.{sign_at, Fits, IsAccepted, IsDpp, IsConvex}
+use Rattle.dcx_tree.specs.Meaning.{sign_at, IsDpp}
 use Rattle.dcx_rules.specs.declared.fault.Rule.{Rule}
 use Rattle.dcx_rules.specs.declared.fault.RuleSite.{RuleSite}
 use Rattle.dcx_rules.specs.declared.fault.RuleSite.TheVariants.{Node, Objective, Constraint}
@@ -69,9 +68,3 @@ pub record IsFoundOf (p : Problem) (c : Checked) : Type 0 where
   pub parameter_entries : c.parameter_entries ≡ sum_by (λ q. size_of q.shape) p.parameters
   pub constraints : c.constraints ≡ length p.constraints
   pub constraint_entries : c.constraint_entries ≡ sum_by (λ k. size_of k.shape) p.constraints
-
--- the rules accept the problem, it is convex at every fitting setting, and this is found of it
-pub record IsAcceptedWith (p : Problem) (c : Checked) : Type 0 where
-  pub accepted : IsAccepted p
-  pub convex : (s : Setting) → Fits p s → IsConvex p s
-  pub found : IsFoundOf p c

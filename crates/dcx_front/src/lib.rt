@@ -12,7 +12,8 @@
 //! | what is told of an accepted problem is true of it: sense, sign, curvature and dpp, and each count | `Accepted::checked`, `IsFoundOf` of `specs/Checks.antt` |
 //! | the rules say one thing of a problem | `laws::one_judgement` |
 //! | a fault of reading has one number, whatever file it is of | `unread` |
-//! | no name is declared twice, so that there are no more variables, and no more parameters, than nodes | `counts`, by `few_variables` and `few_parameters` of `dcx_domain` |
+//! | a refusal that a command makes has its number, its place and what it says | `Refusal::too_long`, `Refusal::whole_variable`, `Refusal::not_ranged`, `IsRefusedAs` of `specs/Checks.antt` |
+//! | no name is declared twice, so that there are no more variables, and no more parameters, than nodes | `counts`, by `few_variables` and `few_parameters` of `proofs/Few.antt` in `dcx_tree` |
 #![tactic(auto)]
 
 mod accepted;

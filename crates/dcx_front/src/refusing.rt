@@ -4,6 +4,7 @@ ghost use Rattle.dcx_front.specs.Refusals.{is_refusal, refusal_name};
 ghost use Rattle.dcx_front.specs.Checks.{IsRefusedAs, IsTooLong};
 
 use crate::{Carried, Refusal, RefusalSource};
+use dcx_ranged::NotRanged;
 use dcx_shape::Place;
 
 /// The name of the refusal of a number.
@@ -58,6 +59,20 @@ impl Refusal {
     {
         let place = Place { line: 1, column: 1 };
         Refusal::of(source, 8, place, Carried::Nothing)
+    }
+
+    /// The refusal of a script for a variable whose entries are to be whole, which stands at this place.
+    pub fn whole_variable(place: Place) -> Refusal
+        ensures { IsRefusedAs RefusalSource.Script 34 place Carried.Nothing result }
+    {
+        Refusal::of(RefusalSource::Script, 34, place, Carried::Nothing)
+    }
+
+    /// The refusal of a script at this place for what stands against the range of a parameter.
+    pub fn not_ranged(place: Place, fault: NotRanged) -> Refusal
+        ensures { IsRefusedAs RefusalSource.Script 35 place (Carried.NotRanged fault) result }
+    {
+        Refusal::of(RefusalSource::Script, 35, place, Carried::NotRanged(fault))
     }
 
     /// The name of the refusal.

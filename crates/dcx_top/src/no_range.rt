@@ -5,7 +5,7 @@ ghost use Rattle.dcx_top.specs.NoRange.{IsPlaceOf, IsRefusedForRange};
 
 use crate::stands::place_of;
 use dcx_cache::Session;
-use dcx_front::{Carried, Refusal, RefusalSource};
+use dcx_front::Refusal;
 use dcx_range::ranged;
 use dcx_ranged::NotRanged;
 use dcx_shape::{Name, Place};
@@ -29,12 +29,7 @@ fn refused(problem: &Problem, name: &Name, fault: NotRanged) -> Refusal
     requires { LacksRange problem.now name.now fault }
     ensures { IsRefusedForRange problem.now name.now result }
 {
-    Refusal {
-        source: RefusalSource::Script,
-        number: 35,
-        place: fault_place(problem, name, fault),
-        carried: Carried::NotRanged(fault),
-    }
+    Refusal::not_ranged(fault_place(problem, name, fault), fault)
 }
 
 /// The refusal of a script whose problem has no range for the parameter of this name.

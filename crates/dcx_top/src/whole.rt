@@ -3,7 +3,7 @@ ghost use Rattle.std.specs.Prelude.{◌↔◌, ◌≢◌, ◌<◌, length, IsTru
 ghost use Rattle.dcx_top.specs.Whole.{IsWholeAt, HasNoWhole, HasWhole, IsFirstWhole, IsRefusedForWhole};
 
 use crate::stands::place_of;
-use dcx_front::{Carried, Refusal, RefusalSource};
+use dcx_front::Refusal;
 use dcx_tree::{Problem, Variable, Whole};
 
 /// Whether a variable's entries are to be whole.
@@ -46,12 +46,7 @@ fn refused(problem: &Problem, k: usize) -> Refusal
     ensures { IsRefusedForWhole problem.now result }
 {
     let variable = &problem.variables.as_slice()[k];
-    Refusal {
-        source: RefusalSource::Script,
-        number: 34,
-        place: place_of(problem, &variable.name),
-        carried: Carried::Nothing,
-    }
+    Refusal::whole_variable(place_of(problem, &variable.name))
 }
 
 /// The refusal of a script whose problem has a variable whose entries are to be whole, at the place of the first one that is declared.

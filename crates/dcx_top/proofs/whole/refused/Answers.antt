@@ -24,5 +24,5 @@ returns c =
       first = c.requires;
       place = c.place_of.result;
       stands = subst (λ (x : Variable). StandsAt p.tree x.name c.place_of.result) same c.place_of.ensures;
-      refusal = record { source_is = refl; number_is = refl; place_is = refl; carried_is = refl };
+      refusal = c.whole_variable.ensures;
     }
