@@ -2,20 +2,14 @@
 #![tactic(auto)]
 
 mod bytes;
-mod calls;
 mod case;
 mod cases;
 mod count;
 mod fronts;
-mod gathered;
-mod given;
 mod pages;
-mod programs;
-mod reduced;
 mod running;
 mod sections;
 mod short;
-mod stops;
 
 use cases::run_cases;
 use count::Count;

@@ -1,9 +1,8 @@
 //! The program over files in memory: the status and the bytes that it gives.
 ghost use Rattle.std.specs.Prelude.{◌≡◌, ◌<◌};
 
-use crate::gathered::gathered;
-use crate::reduced::{Asked, reduced};
 use dcx_host::{Library, MemoryLibrary, MemorySink, Sink};
+use dcx_listing::{Asked, gathered, reduced};
 use dcx_shape::Bytes;
 use dcx_steps::Steps;
 use dcx_top::run;
@@ -93,6 +92,20 @@ fn words_of(alloc: Global, text: &str) -> Result<Vec<String>, AllocError> {
     Ok(words)
 }
 
+/// Lines with status 0, and status 1 where there are none.
+fn came_of(alloc: Global, lines: Option<String>) -> Came {
+    match lines {
+        Some(text) => Came {
+            status: 0,
+            report: text.into_bytes(),
+        },
+        None => Came {
+            status: 1,
+            report: Vec::new(alloc),
+        },
+    }
+}
+
 /// What the problem of a file is, or its reduced program, where the words ask for that.
 fn asked(alloc: Global, words: &[String], given: &Given) -> Result<Option<Came>, AllocError> {
     let [verb, name] = words else {
@@ -102,12 +115,13 @@ fn asked(alloc: Global, words: &[String], given: &Given) -> Result<Option<Came>,
         return Ok(None);
     };
     let bytes = bytes.as_slice();
-    Ok(match verb.as_str() {
-        "gather" => Some(gathered(alloc, bytes)?),
-        "rows" => Some(reduced(alloc, Asked::Rows, bytes)?),
-        "map" => Some(reduced(alloc, Asked::Map, bytes)?),
-        _ => None,
-    })
+    let lines = match verb.as_str() {
+        "gather" => gathered(alloc, bytes)?,
+        "rows" => reduced(alloc, Asked::Rows, bytes)?,
+        "map" => reduced(alloc, Asked::Map, bytes)?,
+        _ => return Ok(None),
+    };
+    Ok(Some(came_of(alloc, lines)))
 }
 
 /// What the program gives, or, for the verbs `gather`, `rows` and `map`, the lines of the problem or of its reduced program.

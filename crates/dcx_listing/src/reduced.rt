@@ -9,7 +9,6 @@ ghost use Rattle.dcx_graph.specs.Fixed.{HaveArrays};
 
 use crate::given::{are_given, have_arrays};
 use crate::programs::{Shown, push_program};
-use crate::running::Came;
 use crate::stops::push_stop;
 use dcx_frac::Frac;
 use dcx_front::{Accepted, accept};
@@ -22,7 +21,7 @@ use std::sync::ledger::{Blank, Ledger};
 
 /// Which program is asked for.
 #[derive(Clone, Copy)]
-pub(crate) enum Asked {
+pub enum Asked {
     /// With numbers.
     Rows,
     /// With coefficients that are affine in the parameters, and then at the setting.
@@ -127,21 +126,11 @@ fn lines_of(alloc: Global, asked: Asked, accepted: &Accepted) -> Result<Option<S
     Ok(Some(text))
 }
 
-/// The lines of the program that is asked for of the script that the bytes spell, with status 0; none, with status 1, where the
-/// script isn't accepted or a parameter has no array.
-pub(crate) fn reduced(alloc: Global, asked: Asked, bytes: &[u8]) -> Result<Came, AllocError> {
-    let lines = match accept(alloc, bytes) {
-        Ok(accepted) => lines_of(alloc, asked, &accepted)?,
-        Err(_) => None,
-    };
-    Ok(match lines {
-        Some(text) => Came {
-            status: 0,
-            report: text.into_bytes(),
-        },
-        None => Came {
-            status: 1,
-            report: Vec::new(alloc),
-        },
-    })
+/// The lines of the program that is asked for of the script that the bytes spell; `None` where the script isn't accepted or a
+/// parameter has no array of its shape. `AllocError` where there is no memory for the lines.
+pub fn reduced(alloc: Global, asked: Asked, bytes: &[u8]) -> Result<Option<String>, AllocError> {
+    match accept(alloc, bytes) {
+        Ok(accepted) => lines_of(alloc, asked, &accepted),
+        Err(_) => Ok(None),
+    }
 }

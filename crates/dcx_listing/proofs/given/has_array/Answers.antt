@@ -4,7 +4,7 @@ use Rattle.std.specs.Option.{option_copied, IsSomeAnd}
 use Rattle.dcx_shape.specs.declared.shape.Sides.{Sides}
 use Rattle.dcx_shape.specs.Shape.{sides_of}
 use Rattle.dcx_call.proofs.Given.{has_array, tested}
-use Rattle.dcx_cases.proofs.given.has_array.Goals as goal
+use Rattle.dcx_listing.proofs.given.has_array.Goals as goal
 
 pub returns : goal.returns
 returns c =

@@ -5,7 +5,7 @@ use Rattle.dcx_convex.specs.Rules.{Plain}
 use Rattle.dcx_linear.specs.Parameters.{entry_of}
 use Rattle.dcx_graph.specs.Reducing.{IsGivenFor}
 use Rattle.dcx_tree.proofs.Forming.{call_more}
-use Rattle.dcx_cases.proofs.given.are_given.Goals as goal
+use Rattle.dcx_listing.proofs.given.are_given.Goals as goal
 
 pub loop-i-preserved : goal.loop-i-preserved
 loop-i-preserved c =

@@ -1,7 +1,6 @@
 //! The problem that a script stands for, and the settings of its solves, as lines.
 
 use crate::calls::{push_call, push_name, push_numbers, push_shape};
-use crate::running::Came;
 use dcx_elab::{Work, elaborate};
 use dcx_point::Setting;
 use dcx_read::parse;
@@ -121,20 +120,14 @@ fn lines_of(alloc: Global, work: &Work) -> Result<String, AllocError> {
     Ok(text)
 }
 
-/// The lines of the script that the bytes spell, with status 0; none, with status 1, where the bytes have a fault.
-pub(crate) fn gathered(alloc: Global, bytes: &[u8]) -> Result<Came, AllocError> {
-    let faulty = Came {
-        status: 1,
-        report: Vec::new(alloc),
-    };
+/// The lines of the problem of the script that the bytes spell, and of the settings of its solves; `None` where the bytes have a
+/// fault. `AllocError` where there is no memory for the lines.
+pub fn gathered(alloc: Global, bytes: &[u8]) -> Result<Option<String>, AllocError> {
     let Ok(script) = parse(alloc, bytes) else {
-        return Ok(faulty);
+        return Ok(None);
     };
     match elaborate(alloc, &script) {
-        Ok(work) => Ok(Came {
-            status: 0,
-            report: lines_of(alloc, &work)?.into_bytes(),
-        }),
-        Err(_) => Ok(faulty),
+        Ok(work) => Ok(Some(lines_of(alloc, &work)?)),
+        Err(_) => Ok(None),
     }
 }

@@ -5,7 +5,7 @@ use Rattle.dcx_shape.specs.Shape.{sides_of}
 use Rattle.dcx_call.specs.declared.attribute.Parameter.{Parameter}
 use Rattle.dcx_call.specs.Values.{HasArray}
 use Rattle.dcx_domain.proofs.Variables.{all_taken}
-use Rattle.dcx_cases.proofs.given.have_arrays.Goals as goal
+use Rattle.dcx_listing.proofs.given.have_arrays.Goals as goal
 
 pub parameters-preserved : goal.parameters-preserved
 parameters-preserved c =

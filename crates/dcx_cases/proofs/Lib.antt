@@ -1,2 +1,0 @@
--- Lemmas of this program.
-pub mod Maps

@@ -1,0 +1,14 @@
+//! What a script stands for, as lines: its problem with the settings of its solves, or its reduced program.
+//!
+//! They are for worked cases of what no report shows. No contract says what stands in them: the cases do.
+#![tactic(auto)]
+
+mod calls;
+mod gathered;
+mod given;
+mod programs;
+mod reduced;
+mod stops;
+
+pub use gathered::gathered;
+pub use reduced::{Asked, reduced};
