@@ -2,7 +2,7 @@
 ghost use Rattle.std.specs.Prelude.{◌≡◌, ◌<◌};
 
 use dcx_host::{Library, MemoryLibrary, MemorySink, Sink};
-use dcx_listing::{Asked, gathered, reduced};
+use dcx_listing::{Asked, problem_lines, program_lines};
 use dcx_shape::Bytes;
 use dcx_steps::Steps;
 use dcx_top::run;
@@ -116,9 +116,9 @@ fn asked(alloc: Global, words: &[String], given: &Given) -> Result<Option<Came>,
     };
     let bytes = bytes.as_slice();
     let lines = match verb.as_str() {
-        "gather" => gathered(alloc, bytes)?,
-        "rows" => reduced(alloc, Asked::Rows, bytes)?,
-        "map" => reduced(alloc, Asked::Map, bytes)?,
+        "gather" => problem_lines(alloc, bytes)?,
+        "rows" => program_lines(alloc, Asked::Rows, bytes)?,
+        "map" => program_lines(alloc, Asked::Map, bytes)?,
         _ => return Ok(None),
     };
     Ok(Some(came_of(alloc, lines)))

@@ -122,7 +122,7 @@ fn lines_of(alloc: Global, work: &Work) -> Result<String, AllocError> {
 
 /// The lines of the problem of the script that the bytes spell, and of the settings of its solves; `None` where the bytes have a
 /// fault. `AllocError` where there is no memory for the lines.
-pub fn gathered(alloc: Global, bytes: &[u8]) -> Result<Option<String>, AllocError> {
+pub fn problem_lines(alloc: Global, bytes: &[u8]) -> Result<Option<String>, AllocError> {
     let Ok(script) = parse(alloc, bytes) else {
         return Ok(None);
     };

@@ -10,5 +10,5 @@ mod programs;
 mod reduced;
 mod stops;
 
-pub use gathered::gathered;
-pub use reduced::{Asked, reduced};
+pub use gathered::problem_lines;
+pub use reduced::{Asked, program_lines};

@@ -128,7 +128,11 @@ fn lines_of(alloc: Global, asked: Asked, accepted: &Accepted) -> Result<Option<S
 
 /// The lines of the program that is asked for of the script that the bytes spell; `None` where the script isn't accepted or a
 /// parameter has no array of its shape. `AllocError` where there is no memory for the lines.
-pub fn reduced(alloc: Global, asked: Asked, bytes: &[u8]) -> Result<Option<String>, AllocError> {
+pub fn program_lines(
+    alloc: Global,
+    asked: Asked,
+    bytes: &[u8],
+) -> Result<Option<String>, AllocError> {
     match accept(alloc, bytes) {
         Ok(accepted) => lines_of(alloc, asked, &accepted),
         Err(_) => Ok(None),
