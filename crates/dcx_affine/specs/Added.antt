@@ -3,10 +3,10 @@ use Rattle.std.specs.Prelude.{ℕ, ◌+◌, ◌-◌, nat_lt, if◌then◌else◌
 use Rattle.dcx_math.specs.Rational.{ℚ, whole, ◌+ℚ◌, ◌-ℚ◌, neg_ℚ}
 use Rattle.dcx_shape.specs.declared.shape.Sides.{Sides}
 use Rattle.dcx_shape.specs.declared.shape.Sides.TheVariants.{Scalar, Vector, Matrix}
+use Rattle.dcx_atom.specs.Arrays.{same_sides}
 use Rattle.dcx_atom.specs.Signs.{sign_at, rises, falls, no_trend, common_sign, flipped, zero_or_unknown}
 use Rattle.dcx_atom.specs.Linear.{LinearTerm, LinearMeaning}
 use Rattle.dcx_affine.specs.Strided.{only}
-use Rattle.dcx_affine.specs.Places.{same_sides}
 
 -- entry p of argument i, times a number
 abbrev pub term : ℕ → ℕ → ℚ → LinearTerm

@@ -4,11 +4,11 @@ use Rattle.dcx_shape.specs.declared.shape.Sides.{Sides}
 use Rattle.dcx_shape.specs.declared.shape.Sides.TheVariants.{Scalar, Vector, Matrix}
 use Rattle.dcx_shape.specs.Sides.{cols_of}
 use Rattle.dcx_shape.specs.Places.{row_place}
-use Rattle.dcx_atom.specs.Arrays.{list_below}
+use Rattle.dcx_atom.specs.Arrays.{list_below, same_sides}
 use Rattle.dcx_affine.specs.declared.pairing.Pairing.{Pairing}
 use Rattle.dcx_affine.specs.declared.pairing.Pairing.TheVariants.{Times, MatTimes, Over}
 use Rattle.dcx_affine.specs.declared.pairing.Pair.{Pair}
-use Rattle.dcx_affine.specs.Places.{same_sides, limited}
+use Rattle.dcx_affine.specs.Places.{limited}
 
 -- the sides of a matrix product: the inner sides are equal and go away, and the outer ones stay; a scalar has no product
 abbrev pub product_sides : Sides → Sides → Option Sides

@@ -7,19 +7,8 @@ use Rattle.dcx_shape.specs.Sides.{rank_of, rows_of, cols_of, entries_of}
 use Rattle.dcx_shape.specs.Places.{place_of}
 use Rattle.dcx_atom.specs.declared.axis.Stride.{Stride}
 use Rattle.dcx_atom.specs.Arrays.{entry_at, by_rows}
+pub use Rattle.dcx_atom.specs.Arrays.{same_sides}
 use Rattle.dcx_affine.specs.Strided.{StridedCall, plain, one_entry, no_entry}
-
--- whether two arrays have the same sides
-abbrev pub same_sides : Sides → Sides → Bool
-same_sides Scalar Scalar = true
-same_sides Scalar (Vector n) = false
-same_sides Scalar (Matrix m n) = false
-same_sides (Vector n) Scalar = false
-same_sides (Vector n) (Vector l) = nat_eq n l
-same_sides (Vector n) (Matrix l p) = false
-same_sides (Matrix m n) Scalar = false
-same_sides (Matrix m n) (Vector l) = false
-same_sides (Matrix m n) (Matrix l p) = nat_eq m l && nat_eq n p
 
 -- the sides, where an array may have so many entries
 abbrev pub limited : Sides → Option Sides

@@ -2,14 +2,16 @@
 ghost use Rattle.std.specs.Prelude.{◌≡◌, [], ◌∷◌, IfOk, option_map};
 ghost use Rattle.dcx_frac.specs.Frac.{value};
 ghost use Rattle.dcx_shape.specs.Shape.{sides_of};
-ghost use Rattle.dcx_atom.specs.Signs.{all_nonneg, all_nonpos, common_sign};
+ghost use Rattle.dcx_atom.specs.Signs.{common_sign};
 ghost use Rattle.dcx_atom.specs.Linear.{linear_term};
 ghost use Rattle.dcx_affine.specs.Added.{term, differences_sides, plus_meaning, minus_meaning, diff_meaning};
 ghost use Rattle.dcx_affine.specs.AddedLaws.{plus_linear, plus_sign, plus_trend, minus_linear, minus_sign, minus_trend, diff_linear, diff_sign, diff_trend};
 
-use crate::places::same_shape;
-use crate::strided::{first_sign, rising};
-use dcx_atom::{EntryTerms, LinearOp, Sign, Terms, Trend, Triple, minus_one};
+use crate::strided::rising;
+use dcx_atom::{
+    EntryTerms, LinearOp, Sign, Terms, Trend, Triple, all_nonneg, all_nonpos, first_sign,
+    minus_one, same_shape,
+};
 use dcx_frac::Frac;
 use dcx_shape::{Shape, Sides};
 use std::alloc::{AllocError, Global};
@@ -61,20 +63,6 @@ pub(crate) fn common_sign(signs: &[Sign]) -> Sign
         nonneg: all_nonneg(signs),
         nonpos: all_nonpos(signs),
     }
-}
-
-/// Whether all are at least 0.
-fn all_nonneg(signs: &[Sign]) -> bool
-    ensures { result ≡ all_nonneg signs.now }
-{
-    signs.iter().all(|sign| sign.nonneg)
-}
-
-/// Whether all are at most 0.
-fn all_nonpos(signs: &[Sign]) -> bool
-    ensures { result ≡ all_nonpos signs.now }
-{
-    signs.iter().all(|sign| sign.nonpos)
 }
 
 impl LinearOp for Plus {

@@ -2,11 +2,10 @@
 ghost use Rattle.std.specs.Prelude.{◌≡◌, ◌+◌, ◌*◌, ◌<◌, ◌≤◌, [], ◌∷◌, if◌then◌else◌, IsSome, IfOk, IfSome, option_map};
 ghost use Rattle.dcx_shape.specs.Shape.{sides_of};
 ghost use Rattle.dcx_shape.specs.Sides.{cols_of, entries_of};
-ghost use Rattle.dcx_atom.specs.Arrays.{list_below};
-ghost use Rattle.dcx_affine.specs.Places.{same_sides};
+ghost use Rattle.dcx_atom.specs.Arrays.{list_below, same_sides};
 ghost use Rattle.dcx_affine.specs.Pairing.{paired_sides, product_sides, pairs_at, product_pair, met_row, met_column, in_column};
 
-use crate::places::same_shape;
+use dcx_atom::same_shape;
 use dcx_math::List;
 use dcx_shape::{Shape, Sides, matmul_shape};
 use std::alloc::{AllocError, Global};

@@ -6,12 +6,12 @@ ghost use Rattle.dcx_shape.specs.Sides.{cols_of, entries_of};
 ghost use Rattle.dcx_shape.specs.Places.{column_place};
 ghost use Rattle.dcx_affine.specs.Strided.{one_entry, no_entry, strided_meaning};
 ghost use Rattle.dcx_affine.specs.StridedLaws.{strided_linear, strided_sign, strided_trend};
-ghost use Rattle.dcx_affine.specs.Places.{same_sides, limited, stretches, promotes, stretched, promoted_place, place_in_order, transposed_place};
+ghost use Rattle.dcx_affine.specs.Places.{limited, stretches, promotes, stretched, promoted_place, place_in_order, transposed_place};
 ghost use Rattle.dcx_affine.specs.Places.{index_call, reshape_call, transpose_call, diag_call, promote_call};
 ghost use Rattle.dcx_affine.specs.PlaceLaws.{index_is, reshape_is, transpose_is, diag_is, promote_is};
 
-use crate::strided::{Strided, first_sign, rising, strided_map, strided_shape};
-use dcx_atom::{LinearOp, Sign, Stride, Terms, Trend};
+use crate::strided::{Strided, rising, strided_map, strided_shape};
+use dcx_atom::{LinearOp, Sign, Stride, Terms, Trend, first_sign, same_shape};
 use dcx_frac::Frac;
 use dcx_shape::{Places, Shape, Sides};
 use std::alloc::{AllocError, Global};
@@ -35,18 +35,6 @@ fn no_entry() -> Stride
         first: 0,
         step: 1,
         count: 0,
-    }
-}
-
-/// Whether two arrays have the same shape.
-pub(crate) fn same_shape(a: Shape, b: Shape) -> bool
-    ensures { result ≡ same_sides (sides_of a) (sides_of b) }
-{
-    match (a.sides(), b.sides()) {
-        (Sides::Scalar, Sides::Scalar) => true,
-        (Sides::Vector(n), Sides::Vector(l)) => n == l,
-        (Sides::Matrix(m, n), Sides::Matrix(l, p)) => m == l && n == p,
-        _ => false,
     }
 }
 

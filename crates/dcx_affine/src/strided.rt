@@ -4,11 +4,11 @@ ghost use Rattle.dcx_frac.specs.Frac.{value};
 ghost use Rattle.dcx_shape.specs.Shape.{sides_of};
 ghost use Rattle.dcx_shape.specs.Sides.{entries_of};
 ghost use Rattle.dcx_atom.specs.Arrays.{sides_list, sides_at, list_below};
-ghost use Rattle.dcx_atom.specs.Signs.{sign_at, rises};
+ghost use Rattle.dcx_atom.specs.Signs.{rises};
 ghost use Rattle.dcx_atom.specs.Linear.{linear_term, AreTermsOf};
 ghost use Rattle.dcx_affine.specs.Strided.{StridedCall, strided_meaning, stride_terms};
 
-use dcx_atom::{EntryTerms, Sign, Stride, Terms, Trend, Triple};
+use dcx_atom::{EntryTerms, Stride, Terms, Trend, Triple};
 use dcx_frac::Frac;
 use dcx_shape::Shape;
 use std::alloc::{AllocError, Global};
@@ -96,18 +96,5 @@ pub(crate) fn rising() -> Trend
     Trend {
         rising: true,
         falling: false,
-    }
-}
-
-/// The sign of the first argument, and nothing where there is none.
-pub(crate) fn first_sign(signs: &[Sign]) -> Sign
-    ensures { result ≡ sign_at signs.now 0 }
-{
-    match signs {
-        [] => Sign {
-            nonneg: false,
-            nonpos: false,
-        },
-        [sign, ..] => *sign,
     }
 }

@@ -8,8 +8,8 @@ ghost use Rattle.dcx_affine.specs.StridedLaws.{strided_linear, strided_sign, str
 ghost use Rattle.dcx_affine.specs.Folds.{sum_call, mean_call, running_call, trace_call};
 ghost use Rattle.dcx_affine.specs.FoldLaws.{sum_is, mean_is, running_is, trace_is};
 
-use crate::strided::{Strided, first_sign, rising, strided_map, strided_shape};
-use dcx_atom::{Axis, LinearOp, Sign, Stride, Terms, Trend};
+use crate::strided::{Strided, rising, strided_map, strided_shape};
+use dcx_atom::{Axis, LinearOp, Sign, Stride, Terms, Trend, first_sign};
 use dcx_frac::Frac;
 use dcx_shape::{Shape, Sides};
 use std::alloc::{AllocError, Global};

@@ -3,6 +3,5 @@ pub mod Nodes
 pub mod Chains
 pub mod Gather
 pub mod Walk
-pub mod Sample
 pub mod Unfold
 pub mod Laws

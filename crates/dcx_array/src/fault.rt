@@ -17,9 +17,12 @@ pub enum ArrayFault {
     /// A divisor is 0.
     #[error("a divisor is 0")]
     ZeroDivisor,
-    /// There would be so many entries, more than 20,000; 4,294,967,295 where there would be more.
+    /// There would be more than 20,000 entries.
     #[error("there would be too many entries")]
-    TooMany { count: u32 },
+    TooMany {
+        /// How many, or 4,294,967,295 where there would be more.
+        count: u32,
+    },
     /// An operation passes 128 bits, the first one.
     #[error("a number passes 128 bits")]
     Wide(Passes),

@@ -1,6 +1,5 @@
 //! Entries of plain arrays that are formed one after the other, up to the first operation that passes 128 bits.
-ghost use Rattle.std.specs.Prelude.{◌≡◌, ℕ, ◌<◌, Result, slice_index_or};
-ghost use Rattle.dcx_atom.specs.Formed.{zero_frac};
+ghost use Rattle.std.specs.Prelude.{◌≡◌, ℕ, ◌<◌, Result};
 ghost use Rattle.dcx_frac.specs.declared.fraction.Frac.{Frac};
 ghost use Rattle.dcx_frac.specs.declared.fraction.Passes.{Passes};
 ghost use Rattle.dcx_shape.specs.Shape.{sides_of};
@@ -9,28 +8,16 @@ ghost use Rattle.dcx_array.specs.Answers.{Gives};
 ghost use Rattle.dcx_array.specs.Arrays.{entry, formed_array};
 
 use crate::fault::ArrayFault;
-use dcx_atom::Array;
+use dcx_atom::{Array, number_at};
 use dcx_frac::{Frac, Fracs, Passes};
 use dcx_shape::Shape;
 use std::alloc::Global;
-
-/// Number `k` of a list, and 0 past its end.
-fn number_at(numbers: &[Frac], k: u32) -> Frac
-    ensures { result ≡ slice_index_or numbers.now k zero_frac }
-{
-    let k = k as usize;
-    if k < numbers.len() {
-        numbers[k]
-    } else {
-        Frac::zero()
-    }
-}
 
 /// Entry `k` of an array, in row-major order, and 0 past its end.
 pub(crate) fn entry(a: &Array, k: u32) -> Frac
     ensures { result ≡ entry a.now k }
 {
-    number_at(a.entries.as_slice(), k)
+    number_at(a.entries.as_slice(), k as usize)
 }
 
 /// Entries that are formed one by one.

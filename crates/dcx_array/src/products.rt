@@ -1,6 +1,5 @@
 //! Matrix products of plain arrays.
-ghost use Rattle.std.specs.Prelude.{◌≡◌, ◌<◌};
-ghost use Rattle.dcx_atom.specs.Entrywise.{added_product};
+ghost use Rattle.std.specs.Prelude.{◌<◌};
 ghost use Rattle.dcx_array.specs.Answers.{Gives};
 ghost use Rattle.dcx_array.specs.Operators.{product_entry, matrix_multiplied};
 
@@ -8,7 +7,7 @@ use crate::fault::ArrayFault;
 use crate::forming::{Entrywise, entry, fill};
 use crate::shapes::multiplied_shape;
 use dcx_affine::product_pair;
-use dcx_atom::Array;
+use dcx_atom::{Array, add_product};
 use dcx_frac::{Frac, Passes};
 use std::alloc::Global;
 
@@ -36,13 +35,6 @@ impl Entrywise for Products<'_> {
         }
         Ok(sum)
     }
-}
-
-/// The sum with one more product, or the operation that passes.
-fn add_product(sum: Frac, x: Frac, y: Frac) -> Result<Frac, Passes>
-    ensures { result ≡ added_product sum (x, y) }
-{
-    sum.add(x.mul(y)?)
 }
 
 /// The matrix product `a @ b`, each entry a sum of products in order, from 0.

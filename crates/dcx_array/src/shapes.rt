@@ -65,7 +65,7 @@ fn broadcast_sides(a: Shape, b: Shape) -> Option<Sides>
 ///
 /// `Clash` where a pair of sides is unequal and neither is 1, and then `TooMany` where there would be more than 20,000
 /// entries.
-pub fn shared_shape(a: Shape, b: Shape) -> Result<Shape, ArrayFault>
+pub(crate) fn shared_shape(a: Shape, b: Shape) -> Result<Shape, ArrayFault>
     ensures { result ≡ shared_shape (sides_of a) (sides_of b) }
 {
     match broadcast_sides(a, b) {
@@ -113,7 +113,7 @@ fn multiplied_sides(a: Shape, b: Shape) -> Option<Sides>
 ///
 /// `Clash` where the inner sides differ or one of both is a number, and then `TooMany` where there would be more than
 /// 20,000 entries.
-pub fn multiplied_shape(a: Shape, b: Shape) -> Result<Shape, ArrayFault>
+pub(crate) fn multiplied_shape(a: Shape, b: Shape) -> Result<Shape, ArrayFault>
     ensures { result ≡ multiplied_shape (sides_of a) (sides_of b) }
 {
     match multiplied_sides(a, b) {

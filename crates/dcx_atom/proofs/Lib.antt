@@ -6,7 +6,6 @@ pub mod FormedSums
 pub mod FirstStops
 pub mod Accepted
 pub mod LinearSums
-pub mod Halves
 pub mod Lists
 pub mod Entrywise
 pub mod Totals

@@ -1,7 +1,7 @@
 -- Lists that are made one after the other, and the numbers of a list.
-use Rattle.std.proofs.Common.{◌≡◌, ⊎_elim, subst, IsOk, ◌*◌, ℕ, zero, suc, ◌+◌, ◌<◌, arith, List, [], ◌∷◌, ◌++◌, map, length, get_or, take, drop, refl, sym, ap, ap₂, ◌∙◌}
+use Rattle.std.proofs.Common.{◌≡◌, ⊎_elim, subst, IsOk, ◌*◌, ℕ, zero, suc, ◌+◌, ◌<◌, ◌≤◌, arith, List, [], ◌∷◌, ◌++◌, map, length, get_or, take, drop, refl, sym, ap, ap₂, ◌∙◌, pos}
 use Rattle.std.proofs.lemmas.List.{map-append, length-map}
-use Rattle.dcx_math.specs.Rational.{ℚ}
+use Rattle.dcx_math.specs.Rational.{ℚ, whole}
 use Rattle.dcx_math.specs.Sums.{rat_at}
 use Rattle.dcx_frac.specs.declared.fraction.Frac.{Frac}
 use Rattle.dcx_frac.specs.Frac.{value}
@@ -30,6 +30,12 @@ pub number_is : (xs : List Frac) (j : ℕ) (x : Frac) → j < length xs → x �
 number_is [] j x b e = absurd (omega arith)
 number_is (y ∷ ys) zero x b e = ap value e
 number_is (y ∷ ys) (suc j) x b e = number_is ys j x (omega arith) e
+
+-- past the end of a list stands 0
+pub number_past : (xs : List Frac) (j : ℕ) → length xs ≤ j → number_at xs j ≡ whole (pos 0)
+number_past [] j h = refl
+number_past (x ∷ xs) zero h = absurd (omega arith)
+number_past (x ∷ xs) (suc j) h = number_past xs j (omega arith)
 
 -- a list is as long as one that it is mapped to
 pub length-same : {A B C : Type 0} (f : A → C) (g : B → C) (xs : List A) (ys : List B) → map f xs ≡ map g ys → length xs ≡ length ys

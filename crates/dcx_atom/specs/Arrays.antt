@@ -1,12 +1,12 @@
 -- Arrays as functions: entry j of argument i, in row-major order.
-use Rattle.std.specs.Prelude.{ℕ, zero, suc, ◌+◌, ◌/◌, ◌%◌, List, [], ◌∷◌, ◌++◌, map, slice_index_or}
+use Rattle.std.specs.Prelude.{ℕ, zero, suc, ◌+◌, ◌/◌, ◌%◌, nat_eq, Bool, true, false, ◌&&◌, List, [], ◌∷◌, ◌++◌, map, slice_index_or}
 use Rattle.dcx_math.specs.Rational.{ℚ}
 use Rattle.dcx_math.specs.Sums.{rat_at}
 use Rattle.dcx_frac.specs.declared.fraction.Frac.{Frac}
 use Rattle.dcx_frac.specs.Frac.{value}
 use Rattle.dcx_shape.specs.declared.shape.Shape.{Shape}
 use Rattle.dcx_shape.specs.declared.shape.Sides.{Sides}
-use Rattle.dcx_shape.specs.declared.shape.Sides.TheVariants.{Scalar}
+use Rattle.dcx_shape.specs.declared.shape.Sides.TheVariants.{Scalar, Vector, Matrix}
 use Rattle.dcx_shape.specs.Shape.{sides_of}
 use Rattle.dcx_shape.specs.Sides.{cols_of, entries_of}
 use Rattle.dcx_shape.specs.Places.{row_place}
@@ -35,6 +35,18 @@ array_sides args = map (λ x. sides_of x.shape) args
 -- the sides of argument i, where there are so many
 abbrev pub sides_at : List Sides → ℕ → Sides
 sides_at args i = slice_index_or args i Scalar
+
+-- whether two arrays have the same sides
+abbrev pub same_sides : Sides → Sides → Bool
+same_sides Scalar Scalar = true
+same_sides Scalar (Vector n) = false
+same_sides Scalar (Matrix m n) = false
+same_sides (Vector n) Scalar = false
+same_sides (Vector n) (Vector l) = nat_eq n l
+same_sides (Vector n) (Matrix l p) = false
+same_sides (Matrix m n) Scalar = false
+same_sides (Matrix m n) (Vector l) = false
+same_sides (Matrix m n) (Matrix l p) = nat_eq m l && nat_eq n p
 
 -- the entries of the arguments before argument i
 abbrev pub entries_before : List Sides → ℕ → ℕ

@@ -12,7 +12,5 @@ pub mod Laws
 pub mod Linear
 pub mod Lawful
 pub mod Axis
-pub mod Hinge
-pub mod Uses
 pub mod Bounding
 pub mod Farthest

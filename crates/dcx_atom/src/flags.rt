@@ -1,4 +1,6 @@
 //! What is known of a value's sign, how a call moves with its arguments, and which way it bends.
+ghost use Rattle.std.specs.Prelude.{◌≡◌};
+ghost use Rattle.dcx_atom.specs.Signs.{sign_at, all_nonneg, all_nonpos};
 
 /// What is known of the sign of each entry.
 #[derive(Clone, Copy, Debug, PartialEq, Eq)]
@@ -25,4 +27,31 @@ pub enum Bend {
     Convex,
     /// It is at least that.
     Concave,
+}
+
+/// The sign of the first argument, and nothing where there is none.
+pub fn first_sign(signs: &[Sign]) -> Sign
+    ensures { result ≡ sign_at signs.now 0 }
+{
+    match signs {
+        [] => Sign {
+            nonneg: false,
+            nonpos: false,
+        },
+        [sign, ..] => *sign,
+    }
+}
+
+/// Whether all are at least 0.
+pub fn all_nonneg(signs: &[Sign]) -> bool
+    ensures { result ≡ all_nonneg signs.now }
+{
+    signs.iter().all(|sign| sign.nonneg)
+}
+
+/// Whether all are at most 0.
+pub fn all_nonpos(signs: &[Sign]) -> bool
+    ensures { result ≡ all_nonpos signs.now }
+{
+    signs.iter().all(|sign| sign.nonpos)
 }

@@ -1,9 +1,11 @@
-//! Sums in order, and the tests of conditions on weights: what the code of the calls shares.
-ghost use Rattle.std.specs.Prelude.{◌≡◌, map, negsuc};
+//! Numbers of lists, sums in order, and the tests of conditions on weights: what the code of the calls shares.
+ghost use Rattle.std.specs.Prelude.{◌≡◌, map, negsuc, slice_index_or};
 ghost use Rattle.std.specs.Result.{result_err};
 ghost use Rattle.dcx_math.specs.Rational.{whole, rat_le, rat_eq};
 ghost use Rattle.dcx_frac.specs.Frac.{value};
-ghost use Rattle.dcx_atom.specs.Formed.{sum_in_order};
+ghost use Rattle.dcx_atom.specs.Arrays.{number_at};
+ghost use Rattle.dcx_atom.specs.Entrywise.{added_product};
+ghost use Rattle.dcx_atom.specs.Formed.{zero_frac, sum_in_order};
 ghost use Rattle.dcx_atom.specs.Steps.{broken_at, weights_stop};
 
 use crate::stops::SlopeStop;
@@ -17,6 +19,18 @@ pub fn minus_one() -> Frac
     Frac::one().neg()
 }
 
+/// Number `k` of a list, and 0 past its end.
+pub fn number_at(numbers: &[Frac], k: usize) -> Frac
+    ensures is { result ≡ slice_index_or numbers.now k zero_frac }
+    ensures exact { value result ≡ number_at numbers.now k }
+{
+    if k < numbers.len() {
+        numbers[k]
+    } else {
+        Frac::zero()
+    }
+}
+
 /// The sum of the numbers in order, from 0, or the first addition that passes 128 bits.
 pub fn sum_all(numbers: &[Frac]) -> Result<Frac, Passes>
     ensures { result ≡ sum_in_order (map value numbers.now) }
@@ -26,6 +40,13 @@ pub fn sum_all(numbers: &[Frac]) -> Result<Frac, Passes>
         sum = sum.add(*number)?;
     }
     Ok(sum)
+}
+
+/// The sum with one more product, or the operation that passes 128 bits.
+pub fn add_product(sum: Frac, x: Frac, y: Frac) -> Result<Frac, Passes>
+    ensures { result ≡ added_product sum (x, y) }
+{
+    sum.add(x.mul(y)?)
 }
 
 /// Whether `x` is at most `y`.

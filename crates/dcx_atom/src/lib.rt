@@ -27,6 +27,7 @@ mod flags;
 mod forming;
 mod graph;
 mod linear;
+mod shapes;
 mod stops;
 mod terms;
 
@@ -37,14 +38,16 @@ pub use bounding::{
     bounding_row, check_sum, check_total, each_alone, farther_of, greater, lesser, magnitude,
     of_kind, only_shape, outward_of, row_weights,
 };
-pub use flags::{Bend, Sign, Trend};
+pub use flags::{Bend, Sign, Trend, all_nonneg, all_nonpos, first_sign};
 pub use forming::{
-    check_at_most, check_equal, check_weights, is_at_most, is_equal, minus_one, sum_all,
+    add_product, check_at_most, check_equal, check_weights, is_at_most, is_equal, minus_one,
+    number_at, sum_all,
 };
 pub use graph::{
     AuxKind, AuxKinds, AuxTerm, Graph, GraphForm, GraphForms, GraphRow, GraphRows, GraphTerm,
     GraphTerms, Operand,
 };
 pub use linear::LinearOp;
+pub use shapes::same_shape;
 pub use stops::{SlopeStop, ValueStop};
 pub use terms::{EntryTerms, Terms, Triple};

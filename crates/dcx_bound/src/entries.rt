@@ -5,27 +5,14 @@ ghost use Rattle.dcx_shape.specs.Shape.{sides_of};
 ghost use Rattle.dcx_shape.specs.Sides.{entries_of};
 ghost use Rattle.dcx_unknowns.specs.Own.{is_own, mirror_of};
 ghost use Rattle.dcx_unknowns.specs.Unknowns.{demanded, sides_in};
-ghost use Rattle.dcx_collect.specs.Shares.{frac_in};
 ghost use Rattle.dcx_faults.specs.Checks.{Checked, each_below};
 ghost use Rattle.dcx_bound.specs.Variables.{mirrored, reaching_entry, MayReachEntry, MayNotReachEntry, number_check, entry_check};
 
-use dcx_atom::{is_at_most, is_equal};
+use dcx_atom::{is_at_most, is_equal, number_at};
 use dcx_frac::{Frac, Passes};
 use dcx_sections::CertFault;
 use dcx_shape::Shape;
 use dcx_tree::{Attribute, Variable};
-
-/// Number `entry` of a list, and 0 past its end.
-fn frac_in(numbers: &[Frac], entry: u32) -> Frac
-    ensures { result ≡ frac_in numbers.now entry }
-{
-    let place = entry as usize;
-    if place < numbers.len() {
-        numbers[place]
-    } else {
-        Frac::zero()
-    }
-}
 
 /// Whether an entry is asked: it has an unknown of its own.
 fn is_asked(attribute: Attribute, shape: Shape, entry: u32) -> bool
@@ -50,11 +37,11 @@ fn mirrored(shape: Shape, coefficients: &[Frac], entry: u32) -> Result<Frac, Pas
     let columns = shape.cols();
     let row = entry / columns;
     let column = entry % columns;
-    let own = frac_in(coefficients, entry);
+    let own = number_at(coefficients, entry as usize);
     if row == column {
         return Ok(own);
     }
-    own.add(frac_in(coefficients, column * columns + row))
+    own.add(number_at(coefficients, (column * columns + row) as usize))
 }
 
 /// What reaches an entry that is asked.
@@ -69,7 +56,7 @@ fn reaching_entry(
 {
     match attribute {
         Attribute::Symmetric => mirrored(shape, coefficients, entry),
-        _ => Ok(frac_in(coefficients, entry)),
+        _ => Ok(number_at(coefficients, entry as usize)),
     }
 }
 

@@ -51,7 +51,8 @@ use Rattle.dcx_branch.specs.Places.{places}
 use Rattle.dcx_branch.specs.Sides.{box_of, open_sides, box_bounds, IsNextSide}
 use Rattle.dcx_branch.specs.Nodes.{node_program}
 use Rattle.dcx_branch.specs.Leaves.{IsLeaf}
-use Rattle.dcx_branch.specs.Run.{Best, State, start, best_value, IsPruned, IsBetter, AreWhole, IsFirstSplit, unknowns_in, Turn, Cut, Found, Divided, TurnsOut, after, FormsLeaf, bounds_in, IsNode, Steps, Reaches, next, FallsAtRoot, run_stop, NodeStops, at_rows, at_leaf}
+use Rattle.dcx_solved.specs.Stops.{run_stop}
+use Rattle.dcx_branch.specs.Run.{Best, State, start, best_value, IsPruned, IsBetter, AreWhole, IsFirstSplit, unknowns_in, Turn, Cut, Found, Divided, TurnsOut, after, FormsLeaf, bounds_in, IsNode, Steps, Reaches, next, FallsAtRoot, NodeStops, at_rows, at_leaf}
 use Rattle.dcx_branch.specs.Trees.{shown_by, Lists, bound, empty, Shows}
 use Rattle.dcx_branch.specs.Answers.{IsPointAt, IsRightFor, IsEndOf}
 use Rattle.dcx_branch.specs.Taken.{IsSolvedWith, IsLeafOf, IsTaken, TakenAs, FallsAt, StopsTaking}

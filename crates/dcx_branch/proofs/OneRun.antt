@@ -33,7 +33,8 @@ use Rattle.dcx_branch.specs.Places.{places}
 use Rattle.dcx_branch.specs.Rows.{node_rows}
 use Rattle.dcx_branch.specs.Between.{IsBetween}
 use Rattle.dcx_branch.specs.Leaves.{first_passing}
-use Rattle.dcx_branch.specs.Run.{Best, State, start, best_value, IsPruned, IsBetter, AreWhole, IsFirstSplit, unknowns_in, Turn, Cut, Found, Divided, TurnsOut, after, run_stop, IsLeafTurn, bounds_in, IsNode, leaf_passing, FormsLeaf, Steps, Reaches, here, next, Ends, PassesNodes, FallsAtRoot, NodeStops, at_rows, at_leaf, StopsAtNode}
+use Rattle.dcx_solved.specs.Stops.{run_stop}
+use Rattle.dcx_branch.specs.Run.{Best, State, start, best_value, IsPruned, IsBetter, AreWhole, IsFirstSplit, unknowns_in, Turn, Cut, Found, Divided, TurnsOut, after, IsLeafTurn, bounds_in, IsNode, leaf_passing, FormsLeaf, Steps, Reaches, here, next, Ends, PassesNodes, FallsAtRoot, NodeStops, at_rows, at_leaf, StopsAtNode}
 use Rattle.dcx_branch.specs.Answers.{IsPointAt, EndsAt, RunsAreOne}
 use Rattle.dcx_branch.proofs.Between.{one_between, between_not_whole}
 

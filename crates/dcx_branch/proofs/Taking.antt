@@ -34,7 +34,8 @@ use Rattle.dcx_branch.specs.declared.node.NodeStop.TheVariants as stops
 use Rattle.dcx_branch.specs.Places.{places}
 use Rattle.dcx_branch.specs.Rows.{node_rows}
 use Rattle.dcx_branch.specs.Leaves.{StopsLeaf}
-use Rattle.dcx_branch.specs.Run.{Turn, TurnsOut, IsLeafTurn, unknowns_in, run_stop, NodeStops, at_rows, at_leaf}
+use Rattle.dcx_solved.specs.Stops.{run_stop}
+use Rattle.dcx_branch.specs.Run.{Turn, TurnsOut, IsLeafTurn, unknowns_in, NodeStops, at_rows, at_leaf}
 use Rattle.dcx_branch.specs.Taken.{IsSolvedWith, TellsUnknowns, made_leaf, IsTaken, PassesLeaf, StopsJudging, TakenAs, StopsTaking}
 
 -- what follows from an error

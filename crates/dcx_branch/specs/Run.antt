@@ -16,6 +16,7 @@ use Rattle.dcx_solved.specs.declared.solving.Solved.{Solved}
 use Rattle.dcx_solved.specs.declared.stop.SolveStop.{SolveStop}
 use Rattle.dcx_solved.specs.declared.stop.SolveStop.TheVariants as solves
 use Rattle.dcx_solved.specs.Solved.{IsSolved, Stops as RowsStop}
+use Rattle.dcx_solved.specs.Stops.{run_stop}
 use Rattle.dcx_std.specs.Solutions.{unknowns_at}
 use Rattle.dcx_graph.specs.Program.{Program}
 use Rattle.dcx_whole.specs.Points.{IsWhole}
@@ -93,13 +94,6 @@ after box rest best taken program a (Divided place n) = record {
   best = best;
   taken = suc taken;
 }
-
--- why rows aren't solved
-abbrev pub run_stop : SolveStop → Stop
-run_stop (solves.TooLarge rows columns) = why.TooLarge rows columns
-run_stop (solves.Wide site) = why.Wide site
-run_stop (solves.PivotLimit count) = why.PivotLimit count
-run_stop solves.Memory = why.Memory
 
 -- a node is a leaf
 abbrev pub IsLeafTurn : Turn → Type 0

@@ -14,7 +14,7 @@ ghost use Rattle.dcx_branch.specs.Places.{places as places_by};
 ghost use Rattle.dcx_branch.specs.Rows.{node_rows as rows_by};
 ghost use Rattle.dcx_branch.specs.Sides.{box_bounds};
 ghost use Rattle.dcx_branch.specs.Leaves.{StopsLeaf};
-ghost use Rattle.dcx_branch.specs.Run.{AreWhole, IsFirstSplit, IsPruned, IsBetter, unknowns_in, run_stop as stop_by};
+ghost use Rattle.dcx_branch.specs.Run.{AreWhole, IsFirstSplit, IsPruned, IsBetter, unknowns_in};
 ghost use Rattle.dcx_branch.specs.Taken.{IsNodeOf, HasNotes, TellsUnknowns, IsLeafOf, made_leaf, IsTaken, StopsJudging, TakenAs, StopsTaking};
 
 use crate::bound::BoundAt;
@@ -31,7 +31,7 @@ use dcx_linear::UnknownKind;
 use dcx_lp_answer::LpStatus;
 use dcx_point::Point;
 use dcx_postsolve::{point_of_unknowns, unknown_numbers};
-use dcx_solved::{SolveStop, Solved, solve_rows};
+use dcx_solved::{SolveStop, Solved, run_stop, solve_rows};
 use dcx_tree::Problem;
 use std::alloc::{AllocError, Global};
 use std::cmp::Ordering;
@@ -146,18 +146,6 @@ fn is_pruned(best: &Option<Frac>, number: &Frac) -> bool
             Ordering::Less => false,
             Ordering::Equal | Ordering::Greater => true,
         },
-    }
-}
-
-/// The stop of a node whose rows aren't solved.
-fn run_stop(stop: SolveStop) -> Stop
-    ensures { result ≡ stop_by stop }
-{
-    match stop {
-        SolveStop::TooLarge { rows, columns } => Stop::TooLarge { rows, columns },
-        SolveStop::Wide(site) => Stop::Wide(site),
-        SolveStop::PivotLimit { count } => Stop::PivotLimit { count },
-        SolveStop::Memory => Stop::Memory,
     }
 }
 

@@ -13,7 +13,7 @@ ghost use Rattle.dcx_graph.specs.Answers.{IsAnswered, IsRead};
 ghost use Rattle.dcx_build.specs.Origins.{IsLaidOut};
 ghost use Rattle.dcx_build.specs.Built.{values_in, IsBuilt, StopsBuilding};
 
-use crate::copies::{copy_duals, copy_point, values_of};
+use crate::copies::{copy_duals, values_of};
 use crate::weights::weights_of;
 use dcx_answer::{Answer, Duals};
 use dcx_frac::Frac;
@@ -52,7 +52,7 @@ fn optimal(
     ensures stops { IfErr result (StopsBuilding problem.now reduced.now.program.origins lp.now) }
 {
     let weights = weights_of(alloc, problem, reduced, lp)?;
-    let (weights, point) = beside(weights, copy_point(alloc, point))?;
+    let (weights, point) = beside(weights, point.copy(alloc))?;
     let (made, duals) = beside((weights, point), copy_duals(alloc, duals))?;
     let ((weights, point), (duals, values)) = beside(
         made,
@@ -106,8 +106,8 @@ fn unbounded(
 ) -> Result<Cert, AllocError>
     ensures { IfOk result (λ c. c ≡ Unbounded point.now ray.now bound slope (Some (values_in problem.now setting.now))) }
 {
-    let point = copy_point(alloc, point)?;
-    let (point, ray) = beside(point, copy_point(alloc, ray))?;
+    let point = point.copy(alloc)?;
+    let (point, ray) = beside(point, ray.copy(alloc))?;
     let ((point, ray), values) = beside((point, ray), values_of(alloc, problem, setting))?;
     Ok(Cert::Unbounded {
         point,

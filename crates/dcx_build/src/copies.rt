@@ -1,28 +1,13 @@
-//! Copies of points and multipliers, and of a setting in the order in which its parameters are declared.
+//! Copies of multipliers, and of a setting in the order in which its parameters are declared.
 ghost use Rattle.std.specs.Prelude.{◌≡◌, IfOk};
 ghost use Rattle.dcx_build.specs.Built.{values_in};
 
 use dcx_answer::Duals;
 use dcx_atom::copy_array;
-use dcx_point::{Point, Setting};
+use dcx_point::Setting;
 use dcx_shape::copy_name;
 use dcx_tree::Problem;
 use std::alloc::{AllocError, Global};
-
-/// The same point again.
-pub(crate) fn copy_point(alloc: Global, point: &Point) -> Result<Point, AllocError>
-    ensures { IfOk result (λ x. x ≡ point.now) }
-{
-    let mut copy = Point::empty(alloc);
-    for i in 0..point.len() {
-        if let Some(name) = point.name_at(i) {
-            if let Some(array) = point.get(name) {
-                copy.put(copy_name(alloc, name)?, copy_array(alloc, array)?)?;
-            }
-        }
-    }
-    Ok(copy)
-}
 
 /// The same multipliers again.
 pub(crate) fn copy_duals(alloc: Global, duals: &Duals) -> Result<Duals, AllocError>

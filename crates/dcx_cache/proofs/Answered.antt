@@ -55,16 +55,7 @@ module _ (p : Problem) (setting : Pairs) (ok : IsAccepted p) (fits : FitsParamet
 
   -- an answer of its rows can be read that has the parts and is right
   pub answered_by : (q : Program Frac) (i : tab.Program) (a : LpAnswer) → SessionGives p setting (Ok q) → IsMade (rows_of q) i → HasParts i a → IsRight i a → IsAnswered p (setting_of p setting) q a
-  answered_by q i a g made parts right = let w = (sound q g).reduced in record {
-    rules = w.rules;
-    accepted = w.accepted;
-    fits = w.fits;
-    reduction = w.reduction;
-    integer = i;
-    made = made;
-    parts = parts;
-    right = right;
-  }
+  answered_by q i a g made parts right = record { reduced = (sound q g).reduced; integer = i; made = made; parts = parts; right = right }
 
   -- so can the answer of the run
   pub is_answered : (limit : ℕ) (q : Program Frac) (s : Solved) → SessionGives p setting (Ok q) → IsSolved limit (rows_of q) s → IsAnswered p (setting_of p setting) q s.answer

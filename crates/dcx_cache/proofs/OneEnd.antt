@@ -26,7 +26,8 @@ use Rattle.dcx_graph.proofs.OneReading.{readings_are_one}
 use Rattle.dcx_graph.proofs.OneWay.{one_affine, one_numbers}
 use Rattle.dcx_graph.proofs.Settings.{one_fixed}
 use Rattle.dcx_cache.specs.Programs.{IsMapOf, Fixes, SessionGives, mapped, anew}
-use Rattle.dcx_cache.specs.Stops.{program_stop, run_stop, reading_stop}
+use Rattle.dcx_solved.specs.Stops.{run_stop}
+use Rattle.dcx_cache.specs.Stops.{program_stop, reading_stop}
 use Rattle.dcx_cache.specs.Answers.{IsAnswerOf, StopsAt, at_program, at_run, at_reading, IsStopped, Stops, Answers}
 use Rattle.dcx_cache.specs.Laws.{HasOneEnd, BoundsLimit, LimitsAreSmall}
 

@@ -20,7 +20,8 @@ use Rattle.dcx_graph.specs.Reducing.{OrMemory}
 use Rattle.dcx_graph.specs.Answers.{rows_of, StopsReading}
 use Rattle.dcx_cache.specs.Programs.{SessionGives, ProgramStops}
 use Rattle.dcx_cache.specs.Answers.{at_program, at_run, at_reading, Stops}
-use Rattle.dcx_cache.specs.Stops.{program_stop, run_stop, reading_stop}
+use Rattle.dcx_solved.specs.Stops.{run_stop}
+use Rattle.dcx_cache.specs.Stops.{program_stop, reading_stop}
 
 -- ---- the program
 module _ (p : Problem) (setting : Pairs) where

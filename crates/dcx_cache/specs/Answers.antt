@@ -18,7 +18,8 @@ use Rattle.dcx_graph.specs.declared.reading.AnswerStop.TheVariants as reads
 use Rattle.dcx_graph.specs.Program.{Program}
 use Rattle.dcx_graph.specs.Answers.{rows_of, IsRead, StopsReading}
 use Rattle.dcx_cache.specs.Programs.{SessionGives}
-use Rattle.dcx_cache.specs.Stops.{program_stop, run_stop, reading_stop}
+use Rattle.dcx_solved.specs.Stops.{run_stop}
+use Rattle.dcx_cache.specs.Stops.{program_stop, reading_stop}
 
 -- ---- answers
 -- the setting fits the parameters, this is the session's program there, which names unknowns of its own alone, it is solved so with at

@@ -1,12 +1,10 @@
 -- What stops a setting, from what stops a part of the way.
 use Rattle.dcx_answer.specs.declared.stop.Stop.{Stop}
-use Rattle.dcx_answer.specs.declared.stop.Stop.TheVariants.{TooLarge, ZeroDivisor, Wide, PivotLimit, Memory}
+use Rattle.dcx_answer.specs.declared.stop.Stop.TheVariants.{TooLarge, ZeroDivisor, Wide, Memory}
 use Rattle.dcx_graph.specs.declared.stop.ReduceStop.{ReduceStop}
 use Rattle.dcx_graph.specs.declared.stop.ReduceStop.TheVariants as reduces
 use Rattle.dcx_graph.specs.declared.reading.AnswerStop.{AnswerStop}
 use Rattle.dcx_graph.specs.declared.reading.AnswerStop.TheVariants as reads
-use Rattle.dcx_solved.specs.declared.stop.SolveStop.{SolveStop}
-use Rattle.dcx_solved.specs.declared.stop.SolveStop.TheVariants as solves
 
 -- there is no program
 abbrev pub program_stop : ReduceStop → Stop
@@ -14,13 +12,6 @@ program_stop (reduces.TooLarge rows columns) = TooLarge rows columns
 program_stop (reduces.ZeroDivisor node entry) = ZeroDivisor node entry
 program_stop (reduces.Wide site) = Wide site
 program_stop reduces.Memory = Memory
-
--- its rows aren't solved
-abbrev pub run_stop : SolveStop → Stop
-run_stop (solves.TooLarge rows columns) = TooLarge rows columns
-run_stop (solves.Wide site) = Wide site
-run_stop (solves.PivotLimit count) = PivotLimit count
-run_stop solves.Memory = Memory
 
 -- the answer isn't read
 abbrev pub reading_stop : AnswerStop → Stop

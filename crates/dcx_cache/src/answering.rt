@@ -9,14 +9,14 @@ ghost use Rattle.dcx_cache.specs.Sessions.{KeepsMap};
 
 use crate::program::formed;
 use crate::session::Last;
-use crate::stops::{reading_stop, run_stop};
+use crate::stops::reading_stop;
 use dcx_answer::{Answer, Stop};
 use dcx_frac::Frac;
 use dcx_graph::{Reduced, map_back};
 use dcx_linear::ParamForm;
 use dcx_point::Setting;
 use dcx_rules::Verdict;
-use dcx_solved::solve_rows;
+use dcx_solved::{run_stop, solve_rows};
 use dcx_steps::Steps;
 use dcx_tree::Problem;
 use std::alloc::Global;

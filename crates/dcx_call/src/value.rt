@@ -10,14 +10,16 @@ ghost use Rattle.dcx_affine.specs.Pairing.{paired_sides, pairs_at};
 ghost use Rattle.dcx_point.specs.Pairs.{Pairs};
 ghost use Rattle.dcx_call.specs.Linears.{linear_meaning};
 ghost use Rattle.dcx_call.specs.Calls.{shape_of, sides_of_two};
-ghost use Rattle.dcx_call.specs.Forming.{added_product, products_in_order, or_passes, divided, AreFormed, IsStop};
+ghost use Rattle.dcx_call.specs.Forming.{products_in_order, or_passes, divided, AreFormed, IsStop};
 ghost use Rattle.dcx_call.specs.Values.{term_sum, pair_sum, pairing_formed, IsGiven, IsValue, IsValueStop};
 
 use crate::call::Call;
 use crate::fill::{Entrywise, fill};
 use crate::linears::LinearCall;
 use dcx_affine::{EntryPairs, Pair, Pairing};
-use dcx_atom::{Array, Atom, EntryTerms, LinearOp, Triple, ValueStop, copy_array};
+use dcx_atom::{
+    Array, Atom, EntryTerms, LinearOp, Triple, ValueStop, add_product, copy_array, number_at,
+};
 use dcx_frac::{Frac, Fracs, Passes};
 use dcx_point::{Point, Setting};
 use dcx_shape::{Shape, Sides};
@@ -91,33 +93,14 @@ fn taken(alloc: Global, array: Option<&Array>) -> Result<Array, ValueStop>
     }
 }
 
-/// Entry `j` of a list of numbers, and 0 past its end.
-fn number_at(numbers: &[Frac], j: u32) -> Frac
-    ensures { value result ≡ number_at numbers.now j }
-{
-    let j = j as usize;
-    if j < numbers.len() {
-        numbers[j]
-    } else {
-        Frac::zero()
-    }
-}
-
 /// Entry `j` of argument `i`, and 0 beyond them.
 fn entry_of(args: &[Array], i: u32, j: u32) -> Frac
     ensures { value result ≡ numbers_of args.now i j }
 {
     match args.get(i as usize) {
-        Some(array) => number_at(array.entries.as_slice(), j),
+        Some(array) => number_at(array.entries.as_slice(), j as usize),
         None => Frac::zero(),
     }
-}
-
-/// The sum with one more product, or the operation that passes.
-fn add_product(sum: Frac, x: Frac, y: Frac) -> Result<Frac, Passes>
-    ensures { result ≡ added_product sum (x, y) }
-{
-    sum.add(x.mul(y)?)
 }
 
 /// The sum of terms in order, or the first operation that passes.
@@ -143,8 +126,8 @@ fn sum_of_pairs(pairs: &[Pair], left: &[Frac], right: &[Frac]) -> Result<Frac, P
     for pair in pairs {
         sum = add_product(
             sum,
-            number_at(left, pair.left),
-            number_at(right, pair.right),
+            number_at(left, pair.left as usize),
+            number_at(right, pair.right as usize),
         )?;
     }
     Ok(sum)
@@ -218,7 +201,8 @@ impl Entrywise for Quotients<'_> {
     ghost formed = { λ x j. divided j (number_at x.left.now j) (number_at x.right.now j) };
 
     fn entry(&self, j: u32) -> Result<Frac, ValueStop> {
-        divide(j, number_at(self.left, j), number_at(self.right, j))
+        let k = j as usize;
+        divide(j, number_at(self.left, k), number_at(self.right, k))
     }
 }
 

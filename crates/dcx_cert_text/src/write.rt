@@ -10,32 +10,13 @@ ghost use Rattle.dcx_cert_text.specs.Written.{params_text, body_text, section_te
 use dcx_atom::Array;
 use dcx_frac::Frac;
 use dcx_lines::{
-    pair_at, put_bytes, put_dual_line, put_entries, put_named_line, put_number, put_number_line,
+    put_bytes, put_dual_lines, put_entries, put_named_line, put_named_lines, put_number,
+    put_number_line,
 };
 use dcx_point::{Point, Setting};
 use dcx_sections::{Cert, Format, NodeWeights, Section, Sections};
 use dcx_shape::{Bytes, Name};
 use std::alloc::{AllocError, Global};
-
-/// Appends the line of pair `i`, where there is one, under a word.
-fn put_pair(out: &mut Vec<u8>, word: &[u8], point: &Point, i: usize) -> Result<(), AllocError>
-    ensures { OnOk result (IfSome (slice_get point.now i) (λ pair. out.new.items ≡ out.old.items ++ named_line word.now pair)) }
-{
-    match pair_at(point, i) {
-        Some((name, array)) => put_named_line(out, word, name, array),
-        None => Ok(()),
-    }
-}
-
-/// Appends a line of each variable under a word.
-fn put_point(out: &mut Vec<u8>, word: &[u8], point: &Point) -> Result<(), AllocError>
-    ensures { OnOk result (out.new.items ≡ out.old.items ++ flat_map (named_line word.now) point.now) }
-{
-    'pairs: for i in 0..point.len() {
-        put_pair(out, word, point, i)?;
-    }
-    Ok(())
-}
 
 /// The name and the array of pair `i`, counted from 0; `None` where there are at most `i` pairs.
 fn value_at(setting: &Setting, i: usize) -> Option<(&Name, &Array)>
@@ -79,19 +60,6 @@ fn put_params(out: &mut Vec<u8>, params: &Option<Setting>) -> Result<(), AllocEr
     }
 }
 
-/// Appends a line of each constraint's multipliers.
-#[tactic(auto, using(dcx_lines::proofs::Numbered::numbered_more))]
-fn put_duals(out: &mut Vec<u8>, duals: &[Array]) -> Result<(), AllocError>
-    ensures { OnOk result (out.new.items ≡ out.old.items ++ flat_map dual_line (enumerate_from 1 duals.now)) }
-{
-    let mut number = 0;
-    for array in duals {
-        number += 1;
-        put_dual_line(out, number, array)?;
-    }
-    Ok(())
-}
-
 /// Appends the line of an atom's weights.
 #[tactic(auto, unfolding(dcx_cert_lines::specs::CertText::node_line))]
 fn put_node(out: &mut Vec<u8>, weights: &NodeWeights) -> Result<(), AllocError>
@@ -123,10 +91,11 @@ fn put_end(out: &mut Vec<u8>) -> Result<(), AllocError>
 }
 
 /// Appends the multipliers and the weights, and the last line of their section.
+#[tactic(auto, unfolding(dcx_lines::specs::Lines::dual_lines))]
 fn put_shown(out: &mut Vec<u8>, duals: &[Array], weights: &[NodeWeights]) -> Result<(), AllocError>
     ensures { OnOk result (out.new.items ≡ out.old.items ++ (flat_map dual_line (enumerate_from 1 duals.now) ++ (flat_map node_line weights.now ++ end_line))) }
 {
-    put_duals(out, duals)?;
+    put_dual_lines(out, duals)?;
     put_weights(out, weights)?;
     put_end(out)
 }
@@ -144,7 +113,7 @@ fn put_optimal(
 {
     put_params(out, params)?;
     put_number_line(out, b"value", value)?;
-    put_point(out, b"var", point)?;
+    put_named_lines(out, b"var", point)?;
     put_shown(out, duals, weights)
 }
 
@@ -177,8 +146,8 @@ fn put_unbounded(
     put_params(out, params)?;
     put_number_line(out, b"bound", bound)?;
     put_number_line(out, b"slope", slope)?;
-    put_point(out, b"var", point)?;
-    put_point(out, b"ray", ray)?;
+    put_named_lines(out, b"var", point)?;
+    put_named_lines(out, b"ray", ray)?;
     put_end(out)
 }
 

@@ -93,7 +93,7 @@ module _ (p : Problem) (setting : Pairs) (q : Program Frac) (a : LpAnswer) (know
     optimal_bound : a.status ≡ status.Optimal → FailsWide (bound_checks p setting duals weights true a.number)
     optimal_bound e =
         let right = right_rows status.Optimal e in
-        bounds_fail_wide p setting duals weights true a.number ok is.fits (are_duals p a.status a.rows duals are)
+        bounds_fail_wide p setting duals weights true a.number ok is.reduced.fits (are_duals p a.status a.rows duals are)
         (λ values fixed. forms_bound_programs own.rules p setting values own.forms duals (weights_at weights) true (value a.number) M (first_row p setting q a known own is) fixed own.stand
         (are_row_weights p setting q a known own is values fixed right.signs weights weighed)
         (optimal_bounds own.rules p (setting_of p setting) own.forms (linear_program (rows_of q)) own.program M duals (same_multipliers duals are) (value a.number) right.bound))
@@ -101,7 +101,7 @@ module _ (p : Problem) (setting : Pairs) (q : Program Frac) (a : LpAnswer) (know
     infeasible_bound : a.status ≡ status.Infeasible → FailsWide (bound_checks p setting duals weights false a.number)
     infeasible_bound e =
         let right = right_rows status.Infeasible e in
-        bounds_fail_wide p setting duals weights false a.number ok is.fits (are_duals p a.status a.rows duals are)
+        bounds_fail_wide p setting duals weights false a.number ok is.reduced.fits (are_duals p a.status a.rows duals are)
         (λ values fixed. forms_bound_programs own.rules p setting values own.forms duals (weights_at weights) false (value a.number) M (first_row p setting q a known own is) fixed own.stand
         (are_row_weights p setting q a known own is values fixed right.signs weights weighed)
         (infeasible_bounds own.rules p (setting_of p setting) own.forms (linear_program (rows_of q)) own.program M duals (same_multipliers duals are) (value a.number) right.bound))
@@ -115,9 +115,9 @@ module _ (p : Problem) (setting : Pairs) (q : Program Frac) (a : LpAnswer) (know
         bound = subst (λ n. FailsWide (bound_checks p setting duals weights true n)) (sym same) (optimal_bound ok duals are weights weighed e)
 
         by : FailsWide (checks_of p setting (Optimal number point duals weights (Some (values_in p setting))))
-        by f (inl h) = setting_wide p setting met is.fits f h
-        by f (inr (fitting, inl h)) = point_wide p setting point is.fits right.feasible f h
-        by f (inr (fitting, inr (inside, inl h))) = value_wide p setting point is.fits number right.value f h
+        by f (inl h) = setting_wide p setting met is.reduced.fits f h
+        by f (inr (fitting, inl h)) = point_wide p setting point is.reduced.fits right.feasible f h
+        by f (inr (fitting, inr (inside, inl h))) = value_wide p setting point is.reduced.fits number right.value f h
         by f (inr (fitting, inr (inside, inr (stated, inl h)))) = absurd (signs_never p duals right.multipliers f h)
         by f (inr (fitting, inr (inside, inr (stated, inr (signed, h))))) = bound f h
     certified (answers.Infeasible duals gap) cert (e, same, are) right (weights, weighed, built) = subst (λ c. FailsWide (checks_of p setting c)) (sym built) by
@@ -126,15 +126,15 @@ module _ (p : Problem) (setting : Pairs) (q : Program Frac) (a : LpAnswer) (know
         bound = subst (λ n. FailsWide (bound_checks p setting duals weights false n)) (sym same) (infeasible_bound ok duals are weights weighed e)
 
         by : FailsWide (checks_of p setting (Infeasible duals gap weights (Some (values_in p setting))))
-        by f (inl h) = setting_wide p setting met is.fits f h
+        by f (inl h) = setting_wide p setting met is.reduced.fits f h
         by f (inr (fitting, inl h)) = absurd (signs_never p duals right.multipliers f h)
         by f (inr (fitting, inr (signed, inl h))) = absurd (gap_never gap right.positive f h)
         by f (inr (fitting, inr (signed, inr (positive, h)))) = bound f h
     certified (answers.Unbounded point ray bound slope) cert read right built = subst (λ c. FailsWide (checks_of p setting c)) (sym built) by
       where
         by : FailsWide (checks_of p setting (Unbounded point ray bound slope (Some (values_in p setting))))
-        by f (inl h) = setting_wide p setting met is.fits f h
-        by f (inr (fitting, h)) = descent_wide p setting point ray bound slope ok is.fits right f h
+        by f (inl h) = setting_wide p setting met is.reduced.fits f h
+        by f (inr (fitting, h)) = descent_wide p setting point ray bound slope ok is.reduced.fits right f h
 
 -- what a checker answers
 answered : (check : Check) → FailsWide check → (r : Result (Unit {0}) CertFault) → Checked check r → IsAcceptedOrWide check r

@@ -1,5 +1,5 @@
 -- What each comparison of the code tells of its demand.
-use Rattle.std.proofs.Common.{◌≡◌, ◌⊎◌, inr, ℕ, zero, suc, ◌<◌, ◌≤◌, Bool, true, false, List, [], ◌∷◌, length, Option, Some, None, Result, MatchBool, refl, sym, ap, ap₂, ◌∙◌, subst, true≢false, pos}
+use Rattle.std.proofs.Common.{◌≡◌, ◌⊎◌, inr, ℕ, zero, suc, ◌<◌, Bool, true, false, List, [], ◌∷◌, Option, Some, None, Result, MatchBool, refl, sym, ap, ap₂, ◌∙◌, subst, true≢false, pos}
 use Rattle.std.specs.List.{slice_get}
 use Rattle.std.proofs.lemmas.Option.{slice_get_within}
 use Rattle.dcx_math.specs.Rational.{ℚ, whole, rat_eq, rat_le, ◌≤ℚ◌, ◌<ℚ◌}
@@ -9,7 +9,7 @@ use Rattle.dcx_frac.specs.declared.fraction.Frac.{Frac}
 use Rattle.dcx_frac.specs.Frac.{value}
 use Rattle.dcx_shape.specs.Shape.{sides_of}
 use Rattle.dcx_atom.specs.declared.array.Array.{Array}
-use Rattle.dcx_atom.specs.Arrays.{number_at, numbers_of}
+use Rattle.dcx_atom.specs.Arrays.{numbers_of}
 use Rattle.dcx_atom.specs.Formed.{frac_at}
 use Rattle.dcx_atom.proofs.FormedSums.{frac_at-value}
 use Rattle.dcx_point.specs.Pairs.{Pairs}
@@ -19,7 +19,6 @@ use Rattle.dcx_call.specs.Values.{given_by}
 use Rattle.dcx_tree.specs.declared.constraint.Kind.{Kind}
 use Rattle.dcx_tree.specs.declared.constraint.Kind.TheVariants.{AtMost}
 use Rattle.dcx_tree.specs.declared.constraint.Constraint.{Constraint}
-use Rattle.dcx_tree.proofs.NodeValues.{number_past}
 use Rattle.dcx_domain.specs.declared.point.Outside.{Outside}
 use Rattle.dcx_domain.specs.Points.{IsFirstOutside}
 use Rattle.dcx_domain.proofs.Comparisons.{at_most}
@@ -120,11 +119,6 @@ positive b nought x z e f = when_false b _ _ (at_most_zero b nought x z e) f
 
 pub not_positive : (b : Bool) (nought x : Frac) → value nought ≡ whole (pos 0) → b ≡ rat_le (value x) (value nought) → b ≡ true → ¬ (whole (pos 0) <ℚ value x)
 not_positive b nought x z e t h = <ℚ-not h (when_true b _ _ (at_most_zero b nought x z e) t)
-
--- ---- the numbers of an array, where there is one
--- 0 past the end
-pub zero_past : (xs : List Frac) (k : ℕ) (nought : Frac) → length xs ≤ k → value nought ≡ whole (pos 0) → value nought ≡ number_at xs k
-zero_past xs k nought le z = z ∙ sym (number_past xs k le)
 
 -- ---- where a point leaves the domain
 module _ (vs : List Variable) (given : Pairs) (fault : ℕ → ℕ → Frac → CertFault) (o : Outside) (first : IsFirstOutside vs given o) where

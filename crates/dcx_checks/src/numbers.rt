@@ -5,7 +5,7 @@ ghost use Rattle.dcx_frac.specs.Frac.{value};
 ghost use Rattle.dcx_atom.specs.Arrays.{number_at};
 ghost use Rattle.dcx_checks.specs.Numbers.{number_if};
 
-use dcx_atom::Array;
+use dcx_atom::{Array, number_at};
 use dcx_frac::Frac;
 
 /// Entry `entry` of an array; 0 past its end, and where there is no array.
@@ -22,11 +22,5 @@ pub(crate) fn number_in(array: Option<&Array>, entry: u32) -> Frac
 pub(crate) fn entry_of(array: &Array, entry: u32) -> Frac
     ensures { value result ≡ number_at array.now.entries entry }
 {
-    let numbers = array.entries.as_slice();
-    let k = entry as usize;
-    if k < numbers.len() {
-        numbers[k]
-    } else {
-        Frac::zero()
-    }
+    number_at(array.entries.as_slice(), entry as usize)
 }

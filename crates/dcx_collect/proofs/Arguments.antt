@@ -1,6 +1,6 @@
 -- Arguments among nodes, and what goes to them.
-use Rattle.std.proofs.Common.{◌≡◌, ℕ, zero, suc, ◌+◌, ◌<◌, ◌≤◌, arith, List, [], ◌∷◌, length, map, take, drop, get_or, All, refl, sym, ap, ap₂, ◌∙◌, subst, Option, Some, None, Result, Ok, slice_get, ◌++◌}
-use Rattle.std.proofs.lemmas.List.{length-map, map-append, length-drop, get_or-take, get_or-drop}
+use Rattle.std.proofs.Common.{◌≡◌, ℕ, zero, suc, ◌+◌, ◌<◌, ◌≤◌, arith, List, [], ◌∷◌, length, map, take, drop, get_or, All, refl, sym, ap, ◌∙◌, subst, Option, Some, None, Result, Ok, slice_get}
+use Rattle.std.proofs.lemmas.List.{length-map, length-drop, get_or-take, get_or-drop}
 use Rattle.std.proofs.lemmas.Option.{slice_get-map, slice_get-get_or, slice_get_past}
 use Rattle.std.specs.Prelude.{option_map}
 use Rattle.dcx_frac.specs.declared.fraction.Frac.{Frac}
@@ -19,8 +19,6 @@ use Rattle.dcx_atom.proofs.Lists.{list_below-same}
 use Rattle.dcx_atom.proofs.FormedSums.{frac_at-value}
 use Rattle.dcx_arena.specs.declared.node.NodeId.{NodeId}
 use Rattle.dcx_arena.specs.Nodes.{positions}
-use Rattle.dcx_arena.specs.Nodes.{sides_at as arena_sides}
-use Rattle.dcx_atom.proofs.FormedSums.{take-next}
 use Rattle.dcx_call.proofs.Products.{item_of}
 use Rattle.dcx_tree.specs.Nodes.{Node}
 use Rattle.dcx_collect.specs.Shares.{frac_in, Share, share_of, with_share, with_shares}
@@ -90,16 +88,6 @@ shape_sides shapes k s b e =
     let many : length (sides_list shapes) ≡ length shapes = length-map shapes sides_of in
     let inside : k < length (sides_list shapes) = omega (arith, b, many) in
     sym (within_list (sides_list shapes) k Scalar (sides_of s) inside (item_of sides_of shapes k s e))
-
--- the shapes of nodes with the next one
-pub shapes_next : (nodes : List Node) (ids : List NodeId) (i : ℕ) (a : NodeId) (shapes : List Shape) (s : Shape) → i < length ids → a ≡ get_or ids i a → sides_of s ≡ arena_sides nodes a.0 →
-    sides_list shapes ≡ take i (map (arena_sides nodes) (positions ids)) → sides_list (shapes ++ s ∷ []) ≡ take (i + 1) (map (arena_sides nodes) (positions ids))
-shapes_next nodes ids i a shapes s b e is so_far =
-    let f = arena_sides nodes in
-    let many : length (map f (positions ids)) ≡ length ids = length-map (positions ids) f ∙ length-map ids (λ k. k.0) in
-    let inside : i < length (map f (positions ids)) = omega (arith, b, many) in
-    map-append sides_of shapes (s ∷ []) ∙ ap₂ (λ xs x. xs ++ x ∷ []) so_far (is ∙ item_of f (positions ids) i a.0 (item_of (λ k. k.0) ids i a e))
-    ∙ sym (take-next (map f (positions ids)) i (f a.0) inside)
 
 -- ---- the slopes of one argument in the list of all
 none_left : {A : Type 0} (n : ℕ) → drop {A = A} n [] ≡ []

@@ -9,9 +9,9 @@ ghost use Rattle.dcx_collect.specs.Pass.{IsOrMemory, or_passes};
 ghost use Rattle.dcx_collect.specs.Multipliers.{objective_number, objective_shares, array_shares, negated_shares, constraint_shares, all_shares, start_table, AreDuals};
 
 use crate::places::place_of;
-use crate::shares::{add_share, frac_in};
+use crate::shares::add_share;
 use crate::stop::CollectStop;
-use dcx_atom::{Array, minus_one};
+use dcx_atom::{Array, minus_one, number_at};
 use dcx_frac::{Frac, Passes};
 use dcx_tree::{Constraint, NodeId, Problem, Sense, Tree};
 use std::alloc::Global;
@@ -30,7 +30,7 @@ fn objective_number(sense: Sense) -> Frac
 fn entry_of(array: &Array, entry: u32) -> Frac
     ensures { result ≡ frac_in array.now.entries entry }
 {
-    frac_in(array.entries.as_slice(), entry as usize)
+    number_at(array.entries.as_slice(), entry as usize)
 }
 
 /// Adds the numbers of an array at the entries of a node.

@@ -1,5 +1,5 @@
 //! What one node does with the coefficients that are collected at it.
-ghost use Rattle.std.specs.Prelude.{◌≡◌, ◌<◌, ◌++◌, ◌^◌, ℕ, List, Ok, Some, length, map, All, OnOk, IfOk, IfErr, is_some, slice_index};
+ghost use Rattle.std.specs.Prelude.{◌≡◌, ◌<◌, ◌++◌, ◌^◌, ℕ, List, Ok, Some, length, OnOk, IfErr, is_some, slice_index};
 ghost use Rattle.std.specs.Option.{IsSomeAnd};
 ghost use Rattle.dcx_frac.specs.declared.fraction.Frac.{Frac};
 ghost use Rattle.dcx_shape.specs.Sides.{entries_of};
@@ -19,11 +19,10 @@ use crate::collected::Reached;
 use crate::linear::hand_linear;
 use crate::pairs::{Scaling, hand_pairs, scaling_of};
 use crate::places::{Given, Places};
-use crate::shares::frac_in;
 use crate::slopes::hand_slopes;
 use crate::stop::{CollectStop, stop_of};
 use dcx_affine::Pairing;
-use dcx_atom::{Array, Atom, LinearOp};
+use dcx_atom::{Array, Atom, LinearOp, number_at};
 use dcx_call::{AtomCall, Call, LinearCall};
 use dcx_frac::{Frac, Fracs, Passes};
 use dcx_shape::Shape;
@@ -50,7 +49,7 @@ pub(crate) fn add_products(
 {
     let mut sum = total;
     for (e, coefficient) in coefficients.iter().enumerate() {
-        sum = sum.add(coefficient.mul(frac_in(numbers, e))?)?;
+        sum = sum.add(coefficient.mul(number_at(numbers, e))?)?;
     }
     Ok(sum)
 }
@@ -98,18 +97,6 @@ fn scaling_numbers(
         Scaling::ByLeft => numbers_at(values, left),
         Scaling::ByRight | Scaling::Divided => numbers_at(values, right),
     }
-}
-
-/// The shapes of nodes.
-fn shapes_of(alloc: Global, tree: &Tree, nodes: &[NodeId]) -> Result<Vec<Shape>, AllocError>
-    requires { All (λ a. a < length tree.now) (positions nodes.now) }
-    ensures { IfOk result (λ v. sides_list v.items ≡ map (sides_at tree.now) (positions nodes.now)) }
-{
-    let mut shapes = Vec::new(alloc);
-    for node in nodes {
-        shapes.push(tree.shape(*node))?;
-    }
-    Ok(shapes)
 }
 
 /// Hands a nonlinear call's coefficients on by its slopes.
@@ -219,7 +206,7 @@ pub(crate) fn hand_call(
     let Ok(args) = tree.args(alloc, node) else {
         return Err(CollectStop::Memory);
     };
-    let Ok(shapes) = shapes_of(alloc, tree, &args) else {
+    let Ok(shapes) = tree.shapes_of(alloc, &args) else {
         return Err(CollectStop::Memory);
     };
     let places = Places {

@@ -2,13 +2,14 @@
 ghost use Rattle.std.specs.Prelude.{◌≡◌, ℕ, List, length, map, Ok, Err, OnOk, IfErr, slice_index_or, [], option_copied};
 ghost use Rattle.dcx_frac.specs.Results.{quotient_of};
 ghost use Rattle.dcx_arena.specs.Nodes.{positions};
-ghost use Rattle.dcx_collect.specs.Shares.{frac_in, with_shares, with_share};
+ghost use Rattle.dcx_collect.specs.Shares.{with_shares, with_share};
 ghost use Rattle.dcx_collect.specs.Starts.{ArePlaces};
 ghost use Rattle.dcx_collect.specs.Calls.{scaling_of, scaling_numbers, pair_share, pairing_shares};
 
 use crate::places::Places;
-use crate::shares::{add_share, frac_in};
+use crate::shares::add_share;
 use dcx_affine::{EntryPairs, Pair, Pairing};
+use dcx_atom::number_at;
 use dcx_frac::{Frac, Passes};
 
 /// How the numbers of one side of a product or a quotient change the coefficients.
@@ -46,8 +47,8 @@ fn hand_pair(
     ensures ok { OnOk result (with_share table.old.items (pair_share places.now.tree.now (positions places.now.args.now) scaling numbers.now coefficient pair) ≡ Ok table.new.items) }
     ensures passes { IfErr result (λ p. with_share table.old.items (pair_share places.now.tree.now (positions places.now.args.now) scaling numbers.now coefficient pair) ≡ Err p) }
 {
-    let left = frac_in(numbers, pair.left as usize);
-    let right = frac_in(numbers, pair.right as usize);
+    let left = number_at(numbers, pair.left as usize);
+    let right = number_at(numbers, pair.right as usize);
     match scaling {
         Scaling::ByRight => add_share(table, places.place(0, pair.left), coefficient.mul(right)),
         Scaling::ByLeft => add_share(table, places.place(1, pair.right), coefficient.mul(left)),

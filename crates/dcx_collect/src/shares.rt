@@ -1,19 +1,9 @@
 //! Adding a share to a place of a list.
 ghost use Rattle.std.specs.Prelude.{◌≡◌, Ok, Err, OnOk, IfErr, slice_set};
-ghost use Rattle.dcx_collect.specs.Shares.{frac_in, added_at, with_share, share_of};
+ghost use Rattle.dcx_collect.specs.Shares.{added_at, with_share, share_of};
 
+use dcx_atom::number_at;
 use dcx_frac::{Frac, Passes};
-
-/// Number `place` of a list, and 0 past its end.
-pub(crate) fn frac_in(numbers: &[Frac], place: usize) -> Frac
-    ensures { result ≡ frac_in numbers.now place }
-{
-    if place < numbers.len() {
-        numbers[place]
-    } else {
-        Frac::zero()
-    }
-}
 
 /// Puts a number at a place, where there is one.
 fn put(table: &mut Vec<Frac>, place: usize, number: Frac)
@@ -36,7 +26,7 @@ pub(crate) fn add_at(
     let Some(place) = place else {
         return Ok(());
     };
-    let sum = frac_in(table.as_slice(), place).add(number)?;
+    let sum = number_at(table.as_slice(), place).add(number)?;
     put(table, place, sum);
     Ok(())
 }

@@ -46,8 +46,7 @@ abbrev pub is_fixed : List Node → ℕ → Bool
 is_fixed nodes i = (judgement_at Plain nodes i).fixed
 
 -- ---- what the coefficients are collected from
--- what a node hands on to its arguments, where the nodes have the arrays f: its slopes times them. Only a call that
--- reaches a variable hands on anything
+-- what a node hands on to its arguments, where the nodes have the arrays f: its slopes times them
 abbrev pub handed_by : List Node → Head → List ℕ → (ℕ → Numbers) → (ℕ → Numbers) → ℚ
 handed_by nodes (Variable d) args g f = whole (pos 0)
 handed_by nodes (Parameter d) args g f = whole (pos 0)
@@ -58,6 +57,7 @@ abbrev pub handed_if : List Node → Option Node → (ℕ → Numbers) → (ℕ 
 handed_if nodes None g f = whole (pos 0)
 handed_if nodes (Some n) g f = handed_by nodes n.head n.args g f
 
+-- only a call that reaches a variable hands on anything
 abbrev pub handed_at : List Node → Slopes → (ℕ → Numbers) → ℕ → ℚ
 handed_at nodes g f i = if is_fixed nodes i then whole (pos 0) else handed_if nodes (slice_get nodes i) (g i) f
 
@@ -79,7 +79,7 @@ HasSides Nonpos sides = Unit {0}
 HasSides Symmetric sides = rows_of sides ≡ cols_of sides
 HasSides Diag sides = Unit {0}
 
--- the test for that: a coefficient is 0 where its entry is free, at least 0 where it is nonneg, and at most 0 where it is
+-- the test for the dual cone: a coefficient is 0 where its entry is free, at least 0 where it is nonneg, and at most 0 where it is
 -- nonpos; of a symmetric matrix the coefficients of (i, j) and (j, i) sum to 0, and of a diagonal one those on the diagonal are 0
 abbrev pub MayReach : Attribute → Sides → Numbers → Type 0
 MayReach Free sides c = (j : ℕ) → j < entries_of sides → c j ≡ whole (pos 0)

@@ -1,13 +1,12 @@
 //! Whether one entry of an array is as an attribute demands.
-ghost use Rattle.std.specs.Prelude.{◌≡◌, ◌<◌, MatchBool, pos};
+ghost use Rattle.std.specs.Prelude.{◌<◌, MatchBool, pos};
 ghost use Rattle.dcx_math.specs.Rational.{whole, ◌≤ℚ◌, ◌<ℚ◌};
-ghost use Rattle.dcx_frac.specs.Frac.{value};
 ghost use Rattle.dcx_shape.specs.Shape.{sides_of};
 ghost use Rattle.dcx_shape.specs.Sides.{entries_of};
 ghost use Rattle.dcx_atom.specs.Arrays.{number_at};
 ghost use Rattle.dcx_domain.specs.Entries.{IsItsMirror, IsZeroOffDiagonal, KeepsAt, DiffersFromMirror, IsNonzeroOffDiagonal, LeavesAt};
 
-use dcx_atom::{is_at_most, is_equal};
+use dcx_atom::{is_at_most, is_equal, number_at};
 use dcx_call::Attribute;
 use dcx_frac::Frac;
 use dcx_shape::Shape;
@@ -26,30 +25,18 @@ pub(crate) fn keeps_at(attribute: Attribute, shape: Shape, numbers: &[Frac], ent
     }
 }
 
-/// Number `k` of a list, and 0 past its end.
-fn number_at(numbers: &[Frac], k: u32) -> Frac
-    ensures { value result ≡ number_at numbers.now k }
-{
-    let k = k as usize;
-    if k < numbers.len() {
-        numbers[k]
-    } else {
-        Frac::zero()
-    }
-}
-
 /// Whether an entry is at least 0.
 fn is_at_least_zero(numbers: &[Frac], entry: u32) -> bool
     ensures { MatchBool result (whole (pos 0) ≤ℚ number_at numbers.now entry) (number_at numbers.now entry <ℚ whole (pos 0)) }
 {
-    is_at_most(&Frac::zero(), &number_at(numbers, entry))
+    is_at_most(&Frac::zero(), &number_at(numbers, entry as usize))
 }
 
 /// Whether an entry is at most 0.
 fn is_at_most_zero(numbers: &[Frac], entry: u32) -> bool
     ensures { MatchBool result (number_at numbers.now entry ≤ℚ whole (pos 0)) (whole (pos 0) <ℚ number_at numbers.now entry) }
 {
-    is_at_most(&number_at(numbers, entry), &Frac::zero())
+    is_at_most(&number_at(numbers, entry as usize), &Frac::zero())
 }
 
 /// Whether an entry is its mirror, or is asked at its mirror below the diagonal.
@@ -64,7 +51,10 @@ fn is_its_mirror(shape: Shape, numbers: &[Frac], entry: u32) -> bool
         return true;
     }
     let mirror = column * columns + row;
-    is_equal(&number_at(numbers, entry), &number_at(numbers, mirror))
+    is_equal(
+        &number_at(numbers, entry as usize),
+        &number_at(numbers, mirror as usize),
+    )
 }
 
 /// Whether an entry is on the diagonal, or is 0.
@@ -76,5 +66,5 @@ fn is_zero_off_diagonal(shape: Shape, numbers: &[Frac], entry: u32) -> bool
     if entry / columns == entry % columns {
         return true;
     }
-    number_at(numbers, entry).is_zero()
+    number_at(numbers, entry as usize).is_zero()
 }

@@ -13,7 +13,6 @@
 //! | the same of numbers under an attribute and a shape, without a variable | `first_left` |
 //! | a point is in the domain of a problem exactly where each variable's array is | `laws::points` |
 //! | the first variable, and its first entry, at which a point leaves the domain; none exactly where the point is in it | `point_outside`, `specs/Points.antt` |
-//! | whether a point gives each variable an array of its shape and lies in the domain | `is_domain_point` |
 //! | whether symmetric and diagonal variables are square matrices, as those of a problem are | `are_square` |
 #![tactic(auto)]
 
@@ -24,5 +23,5 @@ mod point;
 mod square;
 
 pub use array::{first_left, outside};
-pub use point::{Outside, is_domain_point, point_outside};
+pub use point::{Outside, point_outside};
 pub use square::are_square;

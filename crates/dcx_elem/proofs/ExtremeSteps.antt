@@ -19,7 +19,7 @@ use Rattle.dcx_atom.specs.declared.array.Array.{Array}
 use Rattle.dcx_atom.specs.declared.flags.Bend.{Bend}
 use Rattle.dcx_atom.specs.declared.graph.Graph.{Graph}
 use Rattle.dcx_atom.specs.declared.graph.AuxKind.TheVariants.{Free}
-use Rattle.dcx_atom.specs.Arrays.{sides_list, array_sides, sides_at, list_below, number_at, numbers_of, entries_before, all_entries}
+use Rattle.dcx_atom.specs.Arrays.{sides_list, array_sides, sides_at, same_sides, list_below, number_at, numbers_of, entries_before, all_entries}
 use Rattle.dcx_atom.specs.Formed.{number, sum_in_order}
 use Rattle.dcx_atom.specs.Meaning.{Coefficients, Weights, ArgumentEntry}
 use Rattle.dcx_atom.specs.Graph.{placed_row, form_term, rows_below, IsGraphOf}
@@ -31,7 +31,7 @@ use Rattle.dcx_atom.specs.Bounding.{argument_term, bound_row, outward, unknown_f
 use Rattle.dcx_elem.specs.Rows.{piece_term, piece_rows}
 use Rattle.dcx_atom.proofs.BoundRows.{list_below-first, length-list_below, map-list_below}
 use Rattle.dcx_atom.specs.Farthest.{extreme}
-use Rattle.dcx_elem.specs.Extremes.{same_sides, alike, extreme_meaning}
+use Rattle.dcx_elem.specs.Extremes.{alike, extreme_meaning}
 use Rattle.dcx_elem.specs.ExtremeLaws.{AreAlike, alike_are}
 use Rattle.dcx_atom.proofs.Lists.{one_forms, list_below-numbers, list_below-same, number_is, rat_at-list_below}
 use Rattle.dcx_atom.proofs.Totals.{earlier-none_right}

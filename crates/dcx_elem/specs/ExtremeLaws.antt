@@ -14,7 +14,7 @@ use Rattle.dcx_shape.specs.Sides.{entries_of}
 use Rattle.dcx_atom.specs.declared.flags.Sign.{Sign}
 use Rattle.dcx_atom.specs.declared.flags.Bend.{Bend}
 use Rattle.dcx_atom.specs.declared.flags.Bend.TheVariants.{Convex, Concave}
-use Rattle.dcx_atom.specs.Arrays.{Entries, list_below, sides_at}
+use Rattle.dcx_atom.specs.Arrays.{Entries, list_below, sides_at, same_sides}
 use Rattle.dcx_atom.specs.Signs.{sign_at, IsBeyond}
 use Rattle.dcx_atom.specs.Rows.{row_at, form_at, RowsHold, weighted}
 use Rattle.dcx_atom.specs.Meaning.{IsMet}
@@ -25,7 +25,7 @@ use Rattle.dcx_atom.proofs.LinearSums.{follows_rising, All-list_below}
 use Rattle.dcx_atom.specs.Bounding.{argument_term, bound_row, outward, unknown_form, free_kinds}
 use Rattle.dcx_atom.proofs.BoundRows.{map-list_below, length-list_below, All-at, RowsHold-list_below, weighted-list_below, beyond_of_rows, row_of_beyond, alone_is, times_one, free_balanced}
 use Rattle.dcx_atom.specs.Farthest.{extreme, beyond_trans, extreme_each, extreme_within}
-use Rattle.dcx_elem.specs.Extremes.{same_sides, alike, extreme_meaning}
+use Rattle.dcx_elem.specs.Extremes.{alike, extreme_meaning}
 
 -- ---- arguments of one shape
 -- sides that pass the test are the same

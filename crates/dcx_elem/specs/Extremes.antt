@@ -1,32 +1,19 @@
 -- The greatest and the least of several arrays, entry by entry: one is the other turned round.
-use Rattle.std.specs.Prelude.{ℕ, ◌==◌, ◌&&◌, Bool, true, false, if◌then◌else◌, List, [], ◌∷◌, length, replicate, Option, Some, None, pos}
+use Rattle.std.specs.Prelude.{ℕ, ◌==◌, ◌&&◌, if◌then◌else◌, List, [], ◌∷◌, length, replicate, Option, Some, None, pos}
 use Rattle.std.specs.List.{list_any, list_all}
 use Rattle.dcx_math.specs.Rational.{whole}
 use Rattle.dcx_shape.specs.declared.shape.Sides.{Sides}
-use Rattle.dcx_shape.specs.declared.shape.Sides.TheVariants.{Scalar, Vector, Matrix}
 use Rattle.dcx_shape.specs.Sides.{entries_of}
 use Rattle.dcx_atom.specs.declared.flags.Sign.{Sign}
 use Rattle.dcx_atom.specs.declared.flags.Bend.{Bend}
 use Rattle.dcx_atom.specs.declared.flags.Bend.TheVariants.{Convex, Concave}
 use Rattle.dcx_atom.specs.declared.graph.AuxKind.TheVariants.{Free}
-use Rattle.dcx_atom.specs.Arrays.{list_below, sides_at}
+use Rattle.dcx_atom.specs.Arrays.{list_below, sides_at, same_sides}
 use Rattle.dcx_atom.specs.Signs.{rises}
 use Rattle.dcx_atom.specs.Formed.{number}
 use Rattle.dcx_atom.specs.Meaning.{Meaning}
 use Rattle.dcx_atom.specs.Bounding.{argument_term, bound_row, outward, unknown_form, total_condition}
 use Rattle.dcx_atom.specs.Farthest.{extreme}
-
--- the sides are the same
-abbrev pub same_sides : Sides → Sides → Bool
-same_sides Scalar Scalar = true
-same_sides Scalar (Vector n) = false
-same_sides Scalar (Matrix m n) = false
-same_sides (Vector n) Scalar = false
-same_sides (Vector n) (Vector k) = n == k
-same_sides (Vector n) (Matrix m k) = false
-same_sides (Matrix m n) Scalar = false
-same_sides (Matrix m n) (Vector k) = false
-same_sides (Matrix m n) (Matrix k l) = m == k && n == l
 
 -- the sides that as many arguments as the call takes, two or more, all have
 abbrev pub alike : ℕ → List Sides → Option Sides

@@ -5,21 +5,21 @@ ghost use Rattle.dcx_frac.specs.Frac.{value};
 ghost use Rattle.dcx_shape.specs.Shape.{sides_of};
 ghost use Rattle.dcx_shape.specs.Sides.{entries_of};
 ghost use Rattle.dcx_math.specs.Rational.{whole};
-ghost use Rattle.dcx_atom.specs.Arrays.{sides_list, sides_at, list_below, number_at};
+ghost use Rattle.dcx_atom.specs.Arrays.{sides_list, sides_at, same_sides, list_below, number_at};
 ghost use Rattle.dcx_atom.specs.Steps.{IsSlopeStop};
 ghost use Rattle.dcx_atom.specs.Bounding.{outward, argument_term, HaveNoStop};
 ghost use Rattle.dcx_elem.specs.Rows.{piece_term};
 ghost use Rattle.dcx_atom.specs.Farthest.{farther, extreme_from, extreme};
-ghost use Rattle.dcx_elem.specs.Extremes.{same_sides, alike, extreme_sign, extreme_meaning};
+ghost use Rattle.dcx_elem.specs.Extremes.{alike, extreme_sign, extreme_meaning};
 ghost use Rattle.dcx_elem.specs.ExtremeLaws.{extreme_formation, extreme_sign_law, extreme_monotonicity, extreme_curvature, extreme_soundness, extreme_tightness, extreme_subgradient, extreme_recession};
 
 use crate::rows::{Piece, entrywise_graph};
 use dcx_atom::{
-    Array, Atom, AuxKind, Bend, Graph, Sign, SlopeStop, Trend, ValueStop, check_total, farther_of,
-    outward_of, row_weights,
+    Array, Atom, AuxKind, Bend, Graph, Sign, SlopeStop, Trend, ValueStop, all_nonneg, all_nonpos,
+    check_total, farther_of, outward_of, row_weights, same_shape,
 };
 use dcx_frac::{Frac, Fracs};
-use dcx_shape::{Shape, Sides};
+use dcx_shape::Shape;
 use std::alloc::{AllocError, Global};
 
 /// The greatest of so many arrays, or the least for `Bend::Concave`.
@@ -29,23 +29,11 @@ pub(crate) struct Extreme {
     pub(crate) count: u32,
 }
 
-/// Whether the sides are the same.
-fn are_same(a: Sides, b: Sides) -> bool
-    ensures { result ≡ same_sides a b }
+/// Whether each array has the shape of the first.
+fn have_shape(first: Shape, shapes: &[Shape]) -> bool
+    ensures { result ≡ list_all (λ shape. same_sides (sides_of first) (sides_of shape)) shapes.now }
 {
-    match (a, b) {
-        (Sides::Scalar, Sides::Scalar) => true,
-        (Sides::Vector(n), Sides::Vector(k)) => n == k,
-        (Sides::Matrix(m, n), Sides::Matrix(k, l)) => m == k && n == l,
-        _ => false,
-    }
-}
-
-/// Whether each shape has these sides.
-fn have_sides(sides: Sides, shapes: &[Shape]) -> bool
-    ensures { result ≡ list_all (λ shape. same_sides sides (sides_of shape)) shapes.now }
-{
-    shapes.iter().all(|shape| are_same(sides, shape.sides()))
+    shapes.iter().all(|shape| same_shape(first, *shape))
 }
 
 /// The shape that as many arguments as the call takes, two or more, all have.
@@ -54,7 +42,7 @@ fn alike_shape(count: u32, args: &[Shape]) -> Option<Shape>
 {
     match args {
         [first, _, ..] => {
-            if count as usize == args.len() && have_sides(first.sides(), args) {
+            if count as usize == args.len() && have_shape(*first, args) {
                 Some(*first)
             } else {
                 None
@@ -177,25 +165,11 @@ fn some_nonneg(signs: &[Sign]) -> bool
     signs.iter().any(|sign| sign.nonneg)
 }
 
-/// Whether each sign is nonneg.
-fn all_nonneg(signs: &[Sign]) -> bool
-    ensures { result ≡ list_all (λ s. s.nonneg) signs.now }
-{
-    signs.iter().all(|sign| sign.nonneg)
-}
-
 /// Whether some sign is nonpos.
 fn some_nonpos(signs: &[Sign]) -> bool
     ensures { result ≡ list_any (λ s. s.nonpos) signs.now }
 {
     signs.iter().any(|sign| sign.nonpos)
-}
-
-/// Whether each sign is nonpos.
-fn all_nonpos(signs: &[Sign]) -> bool
-    ensures { result ≡ list_all (λ s. s.nonpos) signs.now }
-{
-    signs.iter().all(|sign| sign.nonpos)
 }
 
 impl Atom for Extreme {

@@ -41,7 +41,7 @@ pub fn changed_entry<C: Coef>(
 }
 
 /// The number that an entry is, and 0 where it is none.
-pub(crate) fn entry_number<C: Coef>(entry: &Entry<C>) -> Frac
+pub fn entry_number<C: Coef>(entry: &Entry<C>) -> Frac
     ensures { result ≡ number_in C.number_of (found_form C.of_number entry.now) }
 {
     match entry {

@@ -40,7 +40,7 @@ mod variable;
 pub use arguments::Arguments;
 pub use atom::atom_entries;
 pub use entries::{EntryForms, EntryList, FormList};
-pub use entry::{Entry, changed_entry};
+pub use entry::{Entry, changed_entry, entry_number};
 pub use formed::{Formed, FormedRow, FormedRows, StandingList};
 pub use linear::linear_entries;
 pub use pairs::pair_entries;

@@ -1,7 +1,7 @@
 -- Names that parameters have.
-use Rattle.std.proofs.Common.{◌≡◌, ℕ, true, false, List, map, Some, option_map, sym, ap, ◌∙◌, true≢false}
+use Rattle.std.proofs.Common.{◌≡◌, ℕ, ◌<◌, true, false, List, map, length, get_or, Some, option_map, sym, ap, ◌∙◌, true≢false}
 use Rattle.std.specs.List.{list_any}
-use Rattle.std.proofs.lemmas.Option.{slice_get-map}
+use Rattle.std.proofs.lemmas.Option.{slice_get-map, slice_get-get_or}
 use Rattle.dcx_point.specs.Pairs.{same_name}
 use Rattle.dcx_point.proofs.Puts.{same_name-refl, same_name-true}
 use Rattle.dcx_call.specs.declared.attribute.Parameter.{Parameter}
@@ -22,6 +22,10 @@ found ps name h =
     let (k, at) = contains_at (map (λ (q : Parameter). q.name) ps) name h in
     let (q, there, is) = mapped (λ (q : Parameter). q.name) ps k name at in
     at_any (λ (q : Parameter). same_name name q.name) ps k q there (ap (same_name name) is ∙ same_name-refl name)
+
+-- one that stands at a position is found
+pub found_at : (ps : List Parameter) (name : List ℕ) (k : ℕ) (q : Parameter) → k < length ps → same_name name (get_or ps k q).name ≡ true → true ≡ list_any (λ q. same_name name q.name) ps
+found_at ps name k q b same = sym (at_any (λ (q : Parameter). same_name name q.name) ps k (get_or ps k q) (slice_get-get_or ps k q b) same)
 
 -- a name that isn't found is that of no parameter
 pub unknown : (ps : List Parameter) (name : List ℕ) → list_any (λ q. same_name name q.name) ps ≡ false → ¬ IsNamed ps name

@@ -41,17 +41,20 @@ fn are_known(alloc: Global, parameters: &[Parameter], setting: &Setting) -> Resu
         let Some(name) = setting.name_at(k) else {
             return Ok(());
         };
-        if !is_known(parameters, name) {
+        if !is_known(parameters, k, name) {
             return Err(stop_of(alloc, name, Fault::Unknown));
         }
     }
     Ok(())
 }
 
-/// Whether a parameter has this name.
-fn is_known(parameters: &[Parameter], name: &Name) -> bool
+/// Whether a parameter has this name. That at this position is asked first, since names mostly stand in order of declaration.
+fn is_known(parameters: &[Parameter], k: usize, name: &Name) -> bool
     ensures { result ≡ list_any (λ q. same_name name.now q.name) parameters.now }
 {
+    if k < parameters.len() && *name == parameters[k].name {
+        return true;
+    }
     parameters.iter().any(|q| *name == q.name)
 }
 

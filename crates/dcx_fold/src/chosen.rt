@@ -10,12 +10,11 @@ ghost use Rattle.dcx_atom.specs.Value.{IsValueOf, IsValueStop};
 ghost use Rattle.dcx_fold.specs.Largest.{chosen_sides, largest_meaning};
 ghost use Rattle.dcx_fold.specs.LargestLaws.{largest_formation, largest_sign_law, largest_monotonicity, largest_curvature, largest_soundness, largest_tightness, largest_subgradient, largest_recession};
 
-use crate::folding::first_sign;
 use crate::largest::{
     check_chosen, chosen_sum, entry_rows, level_kinds, level_result, scalar, turned,
 };
 use dcx_atom::{
-    Array, Atom, Bend, Graph, GraphForm, GraphForms, Sign, SlopeStop, Trend, ValueStop,
+    Array, Atom, Bend, Graph, GraphForm, GraphForms, Sign, SlopeStop, Trend, ValueStop, first_sign,
 };
 use dcx_frac::{Frac, Fracs};
 use dcx_shape::Shape;

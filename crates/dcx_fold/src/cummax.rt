@@ -3,10 +3,10 @@ ghost use Rattle.std.specs.Prelude.{◌≡◌};
 ghost use Rattle.dcx_fold.specs.Running.{running_meaning};
 ghost use Rattle.dcx_fold.specs.RunningLaws.{running_formation, running_sign_law, running_monotonicity, running_curvature, running_soundness, running_tightness, running_subgradient, running_recession};
 
-use crate::folding::first_sign;
 use crate::running::{entry_rows, running_greatest, running_slopes};
 use dcx_atom::{
-    Array, Atom, AuxKind, Bend, Graph, Sign, SlopeStop, Trend, ValueStop, each_alone, of_kind,
+    Array, Atom, AuxKind, Bend, Graph, Sign, SlopeStop, Trend, ValueStop, each_alone, first_sign,
+    of_kind,
 };
 use dcx_frac::{Frac, Fracs};
 use dcx_shape::{Shape, Sides};

@@ -2,7 +2,6 @@
 ghost use Rattle.std.specs.Prelude.{◌≡◌, option_map};
 ghost use Rattle.dcx_shape.specs.Shape.{sides_of};
 ghost use Rattle.dcx_atom.specs.Arrays.{sides_list};
-ghost use Rattle.dcx_atom.specs.Signs.{sign_at};
 ghost use Rattle.dcx_fold.specs.Groups.{fold_sides};
 ghost use Rattle.dcx_fold.specs.Folds.{fold_bend, fold_kind, fold_trend, fold_sign, fold_meaning};
 ghost use Rattle.dcx_fold.specs.FoldLaws.{fold_formation, fold_sign_law, fold_monotonicity, fold_curvature, fold_soundness, fold_tightness, fold_subgradient, fold_recession};
@@ -10,7 +9,9 @@ ghost use Rattle.dcx_fold.specs.FoldLaws.{fold_formation, fold_sign_law, fold_mo
 use crate::fold_graphs::fold_graph;
 use crate::fold_slopes::fold_slopes;
 use crate::fold_values::fold_value;
-use dcx_atom::{Array, Atom, AuxKind, Axis, Bend, Graph, Sign, SlopeStop, Trend, ValueStop};
+use dcx_atom::{
+    Array, Atom, AuxKind, Axis, Bend, Graph, Sign, SlopeStop, Trend, ValueStop, first_sign,
+};
 use dcx_frac::{Frac, Fracs};
 use dcx_shape::Shape;
 use std::alloc::{AllocError, Global};
@@ -87,19 +88,6 @@ impl Fold {
                 nonpos: false,
             },
         }
-    }
-}
-
-/// The sign of the first argument, and nothing where there is none.
-pub(crate) fn first_sign(signs: &[Sign]) -> Sign
-    ensures { result ≡ sign_at signs.now 0 }
-{
-    match signs {
-        [] => Sign {
-            nonneg: false,
-            nonpos: false,
-        },
-        [sign, ..] => *sign,
     }
 }
 

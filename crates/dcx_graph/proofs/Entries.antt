@@ -10,8 +10,9 @@ use Rattle.dcx_atom.proofs.BoundRows.{length-list_below}
 use Rattle.dcx_tree.specs.declared.constraint.Constraint.{Constraint}
 use Rattle.dcx_tree.specs.Problems.{sides_in}
 use Rattle.dcx_unknowns.specs.Layout.{constraint_rows}
+use Rattle.dcx_postsolve.specs.Duals.{row_kind}
 use Rattle.dcx_graph.specs.declared.constraint.ConstraintEntry.{ConstraintEntry}
-use Rattle.dcx_graph.specs.Program.{row_kind, entries_in, entries_from}
+use Rattle.dcx_graph.specs.Program.{entries_in, entries_from}
 
 -- what holds of each item, holds of one that stands at a place
 pub all_at : {A : Type 0} (P : A → Type 0) (xs : List A) (i : ℕ) (x : A) → All P xs → slice_get xs i ≡ Some x → P x

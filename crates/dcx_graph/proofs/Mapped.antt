@@ -66,7 +66,7 @@ module _ (p : Problem) (s : Setting) (q : Program Frac) (a : LpAnswer) (known : 
   -- ---- rows
   rows_noted : sum_by constraint_rows p.constraints ≤ length a.rows
   rows_noted =
-      let enough = rows_enough (rows_of q) is.integer known is.made is.reduction.reduced.forms p.constraints (map bound_row is.reduction.reduced.rows) is.reduction.program.rows in
+      let enough = rows_enough (rows_of q) is.integer known is.made is.reduced.reduction.reduced.forms p.constraints (map bound_row is.reduced.reduction.reduced.rows) is.reduced.reduction.program.rows in
       let count = is.parts.notes in
       omega (arith, enough, count)
 
@@ -105,12 +105,12 @@ module _ (p : Problem) (s : Setting) (q : Program Frac) (a : LpAnswer) (known : 
       multiplier_is 0 p.constraints (multiplier_at is.integer.columns a) k c at j
       ∙ ap (multiplier_at is.integer.columns a) (omega arith)
       ∙ sym (right_multiplier is.integer.columns a p.constraints d
-      (have_slacks (rows_of q) is.integer known is.made is.reduction.reduced.forms p.constraints (map bound_row is.reduction.reduced.rows) is.reduction.program.rows)
+      (have_slacks (rows_of q) is.integer known is.made is.reduced.reduction.reduced.forms p.constraints (map bound_row is.reduced.reduction.reduced.rows) is.reduced.reduction.program.rows)
       are k c at j b)
 
   -- ---- the answer
   carries : CarriesOver p s (linear_program (rows_of q))
-  carries = answers_carry_over is.rules p s (linear_program (rows_of q)) is.accepted is.fits is.reduction
+  carries = answers_carry_over is.reduced.rules p s (linear_program (rows_of q)) is.reduced.accepted is.reduced.fits is.reduced.reduction
 
   right_rows : (t : LpStatus) → a.status ≡ t → IsRightForRowsAs t (rows_of q) is.integer a
   right_rows t e = subst (λ t. IsRightForRowsAs t (rows_of q) is.integer a) e (shown_of (rows_of q) is.integer known (scaled_program (rows_of q) is.integer is.made) a is.right)

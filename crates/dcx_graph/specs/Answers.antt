@@ -58,10 +58,7 @@ pub record IsReducedAt (p : Problem) (s : Setting) (q : Program Frac) : Type 0 w
 
 -- the program is a reduced program of the problem at a setting that fits, and the answer is right for its integer rows
 pub record IsAnswered (p : Problem) (s : Setting) (q : Program Frac) (a : LpAnswer) : Type 0 where
-  pub rules : Rules
-  pub accepted : IsTrue (accepted_by rules (convex_problem p))
-  pub fits : Fits p s
-  pub reduction : IsReductionAt rules p s (linear_program (rows_of q))
+  pub reduced : IsReducedAt p s q
   pub integer : tab.Program
   pub made : IsMade (rows_of q) integer
   pub parts : HasParts integer a
@@ -120,7 +117,7 @@ IsRightFor p s (answers.Infeasible duals gap) = meaning.IsInfeasible p s (multip
 IsRightFor p s (answers.Unbounded point ray bound slope) = meaning.IsUnbounded p s (point_of p point) (point_of p ray) (value bound) (value slope)
 
 -- ---- one answer
--- the points have the same names, and the same entries of the variables, and so on for ever
+-- the points have the same names, and the same numbers for each variable, past its entries too
 pub record IsSamePoint (p : Problem) (x y : Pairs) : Type 0 where
   pub names : names_of x ≡ names_of y
   pub numbers : (k : ℕ) (v : Variable) → IsVariable p.variables k v → (j : ℕ) → given_by x v.name j ≡ given_by y v.name j

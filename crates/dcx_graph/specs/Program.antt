@@ -8,8 +8,6 @@ use Rattle.dcx_atom.specs.Arrays.{list_below}
 use Rattle.dcx_atom.specs.Formed.{frac_at}
 use Rattle.dcx_convex.specs.Rules.{Rules}
 use Rattle.dcx_tree.specs.declared.constraint.Constraint.{Constraint}
-use Rattle.dcx_tree.specs.declared.constraint.Kind.{Kind}
-use Rattle.dcx_tree.specs.declared.constraint.Kind.TheVariants as relations
 use Rattle.dcx_tree.specs.declared.constraint.Sense.{Sense}
 use Rattle.dcx_tree.specs.declared.constraint.Sense.TheVariants.{Minimize, Maximize}
 use Rattle.dcx_tree.specs.declared.problem.Problem.{Problem}
@@ -28,6 +26,7 @@ use Rattle.dcx_entries.specs.Forming.{FormsEach}
 use Rattle.dcx_entries.specs.Parts.{zero_form}
 use Rattle.dcx_entries.specs.Nodes.{Table, table_forms}
 use Rattle.dcx_entries.specs.Kept.{graph_rows}
+use Rattle.dcx_postsolve.specs.Duals.{row_kind}
 use Rattle.dcx_graph.specs.declared.constraint.ConstraintEntry.{ConstraintEntry}
 use Rattle.dcx_graph.specs.declared.origin.Origin.{Origin}
 use Rattle.dcx_graph.specs.declared.origin.Origin.TheVariants as origins
@@ -44,11 +43,6 @@ abbrev pub minus_one : Frac
 minus_one = frac_at (whole (negsuc 0))
 
 -- ---- the entries of constraints
--- how the row of an entry stands to 0
-abbrev pub row_kind : Kind → RowKind
-row_kind relations.AtMost = rows.AtMost
-row_kind relations.Equal = rows.Equal
-
 -- the entries of constraint k
 abbrev pub entries_in : ℕ → Constraint → List ConstraintEntry
 entries_in k c = list_below (constraint_rows c) (λ e. record { constraint = k; entry = e; kind = row_kind c.kind; left = c.left; right = c.right })

@@ -1,10 +1,11 @@
 //! The entries of the constraints of a problem, each of which has a row.
 ghost use Rattle.std.specs.Prelude.{◌≡◌, ◌<◌, ◌^◌, ◌++◌, length, IfOk, OnOk};
-ghost use Rattle.dcx_graph.specs.Program.{row_kind, entries_in, entries_from};
+ghost use Rattle.dcx_graph.specs.Program.{entries_in, entries_from};
 
 use dcx_arena::NodeId;
 use dcx_linear::RowKind;
-use dcx_tree::{Constraint, Kind};
+use dcx_postsolve::row_kind;
+use dcx_tree::Constraint;
 use std::alloc::{AllocError, Global};
 
 /// An entry of a constraint.
@@ -20,16 +21,6 @@ pub(crate) struct ConstraintEntry {
     pub(crate) left: NodeId,
     /// The node on the right.
     pub(crate) right: NodeId,
-}
-
-/// How left minus right stands to 0.
-fn row_kind(kind: Kind) -> RowKind
-    ensures { result ≡ row_kind kind }
-{
-    match kind {
-        Kind::AtMost => RowKind::AtMost,
-        Kind::Equal => RowKind::Equal,
-    }
 }
 
 /// Adds the entries of constraint `index`, in row-major order.

@@ -22,6 +22,7 @@
 //! | a program at a setting has the rows at the setting, and the origins of before; there is one | `fix`, `laws::one_program_at_setting` |
 //! | it speaks of declared parameters alone, so a setting with an array for each has all that is asked for | `laws::affine_are_known`, `laws::known_are_listed` |
 //! | it is a reduced program of the problem there | `laws::fixed_are_reductions` |
+//! | of nodes whose forms and rows are a reduced program, the program is the linear program of that one; of nodes that are formed with affine coefficients, it lists entries of declared parameters alone | `laws::programs_are_reductions`, `laws::programs_are_known` |
 //! | it is told whether a program was put at a setting | `Reduced::from_map`, `reduce`, `fix` |
 //! | a right answer of the linear program of a reduced program is one of the problem | `laws::answers_carry_over` |
 //! | what is read from a right answer of the integer rows is right for the problem | `map_back`, `specs/Answers.antt`: `IsRightFor` |

@@ -22,11 +22,12 @@ use Rattle.dcx_solved.specs.declared.solving.Solved.{Solved}
 use Rattle.dcx_solved.specs.declared.stop.SolveStop.{SolveStop}
 use Rattle.dcx_solved.specs.declared.stop.SolveStop.TheVariants as solves
 use Rattle.dcx_solved.specs.Solved.{IsSolved, Stops}
+use Rattle.dcx_solved.specs.Stops.{run_stop}
 use Rattle.dcx_solved.proofs.OneSolution as one
 use Rattle.dcx_graph.specs.Program.{Program}
 use Rattle.dcx_answer.specs.declared.filtered.Filtered.TheVariants as filtered
 use Rattle.dcx_iis.specs.Sets.{ConstraintSet, every_constraint, set_of, KeepsSet, StayBelow, IsFilterSet}
-use Rattle.dcx_iis.specs.Steps.{kept_of, program_of_set, step_set, solve_stop, HasAnswer, IsReadIn, IsLastImpossible, StopsInStep, StopsAtMultiplier, StopsAt, in_step, at_multiplier}
+use Rattle.dcx_iis.specs.Steps.{kept_of, program_of_set, step_set, HasAnswer, IsReadIn, IsLastImpossible, StopsInStep, StopsAtMultiplier, StopsAt, in_step, at_multiplier}
 use Rattle.dcx_iis.specs.Found.{IsFeasiblePoint, AreFound}
 use Rattle.dcx_iis.specs.Laws.{FilterSetsAreMinimal, FilterSetsAreOne, ProgramsTell, FoundOrStopped, StopsAreOne}
 use Rattle.dcx_iis.proofs.Sets.{beside_same, filter_set_is_minimal, one_filter_set, same_below}
@@ -106,7 +107,7 @@ module _ (p : Problem) (s : Setting) (q : Program Frac) (limit : ℕ) where
   same_inner : (i : ℕ) (stop also : Stop) → StopsInStep p s q limit i stop → StopsInStep p s q limit i also → stop ≡ also
   same_inner i stop also h k =
       let sets = stays_same i stop h k.set i (omega arith) k.stay in
-      h.told ∙ ap solve_stop (one.stops_are_one limit (program_of_set p q (step_set h.set i)) h.inner k.inner h.stops (subst (λ set. Stops limit (program_of_set p q set) k.inner) (sym sets) k.stops) h.some k.some) ∙ sym k.told
+      h.told ∙ ap run_stop (one.stops_are_one limit (program_of_set p q (step_set h.set i)) h.inner k.inner h.stops (subst (λ set. Stops limit (program_of_set p q set) k.inner) (sym sets) k.stops) h.some k.some) ∙ sym k.told
 
   same_step : (i j : ℕ) (stop also : Stop) → StopsInStep p s q limit i stop → StopsInStep p s q limit j also → (i ≡ j) × (stop ≡ also)
   same_step i j stop also h k = by (cases_order i j)

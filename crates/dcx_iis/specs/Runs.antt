@@ -17,6 +17,7 @@ use Rattle.dcx_solved.specs.declared.solving.Solved.{Solved}
 use Rattle.dcx_solved.specs.declared.stop.SolveStop.{SolveStop}
 use Rattle.dcx_solved.specs.declared.stop.SolveStop.TheVariants as solves
 use Rattle.dcx_solved.specs.Solved.{IsSolved, Stops}
+use Rattle.dcx_solved.specs.Stops.{run_stop}
 use Rattle.dcx_graph.specs.Program.{Program}
 use Rattle.dcx_graph.specs.Answers.{IsPointRead}
 use Rattle.dcx_answer.specs.declared.filter_stop.FilterStop.{FilterStop}
@@ -28,7 +29,7 @@ use Rattle.dcx_iis.specs.declared.trying.Tried.TheVariants as tried
 use Rattle.dcx_iis.specs.declared.left.Left.{Left}
 use Rattle.dcx_iis.specs.Sets.{ConstraintSet, every_constraint, flagged, left_beside}
 use Rattle.dcx_iis.specs.Multipliers.{AreSpread}
-use Rattle.dcx_iis.specs.Steps.{kept_of, program_of_set, step_set, IsReadAt, solve_stop, IsLastImpossible}
+use Rattle.dcx_iis.specs.Steps.{kept_of, program_of_set, step_set, IsReadAt, IsLastImpossible}
 
 -- ---- one step
 -- the program of the set is solved so, and names unknowns of its own alone
@@ -46,14 +47,12 @@ IsTried p q limit set t = (solved : Solved) × IsStep p q limit set solved × Is
 
 -- the stop of a step whose program isn't solved
 abbrev pub step_stop : ℕ → SolveStop → FilterStop
-step_stop step (solves.TooLarge rows columns) = filter.Step step (stops.TooLarge rows columns)
-step_stop step (solves.Wide site) = filter.Step step (stops.Wide site)
-step_stop step (solves.PivotLimit count) = filter.Step step (stops.PivotLimit count)
 step_stop step solves.Memory = filter.Memory
+step_stop step stop = filter.Step step (run_stop stop)
 
 -- a step whose program isn't solved
 abbrev pub StopsTry : Problem → Program Frac → ℕ → ConstraintSet → ℕ → FilterStop → Type 0
-StopsTry p q limit set step (filter.Step i stop) = (i ≡ step) × (inner : SolveStop) × (inner ≢ solves.Memory) × Stops limit (program_of_set p q set) inner × (stop ≡ solve_stop inner)
+StopsTry p q limit set step (filter.Step i stop) = (i ≡ step) × (inner : SolveStop) × (inner ≢ solves.Memory) × Stops limit (program_of_set p q set) inner × (stop ≡ run_stop inner)
 StopsTry p q limit set step filter.Memory = ⊤
 
 -- ---- steps
@@ -103,7 +102,7 @@ pub record StopsTrying (p : Problem) (q : Program Frac) (limit step : ℕ) (stop
   pub inner : SolveStop
   pub some : inner ≢ solves.Memory
   pub stops : Stops limit (program_of_set p q (step_set set step)) inner
-  pub told : stop ≡ solve_stop inner
+  pub told : stop ≡ run_stop inner
 
 -- a multiplier of the last step that was impossible passes, the first
 pub record StopsForming (p : Problem) (q : Program Frac) (limit step : ℕ) (stop : Stop) : Type 0 where

@@ -20,6 +20,7 @@ use Rattle.dcx_solved.specs.declared.solving.Solved.{Solved}
 use Rattle.dcx_solved.specs.declared.stop.SolveStop.{SolveStop}
 use Rattle.dcx_solved.specs.declared.stop.SolveStop.TheVariants as solves
 use Rattle.dcx_solved.specs.Solved.{IsSolved, Stops}
+use Rattle.dcx_solved.specs.Stops.{run_stop}
 use Rattle.dcx_graph.specs.Program.{Program}
 use Rattle.dcx_graph.specs.Answers.{IsPointRead}
 use Rattle.dcx_answer.specs.declared.filter_stop.FilterStop.{FilterStop}
@@ -76,13 +77,6 @@ pub record IsLastImpossible (n : ℕ) (set : ConstraintSet) (step : ℕ) : Type 
   pub stay : (k : ℕ) → step ≤ k → k < n → IsTrue (set k)
 
 -- ---- stops
--- the stop of rows that aren't solved
-abbrev pub solve_stop : SolveStop → Stop
-solve_stop (solves.TooLarge rows columns) = stops.TooLarge rows columns
-solve_stop (solves.Wide site) = stops.Wide site
-solve_stop (solves.PivotLimit count) = stops.PivotLimit count
-solve_stop solves.Memory = stops.Memory
-
 -- the program of this step stops, and those of all steps before are solved
 pub record StopsInStep (p : Problem) (s : Setting) (q : Program Frac) (limit step : ℕ) (stop : Stop) : Type 0 where
   pub set : ConstraintSet
@@ -93,7 +87,7 @@ pub record StopsInStep (p : Problem) (s : Setting) (q : Program Frac) (limit ste
   pub inner : SolveStop
   pub some : inner ≢ solves.Memory
   pub stops : Stops limit (program_of_set p q (step_set set step)) inner
-  pub told : stop ≡ solve_stop inner
+  pub told : stop ≡ run_stop inner
 
 -- the programs of all steps are solved; this step is the last that was impossible, so its program is that of the filter's set, and one of
 -- the multipliers of its constraints passes 128 bits: the first

@@ -6,12 +6,12 @@ ghost use Rattle.dcx_iis.specs.Sets.{flagged};
 ghost use Rattle.dcx_iis.specs.Runs.{IsShownBy, IsTried, StopsTry, step_stop};
 
 use crate::program::solve_kept;
-use dcx_answer::{FilterStop, Stop};
+use dcx_answer::FilterStop;
 use dcx_frac::Frac;
 use dcx_graph::{Reduced, point_read};
 use dcx_lp_answer::{LpAnswer, LpStatus};
 use dcx_point::Point;
-use dcx_solved::SolveStop;
+use dcx_solved::{SolveStop, run_stop};
 use dcx_tree::Problem;
 use std::alloc::{AllocError, Global};
 
@@ -54,13 +54,15 @@ fn shown(
 fn step_stop(step: u32, stop: SolveStop) -> FilterStop
     ensures { result ≡ step_stop step stop }
 {
-    let stop = match stop {
-        SolveStop::TooLarge { rows, columns } => Stop::TooLarge { rows, columns },
-        SolveStop::Wide(site) => Stop::Wide(site),
-        SolveStop::PivotLimit { count } => Stop::PivotLimit { count },
-        SolveStop::Memory => return FilterStop::Memory,
-    };
-    FilterStop::Step { step, stop }
+    match stop {
+        SolveStop::Memory => FilterStop::Memory,
+        SolveStop::TooLarge { .. } | SolveStop::Wide(_) | SolveStop::PivotLimit { .. } => {
+            FilterStop::Step {
+                step,
+                stop: run_stop(stop),
+            }
+        }
+    }
 }
 
 /// Whether some point keeps the constraints that are kept, as the program of this step tells, solved with at most `limit` pivots.

@@ -5,6 +5,7 @@ use Rattle.dcx_arena.specs.declared.fault.TreeFault.{TreeFault}
 use Rattle.dcx_arena.specs.declared.fault.TreeFault.TheVariants as tree_faults
 use Rattle.dcx_array.specs.declared.fault.ArrayFault.{ArrayFault}
 use Rattle.dcx_array.specs.declared.fault.ArrayFault.TheVariants as array_faults
+use Rattle.dcx_array.specs.Shapes.{told}
 use Rattle.dcx_kinds.specs.declared.fault.ElabFault.{ElabFault}
 use Rattle.dcx_kinds.specs.declared.fault.ElabFault.TheVariants.{BadArgument, ShapeClash, IndexRange, EmptyResult, TooMany, PlainWide, Memory}
 
@@ -17,7 +18,8 @@ array_fault_at place array_faults.Range = IndexRange place
 array_fault_at place array_faults.Empty = EmptyResult place
 array_fault_at place array_faults.Memory = Memory
 
+-- a count that is too great for its type is told as the greatest
 abbrev pub tree_fault_at : Place → TreeFault → ElabFault
 tree_fault_at place tree_faults.Clash = ShapeClash place
-tree_fault_at place (tree_faults.TooMany what n) = TooMany place what n
+tree_fault_at place (tree_faults.TooMany what n) = TooMany place what (told n)
 tree_fault_at place tree_faults.Memory = Memory

@@ -20,7 +20,10 @@ pub enum ElabFault {
     /// What is called is no call of the language.
     #[error("there is no such call")]
     UnknownCall(Place),
-    /// An argument or operand is missing, one too many or of a wrong kind.
+    /// An argument or operand is missing, one too many or of a wrong kind: at the argument, at the called expression where it is
+    /// missing, at the operator or the `[`. Also a name that is declared again and attributes that exclude each other, at the called
+    /// expression; `p.value = e` where `p` is no parameter or `e` no numbers, at `value`; a plain divisor of 0, at the `/`; and lists
+    /// and tuples that would be nested more than 64 deep, at the opening bracket of the outermost.
     #[error("the argument does not fit")]
     BadArgument(Place),
     /// A form that is read and has no meaning.
@@ -111,7 +114,7 @@ pub fn tree_fault(place: Place, fault: TreeFault) -> ElabFault
 {
     match fault {
         TreeFault::Clash => ElabFault::ShapeClash(place),
-        TreeFault::TooMany { what, count } => ElabFault::TooMany { place, what, count },
+        TreeFault::TooMany { what, count } => too_many(place, what, count as u128),
         TreeFault::Memory => ElabFault::Memory,
     }
 }

@@ -16,7 +16,7 @@ use std::rc::Rc;
 pub const MOST_ITEMS: u32 = 20_000;
 
 /// The deepest nesting of lists and tuples.
-pub const MOST_DEPTH: u32 = 64;
+const MOST_DEPTH: u32 = 64;
 
 /// The items of a list or a tuple, with what they count and how deep lists and tuples are nested in them.
 #[cycle(values)]

@@ -34,7 +34,7 @@ mod value;
 
 pub use extent::{Extent, axis_of, sides_from, told_side};
 pub use fault::{ElabFault, array_fault, too_many, tree_fault};
-pub use items::{Items, MOST_DEPTH, MOST_ITEMS, joined};
+pub use items::{Items, MOST_ITEMS, joined};
 pub use operands::{as_plain, numbers_read, operand_read, operands_read};
 pub use progression::Progression;
 pub use reading::{

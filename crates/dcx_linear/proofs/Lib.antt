@@ -13,5 +13,4 @@ pub mod MultipleLaws
 pub mod Coefficients
 pub mod SettingForms
 pub mod SettingRows
-pub mod PartSteps
 pub mod NumberForms

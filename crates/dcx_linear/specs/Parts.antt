@@ -1,5 +1,5 @@
 -- Sums of many forms, each multiplied or divided first.
-use Rattle.std.specs.Prelude.{◌≡◌, ◌⊎◌, ℕ, List, [], ◌∷◌, map, Option, Result, Ok, Err}
+use Rattle.std.specs.Prelude.{◌≡◌, ◌⊎◌, ℕ, List, [], ◌∷◌, Option, Result, Ok, Err}
 use Rattle.dcx_math.specs.Rational.{ℚ}
 use Rattle.dcx_math.specs.Sums.{rat_sum_by}
 use Rattle.dcx_frac.specs.declared.fraction.Frac.{Frac}
@@ -7,8 +7,7 @@ use Rattle.dcx_frac.specs.declared.fraction.Passes.{Passes}
 use Rattle.dcx_atom.specs.Formed.{zero_frac}
 use Rattle.dcx_linear.specs.declared.change.Change.{Change}
 use Rattle.dcx_linear.specs.declared.form.Form.{Form}
-use Rattle.dcx_linear.specs.declared.part.Part.{Part}
-use Rattle.dcx_linear.specs.Changes.{IsAllowed, changed}
+use Rattle.dcx_linear.specs.Changes.{changed}
 use Rattle.dcx_linear.specs.Parameters.{Parameters}
 use Rattle.dcx_linear.specs.FormTerms.{Unknowns}
 use Rattle.dcx_linear.specs.Widths.{form_width}
@@ -42,14 +41,3 @@ parts_value value_at ps x p = rat_sum_by (part_value value_at x p) ps
 
 abbrev pub part_width : {C : Type 0} → Change × Form C → ℕ
 part_width part = form_width part.1
-
--- ---- parts as code has them
-abbrev pub part_of : {C : Type 0} → Part C → Change × Form C
-part_of p = (p.change, p.form.now)
-
-abbrev pub parts_of : {C : Type 0} → List (Part C) → List (Change × Form C)
-parts_of ps = map part_of ps
-
--- nothing is divided by 0
-abbrev pub IsAllowedPart : {C : Type 0} → Part C → Type 0
-IsAllowedPart p = IsAllowed p.change

@@ -55,7 +55,7 @@ impl<C: Coef> Accumulator<C> {
         add_terms(alloc, &mut self.slots, terms)
     }
 
-    /// The form, which is 0 again afterwards.
+    /// The form, which is 0 again afterwards. Takes time for each unknown up to the largest that was added since `new`.
     pub fn take(&mut self, alloc: Global) -> Result<Form<C>, AllocError>
         ensures taken { IfOk result (λ f. f ≡ self.old) }
         ensures zero { OnOk result (self.new ≡ is_constant (C.of_number zero_frac)) }

@@ -18,9 +18,9 @@
 //! | operations keep these names | `Coef`: `sum_named`, `change_named` |
 //! | sums and multiples of forms are so at all unknowns and parameters | `laws::sum_of_forms`, `laws::changed_forms` |
 //! | forms added in place give the sum that `Form::add` gives; what is taken leaves 0 | `Accumulator::add`, `Accumulator::take` |
-//! | parts are multiplied or divided whole and added one after the other; their sum is the sum of what they are | `Accumulator::add_parts`, `sum_laws::sums_of_parts`, `sum_laws::one_sum_of_parts` |
+//! | a part is multiplied or divided whole and then added; the sum of parts that are added one after the other is the sum of what they are | `Accumulator::add_changed`, `sum_laws::sums_of_parts`, `sum_laws::one_sum_of_parts` |
 //! | a coefficient times a form of numbers is the product, formed constant first | `Form::multiple`, `sum_laws::multiples_of_forms`, `sum_laws::one_multiple_of_forms` |
-//! | forms of numbers stay so, and forms keep the names | `sum_laws::numbers_of_sums`, `sum_laws::numbers_of_changed`, `sum_laws::names_of_sums`, `sum_laws::names_of_changed`, `sum_laws::names_of_multiples` |
+//! | forms of numbers stay so, and forms keep the names | `sum_laws::numbers_of_sums`, `sum_laws::numbers_of_changed`, `sum_laws::names_of_unknowns`, `sum_laws::names_of_sums`, `sum_laws::names_of_changed`, `sum_laws::names_of_parts`, `sum_laws::names_of_multiples` |
 //! | a form at a setting lists no 0, and is what it was where the setting's numbers stand for the entries | `Form::at`, `setting_laws::forms_at_setting` |
 //! | rows at a setting tell the first operation that passes, with its row; the kinds stay | `Rows::at` |
 //! | sums of parts, multiples and forms at a setting are no wider | `sum_laws::widths_of_parts`, `sum_laws::widths_of_multiples`, `setting_laws::widths_at_setting` |
@@ -59,7 +59,6 @@ pub use form::{Form, FormTerm, FormTerms};
 pub use map_stop::MapStop;
 pub use param_form::ParamForm;
 pub use param_term::{ParamTerm, ParamTerms};
-pub use part::Part;
 pub use row::{Row, RowKind, RowList, UnknownKind, UnknownKinds};
 pub use rows::Rows;
 pub use size::{capped_length, unknown_columns};

@@ -154,6 +154,7 @@ impl Term for ParamTerm {
     }
 
     fn sum(&self, alloc: Global, other: &Self) -> Result<Self, CoefStop> {
+        // so that the proof knows both to be below 2^32
         let _entry = self.entry;
         let _other_entry = other.entry;
         let coefficient = Frac::add(self.coefficient, other.coefficient)?;

@@ -1,5 +1,4 @@
-//! Sums of many forms, each multiplied or divided first.
-ghost use Rattle.std.specs.List.{All};
+//! Forms that are multiplied or divided, and added so.
 ghost use Rattle.dcx_linear.specs.Changes.{IsAllowed};
 ghost use Rattle.dcx_linear.specs.Stops.{Gives, GivesBy};
 
@@ -9,15 +8,6 @@ use crate::coef::Coef;
 use crate::form::Form;
 use crate::stop::CoefStop;
 use std::alloc::Global;
-
-/// A form, and what is done to it before it is added.
-#[derive(Drop)]
-pub struct Part<'a, C: Coef> {
-    /// What is done.
-    pub change: Change,
-    /// The form.
-    pub form: &'a Form<C>,
-}
 
 impl<C: Coef> Form<C> {
     ghost use Rattle.dcx_linear.specs.Forms.{change_gives_linear};
@@ -37,7 +27,7 @@ impl<C: Coef> Form<C> {
 }
 
 impl<C: Coef> Accumulator<C> {
-    ghost use Rattle.dcx_linear.specs.Parts.{adds_part, adds_parts, parts_of, IsAllowedPart};
+    ghost use Rattle.dcx_linear.specs.Parts.{adds_part};
 
     /// Adds a form that is multiplied or divided first, whole.
     ///
@@ -53,18 +43,5 @@ impl<C: Coef> Accumulator<C> {
     {
         let changed = form.changed(alloc, change)?;
         self.add(alloc, changed)
-    }
-
-    /// Adds the parts, one after the other.
-    ///
-    /// `Passes` where an operation passes 128 bits: the first one.
-    pub fn add_parts(&mut self, alloc: Global, parts: &[Part<C>]) -> Result<(), CoefStop>
-        requires { All IsAllowedPart parts.now }
-        ensures { GivesBy result (λ _. self.new) (adds_parts C.number_of C.sum_gives C.change_gives (parts_of parts.now) self.old) }
-    {
-        'parts: for part in parts {
-            self.add_changed(alloc, part.change, part.form)?;
-        }
-        Ok(())
     }
 }

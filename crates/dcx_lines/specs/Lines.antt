@@ -1,5 +1,6 @@
 -- The lines of numbers and arrays, each with its line feed.
 use Rattle.std.specs.Prelude.{ℕ, List, ◌++◌, codes, decimal}
+use Rattle.std.specs.List.{flat_map, enumerate_from}
 use Rattle.dcx_frac.specs.declared.fraction.Frac.{Frac}
 use Rattle.dcx_frac.specs.Text.{frac_text}
 use Rattle.dcx_atom.specs.declared.array.Array.{Array}
@@ -12,6 +13,10 @@ named_line word pair = word ++ codes " " ++ pair.0 ++ codes " " ++ array_text pa
 -- dual NUMBER SHAPE = NUMBER NUMBER ..
 unfoldable pub dual_line : ℕ × Array → List ℕ
 dual_line numbered = codes "dual " ++ decimal numbered.0 ++ codes " " ++ array_text numbered.1 ++ codes "\n"
+
+-- a line for each constraint, numbered from 1
+unfoldable pub dual_lines : List Array → List ℕ
+dual_lines duals = flat_map dual_line (enumerate_from 1 duals)
 
 -- WORD NUMBER
 unfoldable pub number_line : List ℕ → Frac → List ℕ

@@ -6,7 +6,7 @@ use dcx_point::Point;
 use dcx_shape::Name;
 
 /// The name and the array of pair `i`, counted from 0; `None` where there are at most `i` pairs.
-pub fn pair_at(point: &Point, i: usize) -> Option<(&Name, &Array)>
+pub(crate) fn pair_at(point: &Point, i: usize) -> Option<(&Name, &Array)>
     ensures { MatchOption result (slice_get point.now i ≡ None) (λ pair. slice_get point.now i ≡ Some (pair.0.now, pair.1.now)) }
 {
     if i >= point.len() {

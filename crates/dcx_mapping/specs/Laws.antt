@@ -6,7 +6,8 @@ use Rattle.dcx_convex.specs.Reductions.{Unknowns, Reduced, IsRightOptimal, IsRig
 use Rattle.dcx_linear.specs.Rows.{LinearProgram, IsOptimal, IsInfeasible, IsUnbounded}
 use Rattle.dcx_mapping.specs.Programs.{IsProgramOf, multipliers_of}
 
--- ---- answers of the program that multiply rows which are at most 0 by at least 0
+-- each right answer of the linear program l is one of the reduced program r, with the multipliers of the rows of constraints as
+-- those of the constraints
 pub record AnswersCarryOver (l : LinearProgram) (p : Problem) (r : Reduced) : Type 0 where
   pub optimal : (v : ℚ) (x : Unknowns) (m : ℕ → ℚ) → IsOptimal l v x m → (w : ℕ → ℚ) × IsRightOptimal p r v x (multipliers_of p m) w
   pub infeasible : (gap : ℚ) (m : ℕ → ℚ) → IsInfeasible l gap m → (w : ℕ → ℚ) × IsRightInfeasible p r (multipliers_of p m) w gap

@@ -11,10 +11,9 @@ use Rattle.dcx_call.specs.declared.attribute.Attribute.{Attribute}
 use Rattle.dcx_call.specs.declared.attribute.Attribute.TheVariants.{Free, Nonneg, Nonpos, Symmetric, Diag}
 use Rattle.dcx_call.specs.declared.attribute.Variable.{Variable}
 use Rattle.dcx_unknowns.specs.Own.{row_in, column_in, is_own, own_count, own_before}
-use Rattle.dcx_unknowns.specs.Unknowns.{demanded, sides_in, variable_unknowns, first_unknown, unknown_from}
+use Rattle.dcx_unknowns.specs.Unknowns.{demanded, sides_in, variable_unknowns, first_unknown, unknown_from, AreFirstsOf}
 use Rattle.dcx_call.specs.Attributes.{IsSquareFor, IsSquare, AreSquare}
-use Rattle.dcx_nodes.specs.Given.{AreFirstsOf}
-use Rattle.dcx_nodes.proofs.Leaves.{firsts_counted, first_at}
+use Rattle.dcx_unknowns.proofs.Owners.{firsts_counted, first_at}
 use Rattle.dcx_unknowns.proofs.Owners.{are_numbered, firsts_next}
 use Rattle.dcx_unknowns.proofs.Places.{own_count_is, own_more}
 use Rattle.dcx_unknowns.proofs.Sources.{row_is, column_is, own_source}

@@ -3,7 +3,7 @@ use Rattle.std.proofs.Common.{◌≡◌, ℕ, suc, ◌+◌, ◌<◌, ◌≤◌, 
 use Rattle.std.specs.Prelude.{slice_get}
 use Rattle.std.proofs.Props.{props}
 use Rattle.std.proofs.Math.Logic.{∥∥₁_elim}
-use Rattle.std.proofs.lemmas.List.{length-map, get_or-map}
+use Rattle.std.proofs.lemmas.List.{length-map}
 use Rattle.std.proofs.lemmas.List.FromFn.{length-range_with_len, get_or-range_with_len}
 use Rattle.std.proofs.lemmas.Option.{slice_get_within, get_or_from_slice_get}
 use Rattle.dcx_frac.specs.declared.fraction.Frac.{Frac}
@@ -40,7 +40,7 @@ use Rattle.dcx_entries.specs.Forming.{FormsEach}
 use Rattle.dcx_entries.specs.Parts.{form_of_unknown}
 use Rattle.dcx_entries.specs.Entries.{alone, ParameterEntry}
 use Rattle.dcx_entries.specs.Nodes.{ReducedEntry}
-use Rattle.dcx_nodes.specs.Given.{HasFewUnknowns, AreFirstsOf}
+use Rattle.dcx_nodes.specs.Given.{HasFewUnknowns}
 use Rattle.dcx_nodes.specs.Formed.{ReducedGives}
 use Rattle.dcx_nodes.proofs.AtNode.{call_is, shape_given}
 use Rattle.dcx_nodes.proofs.Numbers.{mapped_at}
@@ -50,15 +50,6 @@ pub few_variable_unknowns : (p : Problem) (reduced : List Bool) → HasFewUnknow
 few_variable_unknowns p reduced few =
     let rest = map aux_kind (aux_below p.tree (marked reduced) (length p.tree)) in
     omega (arith, few, length-append (variable_kinds p.variables) rest, (are_numbered p.variables).kinds)
-
--- ---- the first unknowns
-pub firsts_counted : (vs : List Variable) (firsts : List ℕ) → AreFirstsOf vs firsts → length firsts ≡ length vs
-firsts_counted vs firsts e = ap length e ∙ length-map (places_below (length vs)) (first_unknown vs) ∙ length-range_with_len 0 (length vs)
-
-pub first_at : (vs : List Variable) (firsts : List ℕ) (k d : ℕ) → AreFirstsOf vs firsts → k < length vs → get_or firsts k d ≡ first_unknown vs k
-first_at vs firsts k d e lt =
-    let within : k < length (places_below (length vs)) = omega (arith, lt, length-range_with_len 0 (length vs)) in
-    ap (λ xs. get_or xs k d) e ∙ get_or-map (first_unknown vs) (places_below (length vs)) k 0 d within ∙ ap (first_unknown vs) (get_or-range_with_len 0 (length vs) k 0 lt ∙ zero-add k)
 
 -- ---- a variable is listed
 module _ (p : Problem) (i : ℕ) (v : Variable) (c : call_at p.tree i ≡ Some (calls.Variable v)) where

@@ -1,8 +1,7 @@
 -- What must be given, so that the nodes of a problem can be formed.
-use Rattle.std.specs.Prelude.{◌≡◌, ℕ, ◌+◌, ◌<◌, ◌^◌, Bool, true, false, List, [], length, map, Some}
+use Rattle.std.specs.Prelude.{◌≡◌, ℕ, ◌+◌, ◌<◌, ◌^◌, Bool, true, false, List, [], length, Some}
 use Rattle.dcx_shape.specs.Shape.{sides_of}
 use Rattle.dcx_shape.specs.Sides.{entries_of}
-use Rattle.dcx_shape.specs.Places.{places_below}
 use Rattle.dcx_point.specs.Pairs.{Pairs}
 use Rattle.dcx_arena.specs.Nodes.{IsNode, call_at}
 use Rattle.dcx_call.specs.declared.atoms.AtomCall.{AtomCall}
@@ -12,7 +11,7 @@ use Rattle.dcx_call.specs.declared.call.Call.TheVariants as calls
 use Rattle.dcx_call.specs.Values.{IsGiven}
 use Rattle.dcx_tree.specs.declared.problem.Problem.{Problem}
 use Rattle.dcx_tree.specs.Nodes.{Node}
-use Rattle.dcx_unknowns.specs.Unknowns.{first_unknown, variable_unknowns}
+use Rattle.dcx_unknowns.specs.Unknowns.{variable_unknowns, AreFirstsOf}
 use Rattle.dcx_unknowns.specs.Layout.{marked, aux_below, kinds_with}
 
 -- the entries of a parameter may be asked for
@@ -35,10 +34,6 @@ ParametersAreReadable can_read p reduced setting = (i : ℕ) (n : Node) → IsNo
 -- there are fewer than 2^32 unknowns
 abbrev pub HasFewUnknowns : Problem → List Bool → Type 0
 HasFewUnknowns p reduced = length (kinds_with p (marked reduced)) < 2 ^ 32
-
--- the first unknown of each variable
-abbrev pub AreFirstsOf : List Variable → List ℕ → Type 0
-AreFirstsOf vs firsts = firsts ≡ map (first_unknown vs) (places_below (length vs))
 
 -- all of it
 pub record IsReady (can_read : Pairs → List ℕ → ℕ → Type 0) (p : Problem) (reduced fixed : List Bool) (setting : Pairs) (firsts : List ℕ) : Type 0 where

@@ -1,7 +1,5 @@
 //! The entries of atoms and linear calls that are reduced.
-ghost use Rattle.std.specs.Prelude.{◌≡◌, ◌<◌, ◌+◌, true, length, map, Some, IfOk, OnOk};
-ghost use Rattle.std.specs.List.{All};
-ghost use Rattle.dcx_shape.specs.Shape.{sides_of};
+ghost use Rattle.std.specs.Prelude.{◌≡◌, ◌+◌, true, length, Some, IfOk, OnOk};
 ghost use Rattle.dcx_shape.specs.Sides.{entries_of};
 ghost use Rattle.dcx_arena.specs.Nodes.{positions, call_at, args_at, sides_at};
 ghost use Rattle.dcx_call.specs.declared.call.Call.TheVariants as calls;
@@ -16,22 +14,9 @@ use dcx_atom::{LinearOp, ValueStop};
 use dcx_call::LinearCall;
 use dcx_entries::{Arguments, EntryList, atom_entries, linear_entries};
 use dcx_linear::Coef;
-use dcx_shape::Shape;
-use dcx_tree::{NodeId, Tree};
+use dcx_tree::NodeId;
 use dcx_unknowns::node_graph;
-use std::alloc::{AllocError, Global};
-
-/// The shapes of nodes.
-fn shapes_of(alloc: Global, tree: &Tree, ids: &[NodeId]) -> Result<Vec<Shape>, AllocError>
-    requires { All (λ a. a < length tree.now) (positions ids.now) }
-    ensures { IfOk result (λ v. map sides_of v.items ≡ map (sides_at tree.now) (positions ids.now)) }
-{
-    let mut shapes = Vec::new(alloc);
-    'ids: for id in ids {
-        shapes.push(tree.shape(*id))?;
-    }
-    Ok(shapes)
-}
+use std::alloc::Global;
 
 /// The entries of an atom. Its auxiliary unknowns are the next ones, which are then taken.
 ///
@@ -80,7 +65,7 @@ pub(crate) fn linear_node<C: Coef>(
     ensures entries { IsFormed result (ReducedGives C.of_number C.number_of C.sum_gives C.change_gives C.parameter_gives given.now.problem.now given.now.setting.now given.now.reduced.now given.now.fixed.now (all_forms C.of_number args.now.standing.now) node.0) }
 {
     let tree = &given.problem.tree;
-    let shapes = match shapes_of(alloc, tree, args.ids) {
+    let shapes = match tree.shapes_of(alloc, args.ids) {
         Ok(shapes) => shapes,
         Err(_) => return Err(ValueStop::Memory),
     };

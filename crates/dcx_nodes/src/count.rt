@@ -1,8 +1,7 @@
 //! How many unknowns the variables of a problem have.
 ghost use Rattle.std.specs.Prelude.{◌≡◌, ◌<◌, ◌^◌, IfOk};
-ghost use Rattle.dcx_unknowns.specs.Unknowns.{variable_unknowns};
+ghost use Rattle.dcx_unknowns.specs.Unknowns.{variable_unknowns, AreFirstsOf};
 ghost use Rattle.dcx_call.specs.Attributes.{AreSquare};
-ghost use Rattle.dcx_nodes.specs.Given.{AreFirstsOf};
 
 use dcx_tree::Variable;
 use dcx_unknowns::entry_unknowns;

@@ -1,54 +1,26 @@
 //! The value of a node that is a number by the rules.
-ghost use Rattle.std.specs.Prelude.{◌≡◌, ℕ, ◌<◌, ◌≤◌, [], unwrap_or, length, IfOk, IfSome};
+ghost use Rattle.std.specs.Prelude.{◌≡◌, ℕ, ◌<◌, ◌≤◌, [], length, IfOk, IfSome};
 ghost use Rattle.std.specs.List.{All};
 ghost use Rattle.dcx_shape.specs.Shape.{sides_of};
 ghost use Rattle.dcx_frac.specs.Frac.{value};
 ghost use Rattle.dcx_atom.specs.Arrays.{number_at};
-ghost use Rattle.dcx_atom.specs.Formed.{zero_frac};
 ghost use Rattle.dcx_arena.specs.Nodes.{IsNode, positions, args_at, sides_at};
 ghost use Rattle.dcx_call.specs.Values.{IsGiven};
 ghost use Rattle.dcx_tree.specs.Nodes.{Node};
-ghost use Rattle.dcx_entries.specs.Parts.{number_in};
-ghost use Rattle.dcx_entries.specs.Standing.{entry_of, all_forms};
+ghost use Rattle.dcx_entries.specs.Standing.{all_forms};
 ghost use Rattle.dcx_nodes.specs.Formed.{IsOfSides, AreOfSides, ValueGives, ValueBy};
 ghost use Rattle.dcx_nodes.specs.Numbers.{HasNumbersOf, AreOnlyNumbers, HaveNumbersOf};
 
 use crate::given::Given;
 use dcx_atom::{Array, ValueStop};
-use dcx_entries::{Arguments, Standing};
-use dcx_frac::{Frac, Fracs};
+use dcx_entries::{Arguments, Standing, entry_at, entry_number};
+use dcx_frac::Fracs;
 use dcx_linear::Coef;
 use dcx_point::Point;
 use dcx_shape::Shape;
 use dcx_tree::{NodeId, Tree};
 use std::alloc::{AllocError, Global};
 use std::slice;
-
-/// The number that a coefficient is, and 0 where it is none.
-fn number_or_zero<C: Coef>(coefficient: &C) -> Frac
-    ensures { result ≡ unwrap_or (C.number_of coefficient.now) zero_frac }
-{
-    match coefficient.as_number() {
-        Some(number) => number,
-        None => Frac::zero(),
-    }
-}
-
-/// The number that an entry of a node is, and 0 where it is none.
-fn entry_number<C: Coef>(standing: &Standing<C>, entry: u32) -> Frac
-    ensures { result ≡ number_in C.number_of (entry_of C.of_number standing.now entry) }
-{
-    match standing {
-        Standing::Numbers(array) => match array.entries.as_slice().get(entry as usize) {
-            Some(number) => *number,
-            None => Frac::zero(),
-        },
-        Standing::Forms(list) => match list.as_slice().get(entry as usize) {
-            Some(found) => number_or_zero(&found.form.constant),
-            None => Frac::zero(),
-        },
-    }
-}
 
 /// The numbers that the entries of a node of this shape are, and 0 where one is none.
 fn numbers_of<C: Coef>(
@@ -62,7 +34,7 @@ fn numbers_of<C: Coef>(
 {
     let mut numbers = Vec::new(alloc);
     'entries: for entry in 0..shape.size() {
-        numbers.push(entry_number(standing, entry))?;
+        numbers.push(entry_number(&entry_at(standing, entry)))?;
     }
     Ok(Array {
         shape,

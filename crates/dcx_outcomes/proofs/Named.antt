@@ -19,7 +19,8 @@ use Rattle.dcx_graph.specs.declared.reading.AnswerStop.TheVariants as reads
 use Rattle.dcx_graph.specs.Program.{Program}
 use Rattle.dcx_graph.specs.Answers.{rows_of, StopsReading}
 use Rattle.dcx_cache.specs.Programs.{SessionGives, mapped, anew, ProgramStops}
-use Rattle.dcx_cache.specs.Stops.{program_stop, run_stop, reading_stop}
+use Rattle.dcx_solved.specs.Stops.{run_stop}
+use Rattle.dcx_cache.specs.Stops.{program_stop, reading_stop}
 use Rattle.dcx_cache.specs.Answers.{StopsAt, at_program, at_run, at_reading, Stops}
 use Rattle.dcx_outcomes.specs.Outcomes.{IsNodeSite, NamesNodes}
 

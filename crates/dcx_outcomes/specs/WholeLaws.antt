@@ -4,7 +4,7 @@ use Rattle.std.specs.List.{AllZip}
 use Rattle.dcx_point.specs.Pairs.{Pairs}
 use Rattle.dcx_tree.specs.declared.problem.Problem.{Problem}
 use Rattle.dcx_tree.specs.Meaning.{setting_of}
-use Rattle.dcx_report.specs.declared.whole_outcome.WholeOutcome.{WholeOutcome}
+use Rattle.dcx_outcomes.specs.declared.whole_outcome.WholeOutcome.{WholeOutcome}
 use Rattle.dcx_branch.specs.declared.answer.BranchStop.TheVariants as branch
 use Rattle.dcx_branch.specs.Answers.{IsRightFor, IsSameAnswer}
 use Rattle.dcx_outcomes.specs.Asking.{FindsRight, AreOneEnd}

@@ -6,12 +6,13 @@ ghost use Rattle.dcx_outcomes.specs.Outcomes.{Counts};
 ghost use Rattle.dcx_outcomes.specs.Filters.{FilterGives, filter_end, AreFilterOutcomes};
 
 use crate::asking::{Question, ask_problem};
+use crate::filter_outcome::{FilterEnd, FilterOutcome, FilterOutcomes};
+use dcx_answer::{FilterStop, Filtered, Stop};
 use dcx_frac::Frac;
 use dcx_graph::Reduced;
 use dcx_iis::filter;
 use dcx_linear::ParamForm;
 use dcx_point::Setting;
-use dcx_report::{FilterEnd, FilterOutcome, FilterOutcomes, FilterStop, Filtered, Stop};
 use dcx_rules::Verdict;
 use dcx_shape::Place;
 use dcx_steps::Steps;

@@ -7,10 +7,10 @@ ghost use Rattle.dcx_outcomes.specs.Outcomes.{Counts};
 ghost use Rattle.dcx_outcomes.specs.Warm.{AreToldFrom, AreFound, counted_where};
 
 use crate::beginning::begin;
-use crate::outcome::outcome;
+use crate::outcome::Outcomes;
+use crate::telling::outcome;
 use dcx_cache::Session;
 use dcx_point::Setting;
-use dcx_report::Outcomes;
 use dcx_rules::Verdict;
 use dcx_steps::Steps;
 use dcx_tree::Problem;

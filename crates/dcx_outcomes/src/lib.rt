@@ -2,6 +2,7 @@
 //!
 //! | what must hold | where |
 //! |---|---|
+//! | an outcome has a place exactly where its stop names a node | `Outcome`, `FilterOutcome`, `RangeOutcome`, `WholeOutcome`, `names_node` of `specs/NodeStops.antt` |
 //! | there is one outcome for each setting, in order: the session's answer, or its stop with the place of the node that it names | `outcomes`, `specs/Outcomes.antt`: `AreOutcomes` |
 //! | each answer among them is right for the problem at its setting, which fits, and has the names and shapes of the problem | `laws::outcomes_are_right` |
 //! | settings have one list of outcomes; want of memory is free | `laws::outcomes_are_one` |
@@ -24,14 +25,22 @@
 
 mod asking;
 mod beginning;
+mod filter_outcome;
 mod filters;
 mod finding;
 pub mod laws;
 mod outcome;
+mod range_outcome;
 mod ranges;
+mod telling;
+mod whole_outcome;
 mod wholes;
 
+pub use filter_outcome::{FilterEnd, FilterOutcome, FilterOutcomes};
 pub use filters::filter_outcomes;
 pub use finding::{Found, outcomes};
+pub use outcome::{Outcome, OutcomeEnd, Outcomes};
+pub use range_outcome::{RangeEnd, RangeOutcome, RangeOutcomes};
 pub use ranges::range_outcomes;
+pub use whole_outcome::{WholeEnd, WholeOutcome, WholeOutcomes};
 pub use wholes::whole_outcomes;

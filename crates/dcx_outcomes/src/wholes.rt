@@ -6,12 +6,13 @@ ghost use Rattle.dcx_outcomes.specs.Outcomes.{Counts};
 ghost use Rattle.dcx_outcomes.specs.Wholes.{WholeGives, whole_end, AreWholeOutcomes};
 
 use crate::asking::{Question, ask_problem};
-use dcx_branch::branch;
+use crate::whole_outcome::{WholeEnd, WholeOutcome, WholeOutcomes};
+use dcx_answer::Stop;
+use dcx_branch::{BranchStop, WholeAnswer, branch};
 use dcx_frac::Frac;
 use dcx_graph::Reduced;
 use dcx_linear::ParamForm;
 use dcx_point::Setting;
-use dcx_report::{BranchStop, Stop, WholeAnswer, WholeEnd, WholeOutcome, WholeOutcomes};
 use dcx_rules::Verdict;
 use dcx_shape::Place;
 use dcx_steps::Steps;

@@ -8,7 +8,6 @@
 //! | lines give one list of settings, and so does the trial | `laws::settings_are_one` |
 #![tactic(auto)]
 
-mod copies;
 pub mod laws;
 mod overlay;
 mod trial;

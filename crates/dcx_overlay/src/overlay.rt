@@ -4,7 +4,6 @@ ghost use Rattle.dcx_settings.specs.Grammar.{Every};
 ghost use Rattle.dcx_settings.specs.Meaning.{IsFull};
 ghost use Rattle.dcx_overlay.specs.Settings.{HasNumbers, LaidOver, AreLaidOver};
 
-use crate::copies::copy_setting;
 use dcx_atom::Array;
 use dcx_frac::Fracs;
 use dcx_point::Setting;
@@ -29,7 +28,7 @@ fn laid_over(alloc: Global, setting: &Setting, line: &[SettingItem]) -> Result<S
     requires { Every IsFull line.now }
     ensures { IfOk result (LaidOver setting.now line.now) }
 {
-    let mut laid = copy_setting(alloc, setting)?;
+    let mut laid = setting.copy(alloc)?;
     for item in line {
         let name = copy_name(alloc, &item.name)?;
         let array = array_of(alloc, item)?;

@@ -4,7 +4,6 @@ ghost use Rattle.dcx_math.specs.Rational.{whole};
 ghost use Rattle.dcx_frac.specs.Frac.{value};
 ghost use Rattle.dcx_overlay.specs.Settings.{IsScalar, IsTrialSetting, AreTrialSettings};
 
-use crate::copies::copy_setting;
 use dcx_atom::Array;
 use dcx_frac::{Frac, Fracs};
 use dcx_point::Setting;
@@ -36,7 +35,7 @@ fn scalar(alloc: Global, number: u32) -> Result<Array, AllocError>
 fn trial_setting(alloc: Global, setting: &Setting, number: u32) -> Result<Setting, AllocError>
     ensures { IfOk result (IsTrialSetting setting.now number) }
 {
-    let mut trial = copy_setting(alloc, setting)?;
+    let mut trial = setting.copy(alloc)?;
     let name = Name::from_vec(b"q".to_vec(alloc)?);
     trial.put(name, scalar(alloc, number)?)?;
     Ok(trial)

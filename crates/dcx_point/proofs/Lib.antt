@@ -1,3 +1,4 @@
 -- The lemmas.
 pub mod Puts
 pub mod Names
+pub mod Copied

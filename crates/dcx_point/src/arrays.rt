@@ -1,9 +1,9 @@
 //! Arrays under distinct names, in the order in which the names were first put.
-ghost use Rattle.std.specs.Prelude.{◌≡◌, [], length, slice_get, OnOk, OnErr};
+ghost use Rattle.std.specs.Prelude.{◌≡◌, [], length, slice_get, IfOk, OnOk, OnErr};
 ghost use Rattle.std.specs.Option.{option_copied};
 
-use dcx_atom::Array;
-use dcx_shape::Name;
+use dcx_atom::{Array, copy_array};
+use dcx_shape::{Name, copy_name};
 use indexmap::IndexMap;
 use std::alloc::{AllocError, Global};
 use std::marker::Model;
@@ -66,5 +66,20 @@ impl Arrays {
         ensures { option_copied result ≡ array_of self.now name.now }
     {
         self.pairs.get(name)
+    }
+
+    /// The same pairs again.
+    pub(crate) fn copy(&self, alloc: Global) -> Result<Arrays, AllocError>
+        ensures { IfOk result (λ a. a ≡ self.now) }
+    {
+        let mut copied = Arrays::empty(alloc);
+        for i in 0..self.len() {
+            if let Some(name) = self.name_at(i) {
+                if let Some(array) = self.get(name) {
+                    copied.put(copy_name(alloc, name)?, copy_array(alloc, array)?)?;
+                }
+            }
+        }
+        Ok(copied)
     }
 }

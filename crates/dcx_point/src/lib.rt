@@ -8,6 +8,7 @@
 //! | a put of a name that is there replaces its array in place, a new one follows at the end, a refused put changes nothing | `Setting::put`, `Point::put` |
 //! | the array of a name is that of its pair, and none where no pair has it | `Setting::get`, `Point::get` |
 //! | no name stands twice | `Setting::len`, `Point::len` |
+//! | a copy has the same pairs, in the same order | `Setting::copy`, `Point::copy` |
 //! | what is put is found, and nothing else changes | `laws::puts` |
 #![tactic(auto)]
 

@@ -1,5 +1,5 @@
 //! Points: a value for each of some variables.
-ghost use Rattle.std.specs.Prelude.{◌≡◌, [], length, slice_get, OnOk, OnErr};
+ghost use Rattle.std.specs.Prelude.{◌≡◌, [], length, slice_get, IfOk, OnOk, OnErr};
 ghost use Rattle.std.specs.Option.{option_copied};
 
 use crate::arrays::Arrays;
@@ -64,5 +64,14 @@ impl Point {
         ensures { option_copied result ≡ array_of self.now name.now }
     {
         self.arrays.get(name)
+    }
+
+    /// The same point again. Fails only for want of memory.
+    pub fn copy(&self, alloc: Global) -> Result<Point, AllocError>
+        ensures { IfOk result (λ x. x ≡ self.now) }
+    {
+        Ok(Point {
+            arrays: self.arrays.copy(alloc)?,
+        })
     }
 }

@@ -1,5 +1,5 @@
 //! Settings: a value for each of some parameters.
-ghost use Rattle.std.specs.Prelude.{◌≡◌, [], length, slice_get, OnOk, OnErr};
+ghost use Rattle.std.specs.Prelude.{◌≡◌, [], length, slice_get, IfOk, OnOk, OnErr};
 ghost use Rattle.std.specs.Option.{option_copied};
 
 use crate::arrays::Arrays;
@@ -64,5 +64,14 @@ impl Setting {
         ensures { option_copied result ≡ array_of self.now name.now }
     {
         self.arrays.get(name)
+    }
+
+    /// The same setting again. Fails only for want of memory.
+    pub fn copy(&self, alloc: Global) -> Result<Setting, AllocError>
+        ensures { IfOk result (λ s. s ≡ self.now) }
+    {
+        Ok(Setting {
+            arrays: self.arrays.copy(alloc)?,
+        })
     }
 }

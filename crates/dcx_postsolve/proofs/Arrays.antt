@@ -14,7 +14,7 @@ use Rattle.dcx_shape.specs.Sides.{entries_of}
 use Rattle.dcx_shape.specs.Places.{places_below}
 use Rattle.dcx_convex.specs.Nodes.{first_of}
 use Rattle.dcx_call.specs.declared.attribute.Variable.{Variable}
-use Rattle.dcx_unknowns.specs.Unknowns.{sides_in, first_unknown, unknown_from, number_at, array_from}
+use Rattle.dcx_unknowns.specs.Unknowns.{sides_in, unknown_from, number_at, array_from}
 use Rattle.dcx_postsolve.specs.Points.{numbered}
 
 -- n numbers that are listed
@@ -38,11 +38,3 @@ module _ (us : List Frac) (first : ℕ) (v : Variable) (sources : List (Option �
 
   pub array_numbers : (j : ℕ) → rat_at (map value xs) j ≡ array_from (numbered us) first (Some v) j
   array_numbers j = ap (λ l. rat_at l j) all_are ∙ listed (λ i. number_at (numbered us) (unknown_from first v i)) (entries_of (sides_in v)) j
-
--- ---- where the unknowns of variables begin
-module _ (vs : List Variable) (firsts : List ℕ) (listed_firsts : firsts ≡ map (first_unknown vs) (places_below (length vs))) where
-  pub firsts_count : length firsts ≡ length vs
-  firsts_count = ap length listed_firsts ∙ length-map-range_with_len (first_unknown vs) 0 (length vs)
-
-  pub first_is : (k first : ℕ) → k < length vs → first ≡ get_or firsts k first → first ≡ first_unknown vs k
-  first_is k first l is = let z : 0 + k ≡ k = omega arith in is ∙ ap (λ fs. get_or fs k first) listed_firsts ∙ get_or-map-range_with_len (first_unknown vs) 0 (length vs) k k first l z

@@ -18,7 +18,7 @@ use Rattle.dcx_lp_answer.specs.declared.answer.RowNote.{RowNote}
 use Rattle.dcx_lp_answer.specs.Multipliers.{multiplier_of}
 use Rattle.dcx_unknowns.specs.Layout.{constraint_rows}
 
--- what a row of a constraint says of its form
+-- what the rows of a constraint of this kind say of their forms
 abbrev pub row_kind : Kind → RowKind
 row_kind relations.AtMost = AtMost
 row_kind relations.Equal = Equal

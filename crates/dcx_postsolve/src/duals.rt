@@ -11,8 +11,8 @@ use dcx_lp_answer::{LpAnswer, MultiplierStop, multipliers};
 use dcx_tree::{Constraint, Kind};
 use std::alloc::Global;
 
-/// What a row of a constraint says of its form.
-fn row_kind(kind: Kind) -> RowKind
+/// What the rows of a constraint of this kind say of their forms.
+pub fn row_kind(kind: Kind) -> RowKind
     ensures { result ≡ row_kind kind }
 {
     match kind {

@@ -11,6 +11,7 @@
 //! | these are the unknowns that the columns of the program stand for; there are enough columns | `laws::columns_are_unknowns` |
 //! | a point has an array of its shape for each variable, in order, with the numbers of the unknowns that stand for its entries | `point_of_unknowns` |
 //! | the point of such arrays is that of the unknowns | `laws::arrays_are_points` |
+//! | the form of each row of a constraint is at most 0, or 0 | `row_kind` |
 //! | each constraint has an array of its shape with the multipliers of its rows, or exactly the first that passes is told with its row | `duals_of` |
 //! | there is one such list of multipliers, or one first that passes | `laws::duals_are_one` |
 //! | each entry is the multiplier of its row, the one by which the answer is right | `laws::duals_are_multipliers`, `laws::duals_are_right` |
@@ -23,6 +24,6 @@ pub mod laws;
 mod numbers;
 mod point;
 
-pub use duals::duals_of;
+pub use duals::{duals_of, row_kind};
 pub use numbers::unknown_numbers;
 pub use point::point_of_unknowns;

@@ -4,7 +4,6 @@ pub mod Shown
 pub mod Known
 pub mod Steep
 pub mod Ready
-pub mod Comparing
 pub mod Tables
 pub mod Applied
 pub mod Below

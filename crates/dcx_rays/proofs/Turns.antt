@@ -1,5 +1,5 @@
 -- Checks in turn, and what their faults tell.
-use Rattle.std.proofs.Common.{◌≡◌, ◌⊎◌, ◌↔◌, inl, inr, ℕ, ◌<◌, zero, suc, Bool, true, false, IsTrue, [], ◌∷◌, All, Option, Some, Result, Ok, Err, slice_get, sym, ap, ap₂, ◌∙◌, subst, arith, true≢false}
+use Rattle.std.proofs.Common.{◌≡◌, ◌⊎◌, inl, inr, ℕ, ◌<◌, zero, suc, Bool, true, false, [], ◌∷◌, All, Option, Some, Result, Ok, Err, slice_get, sym, ap, ap₂, ◌∙◌, subst, arith, true≢false}
 use Rattle.dcx_math.specs.Rational.{◌-ℚ◌, ◌≤ℚ◌, neg_ℚ, rat_le}
 use Rattle.dcx_math.proofs.Ratios.{IsTrue-rat_le}
 use Rattle.dcx_frac.specs.declared.fraction.Frac.{Frac}
@@ -55,20 +55,19 @@ module _ (p : Problem) (setting ray : Pairs) where
         subst (λ (o : Option Constraint). Checked (constraint_check p setting ray k o) r) (sym there)
         (then_checked (forming p setting ray (c.left.0 ∷ c.right.0 ∷ [])) (sides_hold p setting ray k c) r pass h)
 
-  module _ (k : ℕ) (c : Constraint) (j : ℕ) (left right : Frac) (left_is : value left ≡ steepness_at p setting ray c.left.0 j) (right_is : value right ≡ steepness_at p setting ray c.right.0 j)
-      (b : Bool) (test : IsTrue b ↔ Holds (relation_of c.kind) (value left -ℚ value right)) where
+  module _ (k : ℕ) (c : Constraint) (j : ℕ) (left right : Frac) (left_is : value left ≡ steepness_at p setting ray c.left.0 j) (right_is : value right ≡ steepness_at p setting ray c.right.0 j) where
     gap_is : value left -ℚ value right ≡ steepness_at p setting ray c.left.0 j -ℚ steepness_at p setting ray c.right.0 j
     gap_is = ap₂ ◌-ℚ◌ left_is right_is
 
-    pub holding : b ≡ true → HoldsAt p setting ray c j
-    holding t = subst (Holds (relation_of c.kind)) gap_is (test.0 t)
+    pub holding : Holds (relation_of c.kind) (value left -ℚ value right) → HoldsAt p setting ray c j
+    holding h = subst (Holds (relation_of c.kind)) gap_is h
 
-    pub broken : b ≡ false → j < entries_of (sides_of c.shape) → ((i : ℕ) → i < j → HoldsAt p setting ray c i) → IsFirstBroken p setting ray k c (RayConstraint k j left right)
-    broken f within before = record {
+    pub broken : ¬ Holds (relation_of c.kind) (value left -ℚ value right) → j < entries_of (sides_of c.shape) → ((i : ℕ) → i < j → HoldsAt p setting ray c i) → IsFirstBroken p setting ray k c (RayConstraint k j left right)
+    broken breaks within before = record {
       entry = j;
       within = within;
       before = before;
-      here = λ h. true≢false (sym (test.1 (subst (Holds (relation_of c.kind)) (sym gap_is) h)) ∙ f);
+      here = λ h. breaks (subst (Holds (relation_of c.kind)) (sym gap_is) h);
       told = ap₂ (RayConstraint k j) (sym (frac_at-value left) ∙ ap frac_at left_is) (sym (frac_at-value right) ∙ ap frac_at right_is);
     }
 

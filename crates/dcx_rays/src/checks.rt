@@ -1,11 +1,9 @@
 //! The checks of a ray.
-ghost use Rattle.std.specs.Prelude.{◌≡◌, ◌↔◌, ◌<◌, ℕ, All, Some, length, slice_get, IsTrue, OnOk};
-ghost use Rattle.dcx_math.specs.Rational.{◌-ℚ◌, ◌≤ℚ◌};
+ghost use Rattle.std.specs.Prelude.{◌≡◌, ◌<◌, ℕ, All, Some, length, slice_get, OnOk};
 ghost use Rattle.dcx_frac.specs.Frac.{value};
 ghost use Rattle.dcx_shape.specs.Shape.{sides_of};
 ghost use Rattle.dcx_call.specs.Values.{HasArray};
-ghost use Rattle.dcx_convex.specs.Problems.{Holds};
-ghost use Rattle.dcx_tree.specs.Meaning.{relation_of, IsAccepted, IsFitting};
+ghost use Rattle.dcx_tree.specs.Meaning.{IsAccepted, IsFitting};
 ghost use Rattle.dcx_outline.specs.Drawn.{AreFixed};
 ghost use Rattle.dcx_faults.specs.Checks.{Checked};
 ghost use Rattle.dcx_rays.specs.Steepness.{IsGiven, IsKnown, AreKept, AreFixedValues};
@@ -13,22 +11,12 @@ ghost use Rattle.dcx_rays.specs.Rays.{sides_hold, constraint_check, constraints_
 
 use crate::along::Along;
 use crate::table::{form_below, no_arrays, steepness};
-use dcx_atom::{Array, is_at_most, is_equal};
+use dcx_atom::{Array, is_at_most};
 use dcx_frac::Frac;
 use dcx_point::{Point, Setting};
 use dcx_sections::CertFault;
-use dcx_tree::{Constraint, Kind, NodeId, Problem, Sense};
+use dcx_tree::{Constraint, NodeId, Problem, Sense};
 use std::alloc::Global;
-
-/// Whether left is at most right, or where both are to be equal, the same.
-fn holds(kind: Kind, left: Frac, right: Frac) -> bool
-    ensures { IsTrue result ↔ Holds (relation_of kind) (value left -ℚ value right) }
-{
-    match kind {
-        Kind::AtMost => is_at_most(&left, &right),
-        Kind::Equal => is_equal(&left, &right),
-    }
-}
 
 /// Whether both sides of a constraint are as steep as it asks, entry by entry.
 fn compare(
@@ -47,7 +35,7 @@ fn compare(
     for entry in 0..constraint.shape.size() {
         let left = steepness(along, arrays, constraint.left, entry);
         let right = steepness(along, arrays, constraint.right, entry);
-        if !holds(constraint.kind, left, right) {
+        if !constraint.kind.holds(&left, &right) {
             return Err(CertFault::RayConstraint {
                 constraint: number,
                 entry,

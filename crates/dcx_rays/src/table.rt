@@ -1,7 +1,6 @@
 //! A table with a place for the steepness of each node.
 ghost use Rattle.std.specs.Prelude.{◌≡◌, ◌⊎◌, ◌<◌, ℕ, length, All, OnOk, IfOk, IfErr, IsSome, IsTrue, None, replicate};
 ghost use Rattle.dcx_frac.specs.Frac.{value};
-ghost use Rattle.dcx_atom.specs.Arrays.{number_at};
 ghost use Rattle.dcx_arena.specs.Nodes.{positions, args_at};
 ghost use Rattle.dcx_arena.specs.Unfold.{IsReached};
 ghost use Rattle.dcx_faults.specs.Checks.{Checked};
@@ -9,7 +8,7 @@ ghost use Rattle.dcx_rays.specs.Steepness.{steepness_at, forming, IsGiven, IsUnf
 
 use crate::along::Along;
 use crate::node::form;
-use dcx_atom::Array;
+use dcx_atom::{Array, number_at};
 use dcx_frac::Frac;
 use dcx_sections::CertFault;
 use dcx_tree::{NodeId, reached_from};
@@ -101,18 +100,6 @@ pub(crate) fn form_below(
     Ok(())
 }
 
-/// Entry `j` of a list of numbers, and 0 past its end.
-fn number_at(numbers: &[Frac], j: u32) -> Frac
-    ensures { value result ≡ number_at numbers.now j }
-{
-    let j = j as usize;
-    if j < numbers.len() {
-        numbers[j]
-    } else {
-        Frac::zero()
-    }
-}
-
 /// An entry of the steepness of a node, which is known.
 pub(crate) fn steepness(along: &Along, arrays: &[Option<Array>], node: NodeId, entry: u32) -> Frac
     requires kept { AreKept along.now.problem.now along.now.setting.now along.now.ray.now arrays.now }
@@ -121,7 +108,7 @@ pub(crate) fn steepness(along: &Along, arrays: &[Option<Array>], node: NodeId, e
     ensures { value result ≡ steepness_at along.now.problem.now along.now.setting.now along.now.ray.now node.0 entry }
 {
     match &arrays[node.0 as usize] {
-        Some(array) => number_at(array.entries.as_slice(), entry),
+        Some(array) => number_at(array.entries.as_slice(), entry as usize),
         None => Frac::zero(),
     }
 }

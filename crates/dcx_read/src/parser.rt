@@ -45,7 +45,7 @@ fn fault_of(stop: Stop, tokens: &[Token], end: Place) -> ReadFault
 ///
 /// An `Err` is `Unexpected` with the place of the first token such that no script begins with the tokens up to it, which
 /// is `end` where there are too few; or `Memory` where there was none.
-pub fn parse_tokens(
+fn parse_tokens(
     alloc: Global,
     text: &[u8],
     tokens: &[Token],

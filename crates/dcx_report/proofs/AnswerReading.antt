@@ -11,8 +11,8 @@ use Rattle.dcx_tree.specs.declared.constraint.Sense.TheVariants.{Minimize, Maxim
 use Rattle.dcx_answer.specs.declared.answer.Answer.{Answer}
 use Rattle.dcx_answer.specs.declared.answer.Answer.TheVariants.{Optimal, Infeasible, Unbounded}
 use Rattle.dcx_report.specs.Negated.{negated}
-use Rattle.dcx_lines.specs.Lines.{number_line}
-use Rattle.dcx_report.specs.AnswerText.{user_number, answer_text, var_lines, ray_lines, dual_lines}
+use Rattle.dcx_lines.specs.Lines.{number_line, dual_lines}
+use Rattle.dcx_report.specs.AnswerText.{user_number, answer_text, var_lines, ray_lines}
 use Rattle.dcx_report.specs.SameText.{Layout, IsAnswerOf}
 use Rattle.dcx_lines.proofs.Reading.{number_read, points_read, duals_read}
 

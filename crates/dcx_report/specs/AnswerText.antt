@@ -1,14 +1,13 @@
 -- The lines of an answer.
 use Rattle.std.specs.Prelude.{ℕ, List, ◌++◌, codes}
-use Rattle.std.specs.List.{flat_map, enumerate_from}
+use Rattle.std.specs.List.{flat_map}
 use Rattle.dcx_frac.specs.declared.fraction.Frac.{Frac}
-use Rattle.dcx_atom.specs.declared.array.Array.{Array}
 use Rattle.dcx_point.specs.Pairs.{Pairs}
 use Rattle.dcx_tree.specs.declared.constraint.Sense.{Sense}
 use Rattle.dcx_tree.specs.declared.constraint.Sense.TheVariants.{Minimize, Maximize}
 use Rattle.dcx_answer.specs.declared.answer.Answer.{Answer}
 use Rattle.dcx_answer.specs.declared.answer.Answer.TheVariants.{Optimal, Infeasible, Unbounded}
-use Rattle.dcx_lines.specs.Lines.{named_line, dual_line, number_line}
+use Rattle.dcx_lines.specs.Lines.{named_line, dual_lines, number_line}
 use Rattle.dcx_report.specs.Negated.{negated}
 
 -- a number of the minimized objective, as the user's objective has it: negated back where that is maximized
@@ -23,10 +22,6 @@ var_lines point = flat_map (named_line (codes "var")) point
 -- a line for each variable's part of the ray
 unfoldable pub ray_lines : Pairs → List ℕ
 ray_lines ray = flat_map (named_line (codes "ray")) ray
-
--- a line for each constraint, numbered from 1
-unfoldable pub dual_lines : List Array → List ℕ
-dual_lines duals = flat_map dual_line (enumerate_from 1 duals)
 
 -- what stands behind the number of a setting that has this answer
 unfoldable pub answer_text : Sense → Answer → List ℕ

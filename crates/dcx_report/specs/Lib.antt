@@ -3,7 +3,6 @@ pub mod CertifiedText
 pub mod CheckText
 pub mod FilterText
 pub mod Negated
-pub mod NodeStops
 pub mod OutcomeText
 pub mod Pieces
 pub mod RangeText

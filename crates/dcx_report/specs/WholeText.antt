@@ -11,9 +11,9 @@ use Rattle.dcx_branch.specs.declared.answer.WholeAnswer.TheVariants.{Optimal, In
 use Rattle.dcx_branch.specs.declared.answer.BranchStop.{BranchStop}
 use Rattle.dcx_branch.specs.declared.answer.BranchStop.TheVariants as branch
 use Rattle.dcx_report.specs.declared.run.Word.{Word}
-use Rattle.dcx_report.specs.declared.whole_outcome.WholeEnd.{WholeEnd}
-use Rattle.dcx_report.specs.declared.whole_outcome.WholeEnd.TheVariants as the
-use Rattle.dcx_report.specs.declared.whole_outcome.WholeOutcome.{WholeOutcome}
+use Rattle.dcx_outcomes.specs.declared.whole_outcome.WholeEnd.{WholeEnd}
+use Rattle.dcx_outcomes.specs.declared.whole_outcome.WholeEnd.TheVariants as the
+use Rattle.dcx_outcomes.specs.declared.whole_outcome.WholeOutcome.{WholeOutcome}
 use Rattle.dcx_report.specs.AnswerText.{user_number, var_lines}
 use Rattle.dcx_report.specs.OutcomeText.{word_text, counts_line}
 use Rattle.dcx_report.specs.StopText.{stop_name, stop_details, stopped_text}

@@ -1,14 +1,12 @@
 //! Appends the lines of an answer.
-ghost use Rattle.std.specs.Prelude.{◌≡◌, ◌++◌, IfSome, slice_get, OnOk};
-ghost use Rattle.std.specs.List.{flat_map};
-ghost use Rattle.dcx_lines.specs.Lines.{number_line, named_line, dual_line};
+ghost use Rattle.std.specs.Prelude.{◌≡◌, ◌++◌, OnOk};
+ghost use Rattle.dcx_lines.specs.Lines.{number_line};
 ghost use Rattle.dcx_report.specs.Negated.{negated};
-ghost use Rattle.dcx_report.specs.AnswerText.{user_number as user_number_of, var_lines, ray_lines, dual_lines, answer_text};
+ghost use Rattle.dcx_report.specs.AnswerText.{user_number as user_number_of, var_lines, ray_lines, answer_text};
 
 use crate::{Answer, Sense};
-use dcx_atom::Array;
 use dcx_frac::Frac;
-use dcx_lines::{pair_at, put_bytes, put_dual_line, put_named_line, put_number_line};
+use dcx_lines::{put_bytes, put_dual_lines, put_named_lines, put_number_line};
 use dcx_point::Point;
 use std::alloc::AllocError;
 
@@ -42,26 +40,6 @@ pub(crate) fn put_user_line(
     put_number_line(out, word, user_number(sense, number))
 }
 
-/// Appends the line of pair `i`, where there is one, under a word.
-fn put_pair_line(out: &mut Vec<u8>, word: &[u8], point: &Point, i: usize) -> Result<(), AllocError>
-    ensures { OnOk result (IfSome (slice_get point.now i) (λ pair. out.new.items ≡ out.old.items ++ named_line word.now pair)) }
-{
-    match pair_at(point, i) {
-        Some((name, array)) => put_named_line(out, word, name, array),
-        None => Ok(()),
-    }
-}
-
-/// Appends a line of each variable under a word.
-fn put_named_lines(out: &mut Vec<u8>, word: &[u8], point: &Point) -> Result<(), AllocError>
-    ensures { OnOk result (out.new.items ≡ out.old.items ++ flat_map (named_line word.now) point.now) }
-{
-    'pairs: for i in 0..point.len() {
-        put_pair_line(out, word, point, i)?;
-    }
-    Ok(())
-}
-
 /// Appends a line of each variable's value.
 #[tactic(auto, unfolding(crate::specs::AnswerText::var_lines))]
 pub(crate) fn put_var_lines(out: &mut Vec<u8>, point: &Point) -> Result<(), AllocError>
@@ -76,19 +54,6 @@ fn put_ray_lines(out: &mut Vec<u8>, ray: &Point) -> Result<(), AllocError>
     ensures { OnOk result (out.new.items ≡ out.old.items ++ ray_lines ray.now) }
 {
     put_named_lines(out, b"ray", ray)
-}
-
-/// Appends a line of each constraint's multipliers.
-#[tactic(auto, using(crate::proofs::Numbered::numbered_more), unfolding(crate::specs::AnswerText::dual_lines))]
-fn put_dual_lines(out: &mut Vec<u8>, duals: &[Array]) -> Result<(), AllocError>
-    ensures { OnOk result (out.new.items ≡ out.old.items ++ dual_lines duals.now) }
-{
-    let mut number = 0;
-    for array in duals {
-        number += 1;
-        put_dual_line(out, number, array)?;
-    }
-    Ok(())
 }
 
 /// Appends an unbounded answer, behind the number of its setting.

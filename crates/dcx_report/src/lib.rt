@@ -11,7 +11,6 @@
 //! | of a parameter it is told from where to where it may move, and the line that the user's objective goes along | `range_lines` of `specs/RangeText.antt` |
 //! | a whole answer is told with the number of nodes of its run | `whole_text` of `specs/WholeText.antt` |
 //! | a last line counts the outcomes that were found warm, where that was wanted | `warm_line` of `specs/OutcomeText.antt` |
-//! | an outcome has a place exactly where its stop names a node | `Outcome`, `FilterOutcome`, `RangeOutcome`, `WholeOutcome`, `names_node` of `specs/NodeStops.antt` |
 //! | two runs over one problem without marked variables with the same report have the same answers | `laws::same_text_same_answers` |
 #![tactic(auto)]
 
@@ -19,31 +18,25 @@ mod answer_lines;
 mod certified_lines;
 mod check_lines;
 mod filter_lines;
-mod filter_outcome;
 pub mod laws;
-mod outcome;
-mod outcomes;
 mod pieces;
 mod range_lines;
-mod range_outcome;
 mod refusal_line;
 mod report;
 mod run;
 mod stop_line;
 mod trial_lines;
 mod whole_lines;
-mod whole_outcome;
 
 pub use dcx_answer::{Answer, FilterStop, Filtered, Stop};
 pub use dcx_branch::{BranchStop, WholeAnswer};
 pub use dcx_front::Refusal;
+pub use dcx_outcomes::{
+    FilterEnd, FilterOutcome, FilterOutcomes, Outcome, OutcomeEnd, Outcomes, RangeEnd,
+    RangeOutcome, RangeOutcomes, WholeEnd, WholeOutcome, WholeOutcomes,
+};
 pub use dcx_ranged::{RangeStop, Ranged};
 pub use dcx_sections::CertFault;
 pub use dcx_tree::Sense;
-pub use filter_outcome::{FilterEnd, FilterOutcome, FilterOutcomes};
-pub use outcome::{Outcome, OutcomeEnd};
-pub use outcomes::Outcomes;
-pub use range_outcome::{RangeEnd, RangeOutcome, RangeOutcomes};
 pub use report::report_text;
 pub use run::{Run, Word};
-pub use whole_outcome::{WholeEnd, WholeOutcome, WholeOutcomes};

@@ -1,7 +1,7 @@
 //! Stops as they are written: `stop PivotLimit 0`, and behind `stop at LINE COLUMN` those that name a node.
 ghost use Rattle.std.specs.Prelude.{◌≡◌, true, false, IfOk};
-ghost use Rattle.dcx_report.specs.NodeStops.{names_node};
-ghost use Rattle.dcx_report.specs.declared.outcome.OutcomeEnd.TheVariants as ends;
+ghost use Rattle.dcx_outcomes.specs.NodeStops.{names_node};
+ghost use Rattle.dcx_outcomes.specs.declared.outcome.OutcomeEnd.TheVariants as ends;
 
 use dcx_answer::Site;
 use dcx_arena::NodeId;

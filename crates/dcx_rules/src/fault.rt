@@ -37,7 +37,12 @@ pub enum RuleSite {
 pub enum RuleFault {
     /// The rules don't accept the problem: this is the first site that breaks its rule.
     #[error("the rules of disciplined convex programming do not accept the problem")]
-    NotDcp { site: RuleSite, rule: Rule },
+    NotDcp {
+        /// Where.
+        site: RuleSite,
+        /// Its rule.
+        rule: Rule,
+    },
     /// No memory for the verdict.
     #[error("out of memory")]
     Memory,

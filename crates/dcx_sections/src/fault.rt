@@ -73,9 +73,9 @@ pub enum CertFault {
         node: NodeId,
         /// The result entry.
         entry: u32,
-        /// The number that is wanted.
+        /// The left side of the condition, which the weights give.
         stated: Frac,
-        /// The number that the weights give.
+        /// Its right side.
         found: Frac,
     },
     /// What is collected at an entry of a variable hasn't the sign that its attribute asks for.

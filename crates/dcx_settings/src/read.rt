@@ -11,7 +11,7 @@ use dcx_tokens::Token;
 use std::alloc::Global;
 
 /// The settings that the tokens of a text spell, or the tokens from the first one on that no settings go on with.
-pub fn read_tokens<'a>(
+pub(crate) fn read_tokens<'a>(
     alloc: Global,
     text: &[u8],
     tokens: &'a [Token],

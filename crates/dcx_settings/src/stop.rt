@@ -4,7 +4,7 @@ use std::alloc::{AllocError, AllocFailed};
 
 /// Why reading stops.
 #[derive(Drop)]
-pub enum Stop<'a> {
+pub(crate) enum Stop<'a> {
     /// Memory ran out.
     Memory,
     /// The tokens from the first one on that may not follow.

@@ -37,7 +37,7 @@ fn reads_as(value: &Value, one: &str, other: &str) -> bool
 }
 
 /// Whether a value is the text "F".
-pub fn is_by_columns(value: &Value) -> bool
+fn is_by_columns(value: &Value) -> bool
     ensures { result ≡ meaning.is_by_columns (meant value.now) }
 {
     reads_as(value, "\"F\"", "'F'")

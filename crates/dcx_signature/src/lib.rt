@@ -8,7 +8,7 @@
 //! | which arguments a call takes: their names in order, which of them by position, by name or either way, which must be given, and what each may be | `row_of`, `solve_row`, `specs/Table.antt` |
 //! | the call of a name in a module, the name of a module, the words that a solve ignores | `function_named`, `module_word`, `is_ignored_word`, `is_word` |
 //! | what a value must be to be given for an argument, beside the sides of x | `fits`, `specs/Fits.antt` |
-//! | the texts and the number that calls ask for | `is_by_columns`, `is_by_rows`, `is_infinity`, `is_one` |
+//! | the texts and the number that calls ask for | `is_by_rows`, `is_infinity`, `is_one` |
 //! | what each argument is given for; the fault of the first, as written, that is given for nothing or doesn't fit, and then that of a missing one, at the called expression | `arguments`, `specs/Arguments.antt` |
 //! | what was given for a word, and everything in order | `Bound::given`, `Bound::has`, `Bound::arguments` |
 //! | the range of a first number, a stop and a step, or the count that is too much | `range_from`, `specs/Turns.antt` |
@@ -24,7 +24,7 @@ mod table;
 mod turns;
 
 pub use firsts::{expr_place, primary_place};
-pub use fitting::{fits, is_by_columns, is_by_rows, is_infinity, is_one};
+pub use fitting::{fits, is_by_rows, is_infinity, is_one};
 pub use matching::{Argument, Bound, Given, arguments};
 pub use table::{
     Function, Param, Row, Takes, Way, function_named, is_ignored_word, is_word, module_word,

@@ -1,3 +1,4 @@
 -- What contracts cite.
 pub mod Solved
+pub mod Stops
 pub mod OneSolution

@@ -1,8 +1,9 @@
 //! Why rows aren't solved.
 ghost use Rattle.std.specs.Prelude.{◌≡◌};
 ghost use Rattle.dcx_solved.specs.Solved.{rows_stop};
+ghost use Rattle.dcx_solved.specs.Stops.{run_stop};
 
-use dcx_answer::Site;
+use dcx_answer::{Site, Stop};
 use dcx_std::RowStop;
 use std::alloc::AllocError;
 use thiserror::Error;
@@ -51,5 +52,17 @@ pub(crate) fn rows_stop(stop: RowStop) -> SolveStop
         RowStop::TooLarge { rows, columns } => SolveStop::TooLarge { rows, columns },
         RowStop::Wide(site) => SolveStop::Wide(site),
         RowStop::Memory => SolveStop::Memory,
+    }
+}
+
+/// The stop of a setting, of a node or of a step whose rows aren't solved.
+pub fn run_stop(stop: SolveStop) -> Stop
+    ensures { result ≡ run_stop stop }
+{
+    match stop {
+        SolveStop::TooLarge { rows, columns } => Stop::TooLarge { rows, columns },
+        SolveStop::Wide(site) => Stop::Wide(site),
+        SolveStop::PivotLimit { count } => Stop::PivotLimit { count },
+        SolveStop::Memory => Stop::Memory,
     }
 }

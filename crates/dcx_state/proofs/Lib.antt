@@ -3,7 +3,7 @@ mod Behind
 pub mod SameCalls
 mod Found
 mod Bindings
-pub mod Settings
+mod Settings
 mod Pushes
 mod Grown
 mod Reached

@@ -18,7 +18,7 @@ use Rattle.dcx_call.specs.Calls.{shape_of}
 use Rattle.dcx_array.specs.Shapes.{told}
 use Rattle.dcx_kinds.specs.declared.fault.ElabFault.{ElabFault}
 use Rattle.dcx_kinds.specs.declared.fault.ElabFault.TheVariants as faults
-use Rattle.dcx_state.specs.Faults.{told_fault_at}
+use Rattle.dcx_kinds.specs.Faults.{tree_fault_at}
 use Rattle.dcx_kinds.specs.Values.{State, and_then, or_fault, unless, too_many}
 use Rattle.dcx_kinds.specs.Nodes.{is_of, are_there, found_or_added, push}
 use Rattle.dcx_kinds.specs.Same.{same_call}
@@ -105,10 +105,10 @@ module _ (s : State) (place : Place) (call : Call) (args : List ℕ) (are : AreN
   refused sides e new Steps count over = absurd over
   refused sides e new Events count over = absurd over
 
-  pub pushed_err : (f : TreeFault) (after : List (Node Call)) → IsPushed shape_of s.nodes call args place (Err f) after → Fails (told_fault_at place f) (push place call args s)
+  pub pushed_err : (f : TreeFault) (after : List (Node Call)) → IsPushed shape_of s.nodes call args place (Err f) after → Fails (tree_fault_at place f) (push place call args s)
   pushed_err f after h = by (shape_of call (map (sides_at s.nodes) args)) refl f h
     where
-      by : (o : Option Sides) → shape_of call (map (sides_at s.nodes) args) ≡ o → (g : TreeFault) → EndsAt s.nodes call args place (Err g) after o → Fails (told_fault_at place g) (push place call args s)
+      by : (o : Option Sides) → shape_of call (map (sides_at s.nodes) args) ≡ o → (g : TreeFault) → EndsAt s.nodes call args place (Err g) after o → Fails (tree_fault_at place g) (push place call args s)
       by None e Clash h = with_shape None e
       by None e (TooMany what count) h = absurd h
       by None e Memory h = tt
@@ -125,7 +125,7 @@ push_stray s place call args e =
 -- ---- what is returned
 abbrev pub seen_at : Place → Result NodeId TreeFault → Result NodeId ElabFault
 seen_at place (Ok id) = Ok id
-seen_at place (Err f) = Err (told_fault_at place f)
+seen_at place (Err f) = Err (tree_fault_at place f)
 
 seen_gives : (s : State) (place : Place) (call : Call) (args : List ℕ) → AreNodes shape_of s.nodes → are_there s.nodes args ≡ true → (r : Result NodeId TreeFault) (after : List (Node Call)) →
     IsPushed shape_of s.nodes call args place r after → Gives (λ (i : NodeId). i.0) (seen_at place r) (record s { nodes = after }) (push place call args s)

@@ -1,5 +1,5 @@
 -- Values by name, and those of some names.
-use Rattle.std.proofs.Common.{◌≡◌, ℕ, zero, suc, ◌+◌, ◌<◌, Bool, true, false, List, [], ◌∷◌, ◌++◌, length, take, Option, Some, None, option_map, refl, sym, ap, ap₂, ◌∙◌, cond}
+use Rattle.std.proofs.Common.{◌≡◌, ℕ, zero, suc, ◌+◌, Bool, true, false, List, [], ◌∷◌, ◌++◌, take, Some, None, refl, sym, ap, ap₂, ◌∙◌, cond}
 use Rattle.std.specs.Prelude.{filter}
 use Rattle.std.specs.List.{slice_get, IsDistinct}
 use Rattle.std.proofs.lemmas.Option.{none-some, same_Some, slice_get_within, get_or_from_slice_get}
@@ -7,7 +7,7 @@ use Rattle.dcx_atom.specs.declared.array.Array.{Array}
 use Rattle.dcx_point.specs.Pairs.{Pairs, same_name, names_of, array_of, with_array, AreDistinct}
 use Rattle.dcx_tree.proofs.Sublists.{filter_kept, filter_dropped}
 use Rattle.dcx_point.proofs.Puts.{absent}
-use Rattle.dcx_point.proofs.Names.{pair_at, name_there, all_at, unlike, array_at}
+use Rattle.dcx_point.proofs.Names.{pair_at, all_at, unlike, array_at}
 
 -- a name has no array among those that are left of the pairs before it
 none_before : (test : List ℕ × Array → Bool) (ps : Pairs) (i : ℕ) (x : List ℕ × Array) → AreDistinct ps → slice_get ps i ≡ Some x → array_of (filter test (take i ps)) x.0 ≡ None
@@ -29,11 +29,6 @@ put_behind : (test : List ℕ × Array → Bool) (ps : Pairs) (i : ℕ) (x : Lis
 put_behind test ps i x d e = absent (filter test (take i ps)) x.0 x.1 (none_before test ps i x d e)
 
 -- ---- a step over the pairs
--- what is not there
-not_some : {X Y : Type 0} (f : X → Y) (o : Option X) → ((x : X) → o ≡ Some x → ⊥) → option_map f o ≡ None
-not_some f None h = refl
-not_some f (Some x) h = absurd (h x refl)
-
 module _ (test : List ℕ → Bool) (ps before after : Pairs) (i : ℕ) (distinct : AreDistinct ps) (was : before ≡ filter (λ e. test e.0) (take i ps)) where
   abbrev Next : Type 0
   Next = after ≡ filter (λ e. test e.0) (take (i + 1) ps)
@@ -53,13 +48,3 @@ module _ (test : List ℕ → Bool) (ps before after : Pairs) (i : ℕ) (distinc
   value_dropped name named t same =
       let (x, at) = pair_at ps i name (sym named) in
       filter_dropped (λ (z : List ℕ × Array). test z.0) ps i (name, x) before after (slice_get_within ps i (name, x) at) (sym (get_or_from_slice_get ps i (name, x) (name, x) at)) was t same
-
-  -- each name that is there has its array
-  pub no_array : {X : Type 0} (f : X → Array) (o : Option X) (name : List ℕ) → Some name ≡ slice_get (names_of ps) i → option_map f o ≡ array_of ps name → ((x : X) → o ≡ Some x → ⊥) → Next
-  no_array f o name named valued none =
-      let (x, at) = pair_at ps i name (sym named) in
-      absurd (none-some x (sym (not_some f o none) ∙ valued ∙ array_at ps i (name, x) distinct at))
-
-  -- and each place has its name
-  pub no_name : {X : Type 0} (f : X → List ℕ) (o : Option X) → i < length ps → option_map f o ≡ slice_get (names_of ps) i → ((x : X) → o ≡ Some x → ⊥) → Next
-  no_name f o lt named none = absurd (name_there ps i lt (sym named ∙ not_some f o none))

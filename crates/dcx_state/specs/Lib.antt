@@ -1,5 +1,4 @@
 -- The state of a script that is carried out.
-pub mod Faults
 pub mod Attributes
 pub mod Lists
 pub mod Declarations

@@ -23,5 +23,5 @@ mod problem;
 mod state;
 
 pub use flags::Flags;
-pub use problem::{Asking, MOST_EVENTS};
-pub use state::{MOST_STEPS, State};
+pub use problem::Asking;
+pub use state::State;

@@ -8,15 +8,14 @@ ghost use Rattle.dcx_tree.specs.Problems.{IsListed};
 ghost use Rattle.dcx_kinds.specs.Nodes.{are_there, push, pushed, all_pushed, promoted, all_promoted, operand_sides, common_shape, called, broadcast_called, subtracted, constrained};
 ghost use Rattle.dcx_kinds.specs.View.{meant_operand, Gives};
 ghost use Rattle.dcx_state.specs.Declarations.{is_declaration};
-ghost use Rattle.dcx_state.specs.Faults.{told_fault_at};
 
 use crate::state::State;
 use dcx_affine::{Minus, Plus, Promote};
-use dcx_arena::{NodeId, TreeFault};
+use dcx_arena::NodeId;
 use dcx_array::common_shape;
 use dcx_atom::copy_array;
 use dcx_call::{Call, LinearCall};
-use dcx_kinds::{ElabFault, Operand, too_many};
+use dcx_kinds::{ElabFault, Operand, tree_fault};
 use dcx_shape::{Place, Shape};
 use dcx_tree::{Constraint, Kind, Tree};
 use std::alloc::AllocError;
@@ -33,17 +32,6 @@ fn are_there(tree: &Tree, args: &[NodeId]) -> bool
         }
     }
     true
-}
-
-/// Why a node is refused, at the place of what makes it.
-fn tree_fault(place: Place, fault: TreeFault) -> ElabFault
-    ensures { result ≡ told_fault_at place fault }
-{
-    match fault {
-        TreeFault::Clash => ElabFault::ShapeClash(place),
-        TreeFault::TooMany { what, count } => too_many(place, what, count as u128),
-        TreeFault::Memory => ElabFault::Memory,
-    }
 }
 
 impl State {

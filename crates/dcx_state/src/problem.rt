@@ -24,7 +24,7 @@ use std::collections::HashSet;
 use std::mem;
 
 /// The most solves of a script.
-pub const MOST_EVENTS: u32 = 1000;
+const MOST_EVENTS: u32 = 1000;
 
 /// What a script asks: the problem, the setting of each solve, and the setting at its end.
 #[derive(Drop)]

@@ -20,7 +20,7 @@ use std::collections::HashSet;
 use std::marker::Model;
 
 /// The most steps of a script.
-pub const MOST_STEPS: u32 = 100_000;
+const MOST_STEPS: u32 = 100_000;
 
 /// Where the problem begins in the tree, and the names of the parameters that it reaches.
 #[derive(Drop)]

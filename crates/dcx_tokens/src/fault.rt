@@ -25,10 +25,10 @@ pub enum ReadFault {
     /// The tokens up to this one begin no text of the grammar.
     #[error("a token is unexpected")]
     Unexpected(Place),
-    /// More than 64 brackets and indentations are open.
+    /// More than 64 brackets and indentations are open; the bracket, or the first token of the line that is indented.
     #[error("brackets and blocks are too deep")]
     TooDeep(Place),
-    /// The text is longer than its limit.
+    /// The file has more bytes than it may, at 1:1; or more settings, at the first token of the first that is too many.
     #[error("the text is too long")]
     TooLong(Place),
     /// No memory for what was read.

@@ -16,3 +16,4 @@ pub mod Expressions
 pub mod Forming
 pub mod Few
 pub mod OneProblem
+pub mod Comparing

@@ -1,5 +1,5 @@
 -- What is formed of a node from the values of its arguments is the node's value.
-use Rattle.std.proofs.Common.{◌≡◌, ℕ, zero, suc, ◌<◌, ◌≤◌, inl, inr, IsOk, Bool, true, false, if◌then◌else◌, List, [], ◌∷◌, length, map, replicate, get_or, Option, Some, option_map, refl, sym, ap, ap₂, ◌∙◌, subst, arith, pos}
+use Rattle.std.proofs.Common.{◌≡◌, ℕ, zero, suc, ◌<◌, ◌≤◌, inl, inr, IsOk, Bool, true, false, if◌then◌else◌, List, [], ◌∷◌, map, replicate, get_or, Option, Some, option_map, refl, sym, ap, ap₂, ◌∙◌, subst, arith, pos}
 use Rattle.std.specs.Prelude.{nat_lt}
 use Rattle.std.specs.List.{slice_get}
 use Rattle.std.specs.Option.{unwrap_or}
@@ -18,6 +18,7 @@ use Rattle.dcx_atom.specs.declared.array.Array.{Array}
 use Rattle.dcx_atom.specs.declared.stops.ValueStop.{ValueStop}
 use Rattle.dcx_atom.specs.Arrays as atom_arrays
 use Rattle.dcx_atom.specs.Arrays.{Entries, number_at, numbers_of, array_sides}
+pub use Rattle.dcx_atom.proofs.Lists.{number_past}
 use Rattle.dcx_affine.specs.declared.pairing.Pairing.TheVariants.{Times, MatTimes, Over}
 use Rattle.dcx_affine.specs.declared.pairing.Pair.{Pair}
 use Rattle.dcx_affine.specs.Pairing.{pairs_at}
@@ -54,11 +55,6 @@ pub all_zero : (n : ℕ) (x : Frac) → value x ≡ whole (pos 0) → (j : ℕ) 
 all_zero zero x e j = refl
 all_zero (suc n) x e zero = e
 all_zero (suc n) x e (suc j) = all_zero n x e j
-
-pub number_past : (xs : List Frac) (j : ℕ) → length xs ≤ j → number_at xs j ≡ whole (pos 0)
-number_past [] j h = refl
-number_past (x ∷ xs) zero h = absurd (omega arith)
-number_past (x ∷ xs) (suc j) h = number_past xs j (omega arith)
 
 -- a number that is that of f below a size, and 0 from there on
 pub first_alike : (n : ℕ) (f : Numbers) (x : ℚ) (j : ℕ) → (j < n → x ≡ f j) → (n ≤ j → x ≡ whole (pos 0)) → x ≡ first_of n f j

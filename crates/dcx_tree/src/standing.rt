@@ -20,14 +20,14 @@ impl Tree {
     }
 
     /// Whether a node is there and has this shape.
-    pub fn has_shape(&self, node: NodeId, shape: Shape) -> bool
+    fn has_shape(&self, node: NodeId, shape: Shape) -> bool
         ensures { IsTrue result ↔ HasSides self.now node (sides_of shape) }
     {
         node.0 < self.nodes() && self.shape(node).sides() == shape.sides()
     }
 
     /// Whether both sides of a constraint are there and have its shape.
-    pub fn is_constraint(&self, constraint: &Constraint) -> bool
+    fn is_constraint(&self, constraint: &Constraint) -> bool
         ensures { IsTrue result ↔ IsConstraint self.now constraint.now }
     {
         self.has_shape(constraint.left, constraint.shape)

@@ -1,5 +1,5 @@
 //! The tree of a problem's expressions, seen by contracts as the list of its nodes.
-ghost use Rattle.std.specs.Prelude.{◌≡◌, ◌<◌, [], length, Some, All, IfOk, OnOk, OnErr, option_map, slice_get};
+ghost use Rattle.std.specs.Prelude.{◌≡◌, ◌<◌, [], length, map, Some, All, IfOk, OnOk, OnErr, option_map, slice_get};
 ghost use Rattle.dcx_shape.specs.Shape.{sides_of};
 ghost use Rattle.dcx_arena.specs.Gather.{IsGathered};
 ghost use Rattle.dcx_arena.specs.Nodes.{positions, AreNodes, IsPushed, call_at, args_at, sides_at, place_at};
@@ -91,6 +91,18 @@ impl Tree {
         ensures { sides_of result ≡ sides_at self.now node.0 }
     {
         self.arena.shape(node)
+    }
+
+    /// The shapes of nodes, in order.
+    pub fn shapes_of(&self, alloc: Global, nodes: &[NodeId]) -> Result<Vec<Shape>, AllocError>
+        requires { All (λ a. a < length self.now) (positions nodes.now) }
+        ensures { IfOk result (λ v. map sides_of v.items ≡ map (sides_at self.now) (positions nodes.now)) }
+    {
+        let mut shapes = Vec::new(alloc);
+        for node in nodes {
+            shapes.push(self.shape(*node))?;
+        }
+        Ok(shapes)
     }
 
     /// Where a node stands in the script.

@@ -4,14 +4,14 @@ use crate::problems::problem_of;
 use dcx_arena::NodeId;
 use dcx_call::{Attribute, Call, Variable, Whole};
 use dcx_case_lines::{CaseFault, Cases, name, point};
-use dcx_domain::{is_domain_point, point_outside};
+use dcx_domain::point_outside;
 use dcx_point::Point;
 use dcx_shape::{Place, Shape};
 use dcx_tree::{Constraint, Constraints, Kind, Parameters, Problem, Roots, Sense, Tree, Variables};
 use std::alloc::Global;
 
-/// `point | POINT => VARIABLE ENTRY` for where a point leaves the domain of a nonneg variable `x` and a symmetric one `y`, and
-/// whether both are given and inside.
+/// `point | POINT => VARIABLE ENTRY` for where a point leaves the domain of a nonneg variable `x` and a symmetric one `y`, or
+/// `none`.
 pub(crate) struct Domains;
 
 impl Cases for Domains {
@@ -104,15 +104,10 @@ fn problem_in(alloc: Global, tree: &mut Tree) -> Result<Problem, CaseFault> {
     problem_of(alloc, tree, &roots(alloc)?)
 }
 
-/// Writes whether a point is inside, and where it leaves.
+/// Writes where a point leaves the domain.
 fn put_point(out: &mut String, problem: &Problem, point: &Point) -> Result<(), CaseFault> {
-    if is_domain_point(problem, point) {
-        out.push_str("both inside")?;
-    } else {
-        out.push_str("not both inside")?;
-    }
     match point_outside(problem, point) {
-        Some(outside) => Ok(write!(out, ", {} {}", outside.variable, outside.entry)?),
-        None => Ok(out.push_str(", none")?),
+        Some(outside) => Ok(write!(out, "{} {}", outside.variable, outside.entry)?),
+        None => Ok(out.push_str("none")?),
     }
 }

@@ -8,9 +8,9 @@ ghost use Rattle.dcx_atom.specs.Arrays.{sides_list};
 ghost use Rattle.dcx_atom.specs.Graph.{IsGraphOf};
 ghost use Rattle.dcx_atom.specs.Steps.{rows_before, AreSlopesOf, IsSlopeStop};
 ghost use Rattle.dcx_atom.specs.Linear.{AreTermsOf};
-ghost use Rattle.dcx_atom.specs.Hinge.{hinge_meaning, hinge_sums, hinge_sign, hinge_trend, hinge_bent, hinge_sound, hinge_tight, hinge_subgradient, hinge_recedes};
-ghost use Rattle.dcx_atom.specs.Uses.{IsBelowChord, RecedesTwice, SumsAtLeastZero, StaysInPlace, IsBestFilling, BoundBelow, IsAdditive};
-ghost use Rattle.dcx_atom.specs.Hinge.{turned_meaning, turned_linear, turned_sign, turned_trend};
+ghost use Rattle.dcx_unit_tests.specs.Hinge.{hinge_meaning, hinge_sums, hinge_sign, hinge_trend, hinge_bent, hinge_sound, hinge_tight, hinge_subgradient, hinge_recedes};
+ghost use Rattle.dcx_unit_tests.specs.Hinge.{turned_meaning, turned_linear, turned_sign, turned_trend};
+ghost use Rattle.dcx_unit_tests.specs.Uses.{IsBelowChord, RecedesTwice, SumsAtLeastZero, StaysInPlace, IsBestFilling, BoundBelow, IsAdditive};
 
 use dcx_atom::{
     Array, Atom, AuxKind, AuxKinds, AuxTerm, Bend, EntryTerms, Graph, GraphForm, GraphForms,

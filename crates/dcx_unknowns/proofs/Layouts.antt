@@ -1,20 +1,17 @@
 -- Counts within 32 bits, graphs node by node, and layouts.
-use Rattle.std.proofs.Common.{◌≡◌, ◌⊎◌, ℕ, ◌+◌, ◌<◌, ◌≤◌, min, Bool, true, false, List, [], ◌∷◌, ◌++◌, length, map, get_or, take, Option, Some, None, IfSome, IsSome, refl, sym, ap, ap₂, subst, ◌∙◌, arith, add-zero, inl, inr}
+use Rattle.std.proofs.Common.{◌≡◌, ◌⊎◌, ℕ, ◌+◌, ◌<◌, ◌≤◌, min, Bool, true, false, List, [], ◌++◌, length, map, Option, Some, None, IfSome, IsSome, refl, sym, ap, subst, ◌∙◌, arith, add-zero, inl, inr}
 use Rattle.std.specs.Prelude.{not, sum_by, slice_get, unwrap_or, option_map, All}
 use Rattle.std.proofs.Math.Path.{fun_ext}
 use Rattle.std.proofs.lemmas.Bool.{cases_lt}
-use Rattle.std.proofs.lemmas.List.{append-nil, map-append, get_or_past, length-map, append_assoc, map_push, take_more}
+use Rattle.std.proofs.lemmas.List.{append-nil, map-append, get_or_past, length-map, append_assoc}
 use Rattle.std.proofs.lemmas.List.Elements.{All-nil}
 use Rattle.std.proofs.lemmas.List.Sums.{sum_by-append}
 use Rattle.std.proofs.lemmas.Option.{none-some, same_Some, slice_get_past, slice_get_cases}
-use Rattle.dcx_shape.specs.declared.shape.Shape.{Shape}
 use Rattle.dcx_shape.specs.declared.shape.Sides.{Sides}
-use Rattle.dcx_shape.specs.Shape.{sides_of}
 use Rattle.dcx_shape.specs.Sides.{entries_of}
 use Rattle.dcx_atom.specs.declared.graph.Graph.{Graph}
 use Rattle.dcx_atom.specs.Graph.{IsGraphOf, placed_row}
-use Rattle.dcx_arena.specs.declared.node.NodeId.{NodeId}
-use Rattle.dcx_arena.specs.Nodes.{IsNode, positions, args_at, sides_at, call_at}
+use Rattle.dcx_arena.specs.Nodes.{IsNode, args_at, sides_at, call_at}
 use Rattle.dcx_call.specs.declared.atoms.AtomCall.{AtomCall}
 use Rattle.dcx_call.specs.declared.call.Call.{Call}
 use Rattle.dcx_call.specs.declared.call.Call.TheVariants as calls
@@ -153,12 +150,6 @@ args_within p i lt = by (slice_get p.tree i) refl
     by : (o : Option Node) → slice_get p.tree i ≡ o → All (λ a. a < length p.tree) (unwrap_or (option_map (λ (n : Node). n.args) o) [])
     by None e = All-nil (λ a. a < length p.tree)
     by (Some n) e = λ k d h. let before = p.nodes.earlier i n e k d h in omega (arith, before, lt)
-
-pub shapes_next : (sides : ℕ → Sides) (ids : List NodeId) (k : ℕ) (d : NodeId) (xs ys : List Shape) (shape : Shape) → k < length ids → map sides_of xs ≡ map sides (positions (take k ids)) → ys ≡ xs ++ shape ∷ [] → sides_of shape ≡ sides (get_or ids k d).0 →
-    map sides_of ys ≡ map sides (positions (take (k + 1) ids))
-shapes_next sides ids k d xs ys shape lt so_far e is =
-    ap (map sides_of) e ∙ map_push sides_of xs shape ∙ ap₂ (λ zs z. zs ++ z ∷ []) so_far is
-    ∙ sym (ap (λ zs. map sides (positions zs)) (take_more ids k d lt) ∙ ap (map sides) (map_push (λ (a : NodeId). a.0) (take k ids) (get_or ids k d)) ∙ map_push sides (positions (take k ids)) (get_or ids k d).0)
 
 -- ---- the graph of an atom
 -- what the sides of the arguments of an atom are, and that it has a value there

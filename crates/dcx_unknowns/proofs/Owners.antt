@@ -2,10 +2,11 @@
 use Rattle.std.proofs.Common.{◌≡◌, ◌⊎◌, inl, inr, ℕ, zero, suc, ◌+◌, ◌*◌, ◌<◌, ◌≤◌, List, [], ◌∷◌, ◌++◌, length, map, take, get_or, replicate, Some, option_map, refl, sym, ap, subst, ◌∙◌, arith, zero-add, add-zero, length-append}
 use Rattle.std.specs.Prelude.{sum_by, slice_get, All}
 use Rattle.std.proofs.Math.Path.{fun_ext}
-use Rattle.std.proofs.lemmas.List.{length-map, take_all, map_push}
+use Rattle.std.proofs.lemmas.List.{length-map, get_or-map, take_all, map_push}
 use Rattle.std.proofs.lemmas.List.Concat.{length-flat_map}
 use Rattle.std.proofs.lemmas.List.Sums.{sum_by-cons, sum_by-le, sum_by_more, sum_by_more_le}
 use Rattle.std.proofs.lemmas.List.Folds.{sum_by-replicate}
+use Rattle.std.proofs.lemmas.List.FromFn.{length-range_with_len, get_or-range_with_len}
 use Rattle.std.proofs.lemmas.Option.{none-some, same_Some, slice_get-map}
 use Rattle.dcx_shape.specs.Sides.{entries_of}
 use Rattle.dcx_shape.specs.Places.{places_below}
@@ -14,7 +15,7 @@ use Rattle.dcx_tree.proofs.Lawful.{mapped}
 use Rattle.dcx_linear.specs.declared.row.UnknownKind.{UnknownKind}
 use Rattle.dcx_linear.specs.Size.{columns_for}
 use Rattle.dcx_unknowns.specs.Own.{own_count, own_before}
-use Rattle.dcx_unknowns.specs.Unknowns.{demanded, sides_in, own_of, Owner, owners_from, variable_unknowns, kind_of, own_kinds, variable_kinds, first_unknown}
+use Rattle.dcx_unknowns.specs.Unknowns.{demanded, sides_in, own_of, Owner, owners_from, variable_unknowns, kind_of, own_kinds, variable_kinds, first_unknown, AreFirstsOf}
 use Rattle.dcx_unknowns.specs.Laws.{IsVariable, HasOwn, AreNumbered}
 use Rattle.dcx_unknowns.proofs.Places.{in_left, in_right, in_either, own_at, own_listed, own_count_is, own_before-le, places_next}
 
@@ -158,6 +159,22 @@ pub first_fits : (vs : List Variable) (k next : ℕ) (v : Variable) → k < leng
 first_fits vs k next v lt at is =
     let same : count_of v ≡ count_of (get_or vs k v) = ap count_of at in
     omega (arith, same, is, sum_by_more_le count_of vs k v lt, unknowns_sum vs)
+
+-- ---- where the unknowns of each variable begin, as they are listed
+pub firsts_counted : (vs : List Variable) (firsts : List ℕ) → AreFirstsOf vs firsts → length firsts ≡ length vs
+firsts_counted vs firsts e = ap length e ∙ length-map (places_below (length vs)) (first_unknown vs) ∙ length-range_with_len 0 (length vs)
+
+pub first_at : (vs : List Variable) (firsts : List ℕ) (k d : ℕ) → AreFirstsOf vs firsts → k < length vs → get_or firsts k d ≡ first_unknown vs k
+first_at vs firsts k d e lt =
+    let within : k < length (places_below (length vs)) = omega (arith, lt, length-range_with_len 0 (length vs)) in
+    ap (λ xs. get_or xs k d) e ∙ get_or-map (first_unknown vs) (places_below (length vs)) k 0 d within ∙ ap (first_unknown vs) (get_or-range_with_len 0 (length vs) k 0 lt ∙ zero-add k)
+
+-- those of variable k are within all
+pub listed_fits : (vs : List Variable) (firsts : List ℕ) (k next : ℕ) (v : Variable) → AreFirstsOf vs firsts → k < length vs → v ≡ get_or vs k v → next ≡ get_or firsts k next →
+    (next ≡ first_unknown vs k) × (next + count_of v ≤ variable_unknowns vs)
+listed_fits vs firsts k next v e lt at is =
+    let first = is ∙ first_at vs firsts k next e lt in
+    (first, first_fits vs k next v lt at first)
 
 -- ---- how many a variable may have
 pub few_own : (v : Variable) → count_of v ≤ 20000

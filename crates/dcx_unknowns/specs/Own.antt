@@ -33,8 +33,8 @@ own_count attribute sides = length (own_entries attribute sides)
 abbrev pub mirror_of : Sides → ℕ → ℕ
 mirror_of sides k = row_place sides (column_in sides k) (row_in sides k)
 
--- the entry whose unknown stands for entry k: below the diagonal of a symmetric variable its mirror, on no entry off the
--- diagonal of a diagonal one, which is 0 there, and else its own
+-- the entry whose unknown stands for entry k: below the diagonal of a symmetric variable its mirror; off the diagonal of a
+-- diagonal one none, since it is 0 there; and else entry k itself
 abbrev pub source_of : Attribute → Sides → ℕ → Option ℕ
 source_of Free sides k = Some k
 source_of Nonneg sides k = Some k

@@ -5,6 +5,7 @@ use Rattle.dcx_math.specs.Rational.{ℚ, whole}
 use Rattle.dcx_shape.specs.declared.shape.Sides.{Sides}
 use Rattle.dcx_shape.specs.Shape.{sides_of}
 use Rattle.dcx_shape.specs.Sides.{entries_of}
+use Rattle.dcx_shape.specs.Places.{places_below}
 use Rattle.dcx_call.specs.declared.attribute.Attribute.{Attribute}
 use Rattle.dcx_call.specs.declared.attribute.Attribute.TheVariants.{Free, Nonneg, Nonpos, Symmetric, Diag}
 use Rattle.dcx_call.specs.declared.attribute.Variable.{Variable}
@@ -61,6 +62,10 @@ variable_kinds vs = flat_map own_kinds vs
 -- the unknowns of the variables before variable k
 abbrev pub first_unknown : List Variable → ℕ → ℕ
 first_unknown vs k = sum_by (λ v. own_count (demanded v) (sides_in v)) (take k vs)
+
+-- for each variable where its unknowns begin
+abbrev pub AreFirstsOf : List Variable → List ℕ → Type 0
+AreFirstsOf vs firsts = firsts ≡ map (first_unknown vs) (places_below (length vs))
 
 -- the unknown that stands for an entry of a variable whose unknowns begin with `first`; None where the entry is 0
 abbrev pub unknown_in : ℕ → Attribute → Sides → ℕ → Option ℕ

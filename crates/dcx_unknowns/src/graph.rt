@@ -34,11 +34,7 @@ fn arg_shapes(alloc: Global, problem: &Problem, node: NodeId) -> Result<Vec<Shap
     ensures { IfOk result (λ v. map sides_of v.items ≡ map (sides_at problem.now.tree) (args_at problem.now.tree node.0)) }
 {
     let ids = problem.tree.args(alloc, node)?;
-    let mut shapes = Vec::new(alloc);
-    'ids: for id in &ids {
-        shapes.push(problem.tree.shape(*id))?;
-    }
-    Ok(shapes)
+    problem.tree.shapes_of(alloc, &ids)
 }
 
 /// The kind of the unknown of a program that stands for an auxiliary unknown.

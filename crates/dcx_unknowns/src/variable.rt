@@ -3,7 +3,7 @@ ghost use Rattle.std.specs.Prelude.{◌≡◌, ◌↔◌, ◌+◌, ◌<◌, ◌^
 ghost use Rattle.dcx_shape.specs.Sides.{entries_of};
 ghost use Rattle.dcx_shape.specs.Places.{places_below};
 ghost use Rattle.dcx_unknowns.specs.Own.{is_own, own_count, source_of, listed_for};
-ghost use Rattle.dcx_unknowns.specs.Unknowns.{demanded, sides_in, own_kinds, variable_unknowns, variable_kinds, first_unknown, unknown_from};
+ghost use Rattle.dcx_unknowns.specs.Unknowns.{demanded, sides_in, own_kinds, variable_unknowns, variable_kinds, AreFirstsOf, unknown_from};
 ghost use Rattle.dcx_call.specs.Attributes.{IsSquare, AreSquare};
 
 use crate::own::{is_own, kind_of, mirror, own_count};
@@ -15,7 +15,7 @@ use std::alloc::{AllocError, Global};
 /// have at most 400,000,000 unknowns.
 pub fn first_unknowns(alloc: Global, variables: &[Variable]) -> Result<Vec<u32>, AllocError>
     requires { variable_unknowns variables.now < 2 ^ 32 }
-    ensures { IfOk result (λ v. v.items ≡ map (first_unknown variables.now) (places_below (length variables.now))) }
+    ensures { IfOk result (λ v. AreFirstsOf variables.now v.items) }
 {
     let mut firsts = Vec::new(alloc);
     let mut next = 0u32;

@@ -1,13 +1,9 @@
 //! The first entry at which two arrays don't stand to each other as asked.
-ghost use Rattle.std.specs.Prelude.{◌≡◌, IsTrue, ◌↔◌, MatchBool, MatchOption};
-ghost use Rattle.dcx_math.specs.Rational.{◌-ℚ◌};
-ghost use Rattle.dcx_frac.specs.Frac.{value};
+ghost use Rattle.std.specs.Prelude.{◌≡◌, MatchOption};
 ghost use Rattle.dcx_shape.specs.Shape.{sides_of};
-ghost use Rattle.dcx_convex.specs.Problems.{Holds};
-ghost use Rattle.dcx_tree.specs.Meaning.{relation_of};
 ghost use Rattle.dcx_values.specs.Broken.{AllHold, IsFirstBroken};
 
-use dcx_atom::{Array, is_at_most, is_equal};
+use dcx_atom::Array;
 use dcx_frac::Frac;
 use dcx_tree::Kind;
 
@@ -22,16 +18,6 @@ pub struct Broken {
     pub right: Frac,
 }
 
-/// Whether two numbers stand to each other as asked.
-fn holds(kind: Kind, left: &Frac, right: &Frac) -> bool
-    ensures { MatchBool result (Holds (relation_of kind) (value left.now -ℚ value right.now)) (¬ Holds (relation_of kind) (value left.now -ℚ value right.now)) }
-{
-    match kind {
-        Kind::AtMost => is_at_most(left, right),
-        Kind::Equal => is_equal(left, right),
-    }
-}
-
 /// The first entry at which left isn't at most right, or isn't right; `None` where there is none.
 pub fn first_broken(kind: Kind, left: &Array, right: &Array) -> Option<Broken>
     requires { sides_of left.now.shape ≡ sides_of right.now.shape }
@@ -42,7 +28,7 @@ pub fn first_broken(kind: Kind, left: &Array, right: &Array) -> Option<Broken>
     for entry in 0..left.shape.size() {
         let x = lefts[entry as usize];
         let y = rights[entry as usize];
-        if !holds(kind, &x, &y) {
+        if !kind.holds(&x, &y) {
             return Some(Broken {
                 entry,
                 left: x,

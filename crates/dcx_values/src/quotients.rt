@@ -1,6 +1,5 @@
 //! The divisors of quotients.
 ghost use Rattle.std.specs.Prelude.{◌≡◌, ◌⊎◌, ◌↔◌, ℕ, ◌<◌, [], true, Some, length, All, IfOk, OnOk, IsSome, option_map};
-ghost use Rattle.dcx_frac.specs.Frac.{value};
 ghost use Rattle.dcx_atom.specs.Arrays.{number_at};
 ghost use Rattle.dcx_arena.specs.Nodes.{AreNodes, IsNode, args_at};
 ghost use Rattle.dcx_call.specs.Calls.{shape_of};
@@ -17,8 +16,7 @@ use crate::marks::{is_marked, mark_reached};
 use crate::table::Values;
 use dcx_affine::Pairing;
 use dcx_answer::Stop;
-use dcx_atom::Array;
-use dcx_frac::Frac;
+use dcx_atom::{Array, number_at};
 use dcx_point::{Point, Setting};
 use dcx_sections::CertFault;
 use dcx_tree::{Call, NodeId, Problem, Tree, kept_value};
@@ -35,24 +33,12 @@ fn divisor_of(tree: &Tree, node: NodeId) -> Option<NodeId>
     }
 }
 
-/// Number `k` of a list, and 0 past its end.
-fn number_at(numbers: &[Frac], k: u32) -> Frac
-    ensures { value result ≡ number_at numbers.now k }
-{
-    let k = k as usize;
-    if k < numbers.len() {
-        numbers[k]
-    } else {
-        Frac::zero()
-    }
-}
-
 /// Whether none of so many entries of a divisor is 0. `node` is that of the quotient.
 fn test_divisor(node: NodeId, size: u32, divisor: &Array) -> Result<(), CertFault>
     ensures { Checked (each_below size (nonzero node.0 (number_at divisor.now.entries))) result }
 {
     for entry in 0..size {
-        if number_at(divisor.entries.as_slice(), entry).is_zero() {
+        if number_at(divisor.entries.as_slice(), entry as usize).is_zero() {
             return Err(CertFault::Fit(Stop::ZeroDivisor { node, entry }));
         }
     }

@@ -54,10 +54,11 @@ root_bounds (Some v) j = if nat_lt j (entries_of (sides_of v.shape)) then mark_b
 abbrev pub root_box : Problem → Box
 root_box p k j = root_bounds (slice_get p.variables k) j
 
--- the two sides of a box at entry j of variable k: its points where that entry is at most n, and those where it is at least n
+-- entry h of variable i is entry j of variable k
 abbrev pub is_entry : ℕ → ℕ → ℕ → ℕ → Bool
 is_entry k j i h = nat_eq i k && nat_eq h j
 
+-- the two sides of a box at entry j of variable k: its points where that entry is at most n, and those where it is at least n
 abbrev pub at_most : Box → ℕ → ℕ → ℤ → Box
 at_most box k j n i h = if is_entry k j i h then record { lower = (box i h).lower; upper = Some n } else box i h
 

@@ -13,8 +13,8 @@ pub loop-e-preserved : goal.loop-e-preserved
 loop-e-preserved c =
     let f : ℕ → Frac × Frac = λ e. (frac_in c.args.coefficients.now e, frac_in c.args.numbers.now e) in
     let x = c.index-coefficients-e.result in
-    product_next c.args.total c.loop-e.sum x c.frac_in.result f c.loop-e.e (Ok c.in_ok-sum.sum)
-    (pair_is _ _ _ _ (within_list c.args.coefficients.now c.loop-e.e zero_frac x c.loop-e-test.true c.index-coefficients-e.is) c.frac_in.ensures)
+    product_next c.args.total c.loop-e.sum x c.number_at.result f c.loop-e.e (Ok c.in_ok-sum.sum)
+    (pair_is _ _ _ _ (within_list c.args.coefficients.now c.loop-e.e zero_frac x c.loop-e-test.true c.index-coefficients-e.is) c.number_at.ensures.is)
     (sym c.in_ok-sum.was ∙ c.add.ensures.answer ∙ ap (λ r. and_then r (sum_of c.loop-e.sum)) (sym c.in_ok-mul.was ∙ c.mul.ensures.answer)) c.loop-e.invariant
 
 pub returns-in_err-mul : goal.returns-in_err-mul
@@ -23,8 +23,8 @@ returns-in_err-mul c =
     let f : ℕ → Frac × Frac = λ e. (frac_in c.args.coefficients.now e, frac_in c.args.numbers.now e) in
     let x = c.index-coefficients-e.result in
     rw (r.1, r.2) (sym (counted-within c.args.total f (c.loop-e.e + 1) (length c.args.coefficients.now) c.in_err-mul.field-0.0 (omega (arith, c.loop-e-test.true))
-    (product_next c.args.total c.loop-e.sum x c.frac_in.result f c.loop-e.e _
-    (pair_is _ _ _ _ (within_list c.args.coefficients.now c.loop-e.e zero_frac x c.loop-e-test.true c.index-coefficients-e.is) c.frac_in.ensures)
+    (product_next c.args.total c.loop-e.sum x c.number_at.result f c.loop-e.e _
+    (pair_is _ _ _ _ (within_list c.args.coefficients.now c.loop-e.e zero_frac x c.loop-e-test.true c.index-coefficients-e.is) c.number_at.ensures.is)
     (ap (λ r. and_then r (sum_of c.loop-e.sum)) (sym c.in_err-mul.was ∙ c.mul.ensures.answer)) c.loop-e.invariant)))
 
 pub returns-in_err-sum : goal.returns-in_err-sum
@@ -33,6 +33,6 @@ returns-in_err-sum c =
     let f : ℕ → Frac × Frac = λ e. (frac_in c.args.coefficients.now e, frac_in c.args.numbers.now e) in
     let x = c.index-coefficients-e.result in
     rw (r.1, r.2) (sym (counted-within c.args.total f (c.loop-e.e + 1) (length c.args.coefficients.now) c.in_err-sum.field-0.0 (omega (arith, c.loop-e-test.true))
-    (product_next c.args.total c.loop-e.sum x c.frac_in.result f c.loop-e.e _
-    (pair_is _ _ _ _ (within_list c.args.coefficients.now c.loop-e.e zero_frac x c.loop-e-test.true c.index-coefficients-e.is) c.frac_in.ensures)
+    (product_next c.args.total c.loop-e.sum x c.number_at.result f c.loop-e.e _
+    (pair_is _ _ _ _ (within_list c.args.coefficients.now c.loop-e.e zero_frac x c.loop-e-test.true c.index-coefficients-e.is) c.number_at.ensures.is)
     (sym c.in_err-sum.was ∙ c.add.ensures.answer ∙ ap (λ r. and_then r (sum_of c.loop-e.sum)) (sym c.in_ok-mul.was ∙ c.mul.ensures.answer)) c.loop-e.invariant)))

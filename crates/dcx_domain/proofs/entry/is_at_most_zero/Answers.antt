@@ -6,4 +6,4 @@ use Rattle.dcx_domain.proofs.Comparisons.{at_most}
 use Rattle.dcx_domain.proofs.entry.is_at_most_zero.Goals as goal
 
 pub returns : goal.returns
-returns c = at_most c.is_at_most.result (number_at c.args.numbers.now c.args.entry) (whole (pos 0)) (c.is_at_most.ensures ∙ ap₂ rat_le c.number_at.ensures c.zero.ensures)
+returns c = at_most c.is_at_most.result (number_at c.args.numbers.now c.args.entry) (whole (pos 0)) (c.is_at_most.ensures ∙ ap₂ rat_le c.number_at.ensures.exact c.zero.ensures)

@@ -33,5 +33,5 @@ returns c =
           let not_above = w.if-row-column.false in
           absurd (omega (arith, above, not_above, row, column))
     ] in
-    equal c.is_equal.result (x k) (x (row_place s (k % cols_of s) (k / cols_of s))) (c.is_equal.ensures ∙ ap₂ rat_eq c.number_at.ensures (c.number_at-2.ensures ∙ ap x mirror))
+    equal c.is_equal.result (x k) (x (row_place s (k % cols_of s) (k / cols_of s))) (c.is_equal.ensures ∙ ap₂ rat_eq c.number_at.ensures.exact (c.number_at-2.ensures.exact ∙ ap x mirror))
     (mirror_same s x k c.requires) (mirror_differs s x k c.requires asked)

@@ -16,5 +16,5 @@ returns c =
     let e : n ≡ cols_of s = c.cols-columns.ensures in
     let row : k / n ≡ k / cols_of s = ap (λ m. k / m) e in
     let column : k % n ≡ k % cols_of s = ap (λ m. k % m) e in
-    told c.is_zero.result c.is_zero.ensures (λ z. zero_keeps s x k c.requires (sym c.number_at.ensures ∙ z))
-    (λ z. nonzero_leaves s x k c.requires (λ d. c.if-entry-columns.false (row ∙ d ∙ sym column)) (λ d. z (c.number_at.ensures ∙ d)))
+    told c.is_zero.result c.is_zero.ensures (λ z. zero_keeps s x k c.requires (sym c.number_at.ensures.exact ∙ z))
+    (λ z. nonzero_leaves s x k c.requires (λ d. c.if-entry-columns.false (row ∙ d ∙ sym column)) (λ d. z (c.number_at.ensures.exact ∙ d)))

@@ -3,17 +3,17 @@ use Rattle.std.proofs.Common.{◌≡◌, ◌∙◌, ◌&&◌, if◌then◌else�
 use Rattle.std.specs.List.{list_all}
 use Rattle.dcx_shape.specs.declared.shape.Shape.{Shape}
 use Rattle.dcx_shape.specs.Shape.{sides_of}
-use Rattle.dcx_elem.specs.Extremes.{same_sides}
+use Rattle.dcx_atom.specs.Arrays.{same_sides}
 use Rattle.dcx_elem.proofs.ExtremeSteps.{alike_is, ne-eqb}
 use Rattle.dcx_elem.proofs.extremes.alike_shape.Goals as goal
-use Rattle.dcx_elem.proofs.extremes.alike_shape.Goals.{else-count-args-via-then-count-args+else-have_sides, else-count-args-via-else-count-args}
+use Rattle.dcx_elem.proofs.extremes.alike_shape.Goals.{else-count-args-via-then-count-args+else-have_shape, else-count-args-via-else-count-args}
 
-pub returns-then-have_sides : goal.returns-then-have_sides
-returns-then-have_sides c =
+pub returns-then-have_shape : goal.returns-then-have_shape
+returns-then-have_shape c =
     let args = c.args.args.now in
     let x = c.first-item.result in
     let all : list_all (λ (shape : Shape). same_sides (sides_of x) (sides_of shape)) args ≡ true =
-    ap (λ s. list_all (λ (shape : Shape). same_sides s (sides_of shape)) args) (sym c.sides.ensures) ∙ sym c.have_sides.ensures ∙ c.if-have_sides.true in
+    sym c.have_shape.ensures ∙ c.if-have_shape.true in
     sym (alike_is c.args.count args x c.in-len2-up.len_at_least c.first-item.is
     ∙ ap₂ (λ a b. if a && b then Some (sides_of x) else None) (eq-eqb c.args.count (length args) c.if-count-args.true) all)
 
@@ -22,9 +22,9 @@ returns-else-count-args c =
     let args = c.args.args.now in
     let x = c.first-item.result in
     elim c.else-count-args.branch [
-      | else-count-args-via-then-count-args+else-have_sides w ↦
+      | else-count-args-via-then-count-args+else-have_shape w ↦
           let all : list_all (λ (shape : Shape). same_sides (sides_of x) (sides_of shape)) args ≡ false =
-          ap (λ s. list_all (λ (shape : Shape). same_sides s (sides_of shape)) args) (sym w.sides.ensures) ∙ sym w.have_sides.ensures ∙ w.if-have_sides.false in
+          sym w.have_shape.ensures ∙ w.if-have_shape.false in
           sym (alike_is c.args.count args x c.in-len2-up.len_at_least c.first-item.is
           ∙ ap₂ (λ a b. if a && b then Some (sides_of x) else None) (eq-eqb c.args.count (length args) w.if-count-args.true) all)
       | else-count-args-via-else-count-args w ↦

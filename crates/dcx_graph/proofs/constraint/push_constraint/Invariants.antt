@@ -1,7 +1,7 @@
 -- The entries so far are added.
 use Rattle.std.proofs.Common.{◌≡◌, ◌++◌}
 use Rattle.dcx_atom.specs.Arrays.{list_below}
-use Rattle.dcx_graph.specs.Program.{row_kind}
+use Rattle.dcx_postsolve.specs.Duals.{row_kind}
 use Rattle.dcx_graph.proofs.constraint.push_constraint.Given as goal
 
 abbrev pub invariant-entries : goal.invariant-entries

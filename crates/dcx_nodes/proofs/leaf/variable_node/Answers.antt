@@ -5,7 +5,8 @@ use Rattle.dcx_tree.specs.Nodes.{number_in}
 use Rattle.dcx_nodes.proofs.AtNode.{the_node}
 use Rattle.dcx_call.specs.declared.call.Call.TheVariants as calls
 use Rattle.dcx_unknowns.specs.Unknowns.{first_unknown}
-use Rattle.dcx_nodes.proofs.Leaves.{few_variable_unknowns, firsts_counted, first_at, place, place_there, is_square, unknowns_within, variable_counted, variable_gives}
+use Rattle.dcx_unknowns.proofs.Owners.{firsts_counted, first_at}
+use Rattle.dcx_nodes.proofs.Leaves.{few_variable_unknowns, place, place_there, is_square, unknowns_within, variable_counted, variable_gives}
 use Rattle.dcx_nodes.proofs.leaf.variable_node.Goals as goal
 
 pub bounds-given-position : goal.bounds-given-position

@@ -2,7 +2,7 @@
 use Rattle.std.proofs.Common.{◌<◌, ◌^◌, ap, sym, ◌∙◌, subst}
 use Rattle.dcx_unknowns.specs.Unknowns.{variable_unknowns}
 use Rattle.dcx_call.specs.Attributes.{AreSquare}
-use Rattle.dcx_nodes.specs.Given.{AreFirstsOf}
+use Rattle.dcx_unknowns.specs.Unknowns.{AreFirstsOf}
 use Rattle.dcx_nodes.proofs.Leaves.{few_variable_unknowns}
 use Rattle.dcx_nodes.proofs.nodes.form_nodes.Goals as goal
 

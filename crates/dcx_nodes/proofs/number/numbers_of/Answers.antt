@@ -1,6 +1,7 @@
 -- Each number is that of its entry, and past the end both are 0.
 use Rattle.std.proofs.Common.{◌≡◌, length, sym, ap, ◌∙◌, subst, arith}
 use Rattle.dcx_shape.specs.Shape.{sides_of}
+use Rattle.dcx_entries.specs.Parts.{number_in}
 use Rattle.dcx_nodes.proofs.Numbers.{AreNumbersTo, numbers_none, numbers_more, numbers_all}
 use Rattle.dcx_nodes.proofs.number.numbers_of.Goals as goal
 
@@ -14,7 +15,7 @@ pub entries-preserved : goal.entries-preserved
 entries-preserved g c =
     let t = g.C.Coef in
     numbers_more t.of_number t.number_of g.met.C.Coef.number_told c.args.standing.now c.entries.entry c.entries.numbers.items c.push.new.self.items c.entry_number.result
-    c.entries.invariant c.entry_number.ensures c.in_ok-push.ensures.items
+    c.entries.invariant (c.entry_number.ensures ∙ ap (number_in t.number_of) c.entry_at.ensures) c.in_ok-push.ensures.items
 
 pub invariant_of-result : goal.invariant_of-result
 invariant_of-result g c =

@@ -8,11 +8,11 @@ pub returns-then-not-holds : goal.returns-then-not-holds
 returns-then-not-holds c =
     let a = c.args.along.now in
     inr (broken a.problem.now a.setting.now a.ray.now c.args.number c.args.constraint.now c.loop-entry.entry c.steepness-left.result c.steepness-right.result c.steepness-left.ensures c.steepness-right.ensures
-    c.holds.result c.holds.ensures c.if-not-holds.true (omega (arith, c.loop-entry-test.true, c.size-entry-end.ensures)) c.loop-entry.invariant)
+    c.if-not-holds.ensures (omega (arith, c.loop-entry-test.true, c.size-entry-end.ensures)) c.loop-entry.invariant)
 
 pub loop-entry-preserved : goal.loop-entry-preserved
 loop-entry-preserved c =
     let a = c.args.along.now in
     below_more (λ j. HoldsAt a.problem.now a.setting.now a.ray.now c.args.constraint.now j) c.loop-entry.entry c.loop-entry.invariant
     (holding a.problem.now a.setting.now a.ray.now c.args.number c.args.constraint.now c.loop-entry.entry c.steepness-left.result c.steepness-right.result c.steepness-left.ensures c.steepness-right.ensures
-    c.holds.result c.holds.ensures c.if-not-holds.false)
+    c.if-not-holds.ensures)

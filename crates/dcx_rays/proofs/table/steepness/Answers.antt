@@ -17,7 +17,7 @@ returns-in-Some c =
     let i = c.args.node.0 in
     let within : i < length arrays = let e = c.requires.kept.sized in omega (arith, e, c.requires.there) in
     let there : array_at arrays i ≡ Some c.in-Some.array = read_at arrays i c.index-arrays-node.result within c.index-arrays-node.is ∙ c.in-Some.is in
-    c.number_at.ensures ∙ ap (λ (xs : List Frac). number_at xs c.args.entry) c.as_slice.ensures ∙ (c.requires.kept.steep i c.in-Some.array there).numbers c.args.entry
+    c.number_at.ensures.exact ∙ ap (λ (xs : List Frac). number_at xs c.args.entry) c.as_slice.ensures ∙ (c.requires.kept.steep i c.in-Some.array there).numbers c.args.entry
 
 pub returns-in-None : goal.returns-in-None
 returns-in-None c =

@@ -3,7 +3,8 @@ use Rattle.std.proofs.Common.{List, ℕ, Bor, sym, ◌∙◌, arith}
 use Rattle.std.specs.HashSet.{contains}
 use Rattle.dcx_atom.specs.declared.array.Array.{Array}
 use Rattle.dcx_point.specs.Pairs.{same_name}
-use Rattle.dcx_state.proofs.Settings.{value_kept, value_dropped, no_array, no_name}
+use Rattle.dcx_point.proofs.Copied.{no_array, no_name}
+use Rattle.dcx_state.proofs.Settings.{value_kept, value_dropped}
 use Rattle.dcx_state.proofs.problem.reached_values.Goals as goal
 use Rattle.dcx_state.proofs.problem.reached_values.Goals.{in-Some+in-Some-get+then-contains+in_ok-copy_name+in_ok-copy_array+in_ok-put, in-Some+in-Some-get+else-contains, in-Some+in_default-get, in_default}
 
@@ -17,9 +18,7 @@ loop-i-preserved c = elim c.match-name_at.branch [
       value_dropped (contains same_name c.args.reached.now) c.args.setting.now c.loop-i.values c.match-name_at.values c.loop-i.i c.len-i-end.ensures.distinct c.loop-i.invariant
       w.in-Some.name.now w.in-Some.ensures (sym w.contains.ensures ∙ w.if-contains.false) w.values-is
   | in-Some+in_default-get w ↦
-      no_array (contains same_name c.args.reached.now) c.args.setting.now c.loop-i.values c.match-name_at.values c.loop-i.i c.len-i-end.ensures.distinct c.loop-i.invariant
-      (λ (x : Bor Array). x.now) w.get.result w.in-Some.name.now w.in-Some.ensures w.get.ensures w.in_default-get.not-Some
+      absurd (no_array c.args.setting.now c.loop-i.i c.len-i-end.ensures.distinct (λ (x : Bor Array). x.now) w.get.result w.in-Some.name.now w.in-Some.ensures w.get.ensures w.in_default-get.not-Some)
   | in_default w ↦
-      no_name (contains same_name c.args.reached.now) c.args.setting.now c.loop-i.values c.match-name_at.values c.loop-i.i c.len-i-end.ensures.distinct c.loop-i.invariant
-      (λ (x : Bor (List ℕ)). x.now) c.name_at.result (omega (arith, c.loop-i-test.true, c.len-i-end.ensures.count)) c.name_at.ensures w.in_default.not-Some
+      absurd (no_name c.args.setting.now c.loop-i.i (λ (x : Bor (List ℕ)). x.now) c.name_at.result (omega (arith, c.loop-i-test.true, c.len-i-end.ensures.count)) c.name_at.ensures w.in_default.not-Some)
 ]

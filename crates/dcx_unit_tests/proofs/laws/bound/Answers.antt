@@ -4,8 +4,8 @@ use Rattle.dcx_shape.specs.Sides.{entries_of}
 use Rattle.dcx_shape.specs.declared.shape.Sides.{Sides}
 use Rattle.dcx_atom.specs.Arrays.{sides_list}
 use Rattle.dcx_atom.specs.Steps.{AreSlopesOf}
-use Rattle.dcx_atom.specs.Uses.{BoundBelow}
 use Rattle.dcx_atom.proofs.Accepted.{slopes-bound}
+use Rattle.dcx_unit_tests.specs.Uses.{BoundBelow}
 use Rattle.dcx_unit_tests.proofs.laws.bound.Goals as goal
 
 each : (o : Option Sides) (P Q : Sides → Type 0) → ((s : Sides) → o ≡ Some s → P s → Q s) → IfSome o P → IfSome o Q

@@ -1,6 +1,6 @@
 -- The curvature law at the weights 1/2 and 1/2.
-use Rattle.dcx_atom.specs.Uses.{half}
-use Rattle.dcx_atom.proofs.Halves.{half_nonnegative, halves}
+use Rattle.dcx_unit_tests.specs.Uses.{half}
+use Rattle.dcx_unit_tests.proofs.Halves.{half_nonnegative, halves}
 use Rattle.dcx_unit_tests.proofs.laws.chord.Goals as goal
 
 pub returns : goal.returns

@@ -10,9 +10,9 @@ use Rattle.dcx_atom.specs.declared.stops.SlopeStop.TheVariants.{Refused, Passes,
 use Rattle.dcx_atom.specs.Formed.{number}
 use Rattle.dcx_atom.specs.Meaning.{at_most}
 use Rattle.dcx_atom.specs.Steps.{test, form, is_weight, broken_at, weights_stop, IsSlopeStop, IsFirstStop}
-use Rattle.dcx_atom.specs.Hinge.{hinge_meaning}
 use Rattle.dcx_atom.proofs.FormedSums.{frac_at-value}
 use Rattle.dcx_atom.proofs.FirstStops.{first_stop-passed}
+use Rattle.dcx_unit_tests.specs.Hinge.{hinge_meaning}
 use Rattle.dcx_unit_tests.proofs.laws.hinge_slopes.Goals as goal
 
 first : (c w : Frac) (stop : SlopeStop) → weights_stop 0 (value w ∷ []) ≡ None → Some stop ≡ broken_at 0 (rat_le (value w) (value c)) w c →

@@ -12,8 +12,8 @@ use Rattle.dcx_atom.specs.declared.array.Array.{Array}
 use Rattle.dcx_atom.specs.Arrays.{numbers_of, array_sides, number_at}
 use Rattle.dcx_atom.specs.Formed.{sum_in_order}
 use Rattle.dcx_atom.specs.Value.{IsValueOf}
-use Rattle.dcx_atom.specs.Hinge.{one_scalar, hinge_meaning}
 use Rattle.dcx_atom.proofs.FormedSums.{sum_in_order-one}
+use Rattle.dcx_unit_tests.specs.Hinge.{one_scalar, hinge_meaning}
 use Rattle.dcx_unit_tests.proofs.laws.HingeAtom.value.Goals as goal
 
 scalar_is : (args : List Sides) → IsSome (one_scalar args) → one_scalar args ≡ Some Scalar

@@ -1,8 +1,0 @@
--- The shapes of the arguments so far.
-use Rattle.std.proofs.Common.{◌≡◌, map, take}
-use Rattle.dcx_shape.specs.Shape.{sides_of}
-use Rattle.dcx_arena.specs.Nodes.{positions, sides_at}
-use Rattle.dcx_unknowns.proofs.graph.arg_shapes.Given as goal
-
-abbrev pub invariant-ids : goal.invariant-ids
-invariant-ids l = map sides_of l.shapes.items ≡ map (sides_at l.problem.tree) (positions (take l.id-index l.id-items))
