@@ -1,12 +1,11 @@
 -- Where reading stops in a certificate is the first line up to which the bytes agree with none.
-use Rattle.std.proofs.Common.{◌≡◌, ◌≢◌, ℕ, zero, suc, ◌+◌, ◌-◌, ◌^◌, ◌<◌, ◌≤◌, ◌⊎◌, inl, inr, Bool, true, false, cond, ◌==◌, List, [], ◌∷◌, ◌++◌, length, take, drop, replicate, min, refl, sym, ap, ◌∙◌, subst, arith, append_assoc, length-append}
+use Rattle.std.proofs.Common.{◌≡◌, ◌≢◌, ℕ, zero, suc, ◌+◌, ◌-◌, ◌^◌, ◌<◌, ◌≤◌, ◌⊎◌, inl, inr, cond, ◌==◌, List, [], ◌∷◌, ◌++◌, length, take, drop, replicate, refl, sym, ap, ◌∙◌, subst, arith, append_assoc, length-append}
 use Rattle.std.proofs.Math.Seq.{take-append-add, take-length}
 use Rattle.std.proofs.lemmas.List.{append-nil, append_cancel_left, take-append-drop, take-append-le, length-take, length-replicate}
 use Rattle.std.proofs.lemmas.List.Folds.{concat-append}
 use Rattle.std.proofs.lemmas.List.Sums.{sum_by-append}
-use Rattle.std.proofs.lemmas.List.Elements.{All-append, recursion_from_All}
-use Rattle.std.proofs.lemmas.Grind.{flat_map-append}
-use Rattle.std.specs.List.{All, AllByRecursion, AllZip, concat, flat_map, enumerate_from, count_by}
+use Rattle.std.proofs.lemmas.List.Elements.{recursion_from_All}
+use Rattle.std.specs.List.{AllByRecursion, concat, flat_map, count_by}
 use Rattle.dcx_sections.specs.declared.section.Section.{Section}
 use Rattle.dcx_sections.specs.declared.section.Section.TheVariants as sections
 use Rattle.dcx_sections.specs.declared.section.Sections.{Sections}
@@ -17,10 +16,9 @@ use Rattle.dcx_sections.specs.Formats.{IsSectionOfFormat, AreOfFormat}
 use Rattle.std.specs.Prelude.{codes}
 use Rattle.dcx_lines.specs.Pieces.{entry_text}
 use Rattle.dcx_lines.proofs.Reading.{first_same}
-use Rattle.dcx_cert_lines.specs.CertText.{Line, first_line, head_line, section_lines, all_lines, cert_text}
+use Rattle.dcx_cert_lines.specs.CertText.{Line, first_line, head_line, section_lines, all_lines}
 use Rattle.dcx_cert_lines.specs.Forms.{IsCertificateOf, IsTextOf, Agrees, IsMisfit}
-use Rattle.dcx_cert_lines.specs.Templates.{Template, filled, IsFilled, AreFilled, HasNoLine, IsRead, HasNoFormat, HasNoHead, IsBodyStop, IsSectionStop, AreRead, IsListStop, IsInnerStop, IsFileStop, plain_template, format_front, lines_from, line_after, kind_of, kind_text}
-use Rattle.dcx_cert_lines.proofs.Only.{one_line}
+use Rattle.dcx_cert_lines.specs.Templates.{Template, IsFilled, AreFilled, HasNoFormat, IsSectionStop, IsInnerStop, IsFileStop, plain_template, format_front, lines_from, line_after, kind_of, kind_text}
 use Rattle.dcx_cert_lines.proofs.Wholes.{section_templates, IsValid, AreValid, IsTail, tail, IsRest, rest_of, IsStuckAt, no_head, in_body, section_filled}
 
 -- ---- each line has a line feed

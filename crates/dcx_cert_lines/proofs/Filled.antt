@@ -1,7 +1,7 @@
 -- The lines of a certificate are those of their templates.
-use Rattle.std.proofs.Common.{◌≡◌, ℕ, ◌+◌, List, [], ◌∷◌, ◌++◌, Result, Ok, Err, IfOk, IfErr, length, map, refl, sym, ap, ◌∙◌, subst, append_assoc}
+use Rattle.std.proofs.Common.{◌≡◌, ℕ, ◌+◌, List, [], ◌∷◌, ◌++◌, Result, Ok, Err, IfOk, IfErr, map, refl, sym, ap, ◌∙◌, subst, append_assoc}
 use Rattle.std.specs.Prelude.{codes, decimal}
-use Rattle.std.specs.List.{AllZip, enumerate_from, flat_map}
+use Rattle.std.specs.List.{enumerate_from, flat_map}
 use Rattle.dcx_shape.specs.declared.shape.Shape.{Shape}
 use Rattle.dcx_frac.specs.declared.fraction.Frac.{Frac}
 use Rattle.dcx_frac.specs.Text.{frac_text}
@@ -14,8 +14,8 @@ use Rattle.dcx_sections.specs.declared.weights.NodeWeights.{NodeWeights}
 use Rattle.dcx_sections.specs.Shown.{atoms_of}
 use Rattle.dcx_cert_lines.specs.declared.cursor.ReadStop.{ReadStop}
 use Rattle.dcx_cert_lines.specs.declared.cursor.ReadStop.TheVariants.{Misfit, Memory}
-use Rattle.dcx_cert_lines.specs.CertText.{Line, node_line, named_lines, dual_lines, node_lines}
-use Rattle.dcx_cert_lines.specs.Templates.{Template, filled, IsFilled, AreFilled, IsRead, named_front, dual_front, node_front, named_template, dual_template, node_template, number_template, IfMisfit}
+use Rattle.dcx_cert_lines.specs.CertText.{Line, node_line, named_lines, node_lines}
+use Rattle.dcx_cert_lines.specs.Templates.{filled, AreFilled, IsRead, named_front, dual_front, node_front, named_template, dual_template, node_template, IfMisfit}
 
 -- the parts of a line that ends with numbers
 array_parts : (front shape sign numbers feed : List ℕ) → (front ++ ((shape ++ sign) ++ numbers)) ++ feed ≡ ((front ++ shape) ++ sign) ++ (numbers ++ feed)

@@ -1,10 +1,10 @@
 -- For lines of its templates there is a section, and templates have lines.
-use Rattle.std.proofs.Common.{◌≡◌, ℕ, zero, suc, ◌+◌, ◌<◌, ◌≤◌, ℤ, pos, List, [], ◌∷◌, ◌++◌, Option, Some, None, length, map, take, replicate, refl, sym, ap, ap₂, ◌∙◌, subst, arith, append_assoc}
+use Rattle.std.proofs.Common.{◌≡◌, ℕ, zero, suc, ◌+◌, ◌≤◌, pos, List, [], ◌∷◌, ◌++◌, Option, Some, None, length, map, take, replicate, refl, sym, ap, ap₂, ◌∙◌, arith, append_assoc}
 use Rattle.std.proofs.lemmas.Int.{ints}
 use Rattle.std.proofs.lemmas.List.{length-replicate}
 use native.Mathlib.Nat.{eq-one_of_dvd-one}
-use Rattle.std.specs.Prelude.{codes, ⊤}
-use Rattle.std.specs.List.{AllZip, concat, flat_map, enumerate_from}
+use Rattle.std.specs.Prelude.{codes}
+use Rattle.std.specs.List.{concat, enumerate_from}
 use Rattle.dcx_shape.specs.declared.shape.Shape.{Shape}
 use Rattle.dcx_frac.specs.declared.fraction.Frac.{Frac}
 use Rattle.dcx_atom.specs.declared.array.Array.{Array}
@@ -22,7 +22,7 @@ use Rattle.dcx_sections.specs.Formats.{HasParams, HasRays, IsSectionOfFormat}
 use Rattle.dcx_cert_lines.specs.declared.kind.Kind.{Kind}
 use Rattle.dcx_cert_lines.specs.declared.kind.Kind.TheVariants.{Optimal, Infeasible, Unbounded, Empty}
 use Rattle.dcx_cert_lines.specs.CertText.{Line, end_line, param_lines, named_lines, node_lines, section_body}
-use Rattle.dcx_cert_lines.specs.Templates.{Template, filled, IsFilled, AreFilled, HasLine, Stuck, MayHead, kind_of, named_template, dual_template, node_template, number_template, end_template, param_templates, body_templates, duals_from}
+use Rattle.dcx_cert_lines.specs.Templates.{Template, filled, IsFilled, AreFilled, Stuck, MayHead, kind_of, named_template, dual_template, node_template, number_template, end_template, param_templates, body_templates, duals_from}
 use Rattle.dcx_cert_lines.proofs.Filled.{named_is, dual_is, node_is, number_is}
 
 -- ---- lines of templates

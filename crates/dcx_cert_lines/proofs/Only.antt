@@ -1,5 +1,5 @@
 -- Templates tell the lines: bytes begin with lines of templates in one way only.
-use Rattle.std.proofs.Common.{◌≡◌, ◌≢◌, ℕ, zero, suc, ◌+◌, ◌<◌, ◌≤◌, List, [], ◌∷◌, ◌++◌, length, take, refl, sym, ap, ◌∙◌, subst, arith, append_assoc}
+use Rattle.std.proofs.Common.{◌≡◌, ℕ, zero, suc, ◌+◌, ◌<◌, List, [], ◌∷◌, ◌++◌, length, take, refl, sym, ap, ◌∙◌, arith, append_assoc}
 use Rattle.std.proofs.lemmas.List.{append_cancel_left, append-nil}
 use Rattle.std.specs.Prelude.{codes, decimal}
 use Rattle.std.specs.List.{concat, flat_map}
@@ -9,7 +9,7 @@ use Rattle.dcx_lines.proofs.Reading.{entries_read, first_same}
 use Rattle.dcx_cert_lines.specs.declared.kind.Kind.{Kind}
 use Rattle.dcx_cert_lines.specs.declared.kind.Kind.TheVariants.{Optimal, Infeasible, Unbounded, Empty}
 use Rattle.dcx_cert_lines.specs.CertText.{Line}
-use Rattle.dcx_cert_lines.specs.Templates.{Template, filled, IsFilled, AreFilled, HasNoLine, HasLine, Stuck, kind_text, head_front, head_template}
+use Rattle.dcx_cert_lines.specs.Templates.{Template, filled, IsFilled, AreFilled, Stuck, kind_text, head_front, head_template}
 
 parts : (front : List ℕ) (l r : List ℕ) (ns : List Frac) → l ≡ filled front ns → l ++ r ≡ front ++ (flat_map entry_text ns ++ 10 ∷ r)
 parts front l r ns e =

@@ -1,15 +1,15 @@
 -- Arrays that are read one after another under the names of a list.
 use Rattle.std.proofs.Common.{◌≡◌, ℕ, zero, suc, ◌+◌, ◌<◌, Bool, true, false, cond, List, [], ◌∷◌, ◌++◌, Some, None, length, map, take, get_or, refl, sym, ap, ◌∙◌, subst, arith}
 use Rattle.std.proofs.lemmas.List.{take_more, map-append, get_or-map, length-map}
-use Rattle.std.specs.List.{AllByRecursion, IsDistinct, enumerate_from}
+use Rattle.std.specs.List.{AllByRecursion, IsDistinct}
 use Rattle.dcx_shape.specs.declared.shape.Shape.{Shape}
 use Rattle.dcx_atom.specs.declared.array.Array.{Array}
 use Rattle.dcx_point.specs.Pairs.{Pairs, same_name, array_of, with_array}
 use Rattle.dcx_point.proofs.Puts.{same_name-true, same_name-refl, absent}
 use Rattle.dcx_lines.specs.Lines.{named_line}
 use Rattle.dcx_lines.specs.Shown.{variables_of}
-use Rattle.dcx_cert_lines.specs.CertText.{Line, named_lines}
-use Rattle.dcx_cert_lines.specs.Templates.{Template, AreFilled, IsRead, IsStopped, IsNextRead, AreDistinctNames, named_template}
+use Rattle.dcx_cert_lines.specs.CertText.{named_lines}
+use Rattle.dcx_cert_lines.specs.Templates.{AreFilled, IsRead, IsStopped, IsNextRead, AreDistinctNames, named_template}
 use Rattle.dcx_cert_lines.proofs.Filled.{named_filled}
 use Rattle.dcx_cert_lines.proofs.Steps.{read_more, stop_among}
 

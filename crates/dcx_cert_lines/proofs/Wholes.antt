@@ -1,10 +1,10 @@
 -- Whole certificates: what stops reading is the first line up to which the bytes agree with none.
-use Rattle.std.proofs.Common.{◌≡◌, ◌≢◌, ℕ, zero, suc, ◌+◌, ◌-◌, ◌^◌, ◌<◌, ◌≤◌, ◌⊎◌, List, [], ◌∷◌, ◌++◌, Option, Some, None, length, map, take, drop, min, refl, sym, ap, ap₂, ◌∙◌, subst, arith, append_assoc, length-append}
+use Rattle.std.proofs.Common.{◌≡◌, ℕ, suc, ◌+◌, ◌-◌, ◌≤◌, List, [], ◌∷◌, ◌++◌, Option, None, length, map, take, refl, sym, ap, ap₂, ◌∙◌, subst, arith, append_assoc, length-append}
 use Rattle.std.proofs.Math.Seq.{take-append-add}
-use Rattle.std.proofs.lemmas.List.{append-nil, append_cancel_left, take-append-drop, take-append-le}
+use Rattle.std.proofs.lemmas.List.{append-nil, take-append-le}
 use Rattle.std.proofs.lemmas.List.Folds.{concat-append}
 use Rattle.std.specs.Prelude.{codes}
-use Rattle.std.specs.List.{AllByRecursion, concat, flat_map, enumerate_from}
+use Rattle.std.specs.List.{AllByRecursion, concat}
 use Rattle.dcx_sections.specs.declared.cert.Cert.TheVariants as certs
 use Rattle.dcx_sections.specs.declared.section.Section.{Section}
 use Rattle.dcx_sections.specs.declared.section.Section.TheVariants as sections
@@ -20,9 +20,9 @@ use Rattle.dcx_lines.specs.Lines.{number_line}
 use Rattle.dcx_lines.specs.Shown.{variables_of, constraints_of}
 use Rattle.dcx_sections.specs.declared.weights.NodeWeights.{NodeWeights}
 use Rattle.dcx_cert_lines.specs.declared.kind.Kind.{Kind}
-use Rattle.dcx_cert_lines.specs.declared.kind.Kind.TheVariants.{Optimal, Infeasible, Unbounded, Empty}
+use Rattle.dcx_cert_lines.specs.declared.kind.Kind.TheVariants.{Optimal, Infeasible, Unbounded}
 use Rattle.dcx_cert_lines.specs.CertText.{Line, head_line, end_line, param_lines, named_lines, dual_lines, node_lines, section_word, section_body, section_lines}
-use Rattle.dcx_cert_lines.specs.Templates.{Template, filled, IsFilled, AreFilled, HasNoLine, HasLine, Stuck, IsRead, MayHead, HasNoHead, IsBodyStop, kind_of, kind_text, head_front, head_template, number_template, named_template, node_template, duals_from, end_template, param_templates, body_templates, lines_from}
+use Rattle.dcx_cert_lines.specs.Templates.{Template, IsFilled, AreFilled, Stuck, MayHead, HasNoHead, kind_of, kind_text, head_template, number_template, named_template, node_template, duals_from, end_template, param_templates, body_templates, lines_from}
 use Rattle.dcx_cert_lines.proofs.Filled.{number_is, named_filled, duals_filled, nodes_filled}
 use Rattle.dcx_cert_lines.proofs.Steps.{zip_append, zip_length}
 use Rattle.dcx_cert_lines.proofs.Chain.{params_filled}

@@ -1,5 +1,5 @@
 -- No two variables of a problem, and no two of its parameters, have one name.
-use Rattle.std.proofs.Common.{◌≡◌, ℕ, Bool, false, List, [], ◌∷◌, ◌++◌, map, refl, sym, ap, ◌∙◌, subst}
+use Rattle.std.proofs.Common.{◌≡◌, ℕ, false, List, [], ◌∷◌, ◌++◌, map, refl, sym, ap, subst}
 use Rattle.std.proofs.Math.Logic.{∥∥₁_elim}
 use Rattle.std.specs.List.{AllByRecursion, IsDistinct, IsDistinct-prop}
 use Rattle.dcx_shape.specs.declared.shape.Shape.{Shape}
@@ -7,8 +7,7 @@ use Rattle.dcx_point.specs.Pairs.{same_name}
 use Rattle.dcx_call.specs.declared.attribute.Variable.{Variable}
 use Rattle.dcx_call.specs.declared.attribute.Parameter.{Parameter}
 use Rattle.dcx_tree.specs.declared.problem.Problem.{Problem}
-use Rattle.dcx_sections.specs.Shown.{Outline}
-use Rattle.dcx_cert_lines.specs.Templates.{AreDistinctNames, HasDistinctNames}
+use Rattle.dcx_cert_lines.specs.Templates.{HasDistinctNames}
 use Rattle.dcx_outline.specs.Drawn.{problem_outline}
 
 -- what holds of two lists one after the other holds of each

@@ -1,30 +1,19 @@
 -- What is formed of each call is exact.
-use Rattle.std.proofs.Common.{◌≡◌, ℕ, Bool, true, false, if◌then◌else◌, List, [], ◌∷◌, map, All, refl, sym, ap, ap₂, ◌∙◌, subst, Result, Ok, Err, IfOk, pos}
+use Rattle.std.proofs.Common.{◌≡◌, List, [], ◌∷◌, map, All, refl, sym, ap, ◌∙◌, Result, Ok}
 use Rattle.std.proofs.lemmas.List.Elements.{All-cons, All-nil, All-head, All-tail}
-use Rattle.dcx_math.specs.Rational.{ℚ, whole, ◌+ℚ◌, ◌*ℚ◌, ◌/ℚ◌, rat_eq}
-use Rattle.dcx_math.specs.Sums.{rat_sum_by}
-use Rattle.dcx_math.proofs.Orders.{+ℚ_idr}
+use Rattle.dcx_math.specs.Rational.{ℚ}
 use Rattle.dcx_frac.specs.declared.fraction.Frac.{Frac}
-use Rattle.dcx_frac.specs.declared.fraction.Passes.{Passes}
 use Rattle.dcx_frac.specs.Fits.{IsRepresentable}
 use Rattle.dcx_frac.specs.Frac.{value}
-use Rattle.dcx_frac.specs.Results.{quotient_of}
-use Rattle.dcx_frac.proofs.Results.{quotient_of_is}
-use Rattle.dcx_shape.specs.declared.shape.Sides.{Sides}
 use Rattle.dcx_atom.specs.declared.stops.ValueStop.{ValueStop}
-use Rattle.dcx_atom.specs.declared.stops.ValueStop.TheVariants as stops
 use Rattle.dcx_atom.specs.Arrays.{Entries, number_at, sides_at}
 use Rattle.dcx_atom.specs.Formed.{frac_at, sum_in_order}
 use Rattle.dcx_atom.specs.Linear.{LinearTerm}
 use Rattle.dcx_affine.specs.declared.pairing.Pairing.{Pairing}
-use Rattle.dcx_affine.specs.declared.pairing.Pairing.TheVariants.{Times, MatTimes, Over}
-use Rattle.dcx_affine.specs.declared.pairing.Pair.{Pair}
-use Rattle.dcx_affine.specs.Pairing.{pairs_at}
 use Rattle.dcx_call.specs.declared.call.Call.TheVariants as calls
 use Rattle.dcx_call.specs.Atoms.{atom_meaning, atom_lawful}
 use Rattle.dcx_call.specs.Linears.{linear_meaning, linear_lawful}
-use Rattle.dcx_call.specs.Forming.{products_in_order, or_passes, divided}
-use Rattle.dcx_call.specs.Values.{given_by, pairing_value, pairing_formed}
+use Rattle.dcx_call.specs.Values.{given_by}
 use Rattle.dcx_call.proofs.Products.{AreRepresentable, value-frac_at}
 use Rattle.dcx_call.proofs.CallValues.{number_fits, formed_ok, exactly, summed_exact, pairing_exact}
 use Rattle.dcx_exact.specs.Exact.{AreFractions, FormsExactly}

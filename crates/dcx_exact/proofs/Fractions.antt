@@ -1,8 +1,8 @@
 -- Numbers that are fractions of 128 bits: negatives, extremes, and the sums that are formed of them.
-use Rattle.std.proofs.Common.{◌≡◌, ℕ, zero, suc, ◌<◌, ◌^◌, arith, ℤ, pos, neg_ℤ, unsigned_abs, List, [], ◌∷◌, map, All, refl, sym, ap, ap₂, ◌∙◌, subst, Result, Ok, Err, IfOk}
+use Rattle.std.proofs.Common.{◌≡◌, ◌<◌, ◌^◌, arith, ℤ, neg_ℤ, unsigned_abs, List, [], ◌∷◌, map, All, refl, sym, ap, ap₂, ◌∙◌, subst, Result, Ok, Err, IfOk}
 use Rattle.std.proofs.lemmas.Int.{ints}
 use Rattle.std.proofs.lemmas.List.Elements.{All-head, All-tail}
-use Rattle.dcx_math.specs.Rational.{ℚ, whole, ◌+ℚ◌, neg_ℚ}
+use Rattle.dcx_math.specs.Rational.{ℚ, ◌+ℚ◌, neg_ℚ}
 use Rattle.dcx_math.specs.Sums.{rat_sum}
 use Rattle.dcx_math.specs.Divisors.{IsCoprime}
 use Rattle.dcx_math.proofs.Denominators.{ratio-neg_ℚ}
@@ -12,8 +12,6 @@ use Rattle.dcx_frac.specs.declared.fraction.Frac.{Frac}
 use Rattle.dcx_frac.specs.declared.fraction.Passes.{Passes}
 use Rattle.dcx_frac.specs.Fits.{IsRepresentable, representable}
 use Rattle.dcx_frac.specs.Frac.{value}
-use Rattle.dcx_frac.proofs.Parts.{value_representable}
-use Rattle.dcx_atom.specs.Arrays.{number_at}
 use Rattle.dcx_atom.specs.Formed.{zero_frac, frac_at, sum_in_order}
 use Rattle.dcx_atom.proofs.FormedSums.{value-zero_frac, value-sum_from}
 use Rattle.dcx_call.proofs.Products.{value-frac_at}

@@ -1,5 +1,5 @@
 -- The sum of the k largest is the greatest of all choices of k entries: any level bounds each choice, and the last of the k largest bounds it by their sum.
-use Rattle.std.proofs.Common.{◌≡◌, ◌⊎◌, inl, inr, ℕ, zero, suc, ◌<◌, ◌≤◌, arith, Bool, true, false, if◌then◌else◌, List, [], ◌∷◌, length, take, refl, sym, ap, ap₂, ◌∙◌, subst, pos}
+use Rattle.std.proofs.Common.{◌≡◌, ◌⊎◌, inl, inr, ℕ, zero, suc, ◌≤◌, arith, Bool, true, false, if◌then◌else◌, List, [], ◌∷◌, length, take, refl, sym, ap, ap₂, ◌∙◌, subst, pos}
 use Rattle.dcx_math.specs.Rational.{ℚ, whole, neg_ℚ, ◌+ℚ◌, ◌*ℚ◌, ◌≤ℚ◌, rat_le}
 use Rattle.dcx_math.specs.Sums.{rat_sum, rat_sum_below}
 use Rattle.dcx_math.proofs.Orders.{≤ℚ_trans, ≤ℚ-from_≡, +ℚ-≤ℚ, +ℚ_idl, +ℚ_left_comm, neg_ℚ-≤ℚ, neg_ℚ-neg_ℚ, neg_ℚ-+ℚ, neg_ℚ-zero}
@@ -10,7 +10,7 @@ use Rattle.dcx_atom.specs.Arrays.{list_below}
 use Rattle.dcx_atom.specs.Bounding.{outward}
 use Rattle.dcx_atom.proofs.BoundRows.{list_below-first, length-list_below}
 use Rattle.dcx_fold.specs.Sorted.{insert, falling, above, length-falling, above-nonneg, within_level, suc_times, no_times, four}
-use Rattle.dcx_fold.specs.Largest.{ordered, chosen, chosen_level}
+use Rattle.dcx_fold.specs.Largest.{ordered, chosen_level}
 use Rattle.dcx_fold.specs.LargestLaws.{excess, at_level, value_is}
 use Rattle.dcx_fold.specs.Choices.{Choice, count_picked, sum_picked, HoldsForChoices}
 

@@ -11,7 +11,7 @@ use Rattle.dcx_linear.specs.declared.form.FormTerm.{FormTerm}
 use Rattle.dcx_linear.specs.declared.form.Form.{Form}
 use Rattle.dcx_linear.specs.Terms.{term_at, SumsAt, ChangesAt, ChangesTerms, Keeps}
 use Rattle.dcx_linear.specs.TermLaws.{each_formed, term_at-All}
-use Rattle.dcx_linear.specs.FormTerms.{unknown_of, has_zero_coefficient, GivesTerm, sum_gives_unknown, change_gives_unknown}
+use Rattle.dcx_linear.specs.FormTerms.{unknown_of, has_zero_coefficient, sum_gives_unknown, change_gives_unknown}
 use Rattle.dcx_linear.specs.Forms.{IsUnknownForm, sum_gives_linear, change_gives_linear}
 use Rattle.dcx_linear.specs.Multiples.{times_unknown, multiple_gives}
 

@@ -1,13 +1,12 @@
 -- Affine numbers that list no entry: sums and changes of them list none.
-use Rattle.std.proofs.Common.{◌≡◌, ℕ, List, [], ◌∷◌, Option, Some, None, Result, Ok, IsSome, refl, sym, subst}
+use Rattle.std.proofs.Common.{◌≡◌, List, [], ◌∷◌, None, Ok, IsSome, refl, sym, subst}
 use Rattle.std.specs.List.{All}
 use Rattle.std.proofs.lemmas.List.Elements.{All-head}
 use Rattle.dcx_frac.specs.declared.fraction.Frac.{Frac}
-use Rattle.dcx_frac.specs.declared.fraction.Passes.{Passes}
 use Rattle.dcx_linear.specs.declared.change.Change.{Change}
 use Rattle.dcx_linear.specs.declared.param_term.ParamTerm.{ParamTerm}
 use Rattle.dcx_linear.specs.declared.param_form.ParamForm.{ParamForm}
-use Rattle.dcx_linear.specs.Terms.{term_at, SumsAt, ChangesAt, FormsKeys, SumsTerms, ChangesTerms}
+use Rattle.dcx_linear.specs.Terms.{SumsAt, ChangesAt, FormsKeys, SumsTerms, ChangesTerms}
 use Rattle.dcx_linear.specs.TermLaws.{each_formed}
 use Rattle.dcx_linear.specs.ParamTerms.{key_of, has_zero, sum_gives_term, change_gives_term}
 use Rattle.dcx_linear.specs.ParamForms.{told_number, number_of_form, sum_gives_form, change_gives_form}

@@ -15,7 +15,7 @@ use Rattle.dcx_atom.specs.Formed.{zero_frac}
 use Rattle.dcx_linear.specs.declared.form.FormTerm.{FormTerm}
 use Rattle.dcx_linear.specs.declared.form.Form.{Form}
 use Rattle.dcx_linear.specs.Changes.{zero_test}
-use Rattle.dcx_linear.specs.Terms.{IsSparse, term_at, SumsAt, FormsKeys, SumsTerms}
+use Rattle.dcx_linear.specs.Terms.{term_at, SumsAt, FormsKeys, SumsTerms}
 use Rattle.dcx_linear.specs.TermLaws.{term_at-here, term_at-later, term_at-below}
 use Rattle.dcx_linear.specs.FormTerms.{unknown_of, is_told_zero, has_zero_coefficient, HoldsUnknowns, sum_gives_unknown}
 use Rattle.dcx_linear.specs.Forms.{sum_gives_linear}

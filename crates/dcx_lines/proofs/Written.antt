@@ -5,7 +5,7 @@ use Rattle.std.proofs.lemmas.Bool.{false≢true}
 use Rattle.std.proofs.lemmas.List.{append-nil}
 use Rattle.std.specs.Fmt.{decimal, signed_decimal}
 use Rattle.std.specs.List.{AllByRecursion}
-use Rattle.dcx_math.specs.Integers.{ring, units}
+use Rattle.dcx_math.specs.Integers.{units}
 use Rattle.dcx_math.specs.Rational.{ratio, whole, ◌*ℚ◌, ◌/ℚ◌}
 use Rattle.dcx_math.proofs.Ratios.{ratio-*ℚ-ratio, ≡-from_products, ratio-one}
 use Rattle.dcx_math.proofs.FieldLaws.{whole_injective}

@@ -1,10 +1,10 @@
 -- A multiplier that is formed is the one by which an answer is right for its program.
-use Rattle.std.proofs.Common.{◌≡◌, ℕ, zero, suc, Bool, true, false, List, [], ◌∷◌, map, get_or, Some, Ok, Err, pos, refl, lit<, sym, ap, ap₂, ◌∙◌, subst}
+use Rattle.std.proofs.Common.{◌≡◌, ℕ, zero, suc, Bool, true, false, List, [], ◌∷◌, map, get_or, Some, Ok, Err, pos, refl, lit<, sym, ap, ◌∙◌, subst}
 use Rattle.std.specs.Prelude.{Result, not, ◌&&◌, IfOk, slice_get}
 use Rattle.std.proofs.lemmas.Option.{none-some, same_Some}
-use Rattle.dcx_math.specs.Rational.{ℚ, whole, ◌-ℚ◌, ◌*ℚ◌, neg_ℚ}
+use Rattle.dcx_math.specs.Rational.{ℚ, whole, ◌-ℚ◌, ◌*ℚ◌}
 use Rattle.dcx_math.specs.Sums.{rat_at}
-use Rattle.dcx_math.proofs.Ring.{ring, reads, -ℚ-is}
+use Rattle.dcx_math.proofs.Ring.{ring, reads}
 use Rattle.dcx_math.proofs.Orders.{*ℚ_comm}
 use Rattle.dcx_frac.specs.declared.fraction.Frac.{Frac}
 use Rattle.dcx_frac.specs.declared.fraction.Passes.{Passes}
@@ -14,14 +14,12 @@ use Rattle.dcx_frac.proofs.Results.{difference_of_is, product_of_is}
 use Rattle.dcx_atom.specs.Formed.{frac_at, and_then}
 use Rattle.dcx_linear.specs.declared.row.RowKind.{RowKind}
 use Rattle.dcx_linear.specs.declared.row.RowKind.TheVariants.{AtMost, Equal}
-use Rattle.dcx_tab.specs.declared.rows.ColumnKind.{ColumnKind}
 use Rattle.dcx_lp_answer.specs.declared.answer.LpStatus.{LpStatus}
 use Rattle.dcx_lp_answer.specs.declared.answer.LpStatus.TheVariants.{Optimal, Infeasible, Unbounded}
 use Rattle.dcx_lp_answer.specs.declared.answer.RowNote.{RowNote}
-use Rattle.dcx_lp_answer.specs.declared.answer.LpAnswer.{LpAnswer}
 use Rattle.dcx_lp_answer.proofs.Fractions.{value-negative, value-whole}
 use Rattle.dcx_lp_answer.specs.Notes.{reduced_cost_of, factor_of, was_negated}
-use Rattle.dcx_lp_answer.specs.Right.{turned_if, is_inequality, offset, multiplier_at}
+use Rattle.dcx_lp_answer.specs.Right.{turned_if, offset}
 use Rattle.dcx_lp_answer.specs.Multipliers.{shifted, turned, multiplier_of, is_at_most, FormedIsRight}
 
 -- ---- the two operations

@@ -6,14 +6,13 @@ use Rattle.dcx_math.specs.Rational.{ℚ, whole}
 use Rattle.dcx_frac.specs.declared.fraction.Frac.{Frac}
 use Rattle.dcx_frac.specs.Frac.{value}
 use Rattle.dcx_frac.proofs.Parts.{value_injective}
-use Rattle.dcx_shape.specs.declared.shape.Shape.{Shape}
 use Rattle.dcx_shape.specs.Shape.{sides_of}
 use Rattle.dcx_shape.specs.Sides.{entries_of}
 use Rattle.dcx_atom.specs.declared.array.Array.{Array}
 use Rattle.dcx_point.specs.Pairs.{Pairs, with_array}
 use Rattle.dcx_settings.specs.declared.settings.SettingItem.{SettingItem}
 use Rattle.dcx_settings.proofs.OneList.{one_shape}
-use Rattle.dcx_overlay.specs.Settings.{HasNumbers, LaidOver, AreLaidOver, IsScalar, IsTrialSetting, AreTrialSettings}
+use Rattle.dcx_overlay.specs.Settings.{LaidOver, AreLaidOver, IsTrialSetting}
 use Rattle.dcx_overlay.specs.Laws.{SettingsAreOne}
 
 same_array : (a b : Array) → a.shape ≡ b.shape → a.entries ≡ b.entries → a ≡ b

@@ -1,6 +1,6 @@
 -- The settings that a command asks for.
 use Rattle.std.specs.Prelude.{◌≡◌, ⊤, ℕ, List, [], ◌∷◌, map, codes, pos}
-use Rattle.dcx_math.specs.Rational.{ℚ, whole}
+use Rattle.dcx_math.specs.Rational.{whole}
 use Rattle.dcx_frac.specs.Frac.{value}
 use Rattle.dcx_shape.specs.Shape.{sides_of}
 use Rattle.dcx_shape.specs.declared.shape.Sides.TheVariants.{Scalar}

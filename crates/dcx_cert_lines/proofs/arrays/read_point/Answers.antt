@@ -1,6 +1,6 @@
 -- One more array is read, or reading stops at it.
-use Rattle.std.proofs.Common.{rules, ◌≡◌, [], ◌∷◌, map, arith}
-use Rattle.std.specs.Prelude.{codes, IfErr}
+use Rattle.std.proofs.Common.{rules, [], ◌∷◌, map, arith}
+use Rattle.std.specs.Prelude.{IfErr}
 use Rattle.dcx_sections.specs.Outlines.{shown}
 use Rattle.dcx_cert_lines.specs.Templates.{IsStopped, IfMisfit, named_template}
 use Rattle.dcx_cert_lines.proofs.Filled.{stop_map}

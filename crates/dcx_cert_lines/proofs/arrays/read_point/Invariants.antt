@@ -1,6 +1,5 @@
 -- The arrays so far are read.
 use Rattle.std.proofs.Common.{◌≡◌, take, map}
-use Rattle.std.specs.Prelude.{codes}
 use Rattle.dcx_lines.specs.Shown.{variables_of}
 use Rattle.dcx_sections.specs.Outlines.{shown}
 use Rattle.dcx_cert_lines.specs.CertText.{named_lines}

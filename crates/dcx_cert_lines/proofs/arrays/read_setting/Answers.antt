@@ -1,5 +1,5 @@
 -- One more array is read, or reading stops at it.
-use Rattle.std.proofs.Common.{rules, ◌≡◌, [], ◌∷◌, map, arith}
+use Rattle.std.proofs.Common.{rules, [], ◌∷◌, map, arith}
 use Rattle.std.specs.Prelude.{codes, IfErr}
 use Rattle.dcx_sections.specs.Outlines.{shown}
 use Rattle.dcx_cert_lines.specs.Templates.{IsStopped, IfMisfit, named_template}

@@ -1,11 +1,11 @@
 -- Part after part is read, and reading stops in the first that isn't there.
-use Rattle.std.proofs.Common.{rules, ◌≡◌, [], ◌∷◌, ◌++◌, map, subst}
+use Rattle.std.proofs.Common.{rules, [], ◌∷◌, ◌++◌, map, subst}
 use Rattle.std.specs.Prelude.{codes, IfErr}
 use Rattle.dcx_sections.specs.Outlines.{shown, rows_shown}
 use Rattle.dcx_cert_lines.specs.declared.kind.Kind.TheVariants.{Optimal}
 use Rattle.dcx_cert_lines.specs.Templates.{IsStopped, IfMisfit, body_templates, param_templates, number_template, named_template, node_template, duals_from, end_template}
 use Rattle.dcx_cert_lines.proofs.Filled.{stop_map}
-use Rattle.dcx_cert_lines.proofs.Chain.{IsDone, and_then, stop_after, stop_in, params_done, number_done, point_done, duals_done, nodes_done, end_done}
+use Rattle.dcx_cert_lines.proofs.Chain.{and_then, stop_after, stop_in, params_done, number_done, point_done, duals_done, nodes_done, end_done}
 use Rattle.dcx_cert_lines.proofs.section.read_optimal.Goals as goal
 
 pub returns-in_err-read_params-clause-misfit : goal.returns-in_err-read_params-clause-misfit

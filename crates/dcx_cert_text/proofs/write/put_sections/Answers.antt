@@ -1,5 +1,5 @@
 -- One more section is appended.
-use Rattle.std.proofs.Common.{◌≡◌, ◌+◌, ◌++◌, ap, ◌∙◌, arith}
+use Rattle.std.proofs.Common.{◌+◌, ◌++◌, ap, ◌∙◌, arith}
 use Rattle.dcx_lines.proofs.Numbered.{numbered_more}
 use Rattle.dcx_cert_text.specs.Written.{section_text}
 use Rattle.dcx_cert_text.proofs.write.put_sections.Goals as goal

@@ -1,10 +1,10 @@
 -- Part after part is appended.
-use Rattle.std.proofs.Common.{◌≡◌, ◌++◌, ap, sym, ◌∙◌}
+use Rattle.std.proofs.Common.{◌++◌, ap, sym, ◌∙◌}
 use Rattle.std.proofs.lemmas.Result.{IfOk-equal}
 use Rattle.std.specs.Prelude.{codes}
-use Rattle.std.specs.List.{flat_map, enumerate_from}
-use Rattle.dcx_lines.specs.Lines.{named_line, dual_line, number_line}
-use Rattle.dcx_cert_lines.specs.CertText.{end_line, node_line}
+use Rattle.std.specs.List.{flat_map}
+use Rattle.dcx_lines.specs.Lines.{named_line, number_line}
+use Rattle.dcx_cert_lines.specs.CertText.{end_line}
 use Rattle.dcx_cert_text.specs.Written.{params_text}
 use Rattle.dcx_cert_text.proofs.Joined.{six, unbounded_text}
 use Rattle.dcx_cert_text.proofs.write.put_unbounded.Goals as goal

@@ -1,5 +1,5 @@
 -- The first line, and then the sections.
-use Rattle.std.proofs.Common.{◌≡◌, ◌++◌, ap, sym, ◌∙◌}
+use Rattle.std.proofs.Common.{◌++◌, ap, sym, ◌∙◌}
 use Rattle.std.specs.List.{flat_map, enumerate_from}
 use Rattle.dcx_cert_lines.specs.CertText.{first_line}
 use Rattle.dcx_cert_text.specs.Written.{section_text}

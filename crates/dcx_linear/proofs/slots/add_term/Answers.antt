@@ -1,4 +1,4 @@
-use Rattle.std.proofs.Common.{Ok, Err, subst, arith}
+use Rattle.std.proofs.Common.{subst, arith}
 use Rattle.std.proofs.Math.ListN.{set}
 use Rattle.dcx_linear.specs.Stops.{GivesBy}
 use Rattle.dcx_linear.specs.Slots.{listed_from, adds_to_slot, adds_term}

@@ -1,7 +1,6 @@
 -- One more number is read, or none can be.
-use Rattle.std.proofs.Common.{◌≡◌, ◌+◌, List, [], ◌∷◌, ◌++◌, length, sym, ap, ◌∙◌, subst, arith, length-append}
+use Rattle.std.proofs.Common.{◌≡◌, ◌+◌, [], ◌∷◌, ◌++◌, length, sym, ap, ◌∙◌, subst, arith, length-append}
 use Rattle.std.specs.List.{flat_map}
-use Rattle.dcx_frac.specs.declared.fraction.Frac.{Frac}
 use Rattle.dcx_lines.specs.Pieces.{entry_text}
 use Rattle.dcx_lines.proofs.Entries.{IsLeft, more_left, none_left, read_more}
 use Rattle.dcx_lines.proofs.numbers.read_entries.Goals as goal

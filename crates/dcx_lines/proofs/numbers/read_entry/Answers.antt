@@ -1,5 +1,5 @@
 -- A blank, and then the number.
-use Rattle.std.proofs.Common.{◌≡◌, ◌∷◌, ◌++◌, sym, ◌∙◌, subst}
+use Rattle.std.proofs.Common.{◌≡◌, ◌∷◌, ◌++◌, sym, ◌∙◌}
 use Rattle.dcx_frac.specs.Text.{frac_text}
 use Rattle.dcx_lines.specs.Pieces.{entry_text}
 use Rattle.dcx_lines.proofs.Entries.{ink_read}

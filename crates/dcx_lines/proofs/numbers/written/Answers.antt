@@ -1,10 +1,10 @@
 -- The parts are read, and the fraction is made of them.
-use Rattle.std.proofs.Common.{ap₂, ◌++◌, sym, ◌∙◌, drop, subst}
+use Rattle.std.proofs.Common.{ap₂, ◌++◌, sym, ◌∙◌, subst}
 use Rattle.std.proofs.lemmas.List.{take-append-drop}
 use Rattle.std.specs.List.{AllByRecursion}
 use Rattle.dcx_lines.specs.Reading.{IsNoSlash}
 use Rattle.dcx_lines.proofs.Runs.{Ends, ends_at}
-use Rattle.dcx_lines.proofs.Written.{HasParts, parts_of, read_quotient, read_whole}
+use Rattle.dcx_lines.proofs.Written.{parts_of, read_quotient, read_whole}
 use Rattle.dcx_lines.proofs.numbers.written.Goals as goal
 
 pub returns-in-Some : goal.returns-in-Some

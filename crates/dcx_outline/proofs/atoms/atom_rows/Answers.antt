@@ -1,5 +1,5 @@
 -- The graph tells the rows.
-use Rattle.std.proofs.Common.{◌≡◌, length, ap, ◌∙◌, subst}
+use Rattle.std.proofs.Common.{length, ap, ◌∙◌, subst}
 use Rattle.dcx_unknowns.specs.Layout.{IsNodeGraph}
 use Rattle.dcx_outline.proofs.Rows.{node_some, node_none}
 use Rattle.dcx_outline.proofs.atoms.atom_rows.Goals as goal

@@ -1,5 +1,5 @@
 -- One more node.
-use Rattle.std.proofs.Common.{◌≡◌, map, arith}
+use Rattle.std.proofs.Common.{map, arith}
 use Rattle.dcx_sections.specs.Outlines.{rows_shown}
 use Rattle.dcx_outline.proofs.Rows.{atoms_more}
 use Rattle.dcx_outline.proofs.atoms.atoms_of.Goals as goal

@@ -1,5 +1,5 @@
 -- The node is added where it is such an atom.
-use Rattle.std.proofs.Common.{◌≡◌, [], ◌∷◌, map, ap, ◌∙◌, subst}
+use Rattle.std.proofs.Common.{◌≡◌, [], ◌∷◌, map, subst}
 use Rattle.std.specs.Prelude.{MatchOption, slice_get}
 use Rattle.dcx_sections.specs.Outlines.{rows_shown}
 use Rattle.dcx_outline.specs.Drawn.{atoms_if}

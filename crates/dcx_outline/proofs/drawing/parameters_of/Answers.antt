@@ -1,5 +1,5 @@
 -- One more is shown.
-use Rattle.std.proofs.Common.{◌≡◌, ap, arith}
+use Rattle.std.proofs.Common.{ap, arith}
 use Rattle.dcx_sections.specs.Outlines.{shown}
 use Rattle.dcx_outline.proofs.Nodes.{mapped_more}
 use Rattle.dcx_outline.proofs.drawing.parameters_of.Goals as goal

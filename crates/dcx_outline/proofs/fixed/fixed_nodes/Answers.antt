@@ -1,5 +1,5 @@
 -- One more node is marked.
-use Rattle.std.proofs.Common.{◌≡◌, ◌∙◌, ap, ap₂, List, get_or, false, subst, arith}
+use Rattle.std.proofs.Common.{◌∙◌, ap, ap₂, List, get_or, false, subst, arith}
 use Rattle.std.specs.List.{list_all}
 use Rattle.dcx_arena.specs.declared.node.NodeId.{NodeId}
 use Rattle.dcx_outline.specs.Drawn.{AreFixed, fixed_call}

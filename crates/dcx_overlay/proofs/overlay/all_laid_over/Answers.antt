@@ -1,5 +1,5 @@
 -- One line more is laid over the setting.
-use Rattle.std.proofs.Common.{◌≡◌, ap, subst, sym, ◌∙◌}
+use Rattle.std.proofs.Common.{subst, sym, ◌∙◌}
 use Rattle.dcx_settings.specs.Grammar.{Every}
 use Rattle.dcx_settings.specs.Meaning.{IsFull}
 use Rattle.dcx_overlay.specs.Settings.{LaidOver}

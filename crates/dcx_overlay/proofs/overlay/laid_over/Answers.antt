@@ -1,10 +1,7 @@
 -- One item more is laid over the setting.
-use Rattle.std.proofs.Common.{◌≡◌, get_or, ap, subst, sym, ◌∙◌}
-use Rattle.dcx_atom.specs.declared.array.Array.{Array}
-use Rattle.dcx_settings.specs.declared.settings.SettingItem.{SettingItem}
+use Rattle.std.proofs.Common.{ap, subst, sym, ◌∙◌}
 use Rattle.dcx_settings.specs.Meaning.{IsFull}
 use Rattle.dcx_point.specs.Pairs.{with_array}
-use Rattle.dcx_overlay.specs.Settings.{LaidOver}
 use Rattle.dcx_overlay.proofs.Laid.{every_at, item_more}
 use Rattle.dcx_overlay.proofs.overlay.laid_over.Goals as goal
 

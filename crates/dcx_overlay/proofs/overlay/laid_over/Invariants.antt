@@ -1,7 +1,5 @@
 -- The items so far are laid over the setting, and those that are left are full.
-use Rattle.std.proofs.Common.{take, drop}
-use Rattle.dcx_settings.specs.Grammar.{Every}
-use Rattle.dcx_settings.specs.Meaning.{IsFull}
+use Rattle.std.proofs.Common.{take}
 use Rattle.dcx_overlay.specs.Settings.{LaidOver}
 use Rattle.dcx_overlay.proofs.overlay.laid_over.Given as goal
 

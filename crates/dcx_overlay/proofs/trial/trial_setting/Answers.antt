@@ -1,6 +1,4 @@
-use Rattle.std.proofs.Common.{◌≡◌, sym, ap, ap₂, ◌∙◌, rules}
-use Rattle.dcx_atom.specs.declared.array.Array.{Array}
-use Rattle.dcx_point.specs.Pairs.{Pairs, with_array}
+use Rattle.std.proofs.Common.{◌∙◌, rules}
 use Rattle.dcx_overlay.proofs.trial.trial_setting.Goals as goal
 
 pub returns : goal.returns

@@ -1,9 +1,9 @@
 -- The front stands there or not, and the numbers behind it do or not.
-use Rattle.std.proofs.Common.{◌≡◌, [], ◌∷◌, ◌++◌, sym, ap, ◌∙◌, subst}
+use Rattle.std.proofs.Common.{[], ◌∷◌, ◌++◌, sym, ap, ◌∙◌, subst}
 use Rattle.std.specs.Prelude.{IfSome}
 use Rattle.dcx_lines.specs.Reading.{HasEntries}
 use Rattle.dcx_cert_lines.specs.Templates.{filled, IsRead}
-use Rattle.dcx_cert_lines.proofs.Steps.{front_read, line_read, no_front, no_numbers, stops_here}
+use Rattle.dcx_cert_lines.proofs.Steps.{front_read, line_read, no_front, stops_here}
 use Rattle.dcx_cert_lines.proofs.cursor.Cursor.numbers.Goals as goal
 
 pub returns-in-None-clause-misfit : goal.returns-in-None-clause-misfit

@@ -1,4 +1,4 @@
-use Rattle.std.proofs.Common.{Err, sym}
+use Rattle.std.proofs.Common.{Err}
 use Rattle.std.proofs.lemmas.Result.{err_from_is_err_and}
 use Rattle.dcx_linear.specs.FormTerms.{unknown_of, has_zero_coefficient, sum_gives_unknown}
 use Rattle.dcx_linear.specs.Forms.{sum_gives_linear}
