@@ -30,5 +30,5 @@ pub use fault::ArrayFault;
 pub use operators::{add, divide, multiply, subtract};
 pub use picks::{index, pick};
 pub use products::matmul;
-pub use shapes::{allowed_shape, common_shape};
+pub use shapes::common_shape;
 pub use turned::{negate, transpose};

@@ -20,7 +20,7 @@ fn size_fault(count: u32) -> ArrayFault
 /// The shape with these sides.
 ///
 /// `Empty` where a side is 0, and `TooMany` where there would be more than 20,000 entries.
-pub fn allowed_shape(sides: Sides) -> Result<Shape, ArrayFault>
+pub(crate) fn allowed_shape(sides: Sides) -> Result<Shape, ArrayFault>
     ensures { result ≡ allowed_shape sides }
 {
     match sides {

@@ -1,11 +1,12 @@
-//! Runs the cases of the calls: their shapes, signs, trends, values, rows, slopes and maps, and
-//! what is demanded of variables.
+//! Runs the cases of the calls: their shapes, signs, trends, values, rows, slopes and maps, what is demanded of variables, and
+//! the places that slices and reshapes take.
 #![tactic(auto)]
 
 mod calls;
 mod demands;
 mod given;
 mod maps;
+mod places;
 mod rows;
 mod slopes;
 mod told;
@@ -14,6 +15,7 @@ mod values;
 use crate::demands::Demands;
 use crate::given::Given;
 use crate::maps::Maps;
+use crate::places::Taken;
 use crate::rows::Rows;
 use crate::slopes::Slopes;
 use crate::told::Told;
@@ -30,5 +32,6 @@ fn main(rt: HostRuntime) -> io::Result<()> {
     tally.run(&rt, &Maps, "maps.txt")?;
     tally.run(&rt, &Given, "given.txt")?;
     tally.run(&rt, &Demands, "demands.txt")?;
+    tally.run(&rt, &Taken, "places.txt")?;
     tally.print(&rt)
 }

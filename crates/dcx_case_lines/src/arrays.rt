@@ -43,7 +43,7 @@ pub fn array(alloc: Global, text: &str) -> Result<Array, CaseFault> {
 
 /// An array.
 #[derive(Clone, Copy)]
-pub struct Filled<'a>(pub &'a Array);
+struct Filled<'a>(&'a Array);
 
 impl Display for Filled<'_> {
     fn fmt<W: fmt::Write>(&self, f: &mut fmt::Formatter<W>) -> fmt::Result {

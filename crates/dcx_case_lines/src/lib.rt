@@ -11,7 +11,7 @@ mod running;
 mod sizes;
 mod word;
 
-pub use arrays::{Filled, array, numbers, put_value};
+pub use arrays::{array, numbers, put_value};
 pub use fault::CaseFault;
 pub use fractions::{Number, Numbers, Passing};
 pub use named::{point, setting};

@@ -13,15 +13,12 @@
 //! | the same of numbers under an attribute and a shape, without a variable | `first_left` |
 //! | a point is in the domain of a problem exactly where each variable's array is | `laws::points` |
 //! | the first variable, and its first entry, at which a point leaves the domain; none exactly where the point is in it | `point_outside`, `specs/Points.antt` |
-//! | whether symmetric and diagonal variables are square matrices, as those of a problem are | `are_square` |
 #![tactic(auto)]
 
 mod array;
 mod entry;
 pub mod laws;
 mod point;
-mod square;
 
 pub use array::{first_left, outside};
 pub use point::{Outside, point_outside};
-pub use square::are_square;

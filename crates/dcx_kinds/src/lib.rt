@@ -38,7 +38,7 @@ pub use items::{Items, MOST_ITEMS, joined};
 pub use operands::{as_plain, numbers_read, operand_read, operands_read};
 pub use progression::Progression;
 pub use reading::{
-    Operand, Reading, are_numbers, are_rows, is_constant, is_fit, is_number, number_of,
-    plain_shape_of, read_value, rows_array, whole_number,
+    Operand, Reading, are_rows, is_constant, is_fit, is_number, plain_shape_of, read_value,
+    rows_array, whole_number,
 };
 pub use value::{Objective, Value};

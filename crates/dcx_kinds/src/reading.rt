@@ -58,7 +58,7 @@ pub fn is_number(value: &Value) -> bool
 }
 
 /// The number that a plain number is.
-pub fn number_of(value: &Value) -> Frac
+pub(crate) fn number_of(value: &Value) -> Frac
     ensures { result ≡ number_of (meant value.now) }
 {
     match value {
@@ -81,7 +81,7 @@ pub fn whole_number(value: &Value) -> Option<i128>
 }
 
 /// Whether all items are plain numbers.
-pub fn are_numbers(values: &[Value]) -> bool
+pub(crate) fn are_numbers(values: &[Value]) -> bool
     ensures { result ≡ list_all is_number (map meant values.now) }
 {
     for value in values {

@@ -1,2 +1,0 @@
--- Lemmas of the fixtures.
-mod Declared
