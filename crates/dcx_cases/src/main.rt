@@ -1,19 +1,11 @@
 //! Runs the worked cases of data/, tells each one that differs with what was wanted and what came, and how many there are.
 #![tactic(auto)]
 
-mod bytes;
-mod case;
-mod cases;
-mod count;
-mod fronts;
-mod pages;
+mod judging;
 mod running;
-mod sections;
-mod short;
 
-use cases::run_cases;
-use count::Count;
-use pages::run_page;
+use dcx_case_files::{Count, entries};
+use judging::run_entry;
 use std::rt::{Env, Files};
 use std::{env, fs, io};
 
@@ -23,12 +15,10 @@ fn run_file(
     name: &str,
     count: &mut Count,
 ) -> io::Result<()> {
-    let text = fs::read_to_string(rt, name)?;
-    if name.ends_with(".md") {
-        run_page(rt, name, text.as_str(), count)
-    } else {
-        run_cases(rt, name, text.as_str(), count)
+    for entry in entries(rt, name)? {
+        run_entry(rt, name, entry, count)?;
     }
+    Ok(())
 }
 
 /// The names of the files to run, one a line: those that the words name, or else those of the index.

@@ -1,61 +1,14 @@
 //! The program over files in memory: the status and the bytes that it gives.
 ghost use Rattle.std.specs.Prelude.{◌≡◌, ◌<◌};
 
+use dcx_case_files::{Came, Given};
 use dcx_host::{Library, MemoryLibrary, MemorySink, Sink};
 use dcx_listing::{Asked, problem_lines, program_lines};
-use dcx_shape::Bytes;
 use dcx_steps::Steps;
 use dcx_top::run;
 use std::alloc::{AllocError, Global};
-use std::collections::BTreeMap;
 use std::marker::Brand;
 use std::sync::ledger::{Blank, Ledger};
-
-/// What the program is given.
-#[derive(Drop)]
-pub(crate) struct Given {
-    /// The words behind the program's name, separated by blanks.
-    pub words: String,
-    pub files: BTreeMap<String, Bytes>,
-    /// The numbers of the calls of the library that fail, from 0.
-    pub reads: Vec<u64>,
-    /// The numbers of the calls of the sink that fail, from 0.
-    pub writes: Vec<u64>,
-    /// How many bytes the sink takes at once.
-    pub most: usize,
-}
-
-/// What the program gives.
-#[derive(Drop)]
-pub(crate) struct Came {
-    pub status: u8,
-    pub report: Vec<u8>,
-}
-
-impl Given {
-    /// Words alone, with no file and no call that fails.
-    pub(crate) fn of(alloc: Global, words: &str) -> Result<Given, AllocError> {
-        Ok(Given {
-            words: String::from_str(alloc, words)?,
-            files: BTreeMap::new(alloc),
-            reads: Vec::new(alloc),
-            writes: Vec::new(alloc),
-            most: usize::MAX,
-        })
-    }
-
-    /// Adds a file.
-    pub(crate) fn put(
-        &mut self,
-        alloc: Global,
-        name: &str,
-        bytes: Vec<u8>,
-    ) -> Result<(), AllocError> {
-        let name = String::from_str(alloc, name)?;
-        self.files.insert(name, Bytes::from_vec(bytes))?;
-        Ok(())
-    }
-}
 
 /// The status of the program over a library and a sink of any kind, with a counter of its own.
 fn run_with<L: Library, K: Sink, S: Ledger>(

@@ -1,26 +1,40 @@
 //! How many cases there were, what was wanted of each, and what is told of one that differs.
+ghost use Rattle.std.specs.Prelude.{◌≡◌, ◌<◌, ◌≤◌, ◌↔◌, ◌⊎◌, IsTrue};
+ghost use Rattle.dcx_case_files.specs.Judging.{IsMet};
 
-use crate::running::Came;
 use std::io;
 use std::io::Write;
 
 /// How many cases were run, and how many of them differ.
 #[derive(Clone, Copy)]
-pub(crate) struct Count {
+pub struct Count {
+    /// All cases.
     pub cases: u64,
+    /// Those that differ.
     pub differ: u64,
 }
 
 /// Where a case stands: its file and its line.
 #[derive(Clone, Copy)]
-pub(crate) struct At<'a> {
+pub struct At<'a> {
+    /// The file's name.
     pub file: &'a str,
+    /// The line on which the case begins, from 1.
     pub line: usize,
+}
+
+/// What the program gives.
+#[derive(Drop)]
+pub struct Came {
+    /// The status with which it ends.
+    pub status: u8,
+    /// The bytes of its report.
+    pub report: Vec<u8>,
 }
 
 /// What a case wants.
 #[derive(Drop)]
-pub(crate) struct Wanted {
+pub struct Wanted {
     /// The status, where it is stated.
     pub status: Option<u8>,
     /// The bytes of the report.
@@ -31,20 +45,24 @@ pub(crate) struct Wanted {
 
 impl Wanted {
     /// Whether this is what came.
-    fn is_met(&self, came: &Came) -> bool {
-        let begins = came.report.starts_with(&self.report);
-        let is_whole = self.goes_on || came.report.len() == self.report.len();
+    fn is_met(&self, came: &Came) -> bool
+        ensures { IsTrue result ↔ IsMet self.now came.now }
+    {
         let is_status = match self.status {
             Some(status) => status == came.status,
             None => true,
         };
-        begins && is_whole && is_status
+        let is_whole = self.goes_on || came.report.len() == self.report.len();
+        is_status && is_whole && came.report.starts_with(&self.report)
     }
 }
 
 impl Count {
     /// No cases.
-    pub(crate) fn new() -> Count {
+    pub fn new() -> Count
+        ensures cases { result.cases ≡ 0 }
+        ensures differ { result.differ ≡ 0 }
+    {
         Count {
             cases: 0,
             differ: 0,
@@ -52,20 +70,27 @@ impl Count {
     }
 
     /// Counts a case that differs.
-    pub(crate) fn differs(&mut self) {
+    fn differs(&mut self)
+        ensures some { 0 < self.new.differ }
+        ensures rises { self.old.differ ≤ self.new.differ }
+    {
         self.cases = self.cases.saturating_add(1);
         self.differ = self.differ.saturating_add(1);
     }
 
     /// Counts a case, and tells it where it differs.
-    pub(crate) fn judge(
+    pub fn judge(
         &mut self,
         rt: &impl Print,
         at: At,
         words: &str,
         wanted: &Wanted,
         came: &Came,
-    ) -> io::Result<()> {
+    ) -> io::Result<()>
+        ensures met { IsMet wanted.now came.now → self.new.differ ≡ self.old.differ }
+        ensures told { IsMet wanted.now came.now ⊎ (0 < self.new.differ) }
+        ensures rises { self.old.differ ≤ self.new.differ }
+    {
         if wanted.is_met(came) {
             self.cases = self.cases.saturating_add(1);
             return Ok(());
@@ -75,14 +100,18 @@ impl Count {
     }
 
     /// Counts a front of a script, and tells it where it doesn't fit.
-    pub(crate) fn judge_front(
+    pub fn judge_front(
         &mut self,
         rt: &impl Print,
         at: At,
         length: usize,
         fits: bool,
         came: &Came,
-    ) -> io::Result<()> {
+    ) -> io::Result<()>
+        ensures met { IsTrue fits → self.new.differ ≡ self.old.differ }
+        ensures told { IsTrue fits ⊎ (0 < self.new.differ) }
+        ensures rises { self.old.differ ≤ self.new.differ }
+    {
         if fits {
             self.cases = self.cases.saturating_add(1);
             return Ok(());
@@ -96,7 +125,10 @@ impl Count {
     }
 
     /// Counts and tells a line that is no line of a case.
-    pub(crate) fn refuse(&mut self, rt: &impl Print, at: At, line: &str) -> io::Result<()> {
+    pub fn refuse(&mut self, rt: &impl Print, at: At, line: &str) -> io::Result<()>
+        ensures told { 0 < self.new.differ }
+        ensures rises { self.old.differ ≤ self.new.differ }
+    {
         self.differs();
         let At { file, line: number } = at;
         println!(rt; "{file}:{number}: no case says: {line}")?;

@@ -1,24 +1,64 @@
-//! A case of several parts.
+//! A case, and one of several parts as far as it is read.
 
-use crate::count::{At, Count, Wanted};
+use crate::count::Wanted;
 use crate::fronts::{Fronts, fronts_of};
-use crate::running::{Given, outcome};
+use crate::given::Given;
 use std::alloc::{AllocError, Global};
-use std::io;
 
-/// A case, as far as it is read.
+/// A case.
 #[derive(Drop)]
-pub(crate) struct Case {
+pub struct Case {
+    /// The line on which it begins, from 1.
+    pub line: usize,
+    /// What the program is given.
+    pub given: Given,
+    /// What must come of it.
+    pub wanted: Wanted,
+    /// What is wanted of the fronts of `model.py`, where some are.
+    pub fronts: Option<Fronts>,
+}
+
+/// What stands in a file of cases.
+#[derive(Drop)]
+pub enum Entry {
+    /// A case.
+    Case(Case),
+    /// A line, from 1, that says none, and its text, or what is lacking.
+    Unreadable {
+        /// The line.
+        line: usize,
+        /// Its text, or what is lacking.
+        text: String,
+    },
+}
+
+/// A line that says no case.
+pub(crate) fn unreadable(alloc: Global, line: usize, text: &str) -> Result<Entry, AllocError> {
+    Ok(Entry::Unreadable {
+        line,
+        text: String::from_str(alloc, text)?,
+    })
+}
+
+/// Adds what stands next.
+pub(crate) fn put_entry(entries: &mut Vec<Entry>, entry: Entry) -> Result<(), AllocError> {
+    entries.push(entry)?;
+    Ok(())
+}
+
+/// A case of several parts, as far as it is read.
+#[derive(Drop)]
+pub(crate) struct Parts {
     line: usize,
     given: Given,
     wanted: Option<Wanted>,
     fronts: Option<Fronts>,
 }
 
-impl Case {
+impl Parts {
     /// A case of these words.
-    pub(crate) fn of(alloc: Global, line: usize, words: &str) -> Result<Case, AllocError> {
-        Ok(Case {
+    pub(crate) fn of(alloc: Global, line: usize, words: &str) -> Result<Parts, AllocError> {
+        Ok(Parts {
             line,
             given: Given::of(alloc, words)?,
             wanted: None,
@@ -74,51 +114,22 @@ impl Case {
         Ok(true)
     }
 
-    /// Runs the fronts, where some are wanted.
-    fn run_fronts(
-        &self,
-        rt: &(impl Print + AllocGlobal),
-        at: At,
-        count: &mut Count,
-    ) -> io::Result<()> {
-        let Some(fronts) = &self.fronts else {
-            return Ok(());
-        };
-        let Some(bytes) = self.given.files.get("model.py") else {
-            return count.refuse(rt, at, "no model.py");
-        };
-        fronts.run(rt, at, self.given.words.as_str(), bytes.as_slice(), count)
-    }
-
-    /// Runs the case.
-    pub(crate) fn run(
-        self,
-        rt: &(impl Print + AllocGlobal),
-        file: &str,
-        count: &mut Count,
-    ) -> io::Result<()> {
-        let at = At {
-            file,
-            line: self.line,
-        };
-        self.run_fronts(rt, at, count)?;
-        let Case { given, wanted, .. } = self;
+    /// The case, once all of it is read.
+    pub(crate) fn whole(self, alloc: Global) -> Result<Entry, AllocError> {
+        let Parts {
+            line,
+            given,
+            wanted,
+            fronts,
+        } = self;
         match wanted {
-            Some(wanted) => run_case(rt, at, given, &wanted, count),
-            None => count.refuse(rt, at, "no report"),
+            Some(wanted) => Ok(Entry::Case(Case {
+                line,
+                given,
+                wanted,
+                fronts,
+            })),
+            None => unreadable(alloc, line, "no report"),
         }
     }
-}
-
-/// Runs a case and judges it.
-pub(crate) fn run_case(
-    rt: &(impl Print + AllocGlobal),
-    at: At,
-    given: Given,
-    wanted: &Wanted,
-    count: &mut Count,
-) -> io::Result<()> {
-    let words = String::from_str(rt.alloc(), given.words.as_str())?;
-    let came = outcome(rt.alloc(), given)?;
-    count.judge(rt, at, words.as_str(), wanted, &came)
 }

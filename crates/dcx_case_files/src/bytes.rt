@@ -80,6 +80,41 @@ fn push_repeated(alloc: Global, bytes: &mut Vec<u8>, text: &str) -> Result<bool,
     Ok(true)
 }
 
+/// Adds bytes.
+fn push_bytes(bytes: &mut Vec<u8>, part: &[u8]) -> Result<bool, AllocError> {
+    bytes.extend_from_slice(part)?;
+    Ok(true)
+}
+
+/// Adds a text and a line end.
+fn push_text(bytes: &mut Vec<u8>, text: &str) -> Result<bool, AllocError> {
+    bytes.extend_from_slice(text.as_bytes())?;
+    push_bytes(bytes, b"\n")
+}
+
+/// Adds the bytes of a file.
+fn push_file(rt: &(impl Files + AllocGlobal), bytes: &mut Vec<u8>, name: &str) -> io::Result<bool> {
+    let file = fs::read(rt, name)?;
+    Ok(push_bytes(bytes, &file)?)
+}
+
+/// Adds what a line gives that names no file. Answers false where it is no such line.
+fn push_plain(alloc: Global, bytes: &mut Vec<u8>, line: &str) -> Result<bool, AllocError> {
+    if line == "imports" {
+        push_bytes(bytes, IMPORTS)
+    } else if line == "|" {
+        push_text(bytes, "")
+    } else if let Some(text) = line.strip_prefix("| ") {
+        push_text(bytes, text)
+    } else if let Some(text) = line.strip_prefix("% ") {
+        push_escaped(bytes, text)
+    } else if let Some(text) = line.strip_prefix("* ") {
+        push_repeated(alloc, bytes, text)
+    } else {
+        Ok(false)
+    }
+}
+
 /// Adds what a line of a body gives. Answers false where it is no such line.
 ///
 /// `| text` is a line, `% text` is text with escapes and no line end, `* N text` the same N times, `< NAME` the bytes of
@@ -89,21 +124,8 @@ pub(crate) fn push_line(
     bytes: &mut Vec<u8>,
     line: &str,
 ) -> io::Result<bool> {
-    if line == "imports" {
-        bytes.extend_from_slice(IMPORTS)?;
-    } else if line == "|" {
-        bytes.push(b'\n')?;
-    } else if let Some(text) = line.strip_prefix("| ") {
-        bytes.extend_from_slice(text.as_bytes())?;
-        bytes.push(b'\n')?;
-    } else if let Some(text) = line.strip_prefix("% ") {
-        return Ok(push_escaped(bytes, text)?);
-    } else if let Some(text) = line.strip_prefix("* ") {
-        return Ok(push_repeated(rt.alloc(), bytes, text)?);
-    } else if let Some(name) = line.strip_prefix("< ") {
-        bytes.extend_from_slice(&fs::read(rt, name)?)?;
-    } else {
-        return Ok(false);
+    match line.strip_prefix("< ") {
+        Some(name) => push_file(rt, bytes, name),
+        None => Ok(push_plain(rt.alloc(), bytes, line)?),
     }
-    Ok(true)
 }

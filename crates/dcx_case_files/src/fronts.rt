@@ -1,16 +1,16 @@
 //! Fronts of a script: what is wanted of each one but the whole.
+ghost use Rattle.std.specs.Prelude.{◌≡◌, [], IfOk, IsTrue};
 
-use crate::count::{At, Count};
-use crate::running::{Came, Given, outcome};
+use crate::count::Came;
 use std::alloc::{AllocError, Global};
-use std::io;
 
 /// What is wanted of each front of `model.py` but the whole.
 #[derive(Drop)]
-pub(crate) struct Fronts {
-    status: u8,
+pub struct Fronts {
+    /// The status.
+    pub status: u8,
     /// The refusals that there may be; none is named where there may be any.
-    numbers: Vec<u8>,
+    pub numbers: Vec<u8>,
 }
 
 /// The numbers that are separated by blanks; `None` where a word is none.
@@ -37,16 +37,12 @@ pub(crate) fn fronts_of(alloc: Global, text: &str) -> Result<Option<Fronts>, All
     }
 }
 
-/// What the words give of a file `model.py` with these bytes.
-fn came_of(alloc: Global, words: &str, bytes: &[u8]) -> Result<Came, AllocError> {
-    let mut given = Given::of(alloc, words)?;
-    given.put(alloc, "model.py", bytes.to_vec(alloc)?)?;
-    outcome(alloc, given)
-}
-
 impl Fronts {
-    /// Whether this is wanted of a front.
-    fn fits(&self, alloc: Global, came: &Came) -> Result<bool, AllocError> {
+    /// Whether this is wanted of a front. An error where there is no memory.
+    pub fn fits(&self, alloc: Global, came: &Came) -> Result<bool, AllocError>
+        ensures status { IfOk result (λ fits. IsTrue fits → came.now.status ≡ self.now.status) }
+        ensures any { self.now.numbers.items ≡ [] → came.now.status ≡ self.now.status → IfOk result IsTrue }
+    {
         if came.status != self.status {
             return Ok(false);
         }
@@ -58,23 +54,5 @@ impl Fronts {
             }
         }
         Ok(self.numbers.is_empty())
-    }
-
-    /// Runs the words with each front of the bytes as `model.py`.
-    pub(crate) fn run(
-        &self,
-        rt: &(impl Print + AllocGlobal),
-        at: At,
-        words: &str,
-        bytes: &[u8],
-        count: &mut Count,
-    ) -> io::Result<()> {
-        let alloc = rt.alloc();
-        for length in 0..bytes.len() {
-            let came = came_of(alloc, words, &bytes[..length])?;
-            let fits = self.fits(alloc, &came)?;
-            count.judge_front(rt, at, length, fits, &came)?;
-        }
-        Ok(())
     }
 }

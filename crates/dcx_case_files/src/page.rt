@@ -1,8 +1,8 @@
 //! The examples of a page, which docs/CASES.md describes.
 
-use crate::case::run_case;
-use crate::count::{At, Count, Wanted};
-use crate::running::Given;
+use crate::case::{Case, Entry, put_entry};
+use crate::count::Wanted;
+use crate::given::Given;
 use std::alloc::{AllocError, Global};
 use std::rt::Files;
 use std::{fs, io, mem};
@@ -20,6 +20,8 @@ struct Page {
     is_open: bool,
     /// Whether that is a script.
     is_script: bool,
+    /// The cases before.
+    entries: Vec<Entry>,
 }
 
 /// What a page shows, which states no status.
@@ -39,34 +41,54 @@ fn row(line: &str) -> Option<(&str, &str)> {
     Some((code, refusal))
 }
 
-/// Runs a check of a script.
-fn run_check(
-    rt: &(impl Print + AllocGlobal),
-    at: At,
-    script: &str,
-    report: &str,
-    count: &mut Count,
-) -> io::Result<()> {
-    let alloc = rt.alloc();
-    let mut given = Given::of(alloc, "check model.py")?;
-    given.put(alloc, "model.py", script.as_bytes().to_vec(alloc)?)?;
-    run_case(rt, at, given, &shown(alloc, report)?, count)
+/// A case whose report is shown.
+fn shown_case(alloc: Global, line: usize, given: Given, report: &str) -> Result<Entry, AllocError> {
+    Ok(Entry::Case(Case {
+        line,
+        given,
+        wanted: shown(alloc, report)?,
+        fronts: None,
+    }))
 }
 
-/// Runs a script at the settings of a file that is refused.
-fn run_settings(
-    rt: &(impl Print + AllocGlobal),
-    at: At,
+/// A check of a script.
+fn check_case(alloc: Global, line: usize, script: &str, report: &str) -> Result<Entry, AllocError> {
+    let mut given = Given::of(alloc, "check model.py")?;
+    given.put(alloc, "model.py", script.as_bytes().to_vec(alloc)?)?;
+    shown_case(alloc, line, given, report)
+}
+
+/// A script at the settings of a file that is refused.
+fn settings_case(
+    alloc: Global,
+    line: usize,
     script: &str,
     settings: &str,
     report: &str,
-    count: &mut Count,
-) -> io::Result<()> {
-    let alloc = rt.alloc();
+) -> Result<Entry, AllocError> {
     let mut given = Given::of(alloc, "resolve model.py settings.txt")?;
     given.put(alloc, "model.py", script.as_bytes().to_vec(alloc)?)?;
     given.put(alloc, "settings.txt", settings.as_bytes().to_vec(alloc)?)?;
-    run_case(rt, at, given, &shown(alloc, report)?, count)
+    shown_case(alloc, line, given, report)
+}
+
+/// The case of a row.
+fn row_case(
+    alloc: Global,
+    line: usize,
+    script: &str,
+    code: &str,
+    refusal: &str,
+) -> Result<Entry, AllocError> {
+    let mut report = String::from_str(alloc, "refused ")?;
+    report.push_str(refusal)?;
+    report.push_str("\n")?;
+    if refusal.starts_with("settings ") {
+        return settings_case(alloc, line, script, code, report.as_str());
+    }
+    let mut whole = String::from_str(alloc, script)?;
+    whole.push_str(code)?;
+    check_case(alloc, line, whole.as_str(), report.as_str())
 }
 
 /// Adds each file of the folder that one of the words names.
@@ -84,18 +106,17 @@ fn put_files(
     Ok(())
 }
 
-/// Runs the words that a block shows, over the files that they name, with the report below them.
-fn run_words(
-    rt: &(impl Files + Print + AllocGlobal),
-    at: At,
+/// The words that a block shows, over the files that they name, with the report below them.
+fn words_case(
+    rt: &(impl Files + AllocGlobal),
+    line: usize,
     session: &str,
-    count: &mut Count,
-) -> io::Result<()> {
+) -> Result<Entry, AllocError> {
     let alloc = rt.alloc();
     let (words, report) = session.split_once('\n').unwrap_or((session, ""));
     let mut given = Given::of(alloc, words)?;
     put_files(rt, &mut given, words)?;
-    run_case(rt, at, given, &shown(alloc, report)?, count)
+    shown_case(alloc, line, given, report)
 }
 
 impl Page {
@@ -107,16 +128,12 @@ impl Page {
             block: String::new(alloc),
             is_open: false,
             is_script: false,
+            entries: Vec::new(alloc),
         }
     }
 
     /// Takes the block, which has ended.
-    fn close(
-        &mut self,
-        rt: &(impl Files + Print + AllocGlobal),
-        at: At,
-        count: &mut Count,
-    ) -> io::Result<()> {
+    fn close(&mut self, rt: &(impl Files + AllocGlobal), line: usize) -> Result<(), AllocError> {
         self.is_open = false;
         let block = mem::replace(&mut self.block, String::new(rt.alloc()));
         let is_asked = self.is_asked;
@@ -125,90 +142,71 @@ impl Page {
             self.script = block;
             Ok(())
         } else if let Some(session) = block.as_str().strip_prefix("$ ./dcx ") {
-            run_words(rt, at, session, count)
+            put_entry(&mut self.entries, words_case(rt, line, session)?)
         } else if is_asked {
-            run_check(rt, at, self.script.as_str(), block.as_str(), count)
+            let (script, report) = (self.script.as_str(), block.as_str());
+            put_entry(
+                &mut self.entries,
+                check_case(rt.alloc(), line, script, report)?,
+            )
         } else {
             Ok(())
         }
     }
 
-    /// Runs what a row shows: a check of its code behind the script, or the script at its code as a settings file.
-    fn run_row(
-        &self,
-        rt: &(impl Print + AllocGlobal),
-        at: At,
-        line: &str,
-        count: &mut Count,
-    ) -> io::Result<()> {
-        let Some((code, refusal)) = row(line) else {
+    /// Takes what a row shows: a check of its code behind the script, or the script at its code as a settings file.
+    fn take_row(&mut self, alloc: Global, line: usize, text: &str) -> Result<(), AllocError> {
+        let Some((code, refusal)) = row(text) else {
             return Ok(());
         };
-        let mut report = String::from_str(rt.alloc(), "refused ")?;
-        report.push_str(refusal)?;
-        report.push_str("\n")?;
-        if refusal.starts_with("settings ") {
-            return run_settings(rt, at, self.script.as_str(), code, report.as_str(), count);
-        }
-        let mut script = String::from_str(rt.alloc(), self.script.as_str())?;
-        script.push_str(code)?;
-        run_check(rt, at, script.as_str(), report.as_str(), count)
+        let entry = row_case(alloc, line, self.script.as_str(), code, refusal)?;
+        put_entry(&mut self.entries, entry)
     }
 
     /// Takes a line of the open block.
     fn take(
         &mut self,
-        rt: &(impl Files + Print + AllocGlobal),
-        at: At,
-        line: &str,
-        count: &mut Count,
-    ) -> io::Result<()> {
-        if line == "```" {
-            return self.close(rt, at, count);
+        rt: &(impl Files + AllocGlobal),
+        line: usize,
+        text: &str,
+    ) -> Result<(), AllocError> {
+        if text == "```" {
+            return self.close(rt, line);
         }
-        self.block.push_str(line)?;
-        self.block.push_str("\n")?;
-        Ok(())
+        self.block.push_str(text)?;
+        self.block.push_str("\n")
     }
 
     /// Takes a line.
     fn read(
         &mut self,
-        rt: &(impl Files + Print + AllocGlobal),
-        at: At,
-        line: &str,
-        count: &mut Count,
-    ) -> io::Result<()> {
+        rt: &(impl Files + AllocGlobal),
+        line: usize,
+        text: &str,
+    ) -> Result<(), AllocError> {
         if self.is_open {
-            return self.take(rt, at, line, count);
+            return self.take(rt, line, text);
         }
-        if let Some(language) = line.strip_prefix("```") {
+        if let Some(language) = text.strip_prefix("```") {
             self.is_open = true;
             self.is_script = language == "python";
-        } else if line.starts_with('#') {
+            Ok(())
+        } else if text.starts_with('#') {
             self.script = String::new(rt.alloc());
             self.is_asked = false;
+            Ok(())
         } else {
-            self.run_row(rt, at, line, count)?;
+            self.take_row(rt.alloc(), line, text)
         }
-        Ok(())
     }
 }
 
-/// Runs the examples of a page.
-pub(crate) fn run_page(
-    rt: &(impl Files + Print + AllocGlobal),
-    file: &str,
-    text: &str,
-    count: &mut Count,
-) -> io::Result<()> {
+/// The cases of the examples of a page, in their order.
+pub(crate) fn page_entries(rt: &(impl Files + AllocGlobal), text: &str) -> io::Result<Vec<Entry>> {
     let mut page = Page::new(rt.alloc());
     for (i, line) in text.lines().enumerate() {
-        let at = At {
-            file,
-            line: i.saturating_add(1),
-        };
-        page.read(rt, at, line, count)?;
+        page.read(rt, i.saturating_add(1), line)?;
     }
-    Ok(())
+    let Page { entries, .. } = page;
+    Ok(entries)
 }

@@ -1,0 +1,12 @@
+-- When what came is what a case wants.
+use Rattle.std.specs.Prelude.{◌≡◌, false, length, IfSome, IsTrue, nat_eq}
+use Rattle.std.specs.List.{starts_with}
+use Rattle.dcx_case_files.specs.declared.count.Wanted.{Wanted}
+use Rattle.dcx_case_files.specs.declared.count.Came.{Came}
+
+-- the status is the one that is wanted, if one is; the report begins with the wanted one, and is as long, if it may not go on
+abbrev pub IsMet : Wanted → Came → Type 0
+IsMet wanted came =
+    IfSome wanted.status (λ s. s ≡ came.status)
+    × IsTrue (starts_with nat_eq came.report.items wanted.report.items)
+    × (wanted.goes_on ≡ false → length came.report.items ≡ length wanted.report.items)

@@ -1,0 +1,44 @@
+//! What the program is given in a case.
+ghost use Rattle.std.specs.Prelude.{◌≡◌, [], IfOk};
+
+use dcx_shape::Bytes;
+use std::alloc::{AllocError, Global};
+use std::collections::BTreeMap;
+
+/// What the program is given.
+#[derive(Drop)]
+pub struct Given {
+    /// The words behind the program's name, separated by blanks.
+    pub words: String,
+    /// The files that the library has, by their names.
+    pub files: BTreeMap<String, Bytes>,
+    /// The numbers of the calls of the library that fail, from 0.
+    pub reads: Vec<u64>,
+    /// The numbers of the calls of the sink that fail, from 0.
+    pub writes: Vec<u64>,
+    /// How many bytes the sink takes at once.
+    pub most: usize,
+}
+
+impl Given {
+    /// Words alone, with no file and no call that fails. An error where there is no memory.
+    pub fn of(alloc: Global, words: &str) -> Result<Given, AllocError>
+        ensures reads { IfOk result (λ given. given.reads.items ≡ []) }
+        ensures writes { IfOk result (λ given. given.writes.items ≡ []) }
+    {
+        Ok(Given {
+            words: String::from_str(alloc, words)?,
+            files: BTreeMap::new(alloc),
+            reads: Vec::new(alloc),
+            writes: Vec::new(alloc),
+            most: usize::MAX,
+        })
+    }
+
+    /// Adds a file, or puts it in the place of the one of this name. An error where there is no memory.
+    pub fn put(&mut self, alloc: Global, name: &str, bytes: Vec<u8>) -> Result<(), AllocError> {
+        let name = String::from_str(alloc, name)?;
+        self.files.insert(name, Bytes::from_vec(bytes))?;
+        Ok(())
+    }
+}
