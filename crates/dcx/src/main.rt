@@ -5,6 +5,7 @@ ghost use Rattle.std.specs.Prelude.{◌≡◌, ◌<◌};
 
 use dcx_host::{FileLibrary, OutSink};
 use dcx_steps::Steps;
+use dcx_top::{Ended, run};
 use std::alloc::AllocError;
 use std::marker::Brand;
 use std::process::ExitCode;
@@ -36,8 +37,9 @@ fn counted<R: Files + Print + AllocGlobal, S: Ledger>(rt: &R, words: &[String], 
     let mut steps = Steps::<S>::new(blank);
     let mut library = FileLibrary::new(rt);
     let mut sink = OutSink::new(io::writer(rt));
-    let ended = dcx_top::run(rt.alloc(), words, &mut library, &mut sink, &mut steps);
-    ended.status
+    let Ended { status, run } = run(rt.alloc(), words, &mut library, &mut sink, &mut steps);
+    drop(run);
+    status
 }
 
 fn main(rt: HostRuntime) -> ExitCode {

@@ -5,7 +5,7 @@ use dcx_case_files::{Came, Given};
 use dcx_host::{Library, MemoryLibrary, MemorySink, Sink};
 use dcx_listing::{Asked, problem_lines, program_lines};
 use dcx_steps::Steps;
-use dcx_top::run;
+use dcx_top::{Ended, run};
 use std::alloc::{AllocError, Global};
 use std::marker::Brand;
 use std::sync::ledger::{Blank, Ledger};
@@ -23,7 +23,9 @@ fn run_with<L: Library, K: Sink, S: Ledger>(
     requires some { 0 < blank.parts }
 {
     let mut steps = Steps::<S>::new(blank);
-    run(alloc, words, library, sink, &mut steps).status
+    let Ended { status, run } = run(alloc, words, library, sink, &mut steps);
+    drop(run);
+    status
 }
 
 /// The same, with a counter whose kind doesn't matter.
