@@ -1,6 +1,6 @@
 //! How many cases there were, what was wanted of each, and what is told of one that differs.
-ghost use Rattle.std.specs.Prelude.{◌≡◌, ◌<◌, ◌≤◌, ◌↔◌, ◌⊎◌, IsTrue};
-ghost use Rattle.dcx_case_files.specs.Judging.{IsMet};
+ghost use Rattle.std.specs.Prelude.{◌≡◌, ◌↔◌, ◌⊎◌, IsTrue};
+ghost use Rattle.dcx_case_files.specs.Judging.{IsMet, one_more};
 
 use std::io;
 use std::io::Write;
@@ -71,8 +71,8 @@ impl Count {
 
     /// Counts a case that differs.
     fn differs(&mut self)
-        ensures some { 0 < self.new.differ }
-        ensures rises { self.old.differ ≤ self.new.differ }
+        ensures cases { self.new.cases ≡ one_more self.old.cases }
+        ensures differ { self.new.differ ≡ one_more self.old.differ }
     {
         self.cases = self.cases.saturating_add(1);
         self.differ = self.differ.saturating_add(1);
@@ -87,9 +87,9 @@ impl Count {
         wanted: &Wanted,
         came: &Came,
     ) -> io::Result<()>
+        ensures cases { self.new.cases ≡ one_more self.old.cases }
         ensures met { IsMet wanted.now came.now → self.new.differ ≡ self.old.differ }
-        ensures told { IsMet wanted.now came.now ⊎ (0 < self.new.differ) }
-        ensures rises { self.old.differ ≤ self.new.differ }
+        ensures differs { IsMet wanted.now came.now ⊎ (self.new.differ ≡ one_more self.old.differ) }
     {
         if wanted.is_met(came) {
             self.cases = self.cases.saturating_add(1);
@@ -108,9 +108,9 @@ impl Count {
         fits: bool,
         came: &Came,
     ) -> io::Result<()>
+        ensures cases { self.new.cases ≡ one_more self.old.cases }
         ensures met { IsTrue fits → self.new.differ ≡ self.old.differ }
-        ensures told { IsTrue fits ⊎ (0 < self.new.differ) }
-        ensures rises { self.old.differ ≤ self.new.differ }
+        ensures differs { IsTrue fits ⊎ (self.new.differ ≡ one_more self.old.differ) }
     {
         if fits {
             self.cases = self.cases.saturating_add(1);
@@ -126,8 +126,8 @@ impl Count {
 
     /// Counts and tells a line that is no line of a case.
     pub fn refuse(&mut self, rt: &impl Print, at: At, line: &str) -> io::Result<()>
-        ensures told { 0 < self.new.differ }
-        ensures rises { self.old.differ ≤ self.new.differ }
+        ensures cases { self.new.cases ≡ one_more self.old.cases }
+        ensures differ { self.new.differ ≡ one_more self.old.differ }
     {
         self.differs();
         let At { file, line: number } = at;

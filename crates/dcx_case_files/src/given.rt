@@ -1,5 +1,5 @@
 //! What the program is given in a case.
-ghost use Rattle.std.specs.Prelude.{◌≡◌, [], IfOk};
+ghost use Rattle.std.specs.Prelude.{◌≡◌, [], IfOk, string_bytes};
 
 use dcx_shape::Bytes;
 use std::alloc::{AllocError, Global};
@@ -23,6 +23,7 @@ pub struct Given {
 impl Given {
     /// Words alone, with no file and no call that fails. An error where there is no memory.
     pub fn of(alloc: Global, words: &str) -> Result<Given, AllocError>
+        ensures words { IfOk result (λ given. string_bytes given.words ≡ words.now) }
         ensures reads { IfOk result (λ given. given.reads.items ≡ []) }
         ensures writes { IfOk result (λ given. given.writes.items ≡ []) }
     {
@@ -36,7 +37,10 @@ impl Given {
     }
 
     /// Adds a file, or puts it in the place of the one of this name. An error where there is no memory.
-    pub fn put(&mut self, alloc: Global, name: &str, bytes: Vec<u8>) -> Result<(), AllocError> {
+    pub fn put(&mut self, alloc: Global, name: &str, bytes: Vec<u8>) -> Result<(), AllocError>
+        ensures words { self.new.words ≡ self.old.words }
+        ensures calls { (self.new.reads ≡ self.old.reads) × (self.new.writes ≡ self.old.writes) × (self.new.most ≡ self.old.most) }
+    {
         let name = String::from_str(alloc, name)?;
         self.files.insert(name, Bytes::from_vec(bytes))?;
         Ok(())
