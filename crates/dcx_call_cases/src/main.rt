@@ -1,9 +1,10 @@
-//! Runs the cases of the calls: their shapes, signs, trends, values, rows, slopes and maps, what is demanded of variables, and
-//! the places that slices and reshapes take.
+//! Runs the cases of the calls: their shapes, signs, trends, values, rows, slopes and maps, what is demanded of variables, the
+//! places that slices and reshapes take, and what the public calls of fractions give.
 #![tactic(auto)]
 
 mod calls;
 mod demands;
+mod fractions;
 mod given;
 mod maps;
 mod places;
@@ -13,6 +14,7 @@ mod told;
 mod values;
 
 use crate::demands::Demands;
+use crate::fractions::Fractions;
 use crate::given::Given;
 use crate::maps::Maps;
 use crate::places::Taken;
@@ -33,5 +35,6 @@ fn main(rt: HostRuntime) -> io::Result<()> {
     tally.run(&rt, &Given, "given.txt")?;
     tally.run(&rt, &Demands, "demands.txt")?;
     tally.run(&rt, &Taken, "places.txt")?;
+    tally.run(&rt, &Fractions, "fractions.txt")?;
     tally.print(&rt)
 }
