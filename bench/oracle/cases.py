@@ -2,7 +2,7 @@
 import os
 import re
 
-from . import listing
+from . import listing, report
 from .commands import ReadFault, run
 
 IMPORTS = b"import cvxpy as cp\nimport numpy as np\n"
@@ -84,6 +84,8 @@ class Case:
         if len(self.words) == 2 and self.words[0] in listings and self.words[1] in self.files:
             status, text = listings[self.words[0]](self.files[self.words[1]])
             return status, text.encode()
+        if len(self.words) == 2 and self.words[0] == "short" and self.words[1] in ("run", "setting", "trial"):
+            return 0, report.short(self.words[1]).encode()
         calls = iter(range(10**9))
 
         def fetch(name):

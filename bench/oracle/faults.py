@@ -8,7 +8,7 @@ REFUSALS = {
 }
 STOPS = {
     21: "UnknownParam", 22: "MissingParam", 23: "ParamShape", 24: "ParamSign", 25: "ZeroDivisor", 26: "Wide",
-    27: "PivotLimit", 28: "TooLarge", 30: "RelaxationUnbounded", 32: "NodeLimit", 33: "Branch", 36: "RangeWide", 37: "Filter",
+    27: "PivotLimit", 28: "TooLarge", 30: "RelaxationUnbounded", 31: "Memory", 32: "NodeLimit", 33: "Branch", 36: "RangeWide", 37: "Filter",
 }
 
 

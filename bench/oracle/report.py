@@ -114,3 +114,13 @@ def tried(problem, size, ends):
             value = f" value {users(problem, end.number)}" if end.kind == "optimal" else ""
             lines.append(f"setting {k} {end.kind}{value}\n")
     return "".join(lines) + answered(ends)
+
+
+def short(kind):
+    """The report of a run that has no memory: one that ends there, one of a setting that does, or a trial with one."""
+    memory = Stopped(31, "")
+    if kind == "setting":
+        return solved(None, "setting", [memory])
+    if kind == "trial":
+        return tried(None, 2, [Stopped(26, f" at 9:31 entry 0 mul {10**20} {10**19}"), memory])
+    return "want of memory\n"

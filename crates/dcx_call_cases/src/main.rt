@@ -1,5 +1,5 @@
 //! Runs the cases of the calls: their shapes, signs, trends, values, rows, slopes and maps, what is demanded of variables, the
-//! places that slices and reshapes take, and what the public calls of fractions give.
+//! places that slices and reshapes take, what the public calls of fractions give, and pushes of nodes.
 #![tactic(auto)]
 
 mod calls;
@@ -8,6 +8,7 @@ mod fractions;
 mod given;
 mod maps;
 mod places;
+mod pushes;
 mod rows;
 mod slopes;
 mod told;
@@ -18,6 +19,7 @@ use crate::fractions::Fractions;
 use crate::given::Given;
 use crate::maps::Maps;
 use crate::places::Taken;
+use crate::pushes::Pushes;
 use crate::rows::Rows;
 use crate::slopes::Slopes;
 use crate::told::Told;
@@ -36,5 +38,6 @@ fn main(rt: HostRuntime) -> io::Result<()> {
     tally.run(&rt, &Demands, "demands.txt")?;
     tally.run(&rt, &Taken, "places.txt")?;
     tally.run(&rt, &Fractions, "fractions.txt")?;
+    tally.run(&rt, &Pushes, "pushes.txt")?;
     tally.print(&rt)
 }

@@ -59,7 +59,7 @@ pub(crate) fn push_escaped(bytes: &mut Vec<u8>, text: &str) -> Result<bool, Allo
             return Ok(false);
         }
     }
-    Ok(true)
+    Ok(!is_plain) // else the last backslash stands alone
 }
 
 /// Adds a text so many times, as `64 (` says. Answers false where the text says something else.

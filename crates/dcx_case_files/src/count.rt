@@ -1,6 +1,6 @@
 //! How many cases there were, what was wanted of each, and what is told of one that differs.
 ghost use Rattle.std.specs.Prelude.{◌≡◌, ◌↔◌, ◌⊎◌, IsTrue};
-ghost use Rattle.dcx_case_files.specs.Judging.{IsMet, one_more};
+ghost use Rattle.dcx_case_files.specs.Judging.{IsReport, IsMet, one_more};
 
 use std::io;
 use std::io::Write;
@@ -44,6 +44,17 @@ pub struct Wanted {
 }
 
 impl Wanted {
+    /// Whether this is the report that is wanted.
+    fn is_report(&self, report: &[u8]) -> bool
+        ensures { IsTrue result ↔ IsReport self.now.goes_on self.now.report.items report.now }
+    {
+        if self.goes_on {
+            report.starts_with(&self.report)
+        } else {
+            *report == *self.report.as_slice()
+        }
+    }
+
     /// Whether this is what came.
     fn is_met(&self, came: &Came) -> bool
         ensures { IsTrue result ↔ IsMet self.now came.now }
@@ -52,8 +63,7 @@ impl Wanted {
             Some(status) => status == came.status,
             None => true,
         };
-        let is_whole = self.goes_on || came.report.len() == self.report.len();
-        is_status && is_whole && came.report.starts_with(&self.report)
+        is_status && self.is_report(&came.report)
     }
 }
 

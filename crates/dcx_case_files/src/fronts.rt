@@ -1,5 +1,6 @@
 //! Fronts of a script: what is wanted of each one but the whole.
-ghost use Rattle.std.specs.Prelude.{◌≡◌, [], IfOk, IsTrue};
+ghost use Rattle.std.specs.Prelude.{◌↔◌, IfOk, IsTrue};
+ghost use Rattle.dcx_case_files.specs.Judging.{BeginsWith, refusal_front, Fits};
 
 use crate::count::Came;
 use std::alloc::{AllocError, Global};
@@ -37,19 +38,25 @@ pub(crate) fn fronts_of(alloc: Global, text: &str) -> Result<Option<Fronts>, All
     }
 }
 
+/// Whether a report is of the refusal of this number.
+fn refuses(alloc: Global, report: &[u8], number: u8) -> Result<bool, AllocError>
+    ensures { IfOk result (λ refuses. IsTrue refuses ↔ BeginsWith (refusal_front number) report.now) }
+{
+    let mut front = String::new(alloc);
+    write!(front, "refused script {number} ")?;
+    Ok(report.starts_with(front.as_bytes()))
+}
+
 impl Fronts {
     /// Whether this is wanted of a front. An error where there is no memory.
     pub fn fits(&self, alloc: Global, came: &Came) -> Result<bool, AllocError>
-        ensures status { IfOk result (λ fits. IsTrue fits → came.now.status ≡ self.now.status) }
-        ensures any { self.now.numbers.items ≡ [] → came.now.status ≡ self.now.status → IfOk result IsTrue }
+        ensures { IfOk result (λ fits. IsTrue fits ↔ Fits self.now came.now) }
     {
         if came.status != self.status {
             return Ok(false);
         }
-        for number in &self.numbers {
-            let mut front = String::new(alloc);
-            write!(front, "refused script {number} ")?;
-            if came.report.starts_with(front.as_bytes()) {
+        'numbers: for number in &self.numbers {
+            if refuses(alloc, &came.report, *number)? {
                 return Ok(true);
             }
         }

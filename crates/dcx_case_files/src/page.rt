@@ -1,6 +1,6 @@
 //! The examples of a page, which docs/CASES.md describes.
 
-use crate::case::{Case, Entry, put_entry};
+use crate::case::{Case, Entry, put_entry, unreadable};
 use crate::count::Wanted;
 use crate::given::Given;
 use std::alloc::{AllocError, Global};
@@ -177,6 +177,18 @@ impl Page {
         self.block.push_str("\n")
     }
 
+    /// Ends the page, and tells a block that nothing has closed.
+    fn end(&mut self, alloc: Global, line: usize) -> Result<(), AllocError> {
+        if self.is_open {
+            put_entry(
+                &mut self.entries,
+                unreadable(alloc, line, "a block is open")?,
+            )
+        } else {
+            Ok(())
+        }
+    }
+
     /// Takes a line.
     fn read(
         &mut self,
@@ -207,6 +219,7 @@ pub(crate) fn page_entries(rt: &(impl Files + AllocGlobal), text: &str) -> io::R
     for (i, line) in text.lines().enumerate() {
         page.read(rt, i.saturating_add(1), line)?;
     }
+    page.end(rt.alloc(), text.lines().count())?;
     let Page { entries, .. } = page;
     Ok(entries)
 }

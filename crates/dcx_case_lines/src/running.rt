@@ -21,13 +21,9 @@ pub struct Tally {
     pub differ: u64,
 }
 
-/// What a line asks, and what it wants; `None` where it is no case.
-fn asked(line: &str) -> Option<(&str, &str)> {
-    if line.starts_with('#') {
-        return None;
-    }
-    let (asked, wanted) = line.split_once("=>")?;
-    Some((asked, wanted.trim()))
+/// Whether a line stands between cases: it is empty, or begins with `#`.
+fn is_between(line: &str) -> bool {
+    line.is_empty() || line.starts_with('#')
 }
 
 /// The parts of what a line asks.
@@ -50,13 +46,17 @@ fn answer<C: Cases>(
     cases.answer(alloc, &parts, out)
 }
 
-/// Prints a line that gives something else, with what came. Whether it does.
+/// Prints a line that gives something else than it wants, with what came, or that says no case. Whether it does.
 fn differs<C: Cases>(
     rt: &(impl Print + AllocGlobal),
     cases: &C,
     line: &str,
-    wanted: &str,
 ) -> io::Result<bool> {
+    let Some((line, wanted)) = line.split_once("=>") else {
+        println!(rt; "no case says: {line}")?;
+        return Ok(true);
+    };
+    let wanted = wanted.trim();
     let mut came = String::new(rt.alloc());
     match answer(rt.alloc(), cases, line, &mut came) {
         Ok(()) if came.as_str() == wanted => Ok(false),
@@ -91,11 +91,12 @@ impl Tally {
         text: &str,
     ) -> io::Result<()> {
         for line in text.lines() {
-            if let Some((line, wanted)) = asked(line) {
-                self.cases = self.cases.saturating_add(1);
-                if differs(rt, cases, line, wanted)? {
-                    self.differ = self.differ.saturating_add(1);
-                }
+            if is_between(line) {
+                continue;
+            }
+            self.cases = self.cases.saturating_add(1);
+            if differs(rt, cases, line)? {
+                self.differ = self.differ.saturating_add(1);
             }
         }
         Ok(())

@@ -3,7 +3,7 @@ ghost use Rattle.std.specs.Prelude.{◌≡◌, ◌<◌};
 
 use dcx_case_files::{Came, Given};
 use dcx_host::{Library, MemoryLibrary, MemorySink, Sink};
-use dcx_listing::{Asked, problem_lines, program_lines};
+use dcx_listing::{Asked, problem_lines, program_lines, short_report};
 use dcx_steps::Steps;
 use dcx_top::{Ended, run};
 use std::alloc::{AllocError, Global};
@@ -47,6 +47,23 @@ fn words_of(alloc: Global, text: &str) -> Result<Vec<String>, AllocError> {
     Ok(words)
 }
 
+/// The report of a run that has no memory, where the words ask for that.
+fn short(alloc: Global, words: &[String]) -> Result<Option<Came>, AllocError> {
+    let [verb, word] = words else {
+        return Ok(None);
+    };
+    if verb.as_str() != "short" {
+        return Ok(None);
+    }
+    match short_report(alloc, word.as_str())? {
+        Some(report) => Ok(Some(Came {
+            status: 0,
+            report,
+        })),
+        None => Ok(None),
+    }
+}
+
 /// Lines with status 0, and status 1 where there are none.
 fn came_of(alloc: Global, lines: Option<String>) -> Came {
     match lines {
@@ -79,10 +96,19 @@ fn asked(alloc: Global, words: &[String], given: &Given) -> Result<Option<Came>,
     Ok(Some(came_of(alloc, lines)))
 }
 
-/// What the program gives, or, for the verbs `gather`, `rows` and `map`, the lines of the problem or of its reduced program.
+/// What no command of the program shows, where the words ask for that.
+fn listed(alloc: Global, words: &[String], given: &Given) -> Result<Option<Came>, AllocError> {
+    match short(alloc, words)? {
+        Some(came) => Ok(Some(came)),
+        None => asked(alloc, words, given),
+    }
+}
+
+/// What the program gives, or, for the verbs `gather`, `rows` and `map`, the lines of the problem or of its reduced program, and for
+/// `short` the report of a run that has no memory.
 pub(crate) fn outcome(alloc: Global, given: Given) -> Result<Came, AllocError> {
     let words = words_of(alloc, given.words.as_str())?;
-    if let Some(came) = asked(alloc, &words, &given)? {
+    if let Some(came) = listed(alloc, &words, &given)? {
         return Ok(came);
     }
     let mut library = MemoryLibrary::new(given.files, given.reads);

@@ -1,6 +1,7 @@
-//! What a script stands for, as lines: its problem with the settings of its solves, or its reduced program.
+//! What a script stands for, as lines: its problem with the settings of its solves, or its reduced program. And the reports of runs that
+//! have no memory.
 //!
-//! They are for worked cases of what no report shows. No contract says what stands in them: the cases do.
+//! They are for worked cases of what no run over files in memory shows. No contract says what stands in them: the cases do.
 #![tactic(auto)]
 
 mod calls;
@@ -8,7 +9,9 @@ mod gathered;
 mod given;
 mod programs;
 mod reduced;
+mod short;
 mod stops;
 
 pub use gathered::problem_lines;
 pub use reduced::{Asked, program_lines};
+pub use short::short_report;
