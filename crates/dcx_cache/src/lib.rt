@@ -14,9 +14,9 @@
 //! | an answer is right for the problem at the setting, which fits | `Session::solve`, `laws::answers_are_right` |
 //! | a setting has one answer, with all its numbers, or one stop | `laws::one_answer` |
 //! | two right answers at a setting, as of a map and of a fresh reduction, have one status and one value | `laws::answers_agree` |
-//! | the pivot limit stops only a run whose limit is small | `laws::limits_are_small` |
+//! | the pivot limit stops only a run whose limit is below 2^(columns + 1) + rows | `laws::limits_are_small` |
 //! | the program, the answer of the rows and the tableau of the last answer are shown, and none after a stop | `Session::last`, `Session::tableau`, `Session::solve` |
-//! | a stop leaves nothing behind for the next setting | `Session::solve`: `same` |
+//! | a stop changes nothing for the next setting: the problem, its map and the kept columns stay | `Session::solve`: `same`, `columns` |
 //! | a session with a map counts no step at a setting, another one at most one for each node | `Session::solve` |
 //! | the basic columns of the last optimal answer are kept, and no other answer and no stop changes them | `Session::solve`, `Session::solve_warm`, `specs/Columns.antt`: `Keeps` |
 //! | a setting is answered by the warm run from these columns exactly where that is told, and else as without them | `Session::solve_warm`, `specs/Warm.antt`: `WarmAnswers` |

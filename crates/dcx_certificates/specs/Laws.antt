@@ -1,5 +1,5 @@
 -- What holds of all certificates.
-use Rattle.std.specs.Prelude.{◌≡◌, ⊤, ℕ, List, [], ◌∷◌, length}
+use Rattle.std.specs.Prelude.{◌≡◌, ⊤, ℕ, List, [], ◌∷◌, length, Option}
 use Rattle.dcx_point.specs.Pairs.{Pairs}
 use Rattle.dcx_tree.specs.declared.problem.Problem.{Problem}
 use Rattle.dcx_tree.specs.Meaning.{IsAccepted}
@@ -8,6 +8,7 @@ use Rattle.dcx_answer.specs.declared.answer.Answer.{Answer}
 use Rattle.dcx_answer.specs.declared.answer.Answer.TheVariants as answers
 use Rattle.dcx_sections.specs.declared.cert.Cert.{Cert}
 use Rattle.dcx_sections.specs.declared.cert.Cert.TheVariants as certs
+use Rattle.dcx_sections.specs.declared.weights.NodeWeights.{NodeWeights}
 use Rattle.dcx_sections.specs.declared.section.Section.{Section}
 use Rattle.dcx_sections.specs.declared.section.Section.TheVariants as sections
 use Rattle.dcx_sections.specs.declared.section.Sections.{Sections}
@@ -33,9 +34,26 @@ answer_of (certs.Optimal value point duals weights params) = answers.Optimal val
 answer_of (certs.Infeasible duals gap weights params) = answers.Infeasible duals gap
 answer_of (certs.Unbounded point ray bound slope params) = answers.Unbounded point ray bound slope
 
--- both are empty, or show the same answer, but for what its arrays hold past their ends
+-- the weights of a certificate, and the values that it tells of the parameters
+abbrev pub weights_of : Cert → List NodeWeights
+weights_of (certs.Optimal value point duals weights params) = weights
+weights_of (certs.Infeasible duals gap weights params) = weights
+weights_of (certs.Unbounded point ray bound slope params) = []
+
+abbrev pub params_of : Cert → Option Pairs
+params_of (certs.Optimal value point duals weights params) = params
+params_of (certs.Infeasible duals gap weights params) = params
+params_of (certs.Unbounded point ray bound slope params) = params
+
+-- they show the same answer, but for what its arrays hold past their ends, by the same weights, and tell the same values
+pub record IsSameCert (p : Problem) (c d : Cert) : Type 0 where
+  pub answer : IsSameAnswer p (answer_of c) (answer_of d)
+  pub weights : weights_of c ≡ weights_of d
+  pub params : params_of c ≡ params_of d
+
+-- both are empty, or are the same
 abbrev pub IsAlike : Problem → Section → Section → Type 0
-IsAlike p (sections.Cert c) (sections.Cert d) = IsSameAnswer p (answer_of c) (answer_of d)
+IsAlike p (sections.Cert c) (sections.Cert d) = IsSameCert p c d
 IsAlike p (sections.Cert c) sections.None = ⊥
 IsAlike p sections.None (sections.Cert d) = ⊥
 IsAlike p sections.None sections.None = ⊤

@@ -12,7 +12,7 @@ pub fn certificates_are_of()
 {}
 
 /// Settings of an accepted problem have one certificate: the same sections are empty, and the others show the same answers, but for what
-/// their arrays hold past their ends.
+/// their arrays hold past their ends, by the same weights, and tell the same values of the parameters.
 pub fn certificates_are_one()
     ensures { CertificatesAreOne }
 {}

@@ -7,7 +7,7 @@ use Rattle.dcx_tree.specs.Meaning.{IsFitting, IsDomainPoint, IsOptimal, IsInfeas
 use Rattle.dcx_sections.specs.declared.cert.Cert.{Cert}
 use Rattle.dcx_sections.specs.declared.cert.Cert.TheVariants.{Optimal, Infeasible, Unbounded}
 
--- The setting fits. An optimal certificate has a point that no point of the domain betters, as its multipliers show; an infeasible one
+-- The setting fits. An optimal certificate has a point that no feasible point betters, as its multipliers show; an infeasible one
 -- has multipliers that show that no point is feasible; an unbounded one has a feasible point from which the minimized objective falls for
 -- ever along its ray.
 abbrev pub IsShown : Problem → Pairs → Cert → Type 0

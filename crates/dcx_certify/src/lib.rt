@@ -2,7 +2,8 @@
 //!
 //! A certificate shows the answer to a problem at a setting by numbers that anyone can check. The checks go one after the other, and the
 //! first that fails tells why. Nothing is solved: what is formed are values of the problem's own expressions, coefficients that
-//! multipliers and weights hand on over them, and their steepness along a ray. The crate stands on neither the reduction nor the simplex.
+//! multipliers and weights hand on over them, and their steepness along a ray. The crate stands on neither the simplex nor the reduction, but
+//! for `dcx_unknowns`, which tells how many rows the graph of an atom has and which entries of a variable are one.
 //!
 //! | what must hold | where |
 //! |---|---|

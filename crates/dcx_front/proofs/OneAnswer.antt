@@ -13,8 +13,8 @@ use Rattle.dcx_kinds.specs.View.{Fails}
 use Rattle.dcx_state.specs.Ends.{roots_in}
 use Rattle.dcx_elab.specs.declared.work.Work.{Work}
 use Rattle.dcx_elab.specs.Meaning.{meaning, IsWork, Elaborates}
-use Rattle.dcx_front.specs.declared.refusal.Refusal.{Refusal}
-use Rattle.dcx_front.specs.declared.refusal.RefusalSource.TheVariants.{Script as OfScript}
+use Rattle.dcx_refusal.specs.declared.refusal.Refusal.{Refusal}
+use Rattle.dcx_refusal.specs.declared.refusal.RefusalSource.TheVariants.{Script as OfScript}
 use Rattle.dcx_front.specs.declared.fault.FrontFault.TheVariants.{Refused, Memory}
 use Rattle.dcx_front.specs.Accepts.{Ending, refused, without_memory, read_ending, elab_ending, IsRefusedBy, WantsMemory, Given, EndsAs, Judges, GivesOfScript, stands_for, faulty, Gives, spells, unread}
 use Rattle.dcx_front.specs.OneAnswer.{AreOneAnswer, HasOneAnswer}

@@ -14,16 +14,17 @@ use Rattle.dcx_rules.specs.declared.judgement.Judgement.{Judgement}
 use Rattle.dcx_rules.specs.declared.verdict.Finding.{Finding}
 use Rattle.dcx_rules.specs.Judgements.{judgement_of}
 use Rattle.dcx_rules.specs.Verdicts.{Findings, IsVerdictOf}
-use Rattle.dcx_front.specs.declared.checked.Checked.{Checked}
-use Rattle.dcx_front.specs.declared.refusal.Carried.{Carried}
-use Rattle.dcx_front.specs.declared.refusal.Carried.TheVariants as carried_is
-use Rattle.dcx_front.specs.declared.refusal.Refusal.{Refusal}
-use Rattle.dcx_front.specs.declared.refusal.RefusalSource.{RefusalSource}
-use Rattle.dcx_front.specs.declared.refusal.RefusalSource.TheVariants.{Script}
+use Rattle.dcx_refusal.specs.declared.checked.Checked.{Checked}
+use Rattle.dcx_refusal.specs.declared.refusal.Carried.{Carried}
+use Rattle.dcx_refusal.specs.declared.refusal.Carried.TheVariants as carried_is
+use Rattle.dcx_refusal.specs.declared.refusal.Refusal.{Refusal}
+use Rattle.dcx_refusal.specs.declared.refusal.RefusalSource.{RefusalSource}
+use Rattle.dcx_refusal.specs.declared.refusal.RefusalSource.TheVariants.{Script}
 use Rattle.dcx_front.specs.declared.fault.FrontFault.TheVariants.{Refused, Memory}
 use Rattle.dcx_front.specs.declared.accepted.Accepted.{Accepted}
-use Rattle.dcx_front.specs.Refusals.{is_refusal}
-use Rattle.dcx_front.specs.Checks.{IsRefusedAs, IsRefusedFor, IsFoundOf, site_place}
+use Rattle.dcx_refusal.specs.Refusals.{is_refusal}
+use Rattle.dcx_refusal.specs.Refusals.{IsRefusedAs}
+use Rattle.dcx_front.specs.Checks.{IsRefusedFor, IsFoundOf, site_place}
 use Rattle.dcx_front.specs.Accepts.{Given}
 use Rattle.dcx_front.specs.OneAnswer.{AreOneAnswer, HasOneJudgement}
 use Rattle.dcx_arena.proofs.OneGathering.{one_list}

@@ -9,7 +9,7 @@ use Rattle.dcx_kinds.specs.declared.fault.ElabFault.{ElabFault}
 use Rattle.dcx_kinds.specs.declared.fault.ElabFault.TheVariants as elabs
 use Rattle.dcx_elab.specs.declared.work.Work.{Work}
 use Rattle.dcx_elab.specs.Meaning.{Elaborates}
-use Rattle.dcx_front.specs.declared.refusal.Refusal.{Refusal}
+use Rattle.dcx_refusal.specs.declared.refusal.Refusal.{Refusal}
 use Rattle.dcx_front.specs.declared.fault.FrontFault.TheVariants.{Refused, Memory}
 use Rattle.dcx_front.specs.declared.accepted.Accepted.{Accepted}
 use Rattle.dcx_front.specs.Accepts.{read_ending, elab_ending, Given, EndsAs, IsJudged, stands_for, faulty, Gives, spells, unread}

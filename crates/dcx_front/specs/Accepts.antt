@@ -13,15 +13,16 @@ use Rattle.dcx_convex.specs.Nodes.{Setting}
 use Rattle.dcx_tree.specs.declared.problem.Problem.{Problem}
 use Rattle.dcx_tree.specs.Meaning.{Fits, IsAccepted, IsConvex}
 use Rattle.dcx_rules.specs.Verdicts.{Findings, IsVerdictOf, AreTrueOf}
-use Rattle.dcx_front.specs.declared.refusal.Carried.{Carried}
-use Rattle.dcx_front.specs.declared.refusal.Carried.TheVariants as carried_is
-use Rattle.dcx_front.specs.declared.refusal.Refusal.{Refusal}
-use Rattle.dcx_front.specs.declared.refusal.RefusalSource.{RefusalSource}
-use Rattle.dcx_front.specs.declared.refusal.RefusalSource.TheVariants.{Script as OfScript}
+use Rattle.dcx_refusal.specs.declared.refusal.Carried.{Carried}
+use Rattle.dcx_refusal.specs.declared.refusal.Carried.TheVariants as carried_is
+use Rattle.dcx_refusal.specs.declared.refusal.Refusal.{Refusal}
+use Rattle.dcx_refusal.specs.declared.refusal.RefusalSource.{RefusalSource}
+use Rattle.dcx_refusal.specs.declared.refusal.RefusalSource.TheVariants.{Script as OfScript}
 use Rattle.dcx_front.specs.declared.fault.FrontFault.{FrontFault}
 use Rattle.dcx_front.specs.declared.fault.FrontFault.TheVariants.{Refused, Memory}
 use Rattle.dcx_front.specs.declared.accepted.Accepted.{Accepted}
-use Rattle.dcx_front.specs.Checks.{IsRefusedAs, IsRefusedFor}
+use Rattle.dcx_refusal.specs.Refusals.{IsRefusedAs}
+use Rattle.dcx_front.specs.Checks.{IsRefusedFor}
 
 -- ---- faults
 -- how a fault is told: as a refusal of the file, or as want of memory

@@ -1,4 +1,4 @@
--- The refusals of files, and what is found of an accepted problem.
+-- The refusal of a problem that breaks a rule, and what is found of an accepted one.
 use Rattle.std.specs.Prelude.{◌≡◌, ◌↔◌, ℕ, IsTrue, length, Option, Some, option_map, slice_get}
 use Rattle.std.specs.List.{sum_by}
 use Rattle.dcx_shape.specs.declared.place.Place.{Place}
@@ -13,29 +13,13 @@ use Rattle.dcx_rules.specs.declared.fault.RuleSite.{RuleSite}
 use Rattle.dcx_rules.specs.declared.fault.RuleSite.TheVariants.{Node, Objective, Constraint}
 use Rattle.dcx_rules.specs.Curvatures.{curvature_at}
 use Rattle.dcx_rules.specs.Sites.{IsFirst}
-use Rattle.dcx_front.specs.declared.checked.Checked.{Checked}
-use Rattle.dcx_front.specs.declared.refusal.Carried.{Carried}
-use Rattle.dcx_front.specs.declared.refusal.Carried.TheVariants as carried_is
-use Rattle.dcx_front.specs.declared.refusal.Refusal.{Refusal}
-use Rattle.dcx_front.specs.declared.refusal.RefusalSource.{RefusalSource}
-use Rattle.dcx_front.specs.declared.refusal.RefusalSource.TheVariants.{Script}
+use Rattle.dcx_refusal.specs.declared.checked.Checked.{Checked}
+use Rattle.dcx_refusal.specs.declared.refusal.Carried.TheVariants as carried_is
+use Rattle.dcx_refusal.specs.declared.refusal.Refusal.{Refusal}
+use Rattle.dcx_refusal.specs.declared.refusal.RefusalSource.TheVariants.{Script}
+use Rattle.dcx_refusal.specs.Refusals.{IsRefusedAs}
 
 -- ---- refusals
--- the refusal of the file with this number, at this place, which says this
-pub record IsRefusedAs (source : RefusalSource) (number : ℕ) (place : Place) (carried : Carried) (r : Refusal) : Type 0 where
-  pub source_is : r.source ≡ source
-  pub number_is : r.number ≡ number
-  pub place_is : r.place ≡ place
-  pub carried_is : r.carried ≡ carried
-
--- where a file begins
-abbrev pub file_start : Place
-file_start = record { line = 1; column = 1 }
-
--- the refusal of a whole file for its length
-abbrev pub IsTooLong : RefusalSource → Refusal → Type 0
-IsTooLong source r = IsRefusedAs source 8 file_start carried_is.Nothing r
-
 -- where a site stands in the script; None where the problem has no such site
 abbrev pub site_place : Problem → RuleSite → Option Place
 site_place p (Node id) = place_at p.tree id.0

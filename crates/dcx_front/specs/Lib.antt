@@ -1,5 +1,4 @@
 -- What the contracts of this crate cite.
-pub mod Refusals
 pub mod Checks
 pub mod Accepts
 pub mod OneAnswer

@@ -2,9 +2,9 @@
 ghost use Rattle.dcx_rules.specs.Verdicts.{IsVerdictOf};
 ghost use Rattle.dcx_front.specs.Checks.{IsFoundOf};
 
-use crate::Checked;
 use crate::counts::{constraint_entries, parameter_entries, variable_entries};
 use dcx_elab::Work;
+use dcx_refusal::Checked;
 use dcx_rules::Verdict;
 use dcx_tree::Problem;
 

@@ -4,9 +4,10 @@ ghost use Rattle.dcx_front.specs.OneAnswer.{IsOnlyAnswer, IsVerdictOn};
 
 use crate::numbers::{faulty, unread};
 use crate::sites::not_dcp;
-use crate::{Accepted, FrontFault, RefusalSource};
+use crate::{Accepted, FrontFault};
 use dcx_elab::{Work, elaborate};
 use dcx_read::parse;
+use dcx_refusal::RefusalSource;
 use dcx_rules::{RuleFault, check};
 use dcx_syntax::Script;
 use std::alloc::Global;

@@ -1,5 +1,5 @@
 //! Why bytes give no accepted problem.
-use crate::Refusal;
+use dcx_refusal::Refusal;
 
 /// Why bytes give no accepted problem.
 #[derive(Clone, Copy, Debug, PartialEq, Eq)]

@@ -1,7 +1,7 @@
 //! From the bytes of a script to an accepted problem, with its settings and its verdict, or to the one refusal.
 //!
 //! Every word of the program enters here: `accept` reads the bytes, carries the script out, and has the rules judge its
-//! problem. Numbers of refusals stand in this crate alone.
+//! problem. What has which number is said in this crate alone; the numbers' names stand with the refusals, in `dcx_refusal`.
 //!
 //! | what must hold | where |
 //! |---|---|
@@ -12,24 +12,18 @@
 //! | what is told of an accepted problem is true of it: sense, sign, curvature and dpp, and each count | `Accepted::checked`, `IsFoundOf` of `specs/Checks.antt` |
 //! | the rules say one thing of a problem | `laws::one_judgement` |
 //! | a fault of reading has one number, whatever file it is of | `unread` |
-//! | a refusal that a command makes has its number, its place and what it says | `Refusal::too_long`, `Refusal::whole_variable`, `Refusal::not_ranged`, `IsRefusedAs` of `specs/Checks.antt` |
 //! | no name is declared twice, so that there are no more variables, and no more parameters, than nodes | `counts`, by `few_variables` and `few_parameters` of `proofs/Few.antt` in `dcx_tree` |
 #![tactic(auto)]
 
 mod accepted;
 mod accepting;
-mod checked;
 mod counts;
 mod fault;
 pub mod laws;
 mod numbers;
-mod refusal;
-mod refusing;
 mod sites;
 
 pub use accepted::Accepted;
 pub use accepting::accept;
-pub use checked::Checked;
 pub use fault::FrontFault;
 pub use numbers::unread;
-pub use refusal::{Carried, Refusal, RefusalSource};

@@ -1,10 +1,11 @@
 //! Faults of reading and of carrying out, by their numbers.
 ghost use Rattle.std.specs.Prelude.{IsTrue};
-ghost use Rattle.dcx_front.specs.Refusals.{is_refusal};
+ghost use Rattle.dcx_refusal.specs.Refusals.{is_refusal};
 ghost use Rattle.dcx_front.specs.Accepts.{refused, plainly, read_ending, elab_ending, Tells};
 
-use crate::{Carried, FrontFault, Refusal, RefusalSource};
+use crate::FrontFault;
 use dcx_kinds::ElabFault;
+use dcx_refusal::{Carried, Refusal, RefusalSource};
 use dcx_shape::Place;
 use dcx_tokens::ReadFault;
 

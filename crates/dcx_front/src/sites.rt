@@ -3,7 +3,7 @@ ghost use Rattle.std.specs.Prelude.{◌≡◌, Some};
 ghost use Rattle.dcx_rules.specs.Sites.{IsFirst};
 ghost use Rattle.dcx_front.specs.Checks.{site_place, IsRefusedFor};
 
-use crate::{Carried, Refusal, RefusalSource};
+use dcx_refusal::{Carried, Refusal, RefusalSource};
 use dcx_rules::{Rule, RuleSite};
 use dcx_shape::Place;
 use dcx_tree::Problem;

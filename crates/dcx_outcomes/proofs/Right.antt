@@ -1,6 +1,7 @@
 -- Each answer among the outcomes is right, and speaks of the problem.
 use Rattle.std.proofs.Common.{◌≡◌, ℕ, List, [], ◌∷◌, map, Ok, refl, ap₂, subst}
 use Rattle.std.specs.Prelude.{drop}
+use Rattle.dcx_frac.specs.declared.fraction.Frac.{Frac}
 use Rattle.dcx_shape.specs.Shape.{sides_of}
 use Rattle.dcx_atom.specs.declared.array.Array.{Array}
 use Rattle.dcx_point.specs.Pairs.{Pairs}
@@ -16,11 +17,11 @@ use Rattle.dcx_answer.specs.declared.answer.Answer.TheVariants.{Optimal, Infeasi
 use Rattle.dcx_outcomes.specs.declared.outcome.OutcomeEnd.{OutcomeEnd}
 use Rattle.dcx_unknowns.specs.Layout.{constraint_rows}
 use Rattle.dcx_postsolve.specs.Duals.{AreDuals}
-use Rattle.dcx_graph.specs.Answers.{IsRead}
+use Rattle.dcx_graph.specs.Answers.{IsPointRead, IsRead}
 use Rattle.dcx_cache.specs.Answers.{Answers}
 use Rattle.dcx_cache.proofs.Answered.{answers_are_right}
 use Rattle.dcx_outcomes.specs.Outcomes.{end_of}
-use Rattle.dcx_outcomes.specs.Right.{SpeaksOf, IsRightAnswer}
+use Rattle.dcx_outcomes.specs.Right.{IsPointFor, SpeaksOf, IsRightAnswer}
 use Rattle.dcx_outcomes.specs.Laws.{OutcomesAreRight}
 
 -- multipliers have the shapes of the constraints
@@ -30,10 +31,14 @@ shaped status [] notes (x ∷ xs) h = absurd h
 shaped status (c ∷ cs) notes [] h = absurd h
 shaped status (c ∷ cs) notes (x ∷ xs) (is, h) = ap₂ ◌∷◌ is.shape (shaped status cs (drop (constraint_rows c) notes) xs h)
 
+-- a point that is read has the variables' arrays
+point_for : (p : Problem) (kinds : List UnknownKind) (columns : List Frac) (point : Pairs) → IsPointRead p kinds columns point → IsPointFor p point
+point_for p kinds columns point at = record { names = at.of_variables.names; shaped = at.of_variables.shaped }
+
 pub speaks : (p : Problem) (kinds : List UnknownKind) (a : LpAnswer) (x : Answer) → IsRead p kinds a x → SpeaksOf p x
-speaks p kinds a (Optimal value point duals) (e, n, at, are) = (at.of_variables.names, shaped a.status p.constraints a.rows duals are)
+speaks p kinds a (Optimal value point duals) (e, n, at, are) = (point_for p kinds a.columns point at, shaped a.status p.constraints a.rows duals are)
 speaks p kinds a (Infeasible duals gap) (e, n, are) = shaped a.status p.constraints a.rows duals are
-speaks p kinds a (Unbounded point ray bound slope) (e, b, s, at, along) = (at.of_variables.names, along.of_variables.names)
+speaks p kinds a (Unbounded point ray bound slope) (e, b, s, at, along) = (point_for p kinds a.columns point at, point_for p kinds a.ray ray along)
 
 right_at : (p : Problem) (limit : ℕ) (s : Pairs) (a : Answer) → IsAccepted p → Answers p s limit (Ok a) → IsRightAnswer p s a
 right_at p limit s a ok (q, solved, h) =

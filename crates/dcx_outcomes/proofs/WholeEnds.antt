@@ -1,22 +1,23 @@
 -- What holds of the outcomes of settings at which a problem with marked variables is solved.
 use Rattle.std.proofs.Common.{◌≤◌, ℕ, [], length, Result, Ok, Err}
+use Rattle.std.specs.Prelude.{IfOk}
 use Rattle.dcx_frac.specs.declared.fraction.Frac.{Frac}
 use Rattle.dcx_point.specs.Pairs.{Pairs}
 use Rattle.dcx_tree.specs.declared.problem.Problem.{Problem}
-use Rattle.dcx_tree.specs.Meaning.{setting_of}
 use Rattle.dcx_outcomes.specs.declared.whole_outcome.WholeOutcome.{WholeOutcome}
 use Rattle.dcx_unknowns.specs.Unknowns.{variable_unknowns}
 use Rattle.dcx_graph.specs.Program.{Program}
 use Rattle.dcx_cache.specs.Programs.{SessionGives, mapped, anew}
 use Rattle.dcx_branch.specs.declared.answer.WholeAnswer.{WholeAnswer}
+use Rattle.dcx_branch.specs.declared.answer.WholeAnswer.TheVariants as answer
 use Rattle.dcx_branch.specs.declared.answer.BranchStop.{BranchStop}
 use Rattle.dcx_branch.specs.declared.answer.BranchStop.TheVariants as branch
-use Rattle.dcx_branch.specs.Answers.{IsRightFor, IsSameAnswer}
+use Rattle.dcx_branch.specs.Answers.{IsEndOf, IsSameAnswer}
 use Rattle.dcx_branch.proofs.Enough.{programs_have_unknowns}
 use Rattle.dcx_branch.proofs.OneRun.{runs_are_one}
-use Rattle.dcx_outcomes.specs.Asking.{AreOneEnd}
+use Rattle.dcx_outcomes.specs.Asking.{IsRightAt, AreOneEnd}
 use Rattle.dcx_outcomes.specs.Wholes.{most_nodes, WholeGives, whole_end}
-use Rattle.dcx_outcomes.specs.WholeLaws.{WholesAreRight, WholesAreOne}
+use Rattle.dcx_outcomes.specs.WholeLaws.{SpeaksOf, IsRightWhole, WholesAreRight, WholesAreOne}
 use Rattle.dcx_outcomes.proofs.Asked.{are_right, are_one}
 
 -- the unknowns of the variables are among those of a session's program
@@ -24,9 +25,18 @@ pub unknowns_there : (p : Problem) (setting : Pairs) (r : Program Frac) → Sess
 unknowns_there p setting r (mapped m is fixes) = programs_have_unknowns.affine p [] setting m r is.reduces fixes
 unknowns_there p setting r (anew none reduces) = programs_have_unknowns.numbers p setting r reduces
 
+-- the point in which a run ends has the variables' arrays
+speaks : (p : Problem) (q : Program Frac) (limit : ℕ) (a : WholeAnswer) → IsEndOf p q limit most_nodes (Ok a) → SpeaksOf p a
+speaks p q limit (answer.Optimal number point tree nodes) (few, ends) = record { names = ends.point_is.of_variables.names; shaped = ends.point_is.of_variables.shaped }
+speaks p q limit (answer.Infeasible tree nodes) ends = tt
+
+right_whole : (p : Problem) (limit : ℕ) (s : Pairs) (q : Program Frac) (r : Result WholeAnswer BranchStop) → WholeGives limit p s q r → IfOk r (IsRightAt p s (IsRightWhole p s))
+right_whole p limit s q (Ok a) g = record { fits = g.right.fits; right = record { right = g.right.right; speaks = speaks p q limit a g.ends } }
+right_whole p limit s q (Err e) g = tt
+
 pub wholes_are_right : WholesAreRight
 wholes_are_right p limit settings outcomes h =
-    are_right (WholeGives limit) (λ (o : WholeOutcome). whole_end o.end) (λ (o : WholeOutcome). o.place) p (λ s. IsRightFor p (setting_of p s)) (λ s q r g. g.right) settings outcomes h
+    are_right (WholeGives limit) (λ (o : WholeOutcome). whole_end o.end) (λ (o : WholeOutcome). o.place) p (IsRightWhole p) (right_whole p limit) settings outcomes h
 
 -- a run over a program has one end
 one_answer : (p : Problem) (limit : ℕ) (s : Pairs) (q : Program Frac) (x y : Result WholeAnswer BranchStop) → WholeGives limit p s q x → WholeGives limit p s q y → AreOneEnd branch.Memory (IsSameAnswer p) (Ok x) (Ok y)

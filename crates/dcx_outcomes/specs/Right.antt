@@ -1,8 +1,10 @@
 -- What is right of the outcomes of settings.
 use Rattle.std.specs.Prelude.{◌≡◌, ℕ, List, length, map, Some, slice_get}
+use Rattle.std.specs.List.{All}
 use Rattle.dcx_shape.specs.Shape.{sides_of}
 use Rattle.dcx_atom.specs.declared.array.Array.{Array}
 use Rattle.dcx_point.specs.Pairs.{Pairs, names_of}
+use Rattle.dcx_call.specs.Values.{HasArray}
 use Rattle.dcx_tree.specs.declared.problem.Problem.{Problem}
 use Rattle.dcx_tree.specs.Meaning.{IsFitting, names_in, setting_of}
 use Rattle.dcx_answer.specs.declared.answer.Answer.{Answer}
@@ -11,9 +13,10 @@ use Rattle.dcx_outcomes.specs.declared.outcome.Outcome.{Outcome}
 use Rattle.dcx_outcomes.specs.declared.outcome.OutcomeEnd.TheVariants as the
 use Rattle.dcx_graph.specs.Answers.{IsRightFor}
 
--- a point names the variables of the problem, in order of declaration
-abbrev pub IsNamed : Problem → Pairs → Type 0
-IsNamed p point = names_of point ≡ (names_in p).variables
+-- a point has an array of its shape for each variable of the problem, in order of declaration, and for nothing else
+pub record IsPointFor (p : Problem) (point : Pairs) : Type 0 where
+  pub names : names_of point ≡ (names_in p).variables
+  pub shaped : All (λ v. HasArray point v.name (sides_of v.shape)) p.variables
 
 -- the multipliers of each constraint have its shape, in order
 abbrev pub AreShaped : Problem → List Array → Type 0
@@ -21,9 +24,9 @@ AreShaped p duals = map (λ a. sides_of a.shape) duals ≡ map (λ c. sides_of c
 
 -- the answer speaks of the variables and the constraints of the problem
 abbrev pub SpeaksOf : Problem → Answer → Type 0
-SpeaksOf p (Optimal value point duals) = IsNamed p point × AreShaped p duals
+SpeaksOf p (Optimal value point duals) = IsPointFor p point × AreShaped p duals
 SpeaksOf p (Infeasible duals gap) = AreShaped p duals
-SpeaksOf p (Unbounded point ray bound slope) = IsNamed p point × IsNamed p ray
+SpeaksOf p (Unbounded point ray bound slope) = IsPointFor p point × IsPointFor p ray
 
 -- The setting fits, and the answer shows itself right there: an optimal point is feasible and the multipliers bound its value; or
 -- multipliers show that no point is feasible; or from a feasible point along a ray the objective falls for ever.

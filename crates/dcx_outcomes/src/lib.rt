@@ -4,21 +4,21 @@
 //! |---|---|
 //! | an outcome has a place exactly where its stop names a node | `Outcome`, `FilterOutcome`, `RangeOutcome`, `WholeOutcome`, `names_node` of `specs/NodeStops.antt` |
 //! | there is one outcome for each setting, in order: the session's answer, or its stop with the place of the node that it names | `outcomes`, `specs/Outcomes.antt`: `AreOutcomes` |
-//! | each answer among them is right for the problem at its setting, which fits, and has the names and shapes of the problem | `laws::outcomes_are_right` |
+//! | each answer among them is right for the problem at its setting, which fits; its points have an array of its shape for each variable, in order, and its multipliers the shapes of the constraints | `laws::outcomes_are_right`, `specs/Right.antt`: `IsRightAnswer` |
 //! | settings have one list of outcomes; want of memory is free | `laws::outcomes_are_one` |
 //! | where it is wanted, each setting is answered from the columns that the settings before it left, where that can be, and those that are answered so are counted | `outcomes`, `specs/Warm.antt`: `AreWarmOutcomes` |
 //! | a warm answer is right too; it has the status and the value of the fresh one whenever both answer, and a warm stop is the fresh one's | `laws::warm_outcomes_are_right`, `laws::warm_outcomes_agree` |
 //! | settings have one list of warm outcomes and one count of them, until memory runs out at a setting | `laws::warm_outcomes_are_one` |
 //! | a question is asked of the session's program at each setting, in order: its answer, or what stops the program with the place of the node that it names | `asking.rt`: `Question`, `specs/Asking.antt`: `AreAskedOutcomes` |
 //! | constraints are filtered at each setting, in order: what the filter of a session's program finds, or what stops it | `filter_outcomes`, `specs/Filters.antt`: `AreFilterOutcomes` |
-//! | whatever it finds is right for the problem at its setting, which fits | `laws::filters_are_right` |
+//! | whatever it finds is right for the problem at its setting, which fits: `dcx_iis::filter` ensures it of each setting | `laws::filters_are_right` |
 //! | settings have one list of what is found, or of stops; want of memory is free | `laws::filters_are_one` |
 //! | a problem with marked variables is solved at each setting, in order: how the run of nodes over a session's program ends, of at most 10,000 nodes | `whole_outcomes`, `specs/Wholes.antt`: `AreWholeOutcomes` |
-//! | each answer among them is a whole optimum, or that there is no whole point, at its setting, which fits, with a tree that shows it | `laws::wholes_are_right` |
+//! | each answer among them is a whole optimum, or that there is no whole point, at its setting, which fits, with a tree that shows it, as `dcx_branch::branch` ensures of each setting; its point has an array of its shape for each variable, in order | `laws::wholes_are_right`, `specs/WholeLaws.antt`: `IsRightWhole` |
 //! | settings have one list of them; want of memory is free | `laws::wholes_are_one` |
 //! | one thing stands against the range of a parameter, and nothing where it has one | `laws::range_is_told`, `specs/Ranges.antt`: `HasRange`, `LacksRange` |
 //! | the range of a parameter is told at each setting, in order: for a session's program, or what stops it; no step is counted | `range_outcomes`, `specs/Ranges.antt`: `AreRangeOutcomes` |
-//! | whatever is told of it is right for the problem at its setting, which fits | `laws::ranges_are_right` |
+//! | whatever is told of it is right for the problem at its setting, which fits: `dcx_range::range` ensures it of each setting | `laws::ranges_are_right` |
 //! | settings have one list of what is told of it, or of stops; want of memory is free | `laws::ranges_are_one` |
 //! | a problem that has a map is reduced once for all settings, another one at most once more at each | `outcomes`, `filter_outcomes`, `whole_outcomes`: `counted` |
 #![tactic(auto)]

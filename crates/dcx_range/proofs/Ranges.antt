@@ -1,13 +1,14 @@
 -- What is answered of a range is what is told of it.
 use Rattle.std.proofs.Common.{◌≡◌, ℕ, ◌<◌, ◌≤◌, ◌^◌, false, List, length, Ok, Err, Result, IfOk, IfErr, sym, ap, ◌∙◌, subst, arith, unsigned_abs}
-use Rattle.dcx_math.specs.Rational.{◌+ℚ◌, ◌*ℚ◌}
+use Rattle.dcx_math.specs.Rational.{ℚ, ◌+ℚ◌, ◌*ℚ◌}
 use Rattle.dcx_frac.specs.declared.fraction.Frac.{Frac}
 use Rattle.dcx_frac.specs.declared.fraction.Passes.{Passes}
 use Rattle.dcx_frac.specs.Frac.{value}
 use Rattle.dcx_atom.specs.Formed.{and_then}
 use Rattle.dcx_point.specs.Pairs.{Pairs}
+use Rattle.dcx_convex.specs.Rules.{Parametrized}
 use Rattle.dcx_tree.specs.declared.problem.Problem.{Problem}
-use Rattle.dcx_tree.specs.Meaning.{Fits, IsFitting, setting_of}
+use Rattle.dcx_tree.specs.Meaning.{Fits, IsFitting, convex_problem, setting_of}
 use Rattle.dcx_linear.specs.declared.param_form.ParamForm.{ParamForm}
 use Rattle.dcx_linear.specs.Parameters.{Parameters}
 use Rattle.dcx_tab.specs.declared.rows.IntRow.{IntRow}
@@ -19,7 +20,10 @@ use Rattle.dcx_chained.specs.declared.chained.Chained.{Chained}
 use Rattle.dcx_chained.specs.Tables.{table_of}
 use Rattle.dcx_chained.proofs.RowReads.{length-rows_of, row_at-rows_of}
 use Rattle.dcx_lp_answer.specs.declared.answer.LpAnswer.{LpAnswer}
+use Rattle.dcx_lp_answer.specs.declared.answer.LpStatus.{LpStatus}
 use Rattle.dcx_lp_answer.specs.declared.answer.LpStatus.TheVariants as status
+use Rattle.dcx_lp_answer.specs.Notes.{numbers}
+use Rattle.dcx_lp_answer.specs.Right.{multiplier_at}
 use Rattle.dcx_simplex.specs.Whole.{RunEnds}
 use Rattle.dcx_simplex.specs.declared.run.LpEnd.{LpEnd}
 use Rattle.dcx_simplex.specs.declared.run.LpEnd.TheVariants as lp
@@ -27,16 +31,23 @@ use Rattle.dcx_simplex.specs.Reading.{IsReading, IsRead}
 use Rattle.dcx_simplex.proofs.Ended.{Shown, shown_optimal}
 use Rattle.dcx_std.specs.GivenRows.{GivenRows, given}
 use Rattle.dcx_std.specs.IntegerRows.{IsFitting as HasFew}
-use Rattle.dcx_std.specs.Solutions.{HasKinds}
+use Rattle.dcx_std.specs.Solutions.{linear_program, unknowns_at, HasKinds}
+use Rattle.dcx_std.specs.Answers.{IsRightForRowsAs}
 use Rattle.dcx_std.proofs.ScaledProgram.{scaled_program}
+use Rattle.dcx_std.proofs.RightAnswers.{shown_of}
 use Rattle.dcx_solved.specs.declared.solving.Solved.{Solved}
 use Rattle.dcx_solved.specs.declared.stop.SolveStop.{SolveStop}
 use Rattle.dcx_solved.specs.declared.stop.SolveStop.TheVariants as solves
 use Rattle.dcx_solved.specs.Solved.{IsSolved, Stops}
+use Rattle.dcx_unknowns.specs.Unknowns.{point_at}
+use Rattle.dcx_mapping.specs.Programs.{multipliers_of}
 use Rattle.dcx_graph.specs.Program.{Program}
 use Rattle.dcx_graph.specs.Answers.{rows_of}
 use Rattle.dcx_graph.specs.Fixing.{FixGives}
-use Rattle.dcx_graph.proofs.Correct.{affine_are_known}
+use Rattle.dcx_graph.specs.Backward.{CarriesOver}
+use Rattle.dcx_graph.proofs.AtSetting.{fixed_are_reductions}
+use Rattle.dcx_graph.proofs.Backward.{answers_carry_over}
+use Rattle.dcx_graph.proofs.Correct.{affine_are_known, affine_are_reductions}
 use Rattle.dcx_range.specs.declared.rates.Rate.{Rate}
 use Rattle.dcx_range.specs.declared.ends.Ends.{Ends}
 use Rattle.dcx_range.specs.declared.asked.Asked.{Asked}
@@ -48,12 +59,12 @@ use Rattle.dcx_range.specs.Parameters.{scales, IsNumber, IsRanged}
 use Rattle.dcx_range.specs.Stops.{StopsAt, IsOfRun, IsToldAs}
 use Rattle.dcx_range.specs.Operations.{rates_of, ends_from, no_ends, sign_ends, slope_of, constant_of, span, finished, operations}
 use Rattle.dcx_range.specs.Interval.{DifferAt, IsBetween}
-use Rattle.dcx_range.specs.Range.{IsMapOf, IsAsked, IsKnown, formed, EndsInfeasible, EndsUnbounded, RangeGives, HasValue, HoldsOn}
+use Rattle.dcx_range.specs.Range.{IsMapOf, IsAsked, IsKnown, formed, EndsInfeasible, EndsUnbounded, RangeGives, HasValue, HasNoPoint, HasNoLeast, HoldsOn}
 use Rattle.dcx_range.proofs.Exact.{both_formed}
 use Rattle.dcx_range.proofs.Few.{is_fitting}
 use Rattle.dcx_range.proofs.Law.{row_kinds, rows_count}
 use Rattle.dcx_range.proofs.Named.{same_place}
-use Rattle.dcx_range.proofs.Spans.{here, interval, holds_along}
+use Rattle.dcx_range.proofs.Spans.{at_value, here, interval, holds_along}
 
 -- ---- the tableau of the run
 -- its numbers fit 128 bits
@@ -124,6 +135,34 @@ module _ (p : Problem) (setting : Pairs) (name : List ℕ) (m : Program ParamFor
         let end = unbounded_end limit (first_tableau s.program) s.program.rows s.program.columns (table_of s.tableau) s.answer is.solved.end is.solved.run is.solved.read e in
         record { integer = s.program; made = is.made; pivots = end.0; column = end.1; ends = record { last = table_of s.tableau; run = end.2 } }
 
+    -- ---- what is right for the rows is right for the problem
+    carries_over : CarriesOver p (setting_of p setting) (linear_program (rows_of r))
+    carries_over =
+        answers_carry_over Parametrized p (setting_of p setting) (linear_program (rows_of r)) map.dpp.1 fits.fits
+        (fixed_are_reductions Parametrized p setting m r (setting_of p setting) (affine_are_known p map.unread m map.reduces) fits.shaped put (affine_are_reductions p map.unread m map.dpp map.reduces (setting_of p setting)))
+
+    pub has_no_point : HasKinds (rows_of r) → s.answer.status ≡ status.Infeasible → HasNoPoint p (setting_of p setting)
+    has_no_point known e =
+        let right = subst (λ (t : LpStatus). IsRightForRowsAs t (rows_of r) s.program s.answer) e (shown_of (rows_of r) s.program known (scaled_program (rows_of r) s.program is.made) s.answer is.solved.right) in
+        record {
+          multipliers = multipliers_of (convex_problem p) (multiplier_at s.program.columns s.answer);
+          gap = value s.answer.number;
+          infeasible = carries_over.infeasible (value s.answer.number) (multiplier_at s.program.columns s.answer) right;
+        }
+
+    pub has_no_least : HasKinds (rows_of r) → s.answer.status ≡ status.Unbounded → HasNoLeast p (setting_of p setting)
+    has_no_least known e =
+        let x = unknowns_at s.program.columns (numbers s.answer.columns) in
+        let d = unknowns_at s.program.columns (numbers s.answer.ray) in
+        let right = subst (λ (t : LpStatus). IsRightForRowsAs t (rows_of r) s.program s.answer) e (shown_of (rows_of r) s.program known (scaled_program (rows_of r) s.program is.made) s.answer is.solved.right) in
+        record {
+          point = point_at p.variables x;
+          ray = point_at p.variables d;
+          bound = value s.answer.number;
+          slope = value s.answer.slope;
+          unbounded = carries_over.unbounded x d (value s.answer.number) (value s.answer.slope) right;
+        }
+
     -- ---- an optimal end
     module _ (known : HasKinds (rows_of r)) (ranged : IsRanged p m name) (optimal : s.answer.status ≡ status.Optimal) (asked : Asked) (of : IsAsked p setting name asked) where
       abbrev ending : (n : ℕ) × RunEnds limit (first_tableau s.program) (table_of s.tableau) (lp.Optimal n) × IsReading s.program.rows s.program.columns (table_of s.tableau) status.Optimal s.answer
@@ -179,17 +218,25 @@ module _ (p : Problem) (setting : Pairs) (name : List ℕ) (m : Program ParamFor
           let small = small_at s.tableau in
           let at = asked.at in
           let n = of.number in
-          let over = holds_along p setting name m map.unread map.dpp map.reduces fits r put n free constants at of.at_is s.program is.made known limit ending.0 u ending.1 s.answer ending.2 small hs rates e ends slope constant slope_is constant_is in (
+          let over = holds_along p setting name m map.unread map.dpp map.reduces fits r put n free constants at of.at_is s.program is.made known limit ending.0 u ending.1 s.answer ending.2 small hs rates e ends slope constant slope_is constant_is in
+          let within = here p setting name m map.unread map.dpp map.reduces fits r put n free constants at of.at_is s.program is.made known limit ending.0 u ending.1 s.answer ending.2 small hs rates e ends in
+          let same = λ (k : IsNumber p name). same_place p name n.at k.at n.named.place k.named.place in (
             record {
               known = is_known;
               numbers = numbers;
               interval = interval p setting name m map.unread map.dpp map.reduces fits r put n free constants at of.at_is s.program is.made known limit ending.0 u ending.1 s.answer ending.2 small hs rates e ends;
-              holds = here p setting name m map.unread map.dpp map.reduces fits r put n free constants at of.at_is s.program is.made known limit ending.0 u ending.1 s.answer ending.2 small hs rates e ends;
+              holds = within;
             },
-            λ k t fit differ between. along n k (same_place p name n.at k.at n.named.place k.named.place) (sign_ends n.parameter.attribute e) slope constant over t fit differ between,
+            record {
+              here = λ k. between n k (same k) (sign_ends n.parameter.attribute e) (value at) (at_value p setting name m map.unread map.dpp map.reduces fits r put n free constants at of.at_is) within;
+              along = λ k t fit differ is_in. along n k (same k) (sign_ends n.parameter.attribute e) slope constant over t fit differ is_in;
+            },
           )
         where
           -- the parameter of a name has one position
+          between : (n k : IsNumber p name) → n.at ≡ k.at → (e : Ends) (v : ℚ) → setting_of p setting n.at 0 ≡ v → IsBetween e.low e.high v → IsBetween e.low e.high (setting_of p setting k.at 0)
+          between n k same e v is is_in = subst (IsBetween e.low e.high) (sym is ∙ ap (λ i. setting_of p setting i 0) same) is_in
+
           along : (n k : IsNumber p name) → n.at ≡ k.at → (e : Ends) (slope constant : Frac)
               → ((t : Parameters) → Fits p t → DifferAt n.at (setting_of p setting) t → IsBetween e.low e.high (t n.at 0) → HasValue p t (value constant +ℚ value slope *ℚ t n.at 0))
               → (t : Parameters) → Fits p t → DifferAt k.at (setting_of p setting) t → IsBetween e.low e.high (t k.at 0) → HasValue p t (value constant +ℚ value slope *ℚ t k.at 0)

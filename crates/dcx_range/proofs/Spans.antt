@@ -111,7 +111,7 @@ module _ (p : Problem) (setting : Pairs) (name : List ℕ) (m : Program ParamFor
   named =
       slice_get-map (λ (q : Parameter). q.name) p.parameters n.at ∙ ap (option_map (λ (q : Parameter). q.name)) n.named.there ∙ ap Some named_so
 
-  at_value : s n.at 0 ≡ value at
+  pub at_value : s n.at 0 ≡ value at
   at_value = stands_for p setting n.at name 0 at named at_is
 
   given_value : given_by setting n.parameter.name 0 ≡ value at

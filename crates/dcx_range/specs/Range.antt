@@ -1,5 +1,5 @@
 -- What is told of the range of a parameter.
-use Rattle.std.specs.Prelude.{◌≡◌, ⊤, ℕ, ◌↔◌, List, Some, Result, Ok, Err}
+use Rattle.std.specs.Prelude.{◌≡◌, ⊤, ℕ, ◌↔◌, List, Option, Some, Result, Ok, Err}
 use Rattle.dcx_math.specs.Rational.{ℚ, ◌+ℚ◌, ◌*ℚ◌}
 use Rattle.dcx_frac.specs.declared.fraction.Frac.{Frac}
 use Rattle.dcx_frac.specs.declared.fraction.Passes.{Passes}
@@ -8,7 +8,7 @@ use Rattle.dcx_point.specs.Pairs.{Pairs}
 use Rattle.dcx_convex.specs.Nodes.{Setting, Point}
 use Rattle.dcx_convex.specs.Answers.{Multipliers}
 use Rattle.dcx_tree.specs.declared.problem.Problem.{Problem}
-use Rattle.dcx_tree.specs.Meaning.{IsDpp, Fits, IsOptimal, setting_of}
+use Rattle.dcx_tree.specs.Meaning.{IsDpp, Fits, IsOptimal, IsInfeasible, IsUnbounded, setting_of}
 use Rattle.dcx_linear.specs.declared.param_form.ParamForm.{ParamForm}
 use Rattle.dcx_linear.specs.Parameters.{entry_of}
 use Rattle.dcx_tab.specs.declared.program.Program as tab
@@ -115,10 +115,28 @@ pub record HasValue (p : Problem) (s : Setting) (v : ℚ) : Type 0 where
   pub multipliers : Multipliers
   pub optimal : IsOptimal p s v point multipliers
 
--- at each setting that fits and differs from this one by a value of the parameter in the span alone, the problem has the value on the
--- line
+-- some multipliers show that no point is feasible
+pub record HasNoPoint (p : Problem) (s : Setting) : Type 0 where
+  pub multipliers : Multipliers
+  pub gap : ℚ
+  pub infeasible : IsInfeasible p s multipliers gap
+
+-- from some feasible point along some ray the objective falls for ever
+pub record HasNoLeast (p : Problem) (s : Setting) : Type 0 where
+  pub point : Point
+  pub ray : Point
+  pub bound : ℚ
+  pub slope : ℚ
+  pub unbounded : IsUnbounded p s point ray bound slope
+
+-- the parameter's value at the setting is in the span; and at each setting that fits and differs from it by a value of the parameter in
+-- the span alone, the problem has the value on the line
+pub record HoldsAlong (p : Problem) (s : Setting) (name : List ℕ) (low high : Option Frac) (constant slope : Frac) : Type 0 where
+  pub here : (n : IsNumber p name) → IsBetween low high (s n.at 0)
+  pub along : (n : IsNumber p name) (t : Setting) → Fits p t → DifferAt n.at s t → IsBetween low high (t n.at 0) → HasValue p t (value constant +ℚ value slope *ℚ t n.at 0)
+
+-- what is told of the parameter is true of the problem
 abbrev pub HoldsOn : Problem → Setting → List ℕ → Ranged → Type 0
-HoldsOn p s name (Span low high constant slope) =
-    (n : IsNumber p name) (t : Setting) → Fits p t → DifferAt n.at s t → IsBetween low high (t n.at 0) → HasValue p t (value constant +ℚ value slope *ℚ t n.at 0)
-HoldsOn p s name Infeasible = ⊤
-HoldsOn p s name Unbounded = ⊤
+HoldsOn p s name (Span low high constant slope) = HoldsAlong p s name low high constant slope
+HoldsOn p s name Infeasible = HasNoPoint p s
+HoldsOn p s name Unbounded = HasNoLeast p s

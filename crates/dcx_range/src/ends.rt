@@ -3,12 +3,11 @@ ghost use Rattle.std.specs.Prelude.{◌≡◌, ◌≢◌, ℕ, ◌+◌, ◌<◌,
 ghost use Rattle.std.specs.List.{All};
 ghost use Rattle.dcx_math.specs.Rational.{whole};
 ghost use Rattle.dcx_frac.specs.Frac.{value};
-ghost use Rattle.dcx_atom.specs.Entrywise.{added_product};
 ghost use Rattle.dcx_range.specs.Operations.{change_at, greater, lesser, from_on, up_to, with_end, zero_of, row_ends, next_ends, ends_from, no_ends, sign_ends};
 
-use crate::numbers::{is_negative, is_zero, zero};
+use crate::numbers::{is_nonpos, is_zero, zero};
 use crate::rates::Rate;
-use dcx_atom::is_at_most;
+use dcx_atom::{add_product, is_at_most};
 use dcx_call::Attribute;
 use dcx_frac::{Frac, Passes};
 use dcx_std::integer;
@@ -84,16 +83,6 @@ pub(crate) fn sign_ends(attribute: Attribute, ends: Ends) -> Ends
     }
 }
 
-/// The sum with a product besides, which is formed first.
-fn added(sum: Frac, x: Frac, y: Frac) -> Result<Frac, Passes>
-    ensures { result ≡ added_product sum (x, y) }
-{
-    match Frac::mul(x, y) {
-        Ok(product) => Frac::add(sum, product),
-        Err(passes) => Err(passes),
-    }
-}
-
 /// How the right side of row `i` changes, where the right sides of the first rows change so.
 ///
 /// `Passes` where an operation passes 128 bits: the first one.
@@ -105,7 +94,7 @@ pub(crate) fn change<T: Tableau>(tableau: &T, i: u32, rates: &[Rate]) -> Result<
     let mut sum = zero();
     'rates: for rate in rates {
         let entry = integer(tableau.entry(i, rate.column));
-        match added(sum, rate.change, entry) {
+        match add_product(sum, rate.change, entry) {
             Ok(next) => sum = next,
             Err(passes) => return Err(passes),
         }
@@ -128,7 +117,7 @@ fn zero_of(at: Frac, right: Frac, change: Frac) -> Result<Frac, Passes>
 fn with_end(change: Frac, x: Frac, ends: Ends) -> Ends
     ensures { result ≡ with_end change x ends }
 {
-    if is_negative(change) {
+    if is_nonpos(change) {
         up_to(x, ends)
     } else {
         from_on(x, ends)

@@ -21,8 +21,8 @@ pub(crate) fn is_zero(x: Frac) -> bool
     x.is_zero()
 }
 
-/// Whether a number that isn't 0 is below 0.
-pub(crate) fn is_negative(x: Frac) -> bool
+/// Whether a number is at most 0.
+pub(crate) fn is_nonpos(x: Frac) -> bool
     ensures { result ≡ rat_le (value x) (value zero_frac) }
 {
     is_at_most(&x, &zero())

@@ -5,7 +5,7 @@ use Rattle.dcx_tree.specs.declared.constraint.Sense.{Sense}
 use Rattle.dcx_tree.specs.declared.constraint.Sense.TheVariants.{Minimize, Maximize}
 use Rattle.dcx_rules.specs.declared.curvature.Curvature.{Curvature}
 use Rattle.dcx_rules.specs.declared.curvature.Curvature.TheVariants.{Constant, Affine, Convex, Concave}
-use Rattle.dcx_front.specs.declared.checked.Checked.{Checked}
+use Rattle.dcx_refusal.specs.declared.checked.Checked.{Checked}
 
 -- which way the objective goes
 unfoldable pub sense_text : Sense → List ℕ

@@ -1,10 +1,10 @@
 -- The line of a refusal.
 use Rattle.std.specs.Prelude.{ℕ, List, [], ◌++◌, codes, decimal}
-use Rattle.dcx_front.specs.declared.refusal.Refusal.{Refusal}
-use Rattle.dcx_front.specs.declared.refusal.RefusalSource.{RefusalSource}
-use Rattle.dcx_front.specs.declared.refusal.RefusalSource.TheVariants.{Script, Settings, Certificate}
-use Rattle.dcx_front.specs.declared.refusal.Carried.{Carried}
-use Rattle.dcx_front.specs.declared.refusal.Carried.TheVariants as carried
+use Rattle.dcx_refusal.specs.declared.refusal.Refusal.{Refusal}
+use Rattle.dcx_refusal.specs.declared.refusal.RefusalSource.{RefusalSource}
+use Rattle.dcx_refusal.specs.declared.refusal.RefusalSource.TheVariants.{Script, Settings, Certificate}
+use Rattle.dcx_refusal.specs.declared.refusal.Carried.{Carried}
+use Rattle.dcx_refusal.specs.declared.refusal.Carried.TheVariants as carried
 use Rattle.dcx_arena.specs.declared.fault.Count.{Count}
 use Rattle.dcx_arena.specs.declared.fault.Count.TheVariants.{Nodes, Entries, Items, Steps, Events}
 use Rattle.dcx_rules.specs.declared.fault.Rule.{Rule}
@@ -12,7 +12,7 @@ use Rattle.dcx_rules.specs.declared.fault.Rule.TheVariants.{Composition, Minimiz
 use Rattle.dcx_ranged.specs.declared.not_ranged.NotRanged.{NotRanged}
 use Rattle.dcx_ranged.specs.declared.not_ranged.NotRanged.TheVariants.{Unknown, Shape, Map, Coefficient}
 use Rattle.dcx_report.specs.Pieces.{place_text, passes_text}
-use Rattle.dcx_front.specs.Refusals.{refusal_name}
+use Rattle.dcx_refusal.specs.Refusals.{refusal_name}
 
 -- the file that is refused
 unfoldable pub source_text : RefusalSource → List ℕ

@@ -3,8 +3,8 @@ ghost use Rattle.std.specs.Prelude.{◌≡◌, ◌++◌, OnOk};
 ghost use Rattle.dcx_report.specs.CheckText.{sense_text, sign_text, curvature_text, objective_line, dpp_line, size_line, checked_text};
 
 use dcx_atom::Sign;
-use dcx_front::Checked;
 use dcx_lines::{put_bytes, put_number};
+use dcx_refusal::Checked;
 use dcx_rules::Curvature;
 use dcx_tree::Sense;
 use std::alloc::AllocError;

@@ -1,7 +1,7 @@
 //! How a run ends.
 
 use crate::{FilterOutcomes, Outcomes, RangeOutcomes, Refusal, Sense, WholeOutcomes};
-use dcx_front::Checked;
+use dcx_refusal::Checked;
 use dcx_sections::CertFault;
 use dcx_shape::{Bytes, Name};
 

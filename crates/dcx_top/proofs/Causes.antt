@@ -19,11 +19,11 @@ use Rattle.dcx_certificates.specs.Checking.{is_cert, ArePassed, IsFirstRefused}
 use Rattle.dcx_certificates.specs.Migrating.{IsMigrated}
 use Rattle.dcx_host.specs.Files.{Files, IsTold}
 use Rattle.dcx_front.specs.declared.accepted.Accepted.{Accepted}
-use Rattle.dcx_front.specs.declared.checked.Checked.{Checked}
+use Rattle.dcx_refusal.specs.declared.checked.Checked.{Checked}
 use Rattle.dcx_front.specs.declared.fault.FrontFault.{FrontFault}
 use Rattle.dcx_front.specs.declared.fault.FrontFault.TheVariants as front
-use Rattle.dcx_front.specs.declared.refusal.Refusal.{Refusal}
-use Rattle.dcx_front.specs.declared.refusal.RefusalSource.TheVariants.{Script, Settings}
+use Rattle.dcx_refusal.specs.declared.refusal.Refusal.{Refusal}
+use Rattle.dcx_refusal.specs.declared.refusal.RefusalSource.TheVariants.{Script, Settings}
 use Rattle.dcx_front.specs.Checks.{IsFoundOf}
 use Rattle.dcx_front.specs.Accepts.{Gives, IsJudged}
 use Rattle.dcx_front.proofs.OneVerdict.{acceptance}

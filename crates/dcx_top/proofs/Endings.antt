@@ -9,9 +9,9 @@ use Rattle.dcx_settings.specs.declared.settings.SettingItem.{SettingItem}
 use Rattle.dcx_settings.specs.File.{IsSettingsReading, SpellSettings}
 use Rattle.dcx_front.specs.declared.fault.FrontFault.{FrontFault}
 use Rattle.dcx_front.specs.declared.fault.FrontFault.TheVariants as front
-use Rattle.dcx_front.specs.declared.refusal.Refusal.{Refusal}
-use Rattle.dcx_front.specs.declared.refusal.RefusalSource.{RefusalSource}
-use Rattle.dcx_front.specs.declared.refusal.RefusalSource.TheVariants.{Script, Settings}
+use Rattle.dcx_refusal.specs.declared.refusal.Refusal.{Refusal}
+use Rattle.dcx_refusal.specs.declared.refusal.RefusalSource.{RefusalSource}
+use Rattle.dcx_refusal.specs.declared.refusal.RefusalSource.TheVariants.{Script, Settings}
 use Rattle.dcx_front.specs.Accepts.{Gives, Tells, read_ending}
 use Rattle.dcx_elab.specs.declared.work.Work.{Work}
 use Rattle.dcx_report.specs.declared.run.Run.{Run}

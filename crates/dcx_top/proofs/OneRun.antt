@@ -4,8 +4,8 @@ use Rattle.std.proofs.lemmas.Option.{none-some}
 use Rattle.dcx_host.specs.Faults.{Rose}
 use Rattle.dcx_host.specs.Files.{Files}
 use Rattle.dcx_front.specs.declared.accepted.Accepted.{Accepted}
-use Rattle.dcx_front.specs.declared.checked.Checked.{Checked}
-use Rattle.dcx_front.specs.declared.refusal.Refusal.{Refusal}
+use Rattle.dcx_refusal.specs.declared.checked.Checked.{Checked}
+use Rattle.dcx_refusal.specs.declared.refusal.Refusal.{Refusal}
 use Rattle.dcx_front.specs.Checks.{IsFoundOf}
 use Rattle.dcx_front.proofs.OneCheck.{one_found}
 use Rattle.dcx_sections.specs.declared.fault.CertFault.{CertFault}

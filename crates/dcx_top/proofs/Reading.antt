@@ -14,7 +14,7 @@ use Rattle.dcx_settings.specs.declared.settings.SettingItem.{SettingItem}
 use Rattle.dcx_settings.specs.File.{SpellSettings}
 use Rattle.dcx_overlay.specs.Settings.{AreLaidOver}
 use Rattle.dcx_front.specs.declared.accepted.Accepted.{Accepted}
-use Rattle.dcx_front.specs.declared.refusal.RefusalSource.TheVariants.{Certificate}
+use Rattle.dcx_refusal.specs.declared.refusal.RefusalSource.TheVariants.{Certificate}
 use Rattle.dcx_front.specs.Accepts.{Gives}
 use Rattle.dcx_front.proofs.OneVerdict.{acceptance}
 use Rattle.dcx_report.specs.declared.run.Run.{Run}

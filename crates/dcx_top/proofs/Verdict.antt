@@ -11,8 +11,8 @@ use Rattle.dcx_host.specs.Files.{Files}
 use Rattle.dcx_settings.specs.File.{IsRefused}
 use Rattle.dcx_settings.proofs.OneAnswer.{settings_apart}
 use Rattle.dcx_front.specs.declared.accepted.Accepted.{Accepted}
-use Rattle.dcx_front.specs.declared.checked.Checked.{Checked}
-use Rattle.dcx_front.specs.declared.refusal.Refusal.{Refusal}
+use Rattle.dcx_refusal.specs.declared.checked.Checked.{Checked}
+use Rattle.dcx_refusal.specs.declared.refusal.Refusal.{Refusal}
 use Rattle.dcx_front.specs.Accepts.{Gives}
 use Rattle.dcx_front.specs.OneAnswer.{IsWithoutFault}
 use Rattle.dcx_elab.specs.declared.work.Work.{Work}
@@ -28,7 +28,7 @@ use Rattle.dcx_sections.specs.declared.section.Sections.{Sections}
 use Rattle.dcx_words.specs.Commands.{Command, check, certificate as certificate_command, certify, migrate, iis, range, command_of}
 use Rattle.dcx_top.specs.Commands.{settings_name, certificate_name, AreSettingsOf}
 use Rattle.dcx_top.specs.Files.{most_bytes, RefusesScript}
-use Rattle.dcx_front.specs.declared.refusal.RefusalSource.TheVariants.{Certificate}
+use Rattle.dcx_refusal.specs.declared.refusal.RefusalSource.TheVariants.{Certificate}
 use Rattle.dcx_top.specs.Runs.{GivesProblem, IsChecked, IsSolvedRun, IsBranchedRun, IsFilteredRun, IsRangedRun, IsCertificateRun, HasCertificate, ReadsSections, misread, failed, Causes}
 use Rattle.dcx_top.specs.Whole.{IsWholeAt, RefusesWhole, Takes}
 use Rattle.dcx_outcomes.specs.Ranges.{LacksRange}

@@ -8,7 +8,7 @@ use Rattle.dcx_syntax.specs.declared.tree.Script.{Script}
 use Rattle.dcx_read.specs.Parses.{IsReading}
 use Rattle.dcx_elab.specs.declared.work.Work.{Work}
 use Rattle.dcx_elab.specs.Meaning.{Elaborates}
-use Rattle.dcx_front.specs.declared.checked.Checked.{Checked}
+use Rattle.dcx_refusal.specs.declared.checked.Checked.{Checked}
 use Rattle.dcx_front.specs.Checks.{IsFoundOf}
 use Rattle.dcx_outcomes.specs.declared.outcome.Outcome.{Outcome}
 use Rattle.dcx_outcomes.specs.declared.filter_outcome.FilterOutcome.{FilterOutcome}
@@ -88,9 +88,10 @@ pub record IsRightlyFiltered (words : List (List ℕ)) (told : Option Files) (ou
   pub asked : AreSettingsOf told command work settings
   pub right : AreRightFilters work.problem settings outcomes
 
--- No variable is to be whole, and whatever is told of the parameter of the accepted problem is right at its setting: at each
--- fitting setting that differs by a value of the parameter in the span alone some point and some multipliers show that the problem has the
--- value on the line.
+-- No variable is to be whole, and whatever is told of the parameter of the accepted problem is right at its setting: the parameter's value
+-- is in the span, and at each fitting setting that differs by a value of the parameter in it alone some point and some multipliers show that
+-- the problem has the value on the line; or some multipliers show that no point is feasible; or some feasible point and some ray show that
+-- the objective falls for ever.
 pub record IsRightlyRanged (words : List (List ℕ)) (told : Option Files) (parameter : List ℕ) (sense : Sense) (outcomes : List RangeOutcome) : Type 0 where
   pub command : Command
   pub work : Work

@@ -4,10 +4,10 @@ use Rattle.dcx_shape.specs.declared.place.Place.{Place}
 use Rattle.dcx_call.specs.declared.attribute.Variable.{Variable}
 use Rattle.dcx_call.specs.declared.attribute.Whole.TheVariants.{Not}
 use Rattle.dcx_tree.specs.declared.problem.Problem.{Problem}
-use Rattle.dcx_front.specs.declared.refusal.Carried.TheVariants.{Nothing}
-use Rattle.dcx_front.specs.declared.refusal.Refusal.{Refusal}
-use Rattle.dcx_front.specs.declared.refusal.RefusalSource.TheVariants.{Script}
-use Rattle.dcx_front.specs.Checks.{IsRefusedAs}
+use Rattle.dcx_refusal.specs.declared.refusal.Carried.TheVariants.{Nothing}
+use Rattle.dcx_refusal.specs.declared.refusal.Refusal.{Refusal}
+use Rattle.dcx_refusal.specs.declared.refusal.RefusalSource.TheVariants.{Script}
+use Rattle.dcx_refusal.specs.Refusals.{IsRefusedAs}
 use Rattle.dcx_words.specs.Commands.{Command, check, solve, resolve, certificate, certify, migrate, trial, iis, range}
 use Rattle.dcx_top.specs.Stands.{StandsAt}
 

@@ -1,6 +1,7 @@
 //! What the program does: it reads its words, fetches its files, checks or solves a problem, and writes a report and a status.
 //!
-//! One function a command: `checking`, `solving`, `ranging`, `certifying`; `files` has what reading a file gives, or the run that ends there.
+//! A module for each group of commands: `checking`, `solving`, `ranging`, `certifying`; `files` has what reading a file gives, or the run that
+//! ends there.
 #![tactic(auto)]
 
 mod certifying;

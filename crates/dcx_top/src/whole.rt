@@ -3,7 +3,7 @@ ghost use Rattle.std.specs.Prelude.{◌↔◌, ◌≢◌, ◌<◌, length, IsTru
 ghost use Rattle.dcx_top.specs.Whole.{IsWholeAt, HasNoWhole, HasWhole, IsFirstWhole, IsRefusedForWhole};
 
 use crate::stands::place_of;
-use dcx_front::Refusal;
+use dcx_refusal::Refusal;
 use dcx_tree::{Problem, Variable, Whole};
 
 /// Whether a variable's entries are to be whole.

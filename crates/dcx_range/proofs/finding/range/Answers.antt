@@ -22,7 +22,7 @@ use Rattle.dcx_graph.proofs.Mapped.{given_rows, known_of}
 use Rattle.dcx_range.specs.declared.asked.Asked.{Asked}
 use Rattle.dcx_range.specs.Parameters.{IsRanged}
 use Rattle.dcx_range.specs.Range.{IsMapOf, IsAsked}
-use Rattle.dcx_range.proofs.Ranges.{of_run, has_few, rows_enough, shown, told_infeasible, told_unbounded, told_result, holds_result}
+use Rattle.dcx_range.proofs.Ranges.{of_run, has_few, rows_enough, shown, told_infeasible, told_unbounded, has_no_point, has_no_least, told_result, holds_result}
 use Rattle.dcx_range.proofs.finding.range.Goals as goal
 
 -- where the run of the rows that the program lends is optimal, its tableau can be read
@@ -133,3 +133,31 @@ returns-clause-given c =
     let same = given_rows r lent.kinds lent.rows lent.objective c.rows.ensures.kinds c.rows.ensures.rows c.rows.ensures.objective in
     let is = subst (λ g. IsSolved limit g c.in-Ok.solved) same c.in-Ok.ensures.solved in
     told_unbounded p s name m c.requires.map c.requires.fits r c.requires.program limit c.in-Ok.solved is c.in-Unbounded.is
+
+pub returns-in-Infeasible-clause-optimal : goal.returns-in-Infeasible-clause-optimal
+returns-in-Infeasible-clause-optimal c =
+    let p = c.args.problem.now in
+    let m = c.args.map.now.program in
+    let r = c.args.program.now.program in
+    let s = c.args.setting.now in
+    let name = c.args.name.now in
+    let limit = c.args.limit in
+    let lent = c.rows.result.now in
+    let same = given_rows r lent.kinds lent.rows lent.objective c.rows.ensures.kinds c.rows.ensures.rows c.rows.ensures.objective in
+    let is = subst (λ g. IsSolved limit g c.in-Ok.solved) same c.in-Ok.ensures.solved in
+    let known = known_of r lent.kinds lent.rows lent.objective c.rows.ensures.kinds c.rows.ensures.rows c.rows.ensures.objective lent.rows_known lent.objective_known in
+    has_no_point p s name m c.requires.map c.requires.fits r c.requires.program limit c.in-Ok.solved is known c.in-Infeasible.is
+
+pub returns-clause-optimal : goal.returns-clause-optimal
+returns-clause-optimal c =
+    let p = c.args.problem.now in
+    let m = c.args.map.now.program in
+    let r = c.args.program.now.program in
+    let s = c.args.setting.now in
+    let name = c.args.name.now in
+    let limit = c.args.limit in
+    let lent = c.rows.result.now in
+    let same = given_rows r lent.kinds lent.rows lent.objective c.rows.ensures.kinds c.rows.ensures.rows c.rows.ensures.objective in
+    let is = subst (λ g. IsSolved limit g c.in-Ok.solved) same c.in-Ok.ensures.solved in
+    let known = known_of r lent.kinds lent.rows lent.objective c.rows.ensures.kinds c.rows.ensures.rows c.rows.ensures.objective lent.rows_known lent.objective_known in
+    has_no_least p s name m c.requires.map c.requires.fits r c.requires.program limit c.in-Ok.solved is known c.in-Unbounded.is

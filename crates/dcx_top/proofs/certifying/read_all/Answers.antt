@@ -3,7 +3,7 @@ use Rattle.std.proofs.lemmas.Result.{IfOk-weaker, IfErr-weaker}
 use Rattle.dcx_host.specs.Files.{IsTold}
 use Rattle.dcx_host.specs.Faults.{Rose}
 use Rattle.dcx_settings.proofs.Full.{items_full_in}
-use Rattle.dcx_front.specs.declared.refusal.RefusalSource.TheVariants.{Settings}
+use Rattle.dcx_refusal.specs.declared.refusal.RefusalSource.TheVariants.{Settings}
 use Rattle.dcx_top.specs.Files.{EndsAt, RefusesSettings}
 use Rattle.dcx_top.specs.Runs.{at_whole, at_settings}
 use Rattle.dcx_top.proofs.Rising.{rose_behind}

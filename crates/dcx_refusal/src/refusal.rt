@@ -1,6 +1,6 @@
 //! Why a file is refused.
 ghost use Rattle.std.specs.Prelude.{IsTrue};
-ghost use Rattle.dcx_front.specs.Refusals.{is_refusal};
+ghost use Rattle.dcx_refusal.specs.Refusals.{is_refusal};
 
 use dcx_arena::Count;
 use dcx_frac::Passes;

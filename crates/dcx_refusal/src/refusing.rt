@@ -1,7 +1,6 @@
 //! Refusals as they are made, and their names.
 ghost use Rattle.std.specs.Prelude.{◌≡◌, IsTrue};
-ghost use Rattle.dcx_front.specs.Refusals.{is_refusal, refusal_name};
-ghost use Rattle.dcx_front.specs.Checks.{IsRefusedAs, IsTooLong};
+ghost use Rattle.dcx_refusal.specs.Refusals.{is_refusal, refusal_name, IsRefusedAs, IsTooLong};
 
 use crate::{Carried, Refusal, RefusalSource};
 use dcx_ranged::NotRanged;
@@ -41,7 +40,7 @@ fn name_of(number: u8) -> &'static [u8]
 
 impl Refusal {
     /// The refusal of a file with this number, at this place, which says this.
-    pub(crate) fn of(source: RefusalSource, number: u8, place: Place, carried: Carried) -> Refusal
+    pub fn of(source: RefusalSource, number: u8, place: Place, carried: Carried) -> Refusal
         requires { IsTrue (is_refusal number carried) }
         ensures { IsRefusedAs source number place carried result }
     {

@@ -1,0 +1,2 @@
+-- The lemmas by which the laws are proved.
+pub mod Optima
