@@ -1,5 +1,6 @@
 //! Fronts of a script: what is wanted of each one but the whole.
 ghost use Rattle.std.specs.Prelude.{◌↔◌, IfOk, IsTrue};
+ghost use Rattle.std.specs.List.{Any};
 ghost use Rattle.dcx_case_files.specs.Judging.{BeginsWith, refusal_front, Fits};
 
 use crate::count::Came;
@@ -47,6 +48,22 @@ fn refuses(alloc: Global, report: &[u8], number: u8) -> Result<bool, AllocError>
     Ok(report.starts_with(front.as_bytes()))
 }
 
+/// Whether a report is of the refusal of one of these numbers.
+fn refuses_any(alloc: Global, report: &[u8], numbers: &[u8]) -> Result<bool, AllocError>
+    ensures { IfOk result (λ refuses. IsTrue refuses ↔ Any (λ n. BeginsWith (refusal_front n) report.now) numbers.now) }
+{
+    match numbers {
+        [] => Ok(false),
+        [number, rest @ ..] => {
+            if refuses(alloc, report, *number)? {
+                Ok(true)
+            } else {
+                refuses_any(alloc, report, rest)
+            }
+        }
+    }
+}
+
 impl Fronts {
     /// Whether this is wanted of a front. An error where there is no memory.
     pub fn fits(&self, alloc: Global, came: &Came) -> Result<bool, AllocError>
@@ -55,11 +72,9 @@ impl Fronts {
         if came.status != self.status {
             return Ok(false);
         }
-        'numbers: for number in &self.numbers {
-            if refuses(alloc, &came.report, *number)? {
-                return Ok(true);
-            }
+        if self.numbers.is_empty() {
+            return Ok(true);
         }
-        Ok(self.numbers.is_empty())
+        refuses_any(alloc, &came.report, &self.numbers)
     }
 }

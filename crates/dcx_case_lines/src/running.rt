@@ -47,11 +47,7 @@ fn answer<C: Cases>(
 }
 
 /// Prints a line that gives something else than it wants, with what came, or that says no case. Whether it does.
-fn differs<C: Cases>(
-    rt: &(impl Print + AllocGlobal),
-    cases: &C,
-    line: &str,
-) -> io::Result<bool> {
+fn differs<C: Cases>(rt: &(impl Print + AllocGlobal), cases: &C, line: &str) -> io::Result<bool> {
     let Some((line, wanted)) = line.split_once("=>") else {
         println!(rt; "no case says: {line}")?;
         return Ok(true);

@@ -56,10 +56,7 @@ fn short(alloc: Global, words: &[String]) -> Result<Option<Came>, AllocError> {
         return Ok(None);
     }
     match short_report(alloc, word.as_str())? {
-        Some(report) => Ok(Some(Came {
-            status: 0,
-            report,
-        })),
+        Some(report) => Ok(Some(Came { status: 0, report })),
         None => Ok(None),
     }
 }

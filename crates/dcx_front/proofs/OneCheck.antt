@@ -23,7 +23,7 @@ use Rattle.dcx_refusal.specs.declared.refusal.RefusalSource.TheVariants.{Script}
 use Rattle.dcx_front.specs.declared.fault.FrontFault.TheVariants.{Refused, Memory}
 use Rattle.dcx_front.specs.declared.accepted.Accepted.{Accepted}
 use Rattle.dcx_refusal.specs.Refusals.{is_refusal}
-use Rattle.dcx_refusal.specs.Refusals.{IsRefusedAs}
+use Rattle.dcx_refusal.specs.Made.{IsRefusedAs}
 use Rattle.dcx_front.specs.Checks.{IsRefusedFor, IsFoundOf, site_place}
 use Rattle.dcx_front.specs.Accepts.{Given}
 use Rattle.dcx_front.specs.OneAnswer.{AreOneAnswer, HasOneJudgement}

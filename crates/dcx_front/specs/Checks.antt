@@ -17,7 +17,7 @@ use Rattle.dcx_refusal.specs.declared.checked.Checked.{Checked}
 use Rattle.dcx_refusal.specs.declared.refusal.Carried.TheVariants as carried_is
 use Rattle.dcx_refusal.specs.declared.refusal.Refusal.{Refusal}
 use Rattle.dcx_refusal.specs.declared.refusal.RefusalSource.TheVariants.{Script}
-use Rattle.dcx_refusal.specs.Refusals.{IsRefusedAs}
+use Rattle.dcx_refusal.specs.Made.{IsRefusedAs}
 
 -- ---- refusals
 -- where a site stands in the script; None where the problem has no such site

@@ -1,11 +1,8 @@
 -- The refusals: their numbers, their names, and what each says beside its place.
-use Rattle.std.specs.Prelude.{◌≡◌, ℕ, Bool, ◌&&◌, ◌||◌, ◌==◌, nat_lt, nat_le, List, [], ◌∷◌, codes, unwrap_or}
+use Rattle.std.specs.Prelude.{ℕ, Bool, ◌&&◌, ◌||◌, ◌==◌, nat_lt, nat_le, List, [], ◌∷◌, codes, unwrap_or}
 use Rattle.std.specs.Map.{lookup}
-use Rattle.dcx_shape.specs.declared.place.Place.{Place}
 use Rattle.dcx_refusal.specs.declared.refusal.Carried.{Carried}
 use Rattle.dcx_refusal.specs.declared.refusal.Carried.TheVariants.{Nothing, Count, Rule, Passes, NotRanged}
-use Rattle.dcx_refusal.specs.declared.refusal.Refusal.{Refusal}
-use Rattle.dcx_refusal.specs.declared.refusal.RefusalSource.{RefusalSource}
 
 -- There is a refusal of this number that says this. 18 says what was counted, 19 the rule that is
 -- broken, 20 the operation that passes, 35 why a parameter has no range, and the others, 34 among them, nothing.
@@ -46,18 +43,3 @@ refusal_names =
 -- the name of the refusal of this number
 unfoldable pub refusal_name : ℕ → List ℕ
 refusal_name number = unwrap_or (lookup (λ n. n == number) refusal_names) []
-
--- the refusal of the file with this number, at this place, which says this
-pub record IsRefusedAs (source : RefusalSource) (number : ℕ) (place : Place) (carried : Carried) (r : Refusal) : Type 0 where
-  pub source_is : r.source ≡ source
-  pub number_is : r.number ≡ number
-  pub place_is : r.place ≡ place
-  pub carried_is : r.carried ≡ carried
-
--- where a file begins
-abbrev pub file_start : Place
-file_start = record { line = 1; column = 1 }
-
--- the refusal of a whole file for its length
-abbrev pub IsTooLong : RefusalSource → Refusal → Type 0
-IsTooLong source r = IsRefusedAs source 8 file_start Nothing r

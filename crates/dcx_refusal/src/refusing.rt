@@ -1,6 +1,7 @@
 //! Refusals as they are made, and their names.
 ghost use Rattle.std.specs.Prelude.{◌≡◌, IsTrue};
-ghost use Rattle.dcx_refusal.specs.Refusals.{is_refusal, refusal_name, IsRefusedAs, IsTooLong};
+ghost use Rattle.dcx_refusal.specs.Refusals.{is_refusal, refusal_name};
+ghost use Rattle.dcx_refusal.specs.Made.{IsRefusedAs, IsTooLong};
 
 use crate::{Carried, Refusal, RefusalSource};
 use dcx_ranged::NotRanged;

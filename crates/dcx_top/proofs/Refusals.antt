@@ -24,7 +24,7 @@ use Rattle.dcx_front.specs.declared.fault.FrontFault.TheVariants as front
 use Rattle.dcx_refusal.specs.declared.refusal.Refusal.{Refusal}
 use Rattle.dcx_refusal.specs.declared.refusal.Carried.TheVariants.{Nothing, NotRanged}
 use Rattle.dcx_refusal.specs.declared.refusal.RefusalSource.TheVariants.{Script, Settings, Certificate}
-use Rattle.dcx_refusal.specs.Refusals.{IsTooLong, IsRefusedAs}
+use Rattle.dcx_refusal.specs.Made.{IsTooLong, IsRefusedAs}
 use Rattle.dcx_front.specs.Accepts.{Given, Gives, unread, Ending, refused, without_memory, IsRefusedBy, read_ending}
 use Rattle.dcx_front.proofs.OneAnswer.{one_answer}
 use Rattle.dcx_front.proofs.OneCheck.{one_refusal}

@@ -10,7 +10,7 @@ use Rattle.dcx_front.specs.declared.fault.FrontFault.TheVariants as front
 use Rattle.dcx_refusal.specs.declared.refusal.Refusal.{Refusal}
 use Rattle.dcx_refusal.specs.declared.refusal.RefusalSource.{RefusalSource}
 use Rattle.dcx_refusal.specs.declared.refusal.RefusalSource.TheVariants.{Script, Settings, Certificate}
-use Rattle.dcx_refusal.specs.Refusals.{IsTooLong}
+use Rattle.dcx_refusal.specs.Made.{IsTooLong}
 use Rattle.dcx_front.specs.Accepts.{Gives, IsRefusedBy, read_ending}
 use Rattle.dcx_tree.specs.declared.problem.Problem.{Problem}
 use Rattle.dcx_point.specs.Pairs.{Pairs}

@@ -8,7 +8,7 @@ use Rattle.dcx_ranged.specs.declared.not_ranged.NotRanged.TheVariants as faults
 use Rattle.dcx_refusal.specs.declared.refusal.Carried.TheVariants as carried
 use Rattle.dcx_refusal.specs.declared.refusal.Refusal.{Refusal}
 use Rattle.dcx_refusal.specs.declared.refusal.RefusalSource.TheVariants.{Script}
-use Rattle.dcx_refusal.specs.Refusals.{IsRefusedAs, file_start}
+use Rattle.dcx_refusal.specs.Made.{IsRefusedAs, file_start}
 use Rattle.dcx_words.specs.Commands.{Command}
 use Rattle.dcx_outcomes.specs.Ranges.{HasRange, LacksRange}
 use Rattle.dcx_top.specs.Commands.{parameter_name}

@@ -7,7 +7,7 @@ use Rattle.dcx_tree.specs.declared.problem.Problem.{Problem}
 use Rattle.dcx_refusal.specs.declared.refusal.Carried.TheVariants.{Nothing}
 use Rattle.dcx_refusal.specs.declared.refusal.Refusal.{Refusal}
 use Rattle.dcx_refusal.specs.declared.refusal.RefusalSource.TheVariants.{Script}
-use Rattle.dcx_refusal.specs.Refusals.{IsRefusedAs}
+use Rattle.dcx_refusal.specs.Made.{IsRefusedAs}
 use Rattle.dcx_words.specs.Commands.{Command, check, solve, resolve, certificate, certify, migrate, trial, iis, range}
 use Rattle.dcx_top.specs.Stands.{StandsAt}
 

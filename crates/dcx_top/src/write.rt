@@ -1,5 +1,5 @@
 //! A report is written in as many calls as the sink wants.
-ghost use Rattle.std.specs.Prelude.{◌≡◌, ◌≤◌, ℕ, take, length, OnOk, OnErr, IsErrOf};
+ghost use Rattle.std.specs.Prelude.{ℕ, take, OnOk, OnErr, IsErrOf};
 ghost use Rattle.std.specs.Io.KnownBytes.{Appends};
 ghost use Rattle.dcx_host.specs.Faults.{Rose};
 
