@@ -17,15 +17,15 @@ use dcx_shape::{Shape, Sides};
 use std::alloc::{AllocError, Global};
 
 /// The sum of two arrays of one shape.
-#[derive(Clone, Copy, Debug, PartialEq, Eq)]
+#[derive(Clone, Copy)]
 pub struct Plus;
 
 /// An array turned round.
-#[derive(Clone, Copy, Debug, PartialEq, Eq)]
+#[derive(Clone, Copy, PartialEq, Eq)]
 pub struct Minus;
 
 /// The differences `x[k + 1] - x[k]` of a vector of at least two entries.
-#[derive(Clone, Copy, Debug, PartialEq, Eq)]
+#[derive(Clone, Copy, PartialEq, Eq)]
 pub struct Diff;
 
 /// One term alone.

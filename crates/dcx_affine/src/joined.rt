@@ -20,11 +20,11 @@ use dcx_shape::Shape;
 use std::alloc::{AllocError, Global};
 
 /// Arrays side by side: scalars and vectors become one vector, matrices one matrix.
-#[derive(Clone, Copy, Debug, PartialEq, Eq)]
+#[derive(Clone, Copy, PartialEq, Eq)]
 pub struct HStack;
 
 /// Arrays one below the other; a scalar or a vector is a row.
-#[derive(Clone, Copy, Debug, PartialEq, Eq)]
+#[derive(Clone, Copy, PartialEq, Eq)]
 pub struct VStack;
 
 /// The shape of arrays side by side.

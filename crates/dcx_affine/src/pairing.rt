@@ -11,7 +11,7 @@ use dcx_shape::{Shape, Sides, matmul_shape};
 use std::alloc::{AllocError, Global};
 
 /// How two arrays are multiplied or divided.
-#[derive(Clone, Copy, Debug, PartialEq, Eq)]
+#[derive(Clone, Copy, PartialEq, Eq)]
 pub enum Pairing {
     /// Entry by entry.
     Times,
@@ -22,7 +22,7 @@ pub enum Pairing {
 }
 
 /// An entry of the left side and one of the right side.
-#[derive(Clone, Copy, Debug, PartialEq, Eq)]
+#[derive(Clone, Copy)]
 pub struct Pair {
     /// The entry of the left side, in row-major order.
     pub left: u32,

@@ -98,7 +98,7 @@ impl LinearOp for Index {
 }
 
 /// The entries in the same order, row by row or column by column, in another shape of as many entries.
-#[derive(Clone, Copy, Debug, PartialEq, Eq)]
+#[derive(Clone, Copy, PartialEq, Eq)]
 pub struct Reshape {
     /// The shape of the result.
     pub to: Shape,
@@ -191,7 +191,7 @@ pub fn transposed_place(from: Shape, k: u32) -> u32
 }
 
 /// A matrix turned over its diagonal; a scalar and a vector stay as they are.
-#[derive(Clone, Copy, Debug, PartialEq, Eq)]
+#[derive(Clone, Copy, PartialEq, Eq)]
 pub struct Transpose;
 
 impl Strided for Transpose {
@@ -240,7 +240,7 @@ impl LinearOp for Transpose {
 }
 
 /// The square matrix with a vector on its diagonal and 0 elsewhere, or the diagonal of a square matrix.
-#[derive(Clone, Copy, Debug, PartialEq, Eq)]
+#[derive(Clone, Copy, PartialEq, Eq)]
 pub struct Diag;
 
 impl Strided for Diag {
@@ -300,7 +300,7 @@ impl LinearOp for Diag {
 }
 
 /// An argument broadcast to a shape: its sides of length 1 are repeated.
-#[derive(Clone, Copy, Debug, PartialEq, Eq)]
+#[derive(Clone, Copy, PartialEq, Eq)]
 pub struct Promote {
     /// The shape of the result.
     pub to: Shape,

@@ -8,7 +8,7 @@ use dcx_shape::{MOST_ENTRIES, Shape};
 use std::alloc::{AllocError, Global};
 
 /// A kind of line of an array.
-#[derive(Clone, Copy, Debug, PartialEq, Eq)]
+#[derive(Clone, Copy)]
 pub(crate) enum Line {
     /// A row.
     Row,
@@ -17,7 +17,7 @@ pub(crate) enum Line {
 }
 
 /// A line of an argument.
-#[derive(Clone, Copy, Debug, PartialEq, Eq)]
+#[derive(Clone, Copy)]
 pub(crate) struct Slot {
     /// The argument, counted from 0.
     pub argument: u32,

@@ -15,7 +15,7 @@ use dcx_shape::{Shape, Sides};
 use std::alloc::{AllocError, Global};
 
 /// The sum of all entries, or along a side.
-#[derive(Clone, Copy, Debug, PartialEq, Eq)]
+#[derive(Clone, Copy, PartialEq, Eq)]
 pub struct Sum {
     /// Along which side.
     pub axis: Axis,
@@ -64,7 +64,7 @@ impl LinearOp for Sum {
 }
 
 /// The mean of all entries, or along a side.
-#[derive(Clone, Copy, Debug, PartialEq, Eq)]
+#[derive(Clone, Copy, PartialEq, Eq)]
 pub struct Mean {
     /// Along which side.
     pub axis: Axis,
@@ -121,7 +121,7 @@ impl LinearOp for Mean {
 }
 
 /// The running sums of a vector, or of a matrix down its columns or along its rows.
-#[derive(Clone, Copy, Debug, PartialEq, Eq)]
+#[derive(Clone, Copy, PartialEq, Eq)]
 pub struct CumSum {
     /// Along which side; all and the outer one are the same of a vector.
     pub axis: Axis,
@@ -192,7 +192,7 @@ impl LinearOp for CumSum {
 }
 
 /// The sum of the diagonal of a square matrix.
-#[derive(Clone, Copy, Debug, PartialEq, Eq)]
+#[derive(Clone, Copy, PartialEq, Eq)]
 pub struct Trace;
 
 impl Strided for Trace {

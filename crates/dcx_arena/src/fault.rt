@@ -6,7 +6,7 @@ use std::alloc::{AllocError, AllocFailed};
 use thiserror::Error;
 
 /// What there can be too much of.
-#[derive(Clone, Copy, Debug, PartialEq, Eq)]
+#[derive(Clone, Copy, Debug)]
 pub enum Count {
     /// Nodes of a tree.
     Nodes,
@@ -21,7 +21,7 @@ pub enum Count {
 }
 
 /// Why a node is refused.
-#[derive(Clone, Copy, Debug, PartialEq, Eq, Error)]
+#[derive(Clone, Copy, Debug, Error)]
 pub enum TreeFault {
     /// The call has no value for arguments of these shapes.
     #[error("the shapes do not fit")]

@@ -18,7 +18,7 @@ use dcx_shape::Shape;
 use std::alloc::Global;
 
 /// What is formed of two numbers.
-#[derive(Clone, Copy, Debug, PartialEq, Eq)]
+#[derive(Clone, Copy)]
 pub(crate) enum Operation {
     /// The left one and the right one together.
     Sum,

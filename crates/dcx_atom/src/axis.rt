@@ -7,7 +7,7 @@ ghost use Rattle.dcx_atom.specs.Axis.{folded, folded_stride, folded_count};
 use dcx_shape::{Shape, Sides};
 
 /// Along which side a call folds its argument.
-#[derive(Clone, Copy, Debug, PartialEq, Eq)]
+#[derive(Clone, Copy, PartialEq, Eq)]
 pub enum Axis {
     /// All entries become one.
     All,
@@ -18,7 +18,7 @@ pub enum Axis {
 }
 
 /// Entries at equal steps: `first`, `first + step`, .., so many.
-#[derive(Clone, Copy, Debug, PartialEq, Eq)]
+#[derive(Clone, Copy)]
 pub struct Stride {
     /// The first entry.
     pub first: u32,

@@ -21,7 +21,7 @@ pub struct Trend {
 }
 
 /// Which way a call bends.
-#[derive(Clone, Copy, Debug, PartialEq, Eq)]
+#[derive(Clone, Copy, Debug)]
 pub enum Bend {
     /// The value between two arguments is at most that on the line between them.
     Convex,

@@ -13,7 +13,7 @@ pub enum AuxKind {
 }
 
 /// What a term of a row multiplies.
-#[derive(Clone, Copy, Debug, PartialEq, Eq)]
+#[derive(Clone, Copy)]
 pub enum Operand {
     /// An entry of an argument.
     Argument {
@@ -27,7 +27,7 @@ pub enum Operand {
 }
 
 /// A coefficient times an operand.
-#[derive(Clone, Copy, Debug, PartialEq, Eq)]
+#[derive(Clone, Copy)]
 pub struct GraphTerm {
     /// What is multiplied.
     pub operand: Operand,
@@ -45,7 +45,7 @@ pub struct GraphRow {
 }
 
 /// A coefficient times an auxiliary unknown.
-#[derive(Clone, Copy, Debug, PartialEq, Eq)]
+#[derive(Clone, Copy)]
 pub struct AuxTerm {
     /// The unknown, counted from 0.
     pub aux: u32,

@@ -4,7 +4,7 @@ use dcx_frac::{Frac, Passes};
 use thiserror::Error;
 
 /// Why a value was not formed.
-#[derive(Clone, Copy, Debug, PartialEq, Eq, Error)]
+#[derive(Clone, Copy, Debug, Error)]
 pub enum ValueStop {
     /// An operation passes 128 bits, the first one of the value.
     #[error("an operation passes 128 bits")]
@@ -26,7 +26,7 @@ pub enum ValueStop {
 }
 
 /// Why slopes were not formed.
-#[derive(Clone, Copy, Debug, PartialEq, Eq, Error)]
+#[derive(Clone, Copy, Debug, Error)]
 pub enum SlopeStop {
     /// The weights break a condition, the first one.
     #[error("the weights break a condition")]

@@ -2,7 +2,7 @@
 use crate::place::Place;
 
 /// A bound of an entry.
-#[derive(Clone, Copy, Debug, PartialEq, Eq)]
+#[derive(Clone, Copy)]
 pub struct BoundAt {
     /// The entry.
     pub place: Place,

@@ -5,7 +5,7 @@ use dcx_frac::Frac;
 use dcx_math::List;
 
 /// The multiplier of a bound of an entry.
-#[derive(Clone, Copy, Debug, PartialEq, Eq)]
+#[derive(Clone, Copy)]
 pub struct BoundDual {
     /// The variable, by position in order of declaration.
     pub variable: u32,

@@ -9,7 +9,7 @@ use dcx_shape::Shape;
 use std::alloc::{AllocError, Global};
 
 /// A nonlinear call.
-#[derive(Clone, Copy, Debug, PartialEq, Eq)]
+#[derive(Clone, Copy, PartialEq, Eq)]
 pub enum AtomCall {
     /// The magnitude, entry by entry.
     Abs(Abs),

@@ -5,7 +5,7 @@ ghost use Rattle.dcx_call.specs.Attributes.{counted};
 use dcx_shape::{Name, Shape};
 
 /// What is known of each value of a variable or a parameter.
-#[derive(Clone, Copy, Debug, PartialEq, Eq)]
+#[derive(Clone, Copy, PartialEq, Eq)]
 pub enum Attribute {
     /// Nothing.
     Free,

@@ -12,7 +12,7 @@ use dcx_shape::Shape;
 use std::alloc::{AllocError, AllocFailed, Global};
 
 /// Why a part of a certificate isn't read.
-#[derive(Clone, Copy, Debug, PartialEq, Eq)]
+#[derive(Clone, Copy)]
 pub(crate) enum ReadStop {
     /// The next line isn't one of a certificate.
     Misfit,

@@ -1,7 +1,7 @@
 //! The kinds of sections.
 
 /// What a section shows.
-#[derive(Clone, Copy, Debug, PartialEq, Eq)]
+#[derive(Clone, Copy)]
 pub enum Kind {
     /// A point that no other betters.
     Optimal,

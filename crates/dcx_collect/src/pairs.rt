@@ -13,7 +13,7 @@ use dcx_atom::number_at;
 use dcx_frac::{Frac, Passes};
 
 /// How the numbers of one side of a product or a quotient change the coefficients.
-#[derive(Clone, Copy, Debug, PartialEq, Eq)]
+#[derive(Clone, Copy)]
 pub enum Scaling {
     /// Those of the right side multiply.
     ByRight,

@@ -8,7 +8,7 @@ use dcx_frac::{Frac, Passes};
 use dcx_tree::NodeId;
 
 /// Why coefficients aren't collected.
-#[derive(Clone, Copy, Debug, PartialEq, Eq)]
+#[derive(Clone, Copy)]
 pub enum CollectStop {
     /// The weights of a node break a condition.
     Slope {

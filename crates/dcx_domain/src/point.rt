@@ -10,7 +10,7 @@ use dcx_point::Point;
 use dcx_tree::{Problem, Variable};
 
 /// Where a point leaves the domain of a problem.
-#[derive(Clone, Copy, Debug, PartialEq, Eq)]
+#[derive(Clone, Copy)]
 pub struct Outside {
     /// The variable, by position in order of declaration.
     pub variable: u32,

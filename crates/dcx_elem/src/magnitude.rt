@@ -9,7 +9,7 @@ use dcx_shape::Shape;
 use std::alloc::{AllocError, Global};
 
 /// The magnitude of each entry, `|x|`.
-#[derive(Clone, Copy, Debug, PartialEq, Eq)]
+#[derive(Clone, Copy, PartialEq, Eq)]
 pub struct Abs;
 
 impl Atom for Abs {

@@ -9,7 +9,7 @@ use dcx_shape::Shape;
 use std::alloc::{AllocError, Global};
 
 /// The part of each entry above 0, `max(x, 0)`.
-#[derive(Clone, Copy, Debug, PartialEq, Eq)]
+#[derive(Clone, Copy, PartialEq, Eq)]
 pub struct Pos;
 
 impl Atom for Pos {
@@ -69,7 +69,7 @@ impl Atom for Pos {
 }
 
 /// The size of each entry's part below 0, `max(-x, 0)`.
-#[derive(Clone, Copy, Debug, PartialEq, Eq)]
+#[derive(Clone, Copy, PartialEq, Eq)]
 pub struct Neg;
 
 impl Atom for Neg {

@@ -10,7 +10,7 @@ use dcx_shape::Shape;
 use std::alloc::{AllocError, Global};
 
 /// The greatest of `count` arrays, entry by entry.
-#[derive(Clone, Copy, Debug, PartialEq, Eq)]
+#[derive(Clone, Copy, PartialEq, Eq)]
 pub struct Maximum {
     /// How many arrays the call takes. It has a value where they are two or more and of one shape.
     pub count: u32,
@@ -85,7 +85,7 @@ impl Atom for Maximum {
 }
 
 /// The least of `count` arrays, entry by entry.
-#[derive(Clone, Copy, Debug, PartialEq, Eq)]
+#[derive(Clone, Copy, PartialEq, Eq)]
 pub struct Minimum {
     /// How many arrays the call takes. It has a value where they are two or more and of one shape.
     pub count: u32,

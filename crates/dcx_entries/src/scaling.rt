@@ -10,7 +10,7 @@ use dcx_affine::Pairing;
 use dcx_linear::{Coef, Form};
 
 /// Which side of a pair scales the other.
-#[derive(Clone, Copy, Debug, PartialEq, Eq)]
+#[derive(Clone, Copy)]
 pub enum Scaling {
     /// The left side, a number.
     LeftNumber,
@@ -25,7 +25,7 @@ pub enum Scaling {
 }
 
 /// What is known of a side of a product or a quotient.
-#[derive(Clone, Copy, Debug, PartialEq, Eq)]
+#[derive(Clone, Copy)]
 pub struct Side {
     /// It is a number by the rules.
     pub number: bool,

@@ -19,7 +19,7 @@ pub(crate) fn stop_at(j: u32, stop: CoefStop) -> ValueStop
 }
 
 /// Why the nodes of a problem aren't formed.
-#[derive(Clone, Copy, Debug, PartialEq, Eq, Error)]
+#[derive(Clone, Copy, Debug, Error)]
 pub enum FormStop {
     /// An operation passes 128 bits.
     #[error("an operation passes 128 bits")]

@@ -152,7 +152,7 @@ impl Atom for Largest {
 }
 
 /// The sum of the `k` largest entries.
-#[derive(Clone, Copy, Debug, PartialEq, Eq)]
+#[derive(Clone, Copy, PartialEq, Eq)]
 pub struct SumLargest {
     /// How many entries are summed. The call has a value where it is from 1 to their number.
     pub k: u32,
@@ -225,7 +225,7 @@ impl Atom for SumLargest {
 }
 
 /// The sum of the `k` smallest entries.
-#[derive(Clone, Copy, Debug, PartialEq, Eq)]
+#[derive(Clone, Copy, PartialEq, Eq)]
 pub struct SumSmallest {
     /// How many entries are summed. The call has a value where it is from 1 to their number.
     pub k: u32,

@@ -13,7 +13,7 @@ use dcx_shape::{Shape, Sides};
 use std::alloc::{AllocError, Global};
 
 /// The running maximum of a vector: at each entry the greatest so far.
-#[derive(Clone, Copy, Debug, PartialEq, Eq)]
+#[derive(Clone, Copy, PartialEq, Eq)]
 pub struct CumMax;
 
 impl Atom for CumMax {

@@ -11,7 +11,7 @@ use dcx_shape::Shape;
 use std::alloc::{AllocError, Global};
 
 /// The greatest of all entries, or of each column or row.
-#[derive(Clone, Copy, Debug, PartialEq, Eq)]
+#[derive(Clone, Copy, PartialEq, Eq)]
 pub struct MaxOf {
     /// Along which side.
     pub axis: Axis,
@@ -84,7 +84,7 @@ impl Atom for MaxOf {
 }
 
 /// The least of all entries, or of each column or row.
-#[derive(Clone, Copy, Debug, PartialEq, Eq)]
+#[derive(Clone, Copy, PartialEq, Eq)]
 pub struct MinOf {
     /// Along which side.
     pub axis: Axis,

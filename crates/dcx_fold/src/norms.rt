@@ -11,7 +11,7 @@ use dcx_shape::Shape;
 use std::alloc::{AllocError, Global};
 
 /// The sum of the magnitudes of all entries, or of each column or row.
-#[derive(Clone, Copy, Debug, PartialEq, Eq)]
+#[derive(Clone, Copy, PartialEq, Eq)]
 pub struct Norm1 {
     /// Along which side.
     pub axis: Axis,
@@ -84,7 +84,7 @@ impl Atom for Norm1 {
 }
 
 /// The greatest magnitude of all entries, or of each column or row.
-#[derive(Clone, Copy, Debug, PartialEq, Eq)]
+#[derive(Clone, Copy, PartialEq, Eq)]
 pub struct NormInf {
     /// Along which side.
     pub axis: Axis,

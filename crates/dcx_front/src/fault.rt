@@ -2,7 +2,7 @@
 use dcx_refusal::Refusal;
 
 /// Why bytes give no accepted problem.
-#[derive(Clone, Copy, Debug, PartialEq, Eq)]
+#[derive(Clone, Copy)]
 pub enum FrontFault {
     /// They are refused.
     Refused(Refusal),

@@ -9,7 +9,7 @@ use dcx_linear::Coef;
 use std::alloc::{AllocError, Global};
 
 /// Where a row comes from.
-#[derive(Clone, Copy, Debug, PartialEq, Eq)]
+#[derive(Clone, Copy)]
 pub enum Origin {
     /// An entry of a constraint.
     Constraint {

@@ -19,7 +19,7 @@ use std::alloc::{AllocError, Global};
 use thiserror::Error;
 
 /// Why an answer of the rows isn't read.
-#[derive(Clone, Copy, Debug, PartialEq, Eq, Error)]
+#[derive(Clone, Copy, Debug, Error)]
 pub enum AnswerStop {
     /// The multiplier of a row of a constraint passes 128 bits, the first one.
     #[error("a multiplier passes 128 bits")]

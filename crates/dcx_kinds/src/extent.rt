@@ -12,7 +12,7 @@ use dcx_atom::Axis;
 use dcx_shape::{Shape, Sides};
 
 /// How long the sides are that a script asks for.
-#[derive(Clone, Copy, Debug, PartialEq, Eq)]
+#[derive(Clone, Copy)]
 pub enum Extent {
     /// No side.
     Scalar,

@@ -2,7 +2,7 @@
 use dcx_frac::Frac;
 
 /// A multiplication or a division by a fraction.
-#[derive(Clone, Copy, Debug, PartialEq, Eq)]
+#[derive(Clone, Copy)]
 pub enum Change {
     /// Multiply by it. It stands on the left.
     Scale(Frac),

@@ -4,7 +4,7 @@ use std::alloc::{AllocError, AllocFailed};
 use thiserror::Error;
 
 /// Why rows could not be put at a setting.
-#[derive(Clone, Copy, Debug, PartialEq, Eq, Error)]
+#[derive(Clone, Copy, Debug, Error)]
 pub enum MapStop {
     /// An operation passes 128 bits, the first one.
     #[error("an operation passes 128 bits at row {row}")]

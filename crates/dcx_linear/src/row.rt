@@ -5,7 +5,7 @@ use crate::form::Form;
 use dcx_math::List;
 
 /// How the form of a row stands to 0.
-#[derive(Clone, Copy, Debug, PartialEq, Eq)]
+#[derive(Clone, Copy)]
 pub enum RowKind {
     /// The form is at most 0.
     AtMost,
@@ -26,7 +26,7 @@ pub struct Row<C: Coef> {
 pub type RowList<C> = List<Row<C>>;
 
 /// Which numbers an unknown may be.
-#[derive(Clone, Copy, Debug, PartialEq, Eq)]
+#[derive(Clone, Copy)]
 pub enum UnknownKind {
     /// Any number.
     Free,

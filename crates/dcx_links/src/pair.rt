@@ -8,7 +8,7 @@ use crate::walk::{Entry, RowWalk};
 use std::marker::Model;
 
 /// What two rows have in a column. One of the numbers isn't 0.
-#[derive(Clone, Copy, Debug, PartialEq, Eq)]
+#[derive(Clone, Copy)]
 pub struct Pair {
     /// The column.
     pub at: u32,

@@ -7,7 +7,7 @@ use crate::store::{NONE, Store};
 use std::marker::Model;
 
 /// A number other than 0, and its place in the line.
-#[derive(Clone, Copy, Debug, PartialEq, Eq)]
+#[derive(Clone, Copy)]
 pub struct Entry {
     /// In a row the column, in a column the row.
     pub at: u32,

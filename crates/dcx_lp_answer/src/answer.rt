@@ -4,7 +4,7 @@ use dcx_frac::{Frac, Fracs};
 use dcx_math::List;
 
 /// What a linear program turns out to be.
-#[derive(Clone, Copy, Debug, PartialEq, Eq)]
+#[derive(Clone, Copy)]
 pub enum LpStatus {
     /// It has a least cost.
     Optimal,
@@ -15,7 +15,7 @@ pub enum LpStatus {
 }
 
 /// What is kept of a row.
-#[derive(Clone, Copy, Debug, PartialEq, Eq)]
+#[derive(Clone, Copy)]
 pub struct RowNote {
     /// The reduced cost of its slack, or of its artificial where it has none.
     pub reduced_cost: Frac,

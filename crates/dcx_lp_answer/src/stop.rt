@@ -4,7 +4,7 @@ use std::alloc::{AllocError, AllocFailed};
 use thiserror::Error;
 
 /// Why the multipliers of rows are not formed.
-#[derive(Clone, Copy, Debug, PartialEq, Eq, Error)]
+#[derive(Clone, Copy, Debug, Error)]
 pub enum MultiplierStop {
     /// The multiplier of a row passes 128 bits, the first one.
     #[error("a multiplier passes 128 bits")]

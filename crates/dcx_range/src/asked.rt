@@ -3,7 +3,7 @@ use dcx_call::Attribute;
 use dcx_frac::Frac;
 
 /// What a range is asked of.
-#[derive(Clone, Copy, Debug, PartialEq, Eq)]
+#[derive(Clone, Copy)]
 pub(crate) struct Asked {
     /// The position of the parameter, in order of declaration.
     pub(crate) position: usize,

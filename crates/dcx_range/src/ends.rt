@@ -14,7 +14,7 @@ use dcx_std::integer;
 use dcx_tab::Tableau;
 
 /// The ends of a range so far.
-#[derive(Clone, Copy, Debug, PartialEq, Eq)]
+#[derive(Clone, Copy)]
 pub(crate) struct Ends {
     /// The greatest lower end.
     pub(crate) low: Option<Frac>,

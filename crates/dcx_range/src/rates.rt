@@ -14,7 +14,7 @@ use dcx_tab::IntRow;
 use std::alloc::Global;
 
 /// How the right side of a row of the integer program changes.
-#[derive(Clone, Copy, Debug, PartialEq, Eq)]
+#[derive(Clone, Copy)]
 pub(crate) struct Rate {
     /// The row's first basic column: a row of a tableau has there how much of this row it is made of.
     pub(crate) column: u32,

@@ -2,7 +2,7 @@
 use thiserror::Error;
 
 /// Why a parameter has no range.
-#[derive(Clone, Copy, Debug, PartialEq, Eq, Error)]
+#[derive(Clone, Copy, Debug, Error)]
 pub enum NotRanged {
     /// The problem reaches no parameter of this name.
     #[error("the problem has no such parameter")]

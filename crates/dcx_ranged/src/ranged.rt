@@ -2,7 +2,7 @@
 use dcx_frac::Frac;
 
 /// What is told of a parameter's range at a setting.
-#[derive(Clone, Copy, Debug, PartialEq, Eq)]
+#[derive(Clone, Copy)]
 pub enum Ranged {
     /// The problem is optimal at the setting, and at each fitting setting that differs by a value of the parameter in the span alone
     /// the problem is optimal too: its value is the constant plus the slope times the parameter's value.

@@ -5,7 +5,7 @@ use std::alloc::{AllocError, AllocFailed};
 use thiserror::Error;
 
 /// Why a parameter's range isn't told.
-#[derive(Clone, Copy, Debug, PartialEq, Eq, Error)]
+#[derive(Clone, Copy, Debug, Error)]
 pub enum RangeStop {
     /// An operation of the run at the setting passes 128 bits, the first one: at a row, while its numbers are made whole, or in a
     /// pivot.

@@ -101,7 +101,7 @@ pub fn role_in(kind: TokenKind) -> Role
 }
 
 /// A role that says all of its token that the grammar knows, but for its place.
-#[derive(Clone, Copy, Debug, PartialEq, Eq)]
+#[derive(Clone, Copy, PartialEq, Eq)]
 pub enum Mark {
     Opens(Bracket),
     Closes(Bracket),

@@ -4,7 +4,7 @@ use dcx_rules::Curvature;
 use dcx_tree::Sense;
 
 /// What a check tells of an accepted problem. Entries are counted over all shapes of a kind together.
-#[derive(Clone, Copy, Debug, PartialEq, Eq)]
+#[derive(Clone, Copy)]
 pub struct Checked {
     /// Which way the objective goes.
     pub sense: Sense,

@@ -9,7 +9,7 @@ use dcx_rules::Rule;
 use dcx_shape::Place;
 
 /// Which file is refused.
-#[derive(Clone, Copy, Debug, PartialEq, Eq)]
+#[derive(Clone, Copy)]
 pub enum RefusalSource {
     /// The script.
     Script,
@@ -20,7 +20,7 @@ pub enum RefusalSource {
 }
 
 /// What a refusal says beside its number and place.
-#[derive(Clone, Copy, Debug, PartialEq, Eq)]
+#[derive(Clone, Copy)]
 pub enum Carried {
     /// Nothing.
     Nothing,
@@ -40,7 +40,7 @@ pub enum Carried {
 }
 
 /// Why a file is refused, and where.
-#[derive(Clone, Copy, Debug, PartialEq, Eq)]
+#[derive(Clone, Copy)]
 pub struct Refusal {
     /// The file.
     pub source: RefusalSource,

@@ -6,7 +6,7 @@ use dcx_sections::CertFault;
 use dcx_shape::{Bytes, Name};
 
 /// The word that a run's outcomes stand under.
-#[derive(Clone, Copy, Debug, PartialEq, Eq)]
+#[derive(Clone, Copy)]
 pub enum Word {
     /// Each outcome is of a `solve` of the script.
     Solve,

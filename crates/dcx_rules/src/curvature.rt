@@ -6,7 +6,7 @@ ghost use Rattle.dcx_rules.specs.Curvatures.{curvature_of};
 use crate::judgement::Judgement;
 
 /// What is known of a node's value over the points.
-#[derive(Clone, Copy, Debug, PartialEq, Eq)]
+#[derive(Clone, Copy)]
 pub enum Curvature {
     /// It reaches no variable.
     Constant,

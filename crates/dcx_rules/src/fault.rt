@@ -7,7 +7,7 @@ use std::alloc::{AllocError, AllocFailed};
 use thiserror::Error;
 
 /// The rule by which a problem isn't accepted.
-#[derive(Clone, Copy, Debug, PartialEq, Eq)]
+#[derive(Clone, Copy, Debug)]
 pub enum Rule {
     /// A call's arguments don't fit its curvature.
     Composition,
@@ -22,7 +22,7 @@ pub enum Rule {
 }
 
 /// Where a rule is broken.
-#[derive(Clone, Copy, Debug, PartialEq, Eq)]
+#[derive(Clone, Copy, Debug)]
 pub enum RuleSite {
     /// At a call.
     Node(NodeId),
@@ -33,7 +33,7 @@ pub enum RuleSite {
 }
 
 /// Why there is no verdict.
-#[derive(Clone, Copy, Debug, PartialEq, Eq, Error)]
+#[derive(Clone, Copy, Debug, Error)]
 pub enum RuleFault {
     /// The rules don't accept the problem: this is the first site that breaks its rule.
     #[error("the rules of disciplined convex programming do not accept the problem")]

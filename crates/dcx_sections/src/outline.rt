@@ -16,7 +16,7 @@ pub struct Shown {
 }
 
 /// An atom that has a variable below it, and how many rows its graph has.
-#[derive(Clone, Copy, Debug, PartialEq, Eq)]
+#[derive(Clone, Copy)]
 pub struct AtomRows {
     /// The atom's node.
     pub node: NodeId,

@@ -11,7 +11,7 @@ pub enum Section {
 }
 
 /// Whether the setting's values are told.
-#[derive(Clone, Copy, Debug, PartialEq, Eq)]
+#[derive(Clone, Copy)]
 pub enum Format {
     /// They aren't, and no section is unbounded.
     One,

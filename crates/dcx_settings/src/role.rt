@@ -11,7 +11,7 @@ use dcx_frac::Frac;
 use dcx_tokens::{Symbol, Token, TokenKind};
 
 /// The signs of the settings, and the end of a line.
-#[derive(Clone, Copy, Debug, PartialEq, Eq)]
+#[derive(Clone, Copy, PartialEq, Eq)]
 pub enum Mark {
     Minus,
     Slash,
@@ -26,7 +26,7 @@ pub enum Mark {
 }
 
 /// What a token is to the settings.
-#[derive(Clone, Copy, Debug)]
+#[derive(Clone, Copy)]
 pub enum Role {
     Name,
     /// A whole number of at least 0, of digits alone.

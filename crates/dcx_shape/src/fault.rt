@@ -3,7 +3,7 @@
 use thiserror::Error;
 
 /// Why a slice, an index or a reshape has no places.
-#[derive(Clone, Copy, Debug, PartialEq, Eq, Error)]
+#[derive(Clone, Copy, Debug, Error)]
 pub enum ShapeFault {
     /// More picks than sides, or shapes of different sizes.
     #[error("the shapes do not fit")]

@@ -15,7 +15,7 @@ use crate::slice::{Slice, count_on, slice_run};
 use std::alloc::Global;
 
 /// What an index picks of one side.
-#[derive(Clone, Copy, Debug, PartialEq, Eq)]
+#[derive(Clone, Copy)]
 pub enum Pick {
     /// One entry, which drops the side. A negative number counts from the end.
     At(i64),

@@ -10,7 +10,7 @@ use crate::run::Run;
 use std::alloc::Global;
 
 /// A slice as it is written, `start:stop:step`. An end that is negative counts from the side's end.
-#[derive(Clone, Copy, Debug, PartialEq, Eq)]
+#[derive(Clone, Copy)]
 pub struct Slice {
     pub start: Option<i64>,
     pub stop: Option<i64>,

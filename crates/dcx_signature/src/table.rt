@@ -11,7 +11,7 @@ use dcx_shape::Name;
 use dcx_syntax::Module;
 
 /// A call of the language.
-#[derive(Clone, Copy, Debug, PartialEq, Eq)]
+#[derive(Clone, Copy)]
 pub enum Function {
     /// `range(..)`
     Range,
@@ -88,7 +88,7 @@ pub enum Function {
 }
 
 /// What an argument may be.
-#[derive(Clone, Copy, Debug, PartialEq, Eq)]
+#[derive(Clone, Copy)]
 pub enum Takes {
     /// Any value.
     Anything,
@@ -129,7 +129,7 @@ pub enum Takes {
 }
 
 /// In which ways an argument may be given, and whether it must be.
-#[derive(Clone, Copy, Debug, PartialEq, Eq)]
+#[derive(Clone, Copy)]
 pub enum Way {
     /// By position or by name, and it must be.
     Must,
@@ -169,7 +169,7 @@ impl Way {
 }
 
 /// An argument that a call takes: its name, in which ways it may be given, and what it may be.
-#[derive(Clone, Copy, Debug)]
+#[derive(Clone, Copy)]
 pub struct Param {
     pub word: &'static str,
     pub way: Way,
@@ -177,7 +177,7 @@ pub struct Param {
 }
 
 /// The arguments of a call in order; and what more of them by position may be, of which there are at least so many.
-#[derive(Clone, Copy, Debug)]
+#[derive(Clone, Copy)]
 pub struct Row {
     pub params: &'static [Param],
     pub rest: Option<Takes>,

@@ -9,7 +9,7 @@ use std::alloc::AllocError;
 use thiserror::Error;
 
 /// Why rows aren't solved.
-#[derive(Clone, Copy, Debug, PartialEq, Eq, Error)]
+#[derive(Clone, Copy, Debug, Error)]
 pub enum SolveStop {
     /// There are over 600 rows or 2,400 columns.
     #[error("the program has {rows} rows and {columns} columns")]

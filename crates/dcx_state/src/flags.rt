@@ -6,7 +6,7 @@ ghost use Rattle.dcx_state.specs.Attributes.{trues, may_stand, attribute_of, who
 use dcx_call::{Attribute, Whole};
 
 /// Which attributes are asked for.
-#[derive(Clone, Copy, Debug, PartialEq, Eq)]
+#[derive(Clone, Copy)]
 pub struct Flags {
     pub nonneg: bool,
     pub nonpos: bool,

@@ -1,7 +1,7 @@
 //! The brackets of a script.
 
 /// A kind of bracket.
-#[derive(Clone, Copy, Debug, PartialEq, Eq)]
+#[derive(Clone, Copy, PartialEq, Eq)]
 pub enum Bracket {
     Round,
     Square,

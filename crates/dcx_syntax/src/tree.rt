@@ -25,7 +25,7 @@ pub enum Sign {
 }
 
 /// What scales: `"*" | "/" | "@"`.
-#[derive(Clone, Copy, Debug, PartialEq, Eq)]
+#[derive(Clone, Copy)]
 pub enum Scaling {
     Times,
     Over,
@@ -33,7 +33,7 @@ pub enum Scaling {
 }
 
 /// A module that can be imported: `"cvxpy" | "numpy"`.
-#[derive(Clone, Copy, Debug, PartialEq, Eq)]
+#[derive(Clone, Copy)]
 pub enum Module {
     Cvxpy,
     Numpy,
@@ -47,7 +47,7 @@ pub struct Named {
 }
 
 /// A sign before an operand, and its place.
-#[derive(Clone, Copy, Debug, PartialEq, Eq)]
+#[derive(Clone, Copy, PartialEq, Eq)]
 pub struct Signed {
     pub sign: Sign,
     pub place: Place,

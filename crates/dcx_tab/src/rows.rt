@@ -3,7 +3,7 @@ use crate::lists::Ints;
 use dcx_frac::Frac;
 
 /// What a column of a program stands for.
-#[derive(Clone, Copy, Debug, PartialEq, Eq)]
+#[derive(Clone, Copy, PartialEq, Eq)]
 pub enum ColumnKind {
     /// An unknown, or the part of it below 0, negated.
     Unknown { unknown: u32, negated: bool },

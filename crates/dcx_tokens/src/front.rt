@@ -7,7 +7,7 @@ ghost use Rattle.dcx_tokens.specs.Front.{run_of, is_blank, is_quote, begins_name
 use crate::token::Symbol;
 
 /// What stands at the front of a text.
-#[derive(Clone, Copy, Debug, PartialEq, Eq)]
+#[derive(Clone, Copy)]
 pub(crate) enum Front {
     LineEnd,
     Blank,

@@ -7,7 +7,7 @@ ghost use Rattle.dcx_tokens.specs.Position.{bytes_of, moved_over, next_at, line_
 use dcx_shape::Place;
 
 /// The number of bytes in front, and the place of the next one.
-#[derive(Clone, Copy, Debug, PartialEq, Eq)]
+#[derive(Clone, Copy)]
 pub(crate) struct Position {
     pub offset: u32,
     pub place: Place,

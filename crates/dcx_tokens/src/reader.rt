@@ -16,7 +16,7 @@ use std::alloc::AllocError;
 const MOST_OPEN: usize = 64;
 
 /// How far the line is read that stands here.
-#[derive(Clone, Copy, Debug, PartialEq, Eq)]
+#[derive(Clone, Copy)]
 pub(crate) enum Line {
     /// It has no token yet, and so many blanks in front, with a tab among them or not.
     Lead { spaces: usize, has_tab: bool },

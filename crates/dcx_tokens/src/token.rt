@@ -53,7 +53,7 @@ pub enum Symbol {
 }
 
 /// What a token is. What a name or a text says is the slice of its span.
-#[derive(Clone, Copy, Debug, PartialEq, Eq)]
+#[derive(Clone, Copy, PartialEq, Eq)]
 pub enum TokenKind {
     Name,
     Keyword(Keyword),
@@ -74,7 +74,7 @@ pub enum TokenKind {
 ///
 /// An indentation has the place of the first token of its line, and so has its end; at the end of the text the place
 /// is the first column of the line behind the last.
-#[derive(Clone, Copy, Debug, PartialEq, Eq)]
+#[derive(Clone, Copy)]
 pub struct Token {
     pub kind: TokenKind,
     pub start: u32,

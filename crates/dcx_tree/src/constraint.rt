@@ -11,7 +11,7 @@ use dcx_frac::Frac;
 use dcx_shape::{Place, Shape};
 
 /// What is asked of the objective.
-#[derive(Clone, Copy, Debug, PartialEq, Eq)]
+#[derive(Clone, Copy)]
 pub enum Sense {
     /// The least value.
     Minimize,
@@ -20,7 +20,7 @@ pub enum Sense {
 }
 
 /// How the two sides of a constraint stand to each other, entry by entry.
-#[derive(Clone, Copy, Debug, PartialEq, Eq)]
+#[derive(Clone, Copy)]
 pub enum Kind {
     /// Left is at most right.
     AtMost,
