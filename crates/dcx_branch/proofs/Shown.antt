@@ -1,4 +1,4 @@
--- What the answer of a node's integer program shows of the node's box, in the numbers that a leaf is handed out with.
+-- What the answer of a node's scaled program shows of the node's box, in the numbers that a leaf is handed out with.
 use Rattle.std.proofs.Common.{◌≡◌, ℕ, zero, suc, ◌+◌, ◌-◌, ◌<◌, ◌≤◌, arith, List, [], ◌∷◌, ◌++◌, length, map, Some, Ok, slice_get, refl, sym, ap, ap₂, ◌∙◌, subst, pos, true, add-zero, append_assoc, length-append, drop}
 use Rattle.std.specs.Prelude.{Bool, false, ℤ, Result, sum_by, slice_range, option_map}
 use Rattle.std.specs.List.{All}

@@ -69,7 +69,7 @@ pub record IsFirstSplit (ps : List Place) (x : Unknowns) (place : Place) (n : �
   pub before : (i : ℕ) (q : Place) → i < position → slice_get ps i ≡ Some q → IsWhole (x q.unknown)
   pub between : IsBetween (x place.unknown) n
 
--- the numbers of the unknowns in an answer to the integer program
+-- the numbers of the unknowns in an answer to the scaled program
 abbrev pub unknowns_in : tab.Program → LpAnswer → Unknowns
 unknowns_in program a = unknowns_at program.columns (map value a.columns)
 
@@ -79,7 +79,7 @@ pub data Turn : Type 0 where
   Found : Turn
   Divided : Place → ℤ → Turn
 
--- a node turns out to be so, where its integer program has this answer, and this is the best value so far
+-- a node turns out to be so, where its scaled program has this answer, and this is the best value so far
 abbrev pub TurnsOut : List Place → Option ℚ → tab.Program → LpAnswer → Turn → Type 0
 TurnsOut ps best program a Cut = (a.status ≡ status.Infeasible) ⊎ ((a.status ≡ status.Optimal) × IsPruned best (value a.number))
 TurnsOut ps best program a Found = (a.status ≡ status.Optimal) × IsBetter best (value a.number) × AreWhole ps (unknowns_in program a)

@@ -240,7 +240,7 @@ impl Search {
 /// solved with at most `limit` pivots.
 ///
 /// `RelaxationUnbounded` exactly where the run of the root ends unbounded. `NodeLimit` exactly where the run has more than `nodes`
-/// nodes, which is tested before each node. `Node` exactly where the rows of a node have no integer program or a run without an
+/// nodes, which is tested before each node. `Node` exactly where the rows of a node have no scaled program or a run without an
 /// end, or a multiplier of a leaf passes 128 bits: at the first node in the order of the run. `Memory` where there is none.
 pub fn branch(
     alloc: Global,

@@ -38,7 +38,7 @@ abbrev pub HasOneEnd : Type 0
 HasOneEnd = (p : Problem) (setting : Pairs) (limit : ℕ) (r s : Result Answer Stop) → IsAccepted p → Answers p setting limit r → Answers p setting limit s → AreOneEnd p r s
 
 -- ---- limits
--- a limit that stops the run on a program is small: its integer program, whose columns are counted with the artificials, bounds it
+-- a limit that stops the run on a program is small: its scaled program, whose columns are counted with the artificials, bounds it
 pub record BoundsLimit (p : Problem) (setting : Pairs) (limit : ℕ) : Type 0 where
   pub program : Program Frac
   pub gives : SessionGives p setting (Ok program)

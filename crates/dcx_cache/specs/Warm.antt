@@ -30,7 +30,7 @@ use Rattle.dcx_cache.specs.Answers.{IsAnswerOf, Stops}
 use Rattle.dcx_cache.specs.Columns.{columns_after}
 
 -- ---- rows
--- the columns are different ones of the integer program and none is an artificial, the warm run from its first basis, with at most so
+-- the columns are different ones of the scaled program and none is an artificial, the warm run from its first basis, with at most so
 -- many pivots, ends optimal at the tableau, and the answer has the numbers that the tableau shows
 pub record IsWarmRun (limit : ℕ) (columns : List ℕ) (program : tab.Program) (s : Solved) : Type 0 where
   pub same : s.program ≡ program
@@ -40,7 +40,7 @@ pub record IsWarmRun (limit : ℕ) (columns : List ℕ) (program : tab.Program) 
   pub numbers : IsReading program.rows program.columns (table_of s.tableau) status.Optimal s.answer
   pub no_ray : HasNoRay s.answer
 
--- the rows have an integer program, which is solved so
+-- the rows have a scaled program, which is solved so
 pub record IsWarmSolved (limit : ℕ) (columns : List ℕ) (given : GivenRows) (s : Solved) : Type 0 where
   pub made : IsMade given s.program
   pub solved : IsWarmRun limit columns s.program s
@@ -104,7 +104,7 @@ WarmAnswersAll p limit before [] (r ∷ rs) = ⊥
 WarmAnswersAll p limit before (s ∷ ss) [] = ⊥
 
 -- ---- parts of the way
--- how the warm run on an integer program ends
+-- how the warm run on a scaled program ends
 abbrev pub RunsWarm : ℕ → List ℕ → tab.Program → Option Solved → Type 0
 RunsWarm limit columns program (Some s) = IsWarmRun limit columns program s
 RunsWarm limit columns program None = IsColumnList (first_tableau program).plain columns → (t : Table) (n : ℕ) → ¬ (WarmEnds limit columns (first_tableau program) t n)

@@ -84,7 +84,7 @@ fn read(alloc: Global, program: Program, tableau: Chained) -> Result<Solved, All
     }
 }
 
-/// The warm run on an integer program, from its first tableau.
+/// The warm run on a scaled program, from its first tableau.
 fn run_from(
     alloc: Global,
     program: Program,
@@ -106,7 +106,7 @@ fn run_from(
     }
 }
 
-/// The warm run on an integer program.
+/// The warm run on a scaled program.
 fn run(
     alloc: Global,
     program: Program,
@@ -125,7 +125,7 @@ fn run(
     }
 }
 
-/// The warm run on the integer program of rows, where they have one.
+/// The warm run on the scaled program of rows, where they have one.
 fn solved_warm(
     alloc: Global,
     rows: &Rows<Frac>,

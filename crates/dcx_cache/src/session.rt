@@ -36,7 +36,7 @@ use std::sync::ledger::Ledger;
 pub struct Last {
     /// The program that was solved.
     pub reduced: Reduced<Frac>,
-    /// How: its integer program, the tableau at the last basis, and the answer that is read there.
+    /// How: its scaled program, the tableau at the last basis, and the answer that is read there.
     pub solved: Solved,
 }
 

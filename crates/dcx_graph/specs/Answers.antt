@@ -39,7 +39,7 @@ use Rattle.dcx_graph.specs.Program.{Program}
 use Rattle.dcx_graph.specs.AsLinear.{IsReductionAt}
 
 -- ---- the answer that is given
--- the rows of a program, as an integer program is made of them
+-- the rows of a program, as a scaled program is made of them
 abbrev pub rows_of : Program Frac → GivenRows
 rows_of q = given q.kinds q.rows q.objective
 

@@ -1,4 +1,5 @@
-//! Why a problem has no feasible point: constraints that no point keeps together, though some point keeps all but any one of them.
+//! Why a problem has no feasible point: an irreducible infeasible subsystem of its constraints, which no point keeps together, though
+//! some point keeps all but any one of them. The deletion filter finds it.
 //!
 //! All constraints are tried first. Where no point of the domain keeps them all, they are gone through in order, and each is left
 //! out for good where those that are left are still impossible together. What stays is the filter's set; it is defined by points

@@ -1,7 +1,7 @@
 //! The laws above the definitions of `specs/`. There is no code: each clause is a statement about all programs or problems.
 ghost use Rattle.dcx_postsolve.specs.Laws.{ColumnsAreUnknowns, ArraysArePoints, DualsAreOne, DualsAreMultipliers, DualsAreRight, AlikePointsHaveValues, AnswersStay};
 
-/// An integer program that is made of rows has the columns of all its unknowns in front. What is read from the numbers of
+/// A scaled program that is made of rows has the columns of all its unknowns in front. What is read from the numbers of
 /// columns are the unknowns that the columns stand for; it may be read where of the two columns of each free unknown one at
 /// least is 0.
 pub fn columns_are_unknowns()

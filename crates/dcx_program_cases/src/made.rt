@@ -1,4 +1,4 @@
-//! Integer programs as they are written.
+//! Scaled programs as they are written.
 use dcx_case_lines::Number;
 use dcx_tab::{ColumnKind, CostRow, IntRow, Program};
 use std::alloc::{AllocError, Global};

@@ -1,4 +1,4 @@
-//! Runs the cases of rows, their integer programs, and simplex runs on these.
+//! Runs the cases of rows, their scaled programs, and simplex runs on these.
 #![tactic(auto)]
 
 mod made;

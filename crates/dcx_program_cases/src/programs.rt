@@ -1,4 +1,4 @@
-//! Integer programs of rows, and what comes of them.
+//! Scaled programs of rows, and what comes of them.
 use crate::made::put_program;
 use crate::rows::{form_of, rows_of};
 use crate::runs::{put_multipliers, put_pivot, put_run};

@@ -1,4 +1,4 @@
-//! Simplex runs on integer programs, and single pivots.
+//! Simplex runs on scaled programs, and single pivots.
 ghost use Rattle.std.specs.Prelude.{◌≡◌};
 ghost use Rattle.dcx_tab.specs.First.{first_tableau};
 ghost use Rattle.dcx_tab.specs.Views.{table_of};

@@ -27,7 +27,7 @@ abbrev pub DifferAt : ℕ → Parameters → Parameters → Type 0
 DifferAt k s t = (j e : ℕ) → j ≢ k → t j e ≡ s j e
 
 -- ---- the basis
--- an integer program has a row for each of these rows; its columns at these numbers have the right sides that the rows have at a setting:
+-- a scaled program has a row for each of these rows; its columns at these numbers have the right sides that the rows have at a setting:
 -- the row's constant taken to the right, times the factor, and turned where the integer row was negated
 pub record SolvesAt (q : Program) (rows : List (Row ParamForm)) (s : Parameters) (zs : List ℚ) : Type 0 where
   pub count : length zs ≡ length q.columns

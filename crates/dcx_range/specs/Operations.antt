@@ -127,6 +127,6 @@ finished t hs n coefficient asked number =
     and_then (slope_of t hs n coefficient) (λ slope.
     and_then (constant_of number slope asked.at) (λ constant. Ok (span (sign_ends asked.attribute e) constant slope))))
 
--- before them the changes of the rows: those of an integer program, made of these rows with affine coefficients
+-- before them the changes of the rows: those of a scaled program, made of these rows with affine coefficients
 abbrev pub operations : Table → List IntRow → List (Row ParamForm) → ParamForm → Asked → Frac → Result Ranged Passes
 operations t ints rows objective asked number = and_then (rates_of asked.position rows ints) (λ hs. finished t hs (length ints) (coefficient_of asked.position objective) asked number)

@@ -13,7 +13,7 @@ use dcx_ranged::RangeStop;
 use dcx_tab::IntRow;
 use std::alloc::Global;
 
-/// How the right side of a row of the integer program changes.
+/// How the right side of a row of the scaled program changes.
 #[derive(Clone, Copy)]
 pub(crate) struct Rate {
     /// The row's first basic column: a row of a tableau has there how much of this row it is made of.

@@ -44,7 +44,7 @@ pub memory_stops : {A : Type 0} (P : SolveStop → Type 0) → P stops.Memory �
 memory_stops P h (Ok x) is = tt
 memory_stops P h (Err e) is = subst P (sym is) h
 
--- what stops the run on the integer program of rows, stops the rows
+-- what stops the run on the scaled program of rows, stops the rows
 pub run_stops : (limit : ℕ) (given : GivenRows) (program : Program) → IsMade given program → (e : SolveStop) → RunStops limit program e → Stops limit given e
 run_stops limit given program made (stops.TooLarge r c) h = absurd h
 run_stops limit given program made (stops.Wide (sites.Pivot n r c)) h = record { program = program; made = made; stops = h }
@@ -86,7 +86,7 @@ read_solved limit q c e run (Ok s) program tableau read right = record {
 }
 read_solved limit q c e run (Err stop) program tableau read right = tt
 
--- ---- rows that have no integer program
+-- ---- rows that have no scaled program
 pub row_stops : (limit : ℕ) (given : GivenRows) (e : RowStop) → IsStopOf given e → Stops limit given (rows_stop e)
 row_stops limit given (rows.TooLarge r c) h = h
 row_stops limit given rows.Memory h = tt

@@ -18,7 +18,7 @@ use Rattle.dcx_solved.specs.declared.solving.Solved.{Solved}
 use Rattle.dcx_solved.specs.declared.stop.SolveStop.{SolveStop}
 use Rattle.dcx_solved.specs.declared.stop.SolveStop.TheVariants as stops
 
--- ---- the run on an integer program
+-- ---- the run on a scaled program
 -- it ends at the tableau that is kept, and the answer has the numbers of that end and is right
 pub record IsRunSolved (limit : ℕ) (program : Program) (s : Solved) : Type 0 where
   pub same : s.program ≡ program
@@ -40,24 +40,24 @@ RunStops limit program stops.Memory = ⊤
 RunStops limit program _ = ⊥
 
 -- ---- rows
--- they have an integer program, which is solved
+-- they have a scaled program, which is solved
 pub record IsSolved (limit : ℕ) (given : GivenRows) (s : Solved) : Type 0 where
   pub made : IsMade given s.program
   pub solved : IsRunSolved limit s.program s
 
--- their integer program stops
+-- their scaled program stops
 pub record ProgramStops (limit : ℕ) (given : GivenRows) (stop : SolveStop) : Type 0 where
   pub program : Program
   pub made : IsMade given program
   pub stops : RunStops limit program stop
 
--- the stop of rows that have no integer program
+-- the stop of rows that have no scaled program
 abbrev pub rows_stop : RowStop → SolveStop
 rows_stop (rows.TooLarge r c) = stops.TooLarge r c
 rows_stop (rows.Wide site) = stops.Wide site
 rows_stop rows.Memory = stops.Memory
 
--- what stops rows: at a pivot and at the limit that of their integer program, and before that want of one
+-- what stops rows: at a pivot and at the limit that of their scaled program, and before that want of one
 abbrev pub Stops : ℕ → GivenRows → SolveStop → Type 0
 Stops limit given (stops.TooLarge r c) = IsStopOf given (rows.TooLarge r c)
 Stops limit given (stops.Wide (sites.Pivot pivots row column)) = ProgramStops limit given (stops.Wide (sites.Pivot pivots row column))

@@ -21,7 +21,7 @@ use std::alloc::Global;
 /// Rows that are solved.
 #[derive(Drop)]
 pub struct Solved {
-    /// Their integer program.
+    /// Their scaled program.
     pub program: Program,
     /// Its tableau at the basis from which the answer is read.
     pub tableau: Chained,
@@ -48,7 +48,7 @@ fn read(alloc: Global, program: Program, tableau: Chained, end: &LpEnd) -> Resul
     }
 }
 
-/// The run on an integer program, of at most `limit` pivots.
+/// The run on a scaled program, of at most `limit` pivots.
 fn run(alloc: Global, program: Program, limit: u64) -> Result<Solved, SolveStop>
     ensures solved { IfOk result (IsRunSolved limit program) }
     ensures stops { IfErr result (RunStops limit program) }
@@ -75,10 +75,10 @@ fn run(alloc: Global, program: Program, limit: u64) -> Result<Solved, SolveStop>
     }
 }
 
-/// Solves rows with at most `limit` pivots: their integer program, its tableau at the last basis, and the answer that is read
+/// Solves rows with at most `limit` pivots: their scaled program, its tableau at the last basis, and the answer that is read
 /// there, which is right.
 ///
-/// `TooLarge` and `Wide` with the site of a row where the rows have no integer program, as `integer_rows` has it; then `Wide` with
+/// `TooLarge` and `Wide` with the site of a row where the rows have no scaled program, as `integer_rows` has it; then `Wide` with
 /// the site of a pivot, and `PivotLimit`, exactly where the run of Bland's rule ends so. `Memory` where there is none.
 pub fn solve_rows(alloc: Global, rows: &Rows<Frac>, limit: u64) -> Result<Solved, SolveStop>
     ensures solved { IfOk result (IsSolved limit (given rows.now.kinds rows.now.rows rows.now.objective)) }

@@ -44,7 +44,7 @@ impl From<AllocError> for SolveStop {
     }
 }
 
-/// Why rows have no integer program.
+/// Why rows have no scaled program.
 pub(crate) fn rows_stop(stop: RowStop) -> SolveStop
     ensures { result ≡ rows_stop stop }
 {

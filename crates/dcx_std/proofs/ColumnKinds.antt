@@ -1,4 +1,4 @@
--- Which unknowns and rows the columns of an integer program belong to.
+-- Which unknowns and rows the columns of a scaled program belong to.
 use Rattle.std.proofs.Common.{◌≡◌, ◌≢◌, ℕ, zero, suc, ◌+◌, ◌<◌, ◌≤◌, Bool, true, false, List, [], ◌∷◌, ◌++◌, map, length, get_or, Some, refl, sym, ap, ◌∙◌, subst, arith}
 use Rattle.std.specs.Prelude.{⊤, ◌||◌, slice_get}
 use Rattle.std.specs.List.{All, Contains}

@@ -1,4 +1,4 @@
--- The columns of an integer program: which stand where.
+-- The columns of a scaled program: which stand where.
 use Rattle.std.proofs.Common.{◌≡◌, ◌≢◌, ℕ, zero, suc, ◌+◌, ◌<◌, ◌≤◌, Bool, true, false, List, [], ◌∷◌, ◌++◌, map, length, get_or, Some, refl, sym, ap, ap₂, ◌∙◌, subst, arith}
 use Rattle.std.specs.Prelude.{not, ◌||◌, nat_lt, if◌then◌else◌, sum_by, slice_get}
 use Rattle.std.specs.List.{All, Contains}

@@ -1,4 +1,4 @@
--- The integer program of rows has the form from which the simplex starts.
+-- The scaled program of rows has the form from which the simplex starts.
 use Rattle.std.proofs.Common.{◌≡◌, ℕ, zero, suc, ◌+◌, ◌<◌, ◌≤◌, ◌^◌, Bool, true, false, List, [], ◌∷◌, ◌++◌, map, length, get_or, Some, Ok, refl, sym, ap, ap₂, ◌∙◌, subst, ℤ, pos, unsigned_abs, lit<, arith, ◌⊎◌, inl, inr}
 use Rattle.std.specs.Prelude.{slice_get, sum_by, ◌<ℤ◌, if◌then◌else◌}
 use Rattle.std.specs.Option.{option_map}

@@ -1,4 +1,4 @@
--- The rows and the objective row of an integer program have the form from which the simplex starts.
+-- The rows and the objective row of a scaled program have the form from which the simplex starts.
 use Rattle.std.proofs.Common.{◌≡◌, ℕ, zero, suc, ◌+◌, ◌<◌, ◌^◌, Bool, true, false, List, [], ◌∷◌, ◌++◌, map, length, Some, refl, sym, ap, ◌∙◌, subst, ℤ, pos, negsuc, unsigned_abs, lit<, arith}
 use Rattle.std.specs.Prelude.{not, ◌||◌, ◌&&◌, nat_eq, int_lt, if◌then◌else◌, slice_get, neg_ℤ, ◌≤ℤ◌}
 use Rattle.std.proofs.lemmas.Int.{ints}

@@ -1,4 +1,4 @@
--- Unknowns that solve the rows come from columns that solve their integer program.
+-- Unknowns that solve the rows come from columns that solve their scaled program.
 use Rattle.std.proofs.Common.{◌≡◌, ◌≢◌, ℕ, ◌<◌, Bool, true, false, List, [], ◌∷◌, length, map, refl, sym, ap, ap₂, ◌∙◌, subst, arith, pos}
 use Rattle.std.specs.Prelude.{nat_eq, if◌then◌else◌}
 use Rattle.std.specs.Option.{option_map}

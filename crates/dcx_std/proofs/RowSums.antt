@@ -1,4 +1,4 @@
--- A row of an integer program at numbers of its columns: its factor times the form at the unknowns, with its slack and
+-- A row of a scaled program at numbers of its columns: its factor times the form at the unknowns, with its slack and
 -- its artificial.
 use Rattle.std.proofs.Common.{◌≡◌, ℕ, ◌<◌, Bool, true, false, List, [], ◌∷◌, length, None, refl, sym, ap, ap₂, ◌∙◌, subst, arith, ℤ, pos, negsuc}
 use Rattle.std.specs.Prelude.{nat_eq, if◌then◌else◌}

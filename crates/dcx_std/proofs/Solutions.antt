@@ -1,4 +1,4 @@
--- Columns that solve the integer program of rows stand for unknowns that solve the rows, at the same cost.
+-- Columns that solve the scaled program of rows stand for unknowns that solve the rows, at the same cost.
 use Rattle.std.proofs.Common.{◌≡◌, ℕ, zero, suc, ◌<◌, ◌≤◌, Bool, true, false, List, [], ◌∷◌, length, map, get_or, Some, refl, sym, ap, ap₂, ◌∙◌, subst, arith, pos}
 use Rattle.std.specs.Prelude.{slice_get, nat_eq, nat_lt, if◌then◌else◌}
 use Rattle.std.specs.Option.{option_map}

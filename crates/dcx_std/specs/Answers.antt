@@ -1,4 +1,4 @@
--- What an answer to the integer program of rows shows of the rows.
+-- What an answer to the scaled program of rows shows of the rows.
 use Rattle.dcx_frac.specs.Frac.{value}
 use Rattle.dcx_linear.specs.Rows.{IsOptimal, IsInfeasible, IsUnbounded}
 use Rattle.dcx_tab.specs.declared.program.Program.{Program}

@@ -1,4 +1,4 @@
--- The columns of an integer program: those of the unknowns, the slacks of the inequalities, and the artificials.
+-- The columns of a scaled program: those of the unknowns, the slacks of the inequalities, and the artificials.
 use Rattle.std.specs.Prelude.{ℕ, suc, Bool, true, false, not, ◌||◌, nat_eq, if◌then◌else◌, List, [], ◌∷◌, ◌++◌, map, ℤ, pos, negsuc, neg_ℤ}
 use Rattle.dcx_linear.specs.declared.row.RowKind.{RowKind}
 use Rattle.dcx_linear.specs.declared.row.RowKind.TheVariants.{AtMost, Equal}

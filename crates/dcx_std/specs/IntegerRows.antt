@@ -1,4 +1,4 @@
--- The rows of an integer program as they are made of whole rows, and the first operation of them all that passes.
+-- The rows of a scaled program as they are made of whole rows, and the first operation of them all that passes.
 use Rattle.std.specs.Prelude.{◌≡◌, ⊤, ◌≤◌, ◌⊎◌, ℕ, suc, ◌-◌, Bool, nat_le, List, [], ◌∷◌, ◌++◌, map, filter, if◌then◌else◌, length, replicate, Option, Some, None, Result, Ok, Err, ℤ, pos, int_lt, slice_get}
 use Rattle.std.specs.List.{All, range_with_len}
 use Rattle.dcx_math.specs.Rational.{whole}
@@ -133,7 +133,7 @@ StopsAt stops.Memory first = ⊤
 abbrev pub IsFitting : GivenRows → Type 0
 IsFitting rows = (length rows.rows ≤ 600) × (column_count rows.kinds rows.rows ≤ 2400)
 
--- why the rows have no integer program: too many rows or columns, before anything else; or else the first operation
+-- why the rows have no scaled program: too many rows or columns, before anything else; or else the first operation
 -- that passes; or want of memory
 abbrev pub IsStopOf : GivenRows → RowStop → Type 0
 IsStopOf rows (stops.TooLarge r c) = (¬ (IsFitting rows)) × (r ≡ capped (length rows.rows)) × (c ≡ capped (column_count rows.kinds rows.rows))

@@ -1,4 +1,4 @@
--- What the integer program of rows has to do with them, over exact fractions.
+-- What the scaled program of rows has to do with them, over exact fractions.
 use Rattle.std.specs.Prelude.{◌≡◌, ℕ, ◌<◌, Bool, List, map, length, Some, slice_get}
 use Rattle.dcx_math.specs.Rational.{whole, ◌*ℚ◌, neg_ℚ}
 use Rattle.dcx_frac.specs.declared.fraction.Frac.{Frac}

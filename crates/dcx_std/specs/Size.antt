@@ -1,4 +1,4 @@
--- How many rows and columns the integer program of rows has.
+-- How many rows and columns the scaled program of rows has.
 use Rattle.std.specs.Prelude.{ℕ, ◌+◌, sum_by, List}
 use Rattle.dcx_frac.specs.declared.fraction.Frac.{Frac}
 use Rattle.dcx_linear.specs.declared.row.Row.{Row}

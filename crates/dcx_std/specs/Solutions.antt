@@ -1,4 +1,4 @@
--- Rows as a linear program, and the unknowns that the columns of their integer program stand for.
+-- Rows as a linear program, and the unknowns that the columns of their scaled program stand for.
 use Rattle.std.specs.Prelude.{ℕ, ◌≤◌, nat_eq, if◌then◌else◌, List, map, length, pos}
 use Rattle.dcx_math.specs.Rational.{ℚ, whole, ◌+ℚ◌, ◌*ℚ◌}
 use Rattle.dcx_math.specs.Sums.{rat_at, rat_sum_by, rat_sum_below}

@@ -1,4 +1,4 @@
-//! The columns of an integer program.
+//! The columns of a scaled program.
 ghost use Rattle.std.specs.Prelude.{◌≡◌, ◌<◌, ◌≤◌, [], ◌∷◌, ◌++◌, if◌then◌else◌, ◌^◌, length, map, Some, OnOk, IfOk, Contains, slice_get};
 ghost use Rattle.dcx_std.specs.Columns.{unknown_columns, all_unknown_columns, slack_columns, artificial_columns, plain_columns_of};
 

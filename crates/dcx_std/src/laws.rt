@@ -1,4 +1,4 @@
-//! What the integer program of rows has to do with the rows.
+//! What the scaled program of rows has to do with the rows.
 //!
 //! Each function is a law: its clause is a statement about all rows, and the body is empty.
 ghost use Rattle.std.specs.Prelude.{◌≡◌, ℕ, ◌<◌, List, length};
@@ -41,12 +41,12 @@ pub fn right_answers_carry_over()
     ensures { (rows : GivenRows) (q : Program) (a : LpAnswer) → HasKinds rows → IsMade rows q → IsRight q a → IsRightForRows rows q a }
 {}
 
-/// Rows have one integer program.
+/// Rows have one scaled program.
 pub fn programs_are_one()
     ensures { ProgramsAreOne }
 {}
 
-/// Rows that have an integer program have no stop but want of memory.
+/// Rows that have a scaled program have no stop but want of memory.
 pub fn made_or_stopped()
     ensures { MadeOrStopped }
 {}

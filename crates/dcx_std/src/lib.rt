@@ -1,4 +1,4 @@
-//! The integer program of rows with fractions, in the form from which the simplex starts.
+//! The scaled program of rows with fractions: a linear program with integer coefficients, in the form from which the simplex starts.
 //!
 //! Each row is multiplied by the least common multiple of its denominators and divided by its greatest common divisor
 //! (`whole`), gets its slack, is negated where its right side is below 0, and gets an artificial where its slack can't
@@ -11,7 +11,7 @@
 //! | the program has the columns and rows that the written order of operations gives | `integer_rows`: `made` |
 //! | a small integer is the fraction that the definitions have for it | `integer` |
 //! | an operation is said to pass only where it does, and it is the first, with its row and operands | `integer_rows`: `stops` |
-//! | rows have one integer program | `laws::programs_are_one` |
+//! | rows have one scaled program | `laws::programs_are_one` |
 //! | rows that have one have no stop, and rows have one stop at most, want of memory aside | `laws::made_or_stopped`, `laws::stops_are_one` |
 //! | each row of the program is a row of fractions times its factor | `laws::rows_are_scaled` |
 //! | columns that solve the program stand for unknowns that solve the rows | `laws::solutions_carry_over` |

@@ -1,4 +1,4 @@
-//! The integer program of rows.
+//! The scaled program of rows.
 ghost use Rattle.std.specs.Prelude.{◌≡◌, ◌<◌, ◌≤◌, ◌^◌, length, map, Ok, IfOk, IfErr, OnOk};
 ghost use Rattle.std.specs.List.{All};
 ghost use Rattle.dcx_linear.specs.Stops.{Gives};
@@ -118,7 +118,7 @@ fn assembled(alloc: Global, rows: &Rows<Frac>, whole: &WholeProgram) -> Result<P
     })
 }
 
-/// The integer program of rows.
+/// The scaled program of rows.
 ///
 /// `TooLarge` exactly where there are over 600 rows, or 2,400 columns without the artificials, and before anything else.
 /// `Wide` exactly at the first operation that passes 128 bits, with the number of its row in the tableau.

@@ -1,4 +1,4 @@
-//! The rows of an integer program, made of whole rows.
+//! The rows of a scaled program, made of whole rows.
 ghost use Rattle.std.specs.Prelude.{◌≡◌, ℕ, ◌<◌, ◌≤◌, ◌^◌, List, ◌++◌, ◌∷◌, [], map, length, pos, negsuc, int_lt, unsigned_abs, IfOk, Contains, Some, slice_get};
 ghost use Rattle.dcx_std.specs.declared.whole.WholeRow.{WholeRow};
 ghost use Rattle.std.specs.List.{All};

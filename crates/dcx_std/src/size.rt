@@ -1,4 +1,4 @@
-//! How many rows and columns the integer program of rows has.
+//! How many rows and columns the scaled program of rows has.
 ghost use Rattle.std.specs.Prelude.{◌≡◌, ◌≤◌, ◌↔◌, sum_by, length, IsOk, IfErr};
 ghost use Rattle.dcx_linear.specs.Size.{capped};
 ghost use Rattle.dcx_std.specs.Size.{slacks_for, column_count};

@@ -1,4 +1,4 @@
-//! How a row of an integer program starts: with its slack basic, or with an artificial.
+//! How a row of a scaled program starts: with its slack basic, or with an artificial.
 ghost use Rattle.std.specs.Prelude.{◌≡◌};
 ghost use Rattle.dcx_std.specs.Columns.{has_slack, needs_artificial, start_column};
 

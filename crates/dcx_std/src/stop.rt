@@ -1,9 +1,9 @@
-//! Why rows have no integer program.
+//! Why rows have no scaled program.
 use dcx_answer::Site;
 use std::alloc::{AllocError, AllocFailed};
 use thiserror::Error;
 
-/// Why rows have no integer program.
+/// Why rows have no scaled program.
 #[derive(Clone, Copy, Debug, Error)]
 pub enum RowStop {
     /// An operation passes 128 bits, the first one.

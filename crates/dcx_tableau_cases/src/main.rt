@@ -20,11 +20,11 @@ use std::rt::{Env, Files};
 use std::{env, fs};
 use told::tell;
 
-/// The integer program that a file gives.
+/// The program that a file gives, in whole numbers.
 fn program(rt: &(impl Files + AllocGlobal), name: &str) -> Result<Program> {
     let text = fs::read_to_string(rt, name)?;
     let rows = given::read(rt.alloc(), text.as_str())?;
-    integer_rows(rt.alloc(), &rows).context("no integer program")
+    integer_rows(rt.alloc(), &rows).context("no scaled program")
 }
 
 /// One run over a tableau.
