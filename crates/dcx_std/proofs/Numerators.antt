@@ -43,6 +43,14 @@ pub range_none : (i n : ℕ) → n ≤ i → range_with_len i (n - i) ≡ []
 range_none i n h = let e : n - i ≡ 0 = omega arith in ap (range_with_len i) e
 
 -- ---- what is formed
+-- what passes forms no value
+pub passes_no_value : {A : Type 0} (passes : Passes) (y : A) → Err passes ≡ Ok y → ⊥
+passes_no_value passes y e = cc
+
+-- an answer is of one value
+pub one_value : {A : Type 0} (r : Result A Passes) (x y : A) → r ≡ Ok x → r ≡ Ok y → x ≡ y
+one_value r x y e d = cc
+
 -- the fractions that are formed, and their numerators
 pub record AreFormed (rs : List (Result Frac Passes)) (zs : List ℤ) : Type 0 where
   pub fractions : List Frac
@@ -50,15 +58,15 @@ pub record AreFormed (rs : List (Result Frac Passes)) (zs : List ℤ) : Type 0 w
   pub numerators : zs ≡ map num_of fractions
 
 pub formed_numerators : (rs : List (Result Frac Passes)) (zs : List ℤ) → numerators rs ≡ Ok zs → AreFormed rs zs
-formed_numerators [] zs e = let d : [] ≡ zs = cc in record { fractions = []; are = refl; numerators = sym d }
-formed_numerators (Err passes ∷ rs) zs e = cc
+formed_numerators [] zs e = let d = one_value (Ok []) [] zs refl e in record { fractions = []; are = refl; numerators = sym d }
+formed_numerators (Err passes ∷ rs) zs e = absurd (passes_no_value passes zs e)
 formed_numerators (Ok y ∷ rs) zs e = by (numerators rs) refl e (λ ws d. formed_numerators rs ws d)
   where
     by : (r : Result (List ℤ) Passes) → numerators rs ≡ r → and_then r (λ ws. Ok (num_of y ∷ ws)) ≡ Ok zs → ((ws : List ℤ) → numerators rs ≡ Ok ws → AreFormed rs ws) → AreFormed (Ok y ∷ rs) zs
-    by (Err passes) d e rest = cc
+    by (Err passes) d e rest = absurd (passes_no_value passes zs e)
     by (Ok ws) d e rest =
         let h = rest ws d in
-        let q : num_of y ∷ ws ≡ zs = cc in
+        let q = one_value (Ok (num_of y ∷ ws)) (num_of y ∷ ws) zs refl e in
         record { fractions = y ∷ h.fractions; are = ap (λ s. Ok y ∷ s) h.are; numerators = sym q ∙ ap (λ s. num_of y ∷ s) h.numerators }
 
 nums_small : (ys : List Frac) → AllSmall (map num_of ys)

@@ -27,7 +27,7 @@ use Rattle.dcx_tab.specs.Program.{IsPhase, plain_count, sum_started, right_of}
 use Rattle.dcx_std.specs.WholeRows.{numerators}
 use Rattle.dcx_std.specs.IntegerRows.{starts_artificial, number_at, added_number, column_sum, phase_of, phase_made}
 use Rattle.dcx_lp_answer.proofs.Fractions.{value-whole}
-use Rattle.dcx_std.proofs.Numerators.{formed_numerators, numerators_small, numerators_count, num_of_whole}
+use Rattle.dcx_std.proofs.Numerators.{passes_no_value, one_value, formed_numerators, numerators_small, numerators_count, num_of_whole}
 use Rattle.dcx_std.proofs.RowForm.{AllSmall-++, small_ends}
 
 -- ---- the sum at a column
@@ -86,17 +86,17 @@ phase_parts plain width rows c e = by (numerators (map (column_sum plain rows) (
   where
     then_last : (zs : List ℤ) → numerators (map (column_sum plain rows) (range_with_len 0 plain)) ≡ Ok zs → (r : Result Frac Passes) → column_sum plain rows width ≡ r
         → and_then r (λ x. Ok (phase_of plain width zs x)) ≡ Ok c → PhaseParts plain width rows c
-    then_last zs h (Err passes) d e = cc
-    then_last zs h (Ok x) d e = let q : phase_of plain width zs x ≡ c = cc in record { sums = zs; last = x; sums_are = h; last_is = d; is = sym q }
+    then_last zs h (Err passes) d e = absurd (passes_no_value passes c e)
+    then_last zs h (Ok x) d e = let q = one_value (Ok (phase_of plain width zs x)) (phase_of plain width zs x) c refl e in record { sums = zs; last = x; sums_are = h; last_is = d; is = sym q }
 
     by : (r : Result (List ℤ) Passes) → numerators (map (column_sum plain rows) (range_with_len 0 plain)) ≡ r
         → and_then r (λ zs. and_then (column_sum plain rows width) (λ x. Ok (phase_of plain width zs x))) ≡ Ok c → PhaseParts plain width rows c
-    by (Err passes) d e = cc
+    by (Err passes) d e = absurd (passes_no_value passes c e)
     by (Ok zs) d e = then_last zs d (column_sum plain rows width) refl e
 
 -- the numerator of one of the formed numbers
 numerator_at : (rs : List (Result Frac Passes)) (ys : List Frac) (j : ℕ) → rs ≡ map Ok ys → j < length rs → (y : Frac) × (get_or rs j (Ok zero_frac) ≡ Ok y) × (get_or ys j zero_frac ≡ y)
-numerator_at rs ys j e l = (get_or ys j zero_frac, ap (λ s. get_or s j (Ok zero_frac)) e ∙ get_or-map Ok ys j zero_frac (Ok zero_frac) (omega (arith, l, ap length e, length-map {B = Result Frac Passes} ys Ok)), refl)
+numerator_at rs ys j e l = (get_or ys j zero_frac, ap (λ s. get_or s j (Ok zero_frac)) e ∙ get_or-map Ok ys j zero_frac (Ok zero_frac) (subst (λ n. j < n) (ap length e ∙ length-map {B = Result Frac Passes} ys Ok) l), refl)
 
 zeros_at : (n j : ℕ) → entry (replicate n (pos 0)) j ≡ pos 0
 zeros_at zero j = refl
@@ -105,6 +105,17 @@ zeros_at (suc n) (suc j) = zeros_at n j
 
 zeros_small : (n : ℕ) → AllSmall (replicate n (pos 0))
 zeros_small n j = rw (zeros_at n j) (lit< tt)
+
+from_zero : (j : ℕ) → 0 + j ≡ j
+from_zero j = omega arith
+
+-- numbers filled up with zeros
+filled_count : (zs : List ℤ) (n m : ℕ) → length zs ≡ n → n ≤ m → length (zs ++ replicate (m - n) (pos 0)) ≡ m
+filled_count zs n m count h = omega (arith, length-append zs (replicate (m - n) (pos 0)), length-replicate (m - n) (pos 0))
+
+-- a place below a number is below a larger one
+below_larger : (j n m : ℕ) → j < n → n ≤ m → j < m
+below_larger j n m l h = omega arith
 
 module _ (kinds : List ColumnKind) (rows : List IntRow) (c : CostRow) (below : plain_count kinds ≤ length kinds) (widths : All (λ r. length r.entries ≡ length kinds) rows)
     (small : All (λ r. AllSmall (r.entries ++ r.right ∷ [])) rows) (made : phase_made (plain_count kinds) (length kinds) rows ≡ Ok c) where
@@ -120,10 +131,10 @@ module _ (kinds : List ColumnKind) (rows : List IntRow) (c : CostRow) (below : p
   sum_at : (j : ℕ) → j < plain → entry parts.sums j ≡ sum_started plain (number_at j) rows
   sum_at j l =
       let f = formed_numerators (map (column_sum (plain_count kinds) rows) (range_with_len 0 (plain_count kinds))) parts.sums parts.sums_are in
-      let e : get_or (map (column_sum plain rows) (range_with_len 0 plain)) j (Ok zero_frac) ≡ column_sum plain rows j = get_or-map-range_with_len (column_sum plain rows) 0 plain j j (Ok zero_frac) l (omega arith) in
-      let n = numerator_at _ f.fractions j f.are (omega (arith, l, length-map-range_with_len (column_sum plain rows) 0 plain)) in
+      let e : get_or (map (column_sum plain rows) (range_with_len 0 plain)) j (Ok zero_frac) ≡ column_sum plain rows j = get_or-map-range_with_len (column_sum plain rows) 0 plain j j (Ok zero_frac) l (from_zero j) in
+      let n = numerator_at _ f.fractions j f.are (subst (λ n. j < n) (sym (length-map-range_with_len (column_sum plain rows) 0 plain)) l) in
       let count : length f.fractions ≡ plain = sym (length-map f.fractions num_of) ∙ sym (ap length f.numerators) ∙ sums_count in
-      ap (λ zs. entry zs j) f.numerators ∙ get_or-map num_of f.fractions j zero_frac (pos 0) (omega (arith, l, count)) ∙ ap num_of n.2 ∙ column_sum_is plain j rows n.0 small (sym e ∙ n.1)
+      ap (λ zs. entry zs j) f.numerators ∙ get_or-map num_of f.fractions j zero_frac (pos 0) (subst (λ n. j < n) (sym count) l) ∙ ap num_of n.2 ∙ column_sum_is plain j rows n.0 small (sym e ∙ n.1)
 
   same_numbers : (j : ℕ) → j < length kinds → sum_started plain (number_at j) rows ≡ sum_started plain (λ r. entry r.entries j) rows
   same_numbers j l = by rows widths
@@ -132,7 +143,7 @@ module _ (kinds : List ColumnKind) (rows : List IntRow) (c : CostRow) (below : p
       by [] h = refl
       by (r ∷ rs) h =
           let w : length r.entries ≡ length kinds = All-head (λ s. length s.entries ≡ length kinds) r rs h in
-          ap₂ ◌+ℤ◌ (ap (λ z. if nat_le plain r.basic then z else pos 0) (get_or_append_left r.entries (r.right ∷ []) (pos 0) j (omega (arith, l, w)))) (by rs (All-tail (λ s. length s.entries ≡ length kinds) r rs h))
+          ap₂ ◌+ℤ◌ (ap (λ z. if nat_le plain r.basic then z else pos 0) (get_or_append_left r.entries (r.right ∷ []) (pos 0) j (subst (λ n. j < n) (sym w) l))) (by rs (All-tail (λ s. length s.entries ≡ length kinds) r rs h))
 
   same_rights : sum_started plain (number_at (length kinds)) rows ≡ sum_started plain right_of rows
   same_rights = by rows widths
@@ -148,11 +159,11 @@ module _ (kinds : List ColumnKind) (rows : List IntRow) (c : CostRow) (below : p
 
   pub phase_form : IsPhase kinds rows c
   phase_form = record {
-    width = ap length entries_are ∙ omega (arith, length-append parts.sums (replicate (length kinds - plain) (pos 0)), sums_count, length-replicate (length kinds - plain) (pos 0), below);
+    width = ap length entries_are ∙ filled_count parts.sums plain (length kinds) sums_count below;
     small =
         AllSmall-++ c.entries (pos 0 ∷ c.lead ∷ c.right ∷ []) (subst AllSmall (sym entries_are) (AllSmall-++ parts.sums (replicate (length kinds - plain) (pos 0)) (numerators_small (map (column_sum (plain_count kinds) rows) (range_with_len 0 (plain_count kinds))) parts.sums parts.sums_are) (zeros_small (length kinds - plain))))
         (small_ends (pos 0) c.lead c.right (lit< tt) (subst (λ z. unsigned_abs z < 2 ^ 127) (sym (ap (λ (d : CostRow). d.lead) parts.is)) (lit< tt)) (subst (λ z. unsigned_abs z < 2 ^ 127) (sym (ap (λ (d : CostRow). d.right) parts.is)) parts.last.num_fits));
-    plain = λ j l. ap (λ zs. entry zs j) entries_are ∙ get_or_append_left parts.sums (replicate (length kinds - plain) (pos 0)) (pos 0) j (omega (arith, l, sums_count)) ∙ sum_at j l ∙ same_numbers j (omega (arith, l, below));
+    plain = λ j l. ap (λ zs. entry zs j) entries_are ∙ get_or_append_left parts.sums (replicate (length kinds - plain) (pos 0)) (pos 0) j (subst (λ n. j < n) (sym sums_count) l) ∙ sum_at j l ∙ same_numbers j (below_larger j plain (length kinds) l below);
     artificial = λ j l k. ap (λ zs. entry zs j) entries_are ∙ get_or-append_right parts.sums (replicate (length kinds - plain) (pos 0)) plain j (pos 0) sums_count l ∙ zeros_at (length kinds - plain) (j - plain);
     lead = ap (λ (d : CostRow). d.lead) parts.is;
     right = ap (λ (d : CostRow). d.right) parts.is ∙ column_sum_is plain (length kinds) rows parts.last small parts.last_is ∙ same_rights;

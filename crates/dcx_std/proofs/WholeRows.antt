@@ -21,7 +21,7 @@ use Rattle.dcx_std.specs.Multiples.{denominators, multiple_of}
 use Rattle.dcx_std.specs.WholeRows.{numerators, or_one, divisor_of, lowest_row, whole_row_of}
 use Rattle.dcx_std.proofs.Multiples.{IsMultiple, multiple_of_is}
 use Rattle.dcx_lp_answer.proofs.Fractions.{value-quotient, quotient_positive}
-use Rattle.dcx_std.proofs.Numerators.{numerators_small, numerators_count}
+use Rattle.dcx_std.proofs.Numerators.{passes_no_value, one_value, numerators_small, numerators_count}
 
 -- ---- the divisor
 pub or_one_positive : (n : ℕ) → 0 < or_one n
@@ -36,13 +36,20 @@ or_one_below : (n k : ℕ) → 1 < k → n < k → or_one n < k
 or_one_below zero k h l = h
 or_one_below (suc n) k h l = l
 
+-- a positive number is a positive signed one
+signed_positive : (n : ℕ) → 0 < n → pos 0 <ℤ pos n
+signed_positive n h = omega (arith, ints)
+
 -- the divisor of small numbers is small
 pub divisor_below : (zs : List ℤ) → AllSmall zs → divisor_of zs < 2 ^ 127
 divisor_below zs h = or_one_below (gcd_of zs) (2 ^ 127) (lit< tt) (gcd_of-below zs (2 ^ 127) (lit< tt) h)
 
+stays_below : (a b limit : ℕ) → a ≤ b → b < limit → a < limit
+stays_below a b limit h l = omega arith
+
 quotients_small : (d : ℕ) (zs : List ℤ) → AllSmall zs → AllSmall (map (divided d) zs)
 quotients_small d [] h j = lit< tt
-quotients_small d (z ∷ zs) h zero = let s : unsigned_abs z < 2 ^ 127 = h 0 in let l : unsigned_abs (divided d z) ≤ unsigned_abs z = rw (unsigned_abs-divided d z) (div-le_self (unsigned_abs z) d) in omega (arith, s, l)
+quotients_small d (z ∷ zs) h zero = stays_below (unsigned_abs (divided d z)) (unsigned_abs z) (2 ^ 127) (rw (unsigned_abs-divided d z) (div-le_self (unsigned_abs z) d)) (h 0)
 quotients_small d (z ∷ zs) h (suc j) = quotients_small d zs (λ k. h (suc k)) j
 
 -- ---- the steps by which a whole row is formed
@@ -57,11 +64,11 @@ pub formed_by : (kind : RowKind) (f : Form Frac) (numbers : List Frac) (w : Whol
 formed_by kind f numbers w e = by (multiple_of f) refl e
   where
     then_products : (m : ℕ) → multiple_of f ≡ Ok m → (r : Result (List ℤ) Passes) → numerators (map (product_of (frac_at (whole (pos m)))) numbers) ≡ r → and_then r (λ zs. Ok (lowest_row kind m zs)) ≡ Ok w → IsFormedBy kind f numbers w
-    then_products m h (Err passes) d e = cc
-    then_products m h (Ok zs) d e = let q : lowest_row kind m zs ≡ w = cc in record { multiple = m; products = zs; multiple_is = h; products_are = d; is = sym q }
+    then_products m h (Err passes) d e = absurd (passes_no_value passes w e)
+    then_products m h (Ok zs) d e = let q = one_value (Ok (lowest_row kind m zs)) (lowest_row kind m zs) w refl e in record { multiple = m; products = zs; multiple_is = h; products_are = d; is = sym q }
 
     by : (r : Result ℕ Passes) → multiple_of f ≡ r → and_then r (λ m. and_then (numerators (map (product_of (frac_at (whole (pos m)))) numbers)) (λ zs. Ok (lowest_row kind m zs))) ≡ Ok w → IsFormedBy kind f numbers w
-    by (Err passes) d e = cc
+    by (Err passes) d e = absurd (passes_no_value passes w e)
     by (Ok m) d e = then_products m d (numerators (map (product_of (frac_at (whole (pos m)))) numbers)) refl e
 
 -- what is formed is the row
@@ -77,7 +84,7 @@ module _ (kind : RowKind) (f : Form Frac) (numbers : List Frac) (w : WholeRow) (
   products_small = numerators_small (map (product_of (frac_at (whole (pos h.multiple)))) numbers) h.products h.products_are
 
   divisor_positive : pos 0 <ℤ pos (divisor_of h.products)
-  divisor_positive = let p = or_one_positive (gcd_of h.products) in omega (arith, ints, p)
+  divisor_positive = signed_positive (divisor_of h.products) (or_one_positive (gcd_of h.products))
 
   -- the divisor is small
   pub divisor_small : divisor_of h.products < 2 ^ 127
@@ -88,7 +95,7 @@ module _ (kind : RowKind) (f : Form Frac) (numbers : List Frac) (w : WholeRow) (
   factor_is = ap (λ (v : WholeRow). value v.factor) h.is ∙ value-quotient (pos h.multiple) (pos (divisor_of h.products)) divisor_positive multiple_facts.small divisor_small
 
   pub factor_positive : whole (pos 0) <ℚ value w.factor
-  factor_positive = let p = multiple_facts.positive in rw factor_is (quotient_positive (pos h.multiple) (pos (divisor_of h.products)) (omega (arith, ints, p)) divisor_positive)
+  factor_positive = rw factor_is (quotient_positive (pos h.multiple) (pos (divisor_of h.products)) (signed_positive h.multiple multiple_facts.positive) divisor_positive)
 
   -- its numbers are small
   pub whole_small : AllSmall w.numbers

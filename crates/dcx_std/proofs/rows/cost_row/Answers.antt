@@ -1,7 +1,8 @@
-use Rattle.std.proofs.Common.{◌≡◌, ◌+◌, ◌<◌, ◌^◌, suc, map, sym, ap, ap₂, ◌∙◌, subst, unsigned_abs, arith, to_z-of_z}
+use Rattle.std.proofs.Common.{[], ◌∷◌, ◌++◌, ◌≡◌, ◌+◌, ◌<◌, ◌^◌, suc, map, sym, ap, ap₂, ◌∙◌, subst, unsigned_abs, arith, rules, SFits, to_z-of_z}
 use Rattle.std.specs.Int.{w128}
 use Rattle.std.proofs.lemmas.Int.{fits_signed_from_abs}
-use Rattle.std.proofs.lemmas.List.{take_all}
+use Rattle.std.proofs.lemmas.List.{map_more, take_all}
+use Rattle.std.proofs.lemmas.Result.{err_from_is_err_and}
 use Rattle.dcx_tab.specs.Rows.{entry}
 use Rattle.dcx_std.specs.Columns.{cost_in}
 use Rattle.dcx_std.proofs.rows.cost_row.Goals as goal
@@ -20,3 +21,18 @@ returns c =
       right = right;
       lead = lead;
     })
+
+pub columns-init : goal.columns-init
+columns-init c = search rules
+
+pub columns-smaller : goal.columns-smaller
+columns-smaller c = search rules
+
+pub columns-preserved : goal.columns-preserved
+columns-preserved c =
+    let fits : SFits w128 c.cost_entry.result = search rules in
+    let pushed = simp to_z-of_z at c.in_ok-push.ensures.items in
+    pushed ∙ ap₂ (λ ns n. ns ++ n ∷ []) c.columns.invariant c.cost_entry.ensures ∙ sym (map_more (cost_in c.as_slice-numbers.result.now) c.args.columns.now c.columns.column-index _ (omega arith))
+
+pub returns-in_err-push : goal.returns-in_err-push
+returns-in_err-push c = let p = err_from_is_err_and c.from_residual-in_err-push.result c.from_residual-in_err-push.ensures.1 in rw p.1 tt
