@@ -1,5 +1,5 @@
 -- The rows of a group as the code lists them.
-use Rattle.std.proofs.Common.{◌≡◌, ℕ, ◌+◌, ◌*◌, ◌<◌, arith, List, ◌++◌, map, IfSome, append_assoc, sym, ap, ◌∙◌, subst}
+use Rattle.std.proofs.Common.{◌≡◌, ℕ, ◌+◌, ◌*◌, ◌<◌, arith, List, ◌++◌, map, IfSome, append_assoc, sym, ap, ap₂, ◌∙◌, subst}
 use Rattle.std.proofs.lemmas.List.{map-append}
 use Rattle.dcx_shape.specs.declared.shape.Sides.{Sides}
 use Rattle.dcx_shape.specs.declared.shape.Sides.TheVariants.{Scalar, Vector, Matrix}
@@ -41,7 +41,13 @@ small_number axis s k i count few e h b =
     let n = ap (λ m. groups axis s * m) e ∙ groups_fill axis s in
     omega (arith, l, n, few.most)
 
--- and so is its place
+-- and so is how many there are
+pub small_product : (axis : Axis) (s : Sides) (size count : ℕ) → HasFewEntries s → size ≡ groups axis s → count ≡ folded_count axis s → size * count < 4294967296
+small_product axis s size count few e n =
+    let all = ap₂ (λ a b. a * b) e n ∙ groups_fill axis s in
+    omega (arith, all, few.most)
+
+-- the place of a member is small
 pub small_place : (axis : Axis) (s : Sides) (k i count : ℕ) (stride : Stride) → HasFewEntries s → stride ≡ folded_stride axis s k → count ≡ folded_count axis s → k < groups axis s → i < count →
     stride_entry stride i < 4294967296
 small_place axis s k i count stride few e n h b =

@@ -148,6 +148,23 @@ fn count_unknowns(fold: Fold, from: Shape, size: u32) -> u32
     }
 }
 
+/// The rows of all groups, of which there are `size`.
+fn fold_rows(
+    alloc: Global,
+    folding: Folding,
+    from: Shape,
+    size: u32,
+) -> Result<GraphRows, AllocError>
+    requires { size ≡ groups folding.axis (sides_of from) }
+    ensures { IfOk result (λ g. map placed_row g ≡ rows_below size (group_rows folding.fold folding.axis (sides_of from))) }
+{
+    let mut rows = Vec::new(alloc);
+    for entry in 0..size {
+        push_group_rows(alloc, &mut rows, folding, from, entry)?;
+    }
+    Ok(GraphRows::from_vec(rows))
+}
+
 /// The graph at an argument of this shape, whose `size` groups each become one entry.
 pub(crate) fn fold_graph(
     alloc: Global,
@@ -160,17 +177,10 @@ pub(crate) fn fold_graph(
     ensures rows { IfOk result (λ g. map placed_row g.rows ≡ rows_below size (group_rows folding.fold folding.axis (sides_of from))) }
     ensures results { IfOk result (λ g. map (map form_term) g.results ≡ list_below size (group_form folding.fold (folded_count folding.axis (sides_of from)))) }
 {
-    let mut rows = Vec::new(alloc);
-    for entry in 0..size {
-        push_group_rows(alloc, &mut rows, folding, from, entry)?;
-    }
-    Ok(Graph {
-        aux: of_kind(
-            alloc,
-            folding.fold.kind(),
-            count_unknowns(folding.fold, from, size),
-        )?,
-        rows: GraphRows::from_vec(rows),
-        results: group_forms(alloc, folding.fold, size, folding.axis.folded_count(from))?,
-    })
+    let unknowns = count_unknowns(folding.fold, from, size);
+    let aux = of_kind(alloc, folding.fold.kind(), unknowns)?;
+    let count = folding.axis.folded_count(from);
+    let results = group_forms(alloc, folding.fold, size, count)?;
+    let rows = fold_rows(alloc, folding, from, size)?;
+    Ok(Graph { aux, rows, results })
 }
