@@ -1,5 +1,5 @@
 //! The graph of a fold: the rows of each group, its unknowns, and its results.
-ghost use Rattle.std.specs.Prelude.{◌≡◌, ◌<◌, ◌+◌, ◌*◌, ◌++◌, ◌^◌, map, replicate, OnOk, IfOk};
+ghost use Rattle.std.specs.Prelude.{◌≡◌, ◌<◌, ◌+◌, ◌*◌, ◌++◌, ◌^◌, [], ◌∷◌, map, replicate, OnOk, IfOk};
 ghost use Rattle.dcx_shape.specs.Shape.{sides_of};
 ghost use Rattle.dcx_shape.specs.Sides.{entries_of};
 ghost use Rattle.dcx_atom.specs.Arrays.{list_below};
@@ -41,6 +41,29 @@ fn member_row(
     bounding_row(alloc, fold.bend(), entry, unknown, term)
 }
 
+/// Adds that row.
+fn push_member_row(
+    alloc: Global,
+    rows: &mut Vec<GraphRow>,
+    fold: Fold,
+    entry: u32,
+    unknown: u32,
+    place: u32,
+    coefficient: Frac,
+) -> Result<(), AllocError>
+    ensures { OnOk result (map placed_row rows.new.items ≡ map placed_row rows.old.items ++ record { entry = entry; row = bound_row (fold_bend fold) unknown (argument_term 0 place (value coefficient)) } ∷ []) }
+{
+    rows.push(member_row(
+        alloc,
+        fold,
+        entry,
+        unknown,
+        place,
+        coefficient,
+    )?)?;
+    Ok(())
+}
+
 /// Adds the rows of the member at `place` of group `entry`.
 fn push_member_rows(
     alloc: Global,
@@ -52,14 +75,13 @@ fn push_member_rows(
 ) -> Result<(), AllocError>
     ensures { OnOk result (map placed_row rows.new.items ≡ map placed_row rows.old.items ++ map (λ row. record { entry = entry; row = row }) (rows_of_member fold unknown place)) }
 {
-    rows.push(member_row(alloc, fold, entry, unknown, place, Frac::one())?)?;
+    push_member_row(alloc, rows, fold, entry, unknown, place, Frac::one())?;
     match fold {
-        Fold::Max => {}
-        Fold::Min => {}
-        Fold::Norm1 => rows.push(member_row(alloc, fold, entry, unknown, place, minus_one())?)?,
-        Fold::NormInf => rows.push(member_row(alloc, fold, entry, unknown, place, minus_one())?)?,
+        Fold::Max => Ok(()),
+        Fold::Min => Ok(()),
+        Fold::Norm1 => push_member_row(alloc, rows, fold, entry, unknown, place, minus_one()),
+        Fold::NormInf => push_member_row(alloc, rows, fold, entry, unknown, place, minus_one()),
     }
-    Ok(())
 }
 
 /// The unknown beyond member `i` of group `k` of `count` members.
