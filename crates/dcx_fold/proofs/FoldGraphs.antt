@@ -10,7 +10,7 @@ use Rattle.dcx_atom.specs.declared.axis.Stride.{Stride}
 use Rattle.dcx_atom.specs.Arrays.{joined_below}
 use Rattle.dcx_atom.specs.Axis.{folded, folded_count, folded_stride, stride_entry}
 use Rattle.dcx_atom.proofs.Lists.{among_parts}
-use Rattle.dcx_fold.specs.Groups.{groups, member}
+use Rattle.dcx_fold.specs.Groups.{groups}
 use Rattle.dcx_fold.specs.GroupLaws.{is_member}
 use Rattle.dcx_fold.proofs.StepLists.{joined_below-next}
 

@@ -53,14 +53,7 @@ fn push_member_row(
 ) -> Result<(), AllocError>
     ensures { OnOk result (map placed_row rows.new.items ≡ map placed_row rows.old.items ++ record { entry = entry; row = bound_row (fold_bend fold) unknown (argument_term 0 place (value coefficient)) } ∷ []) }
 {
-    rows.push(member_row(
-        alloc,
-        fold,
-        entry,
-        unknown,
-        place,
-        coefficient,
-    )?)?;
+    rows.push(member_row(alloc, fold, entry, unknown, place, coefficient)?)?;
     Ok(())
 }
 

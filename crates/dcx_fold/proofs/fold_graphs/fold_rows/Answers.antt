@@ -1,7 +1,6 @@
 -- The rows of one more group stand behind those so far.
 use Rattle.std.proofs.Common.{ℕ, ◌++◌, ◌∙◌, ap, sym, map}
 use Rattle.dcx_shape.specs.Shape.{sides_of}
-use Rattle.dcx_atom.specs.Graph.{placed_row}
 use Rattle.dcx_atom.specs.Rows.{Row}
 use Rattle.dcx_fold.specs.Folds.{group_rows}
 use Rattle.dcx_fold.proofs.StepLists.{joined_below-next}

@@ -3,7 +3,6 @@ use Rattle.std.proofs.Common.{◌≡◌, ℕ, suc, ◌+◌, ◌∙◌, ap, ap₂
 use Rattle.std.proofs.lemmas.List.{map-append}
 use Rattle.dcx_math.specs.Rational.{ℚ, whole}
 use Rattle.dcx_atom.specs.declared.graph.AuxTerm.{AuxTerm}
-use Rattle.dcx_atom.specs.Arrays.{list_below}
 use Rattle.dcx_atom.specs.Bounding.{outward}
 use Rattle.dcx_atom.specs.Graph.{form_term}
 use Rattle.dcx_atom.specs.Rows.{FormTerm, Form}
