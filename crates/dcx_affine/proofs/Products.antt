@@ -1,5 +1,5 @@
 -- The shape that a matrix product has is the defined one.
-use Rattle.std.proofs.Common.{◌≡◌, ◌↔◌, ℕ, zero, suc, ◌≤◌, Bool, true, false, nat_eq, nat_le, ◌&&◌, if◌then◌else◌, refl, sym, ap, ◌∙◌, subst, Option, Some, None, IsSome, IfSome, option_map, arith}
+use Rattle.std.proofs.Common.{◌≡◌, ◌↔◌, ℕ, zero, suc, ◌<◌, ◌≤◌, Bool, true, false, nat_eq, nat_le, ◌&&◌, if◌then◌else◌, refl, sym, ap, ◌∙◌, subst, Option, Some, None, IsSome, IfSome, option_map, arith}
 use Rattle.std.proofs.lemmas.Bool.{eqb-true, eq-eqb}
 use Rattle.dcx_shape.specs.declared.shape.Shape.{Shape}
 use Rattle.dcx_shape.specs.declared.shape.Sides.{Sides}
@@ -50,6 +50,29 @@ product_shape (Matrix m n) Scalar None exists is = refl
 product_shape (Matrix m n) Scalar (Some s) exists is = absurd is
 product_shape (Matrix m n) (Vector l) r exists is = chosen n l (Vector m) r exists is
 product_shape (Matrix m n) (Matrix l p) r exists is = chosen n l (Matrix m p) r exists is
+
+-- so an entry of a product is among the first 20,000
+within_chosen : (n l : ℕ) (c : Sides) (k : ℕ) → IsSome (if nat_eq n l then limited c else None) → IfSome (if nat_eq n l then limited c else None) (λ s. k < entries_of s) → k < 20000
+within_chosen n l c k some h = by (nat_eq n l) (nat_le 1 (entries_of c) && nat_le (entries_of c) 20000) refl some h
+  where
+    by : (b d : Bool) → nat_le 1 (entries_of c) && nat_le (entries_of c) 20000 ≡ d → IsSome (if b then (if d then Some c else None) else None) →
+        IfSome (if b then (if d then Some c else None) else None) (λ s. k < entries_of s) → k < 20000
+    by true true e some h = let few = (few_of c e).most in omega (arith, few, h)
+    by true false e some h = cc
+    by false d e some h = cc
+
+within_scalar : (b : Bool) (k : ℕ) → IsSome (if b then Some Scalar else None) → IfSome (if b then Some Scalar else None) (λ s. k < entries_of s) → k < 20000
+within_scalar true k some h = omega (arith, h)
+within_scalar false k some h = cc
+
+pub product_entry : (a b : Sides) (k : ℕ) → IsSome (product_sides a b) → IfSome (product_sides a b) (λ s. k < entries_of s) → k < 20000
+product_entry Scalar b k some h = cc
+product_entry (Vector n) Scalar k some h = cc
+product_entry (Vector n) (Vector l) k some h = within_scalar (nat_eq n l) k some h
+product_entry (Vector n) (Matrix l p) k some h = within_chosen n l (Vector p) k some h
+product_entry (Matrix m n) Scalar k some h = cc
+product_entry (Matrix m n) (Vector l) k some h = within_chosen n l (Vector m) k some h
+product_entry (Matrix m n) (Matrix l p) k some h = within_chosen n l (Matrix m p) k some h
 
 -- a side has at most as many entries as the array
 pub cols_few : (s : Sides) → HasFewEntries s → cols_of s ≤ 20000

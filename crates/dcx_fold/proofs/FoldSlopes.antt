@@ -1,5 +1,5 @@
 -- The steps by which the slopes of a fold come from weights.
-use Rattle.std.proofs.Common.{◌≡◌, ℕ, zero, suc, ◌+◌, ◌*◌, ◌<◌, arith, List, [], ◌∷◌, ◌++◌, map, length, take, drop, mod-lt, refl, sym, ap, ap₂, ◌∙◌, subst}
+use Rattle.std.proofs.Common.{◌≡◌, ℕ, zero, suc, ◌+◌, ◌*◌, ◌<◌, ◌≤◌, arith, List, [], ◌∷◌, ◌++◌, map, length, take, drop, mod-lt, refl, sym, ap, ap₂, ◌∙◌, subst}
 use Rattle.std.proofs.Math.Nat.{div-lt_iff_lt-mul}
 use Rattle.std.proofs.lemmas.List.{length-map}
 use Rattle.dcx_math.specs.Rational.{ℚ}
@@ -21,12 +21,35 @@ use Rattle.dcx_atom.specs.Steps.{Step, test, form, is_weight, first_stop, entry_
 use Rattle.dcx_atom.specs.Bounding.{HaveNoStop, total_condition, argument_term, bound_row}
 use Rattle.dcx_atom.proofs.BoundRows.{length-list_below, map-list_below, length-joined}
 use Rattle.dcx_atom.proofs.Lists.{rat_at-list_below, rat_at-joined, list_below-same, among_parts, number_at-take, number_at-drop}
-use Rattle.dcx_atom.proofs.Weights.{rows_before-same, own_weight}
+use Rattle.dcx_atom.proofs.Weights.{rows_before-same, own_weight, own_length}
 use Rattle.dcx_fold.specs.declared.folding.Fold.{Fold}
 use Rattle.dcx_fold.specs.declared.folding.Fold.TheVariants.{Max, Min, Norm1, NormInf}
 use Rattle.dcx_fold.specs.Groups.{groups, member, group_of, member_of}
 use Rattle.dcx_fold.specs.GroupLaws.{is_member}
 use Rattle.dcx_fold.specs.Folds.{fold_bend, factors, member_rows, unknown_of, rows_of_member, group_rows, member_weights, group_conditions, member_slope, group_steps, fold_meaning}
+
+-- ---- the weights of one part among those of all
+-- a part lies within all
+part_within : (i n rows all : ℕ) → i < n → all ≡ n * rows → i * rows + rows ≤ all
+part_within i n rows all h e = subst (λ m. i * rows + rows ≤ m) (sym e) (inside i n rows h)
+  where
+    inside : (i n rows : ℕ) → i < n → i * rows + rows ≤ n * rows
+    inside i n rows h = grind arith
+
+-- the weights of part i of n
+pub record IsPart (i rows : ℕ) (ws : List Frac) : Type 0 where
+  pub within : i * rows + rows ≤ length ws
+  pub count : length (take rows (drop (i * rows) ws)) ≡ rows
+
+pub is_part : (i n rows : ℕ) (ws : List Frac) → i < n → length ws ≡ n * rows → IsPart i rows ws
+is_part i n rows ws h e = let w = part_within i n rows (length ws) h e in record { within = w; count = own_length ws i rows w }
+
+-- a group has few rows
+pub few_rows : (members rows : ℕ) → members ≤ 20000 → rows ≤ 2 → members * rows ≤ 40000
+few_rows members zero h l = omega arith
+few_rows members (suc zero) h l = omega arith
+few_rows members (suc (suc zero)) h l = omega arith
+few_rows members (suc (suc (suc rows))) h l = absurd (omega arith)
 
 -- ---- steps take the weights of the group alone
 pub member_slope-same : (p : Fold) (v w : ℕ → ℚ) → ((f : ℕ) → f < member_rows p → v f ≡ w f) → member_slope p v ≡ member_slope p w

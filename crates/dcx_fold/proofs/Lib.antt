@@ -3,6 +3,7 @@ pub mod FoldValues
 pub mod StepLists
 pub mod FoldSlopes
 pub mod FoldShapes
+pub mod FoldGraphs
 pub mod FallingLists
 pub mod LargestSteps
 pub mod LargestCalls

@@ -1,5 +1,5 @@
 //! The graph of a fold: the rows of each group, its unknowns, and its results.
-ghost use Rattle.std.specs.Prelude.{◌≡◌, ◌<◌, ◌+◌, ◌*◌, ◌++◌, ◌^◌, map, replicate, OnOk, IfOk};
+ghost use Rattle.std.specs.Prelude.{◌≡◌, ◌<◌, ◌+◌, ◌*◌, ◌++◌, ◌^◌, [], ◌∷◌, map, replicate, OnOk, IfOk};
 ghost use Rattle.dcx_shape.specs.Shape.{sides_of};
 ghost use Rattle.dcx_shape.specs.Sides.{entries_of};
 ghost use Rattle.dcx_atom.specs.Arrays.{list_below};
@@ -41,6 +41,22 @@ fn member_row(
     bounding_row(alloc, fold.bend(), entry, unknown, term)
 }
 
+/// Adds that row.
+fn push_member_row(
+    alloc: Global,
+    rows: &mut Vec<GraphRow>,
+    fold: Fold,
+    entry: u32,
+    unknown: u32,
+    place: u32,
+    coefficient: Frac,
+) -> Result<(), AllocError>
+    ensures { OnOk result (map placed_row rows.new.items ≡ map placed_row rows.old.items ++ record { entry = entry; row = bound_row (fold_bend fold) unknown (argument_term 0 place (value coefficient)) } ∷ []) }
+{
+    rows.push(member_row(alloc, fold, entry, unknown, place, coefficient)?)?;
+    Ok(())
+}
+
 /// Adds the rows of the member at `place` of group `entry`.
 fn push_member_rows(
     alloc: Global,
@@ -52,14 +68,13 @@ fn push_member_rows(
 ) -> Result<(), AllocError>
     ensures { OnOk result (map placed_row rows.new.items ≡ map placed_row rows.old.items ++ map (λ row. record { entry = entry; row = row }) (rows_of_member fold unknown place)) }
 {
-    rows.push(member_row(alloc, fold, entry, unknown, place, Frac::one())?)?;
+    push_member_row(alloc, rows, fold, entry, unknown, place, Frac::one())?;
     match fold {
-        Fold::Max => {}
-        Fold::Min => {}
-        Fold::Norm1 => rows.push(member_row(alloc, fold, entry, unknown, place, minus_one())?)?,
-        Fold::NormInf => rows.push(member_row(alloc, fold, entry, unknown, place, minus_one())?)?,
+        Fold::Max => Ok(()),
+        Fold::Min => Ok(()),
+        Fold::Norm1 => push_member_row(alloc, rows, fold, entry, unknown, place, minus_one()),
+        Fold::NormInf => push_member_row(alloc, rows, fold, entry, unknown, place, minus_one()),
     }
-    Ok(())
 }
 
 /// The unknown beyond member `i` of group `k` of `count` members.
@@ -148,6 +163,23 @@ fn count_unknowns(fold: Fold, from: Shape, size: u32) -> u32
     }
 }
 
+/// The rows of all groups, of which there are `size`.
+fn fold_rows(
+    alloc: Global,
+    folding: Folding,
+    from: Shape,
+    size: u32,
+) -> Result<GraphRows, AllocError>
+    requires { size ≡ groups folding.axis (sides_of from) }
+    ensures { IfOk result (λ g. map placed_row g ≡ rows_below size (group_rows folding.fold folding.axis (sides_of from))) }
+{
+    let mut rows = Vec::new(alloc);
+    for entry in 0..size {
+        push_group_rows(alloc, &mut rows, folding, from, entry)?;
+    }
+    Ok(GraphRows::from_vec(rows))
+}
+
 /// The graph at an argument of this shape, whose `size` groups each become one entry.
 pub(crate) fn fold_graph(
     alloc: Global,
@@ -160,17 +192,10 @@ pub(crate) fn fold_graph(
     ensures rows { IfOk result (λ g. map placed_row g.rows ≡ rows_below size (group_rows folding.fold folding.axis (sides_of from))) }
     ensures results { IfOk result (λ g. map (map form_term) g.results ≡ list_below size (group_form folding.fold (folded_count folding.axis (sides_of from)))) }
 {
-    let mut rows = Vec::new(alloc);
-    for entry in 0..size {
-        push_group_rows(alloc, &mut rows, folding, from, entry)?;
-    }
-    Ok(Graph {
-        aux: of_kind(
-            alloc,
-            folding.fold.kind(),
-            count_unknowns(folding.fold, from, size),
-        )?,
-        rows: GraphRows::from_vec(rows),
-        results: group_forms(alloc, folding.fold, size, folding.axis.folded_count(from))?,
-    })
+    let unknowns = count_unknowns(folding.fold, from, size);
+    let aux = of_kind(alloc, folding.fold.kind(), unknowns)?;
+    let count = folding.axis.folded_count(from);
+    let results = group_forms(alloc, folding.fold, size, count)?;
+    let rows = fold_rows(alloc, folding, from, size)?;
+    Ok(Graph { aux, rows, results })
 }

@@ -1,5 +1,5 @@
 -- The group is tested, and then each member's slope is formed from its own weights.
-use Rattle.std.proofs.Common.{◌≡◌, ℕ, ◌∙◌, ◌++◌, sym, ap, ap₂, arith, map, append_assoc, [], ◌∷◌}
+use Rattle.std.proofs.Common.{◌≡◌, ℕ, ◌*◌, length, ◌∙◌, ◌++◌, sym, ap, ap₂, arith, map, append_assoc, [], ◌∷◌}
 use Rattle.std.proofs.lemmas.Result.{err_from_is_err_and}
 use Rattle.std.proofs.lemmas.List.{map-append}
 use Rattle.dcx_frac.specs.Frac.{value}
@@ -10,7 +10,7 @@ use Rattle.dcx_atom.proofs.FirstStops.{first_stop-passed}
 use Rattle.dcx_atom.proofs.Lists.{list_below-next}
 use Rattle.dcx_fold.specs.Folds.{member_weights, member_slope, group_tests, group_slopes}
 use Rattle.dcx_fold.proofs.StepLists.{stop_among, first_stop-next, first_stop-at}
-use Rattle.dcx_fold.proofs.FoldSlopes.{own_member}
+use Rattle.dcx_fold.proofs.FoldSlopes.{is_part, own_member}
 use Rattle.dcx_fold.proofs.fold_slopes.push_group.Goals as goal
 
 pub returns-in_err-check_group-clause-stop : goal.returns-in_err-check_group-clause-stop
@@ -52,3 +52,12 @@ returns-clause-ok c =
     let end : c.loop-i.i ≡ c.args.members = omega (arith, c.loop-i-test.false, c.loop-i.auto.i-end) in
     first_stop-passed c.args.entry (group_tests fold c.args.members (value c.args.coefficient) w) (group_slopes fold c.args.members w) (sym c.in_ok-check_group.ensures)
     ∙ ap (λ n. first_stop c.args.entry (group_slopes fold n w)) (sym end) ∙ c.loop-i.invariant.stop
+
+pub row_weights-requires : goal.row_weights-requires
+row_weights-requires c =
+    (is_part c.loop-i.i c.args.members c.rows_of_member-rows.result c.args.weights.now c.loop-i-test.true (c.requires ∙ ap (λ r. c.args.members * r) (sym c.rows_of_member-rows.ensures.value))).within
+
+pub slope-requires : goal.slope-requires
+slope-requires c =
+    let part = is_part c.loop-i.i c.args.members c.rows_of_member-rows.result c.args.weights.now c.loop-i-test.true (c.requires ∙ ap (λ r. c.args.members * r) (sym c.rows_of_member-rows.ensures.value)) in
+    ap length c.row_weights.ensures ∙ part.count ∙ c.rows_of_member-rows.ensures.value

@@ -1,6 +1,7 @@
 -- The next group is tested and its slopes formed, from its own weights.
-use Rattle.std.proofs.Common.{◌≡◌, ℕ, ◌*◌, ◌<◌, ◌∙◌, ◌++◌, sym, ap, ap₂, subst, arith, take, drop, [], ◌∷◌, below_more}
+use Rattle.std.proofs.Common.{◌≡◌, ℕ, List, length, ◌*◌, ◌<◌, ◌∙◌, ◌++◌, sym, ap, ap₂, subst, arith, take, drop, [], ◌∷◌, below_more}
 use Rattle.std.proofs.lemmas.Result.{err_from_is_err_and}
+use Rattle.dcx_frac.specs.declared.fraction.Frac.{Frac}
 use Rattle.dcx_frac.specs.Frac.{value}
 use Rattle.dcx_shape.specs.Shape.{sides_of}
 use Rattle.dcx_atom.specs.Arrays.{list_below, joined_below, number_at}
@@ -8,11 +9,12 @@ use Rattle.dcx_atom.specs.Axis.{folded_count}
 use Rattle.dcx_atom.specs.Formed.{exact}
 use Rattle.dcx_atom.specs.Steps.{first_stop, weights_of}
 use Rattle.dcx_atom.proofs.Lists.{number_is}
+use Rattle.dcx_fold.specs.declared.folding.Fold.{Fold}
 use Rattle.dcx_fold.specs.Groups.{groups}
 use Rattle.dcx_fold.specs.Folds.{member_rows, member_weights, member_slope, group_steps, fold_meaning}
 use Rattle.dcx_fold.specs.Stops.{IsStopAmong}
 use Rattle.dcx_fold.proofs.StepLists.{first_among, joined_below-next}
-use Rattle.dcx_fold.proofs.FoldSlopes.{own_stop, own_slopes}
+use Rattle.dcx_fold.proofs.FoldSlopes.{IsPart, is_part, few_rows, own_stop, own_slopes}
 use Rattle.dcx_fold.proofs.fold_slopes.slopes_by_group.Goals as goal
 
 pub returns-in_err-push_group-clause-stop : goal.returns-in_err-push_group-clause-stop
@@ -53,3 +55,23 @@ loop-entry-preserved c =
           ∙ ap₂ (λ xs m. xs ++ list_below m (λ i. exact (member_slope fold (member_weights fold (number_at c.row_weights-own.result.now) i)))) c.loop-entry.invariant.slopes c.folded_count-members.ensures.count
           ∙ ap (λ xs. joined_below k g ++ xs) (own_slopes fold axis s ws c.row_weights-own.result.now k own) ∙ sym (joined_below-next k g);
     }
+
+pub overflow_mul-rows : goal.overflow_mul-rows
+overflow_mul-rows c =
+    let h = few_rows c.folded_count-members.result c.rows_of_member.result c.folded_count-members.ensures.most c.rows_of_member.ensures.few in
+    omega (arith, h)
+
+-- the weights of group k are a part of all
+own_part : (k size members rows : ℕ) (fold : Fold) (count : ℕ) (ws : List Frac) → k < size → members ≡ count → rows ≡ member_rows fold → length ws ≡ size * (count * member_rows fold) → IsPart k (members * rows) ws
+own_part k size members rows fold count ws h m r e = is_part k size (members * rows) ws h (e ∙ ap (λ n. size * n) (sym (ap₂ (λ a b. a * b) m r)))
+
+pub row_weights-own-requires : goal.row_weights-own-requires
+row_weights-own-requires c =
+    (own_part c.loop-entry.entry c.args.size c.folded_count-members.result c.rows_of_member.result c.args.folding.fold (folded_count c.args.folding.axis (sides_of c.args.from)) c.args.weights.now
+    c.loop-entry-test.true c.folded_count-members.ensures.count c.rows_of_member.ensures.value c.requires.weights).within
+
+pub push_group-requires : goal.push_group-requires
+push_group-requires c =
+    let part = own_part c.loop-entry.entry c.args.size c.folded_count-members.result c.rows_of_member.result c.args.folding.fold (folded_count c.args.folding.axis (sides_of c.args.from)) c.args.weights.now
+    c.loop-entry-test.true c.folded_count-members.ensures.count c.rows_of_member.ensures.value c.requires.weights in
+    ap length c.row_weights-own.ensures ∙ part.count ∙ ap (λ r. c.folded_count-members.result * r) c.rows_of_member.ensures.value
