@@ -1,5 +1,5 @@
 -- Rows at a setting, one after the other, and their width.
-use Rattle.std.proofs.Common.{◌≡◌, ℕ, suc, ◌+◌, ◌<◌, ◌≤◌, List, [], ◌∷◌, ◌++◌, Result, Ok, Err, length, get_or, drop, append_assoc, add-one, refl, sym, ap, ◌∙◌, subst, arith}
+use Rattle.std.proofs.Common.{◌≡◌, ℕ, suc, ◌+◌, ◌<◌, ◌≤◌, max, List, [], ◌∷◌, ◌++◌, Result, Ok, Err, length, get_or, drop, append_assoc, add-one, refl, sym, ap, ◌∙◌, subst, arith}
 use Rattle.std.proofs.lemmas.List.{append-nil, drop_all}
 use Rattle.dcx_frac.specs.declared.fraction.Frac.{Frac}
 use Rattle.dcx_frac.specs.declared.fraction.Passes.{Passes}
@@ -49,9 +49,25 @@ pub rows_end : (setting : Pairs) (rs : List (Row ParamForm)) (i : ℕ) (so_far :
 rows_end setting rs i so_far le h = ap Ok (sym (append-nil so_far)) ∙ ap (λ l. then_row (rows_at setting i l) (λ us. Ok (so_far ++ us))) (sym (drop_all i rs le)) ∙ h
 
 -- ---- widths
+max_left : (a b n : ℕ) → max a b ≤ n → a ≤ n
+max_left a b n h = omega (arith, h)
+
+max_right : (a b n : ℕ) → max a b ≤ n → b ≤ n
+max_right a b n h = omega (arith, h)
+
+max_within : (a b n : ℕ) → a ≤ n → b ≤ n → max a b ≤ n
+max_within a b n h k = omega (arith, h, k)
+
+-- what is answered is one value
+ok_is_one : {A E : Type 0} (x y : A) (r : Result A E) → r ≡ Ok x → r ≡ Ok y → y ≡ x
+ok_is_one x y r e d = cc
+
+ok_or_stop : {A E P : Type 0} (x : A) (stop : E) (r : Result A E) → r ≡ Ok x → r ≡ Err stop → P
+ok_or_stop x stop r e d = cc
+
 on_row_is : (n : ℕ) (r : Result (Form Frac) Passes) (f : Form Frac) → at_row n r ≡ Ok f → r ≡ Ok f
-on_row_is n (Ok g) f e = let d : g ≡ f = cc in ap Ok d
-on_row_is n (Err passes) f e = cc
+on_row_is n (Ok g) f e = ap Ok (ok_is_one f g (at_row n (Ok g)) e refl)
+on_row_is n (Err passes) f e = ok_or_stop f (n, passes) (at_row n (Err passes)) e refl
 
 -- a form of a row at a setting is no wider
 pub form_on_row-width : (setting : Pairs) (row n : ℕ) (f : Form ParamForm) (g : Form Frac) → form_on_row setting row f ≡ Ok g → form_width f ≤ n → form_width g ≤ n
@@ -62,18 +78,18 @@ Splits setting m r rs us = (f : Form Frac) × (form_on_row setting m r.form ≡ 
 
 split : (setting : Pairs) (m : ℕ) (r : Row ParamForm) (rs : List (Row ParamForm)) (us : List (Row Frac)) (first : Result (Form Frac) (ℕ × Passes)) (rest : Result (List (Row Frac)) (ℕ × Passes))
     → form_on_row setting m r.form ≡ first → rows_at setting (suc m) rs ≡ rest → then_row first (before_rows r rest) ≡ Ok us → Splits setting m r rs us
-split setting m r rs us (Ok f) (Ok vs) d q e = (f, d, (vs, q, cc))
-split setting m r rs us (Ok f) (Err stop) d q e = cc
-split setting m r rs us (Err stop) rest d q e = cc
+split setting m r rs us (Ok f) (Ok vs) d q e = (f, d, (vs, q, ok_is_one (with_form r f ∷ vs) us (Ok (with_form r f ∷ vs)) refl e))
+split setting m r rs us (Ok f) (Err stop) d q e = ok_or_stop us stop (Err stop) e refl
+split setting m r rs us (Err stop) rest d q e = ok_or_stop us stop (Err stop) e refl
 
 -- rows at a setting are no wider
 pub rows_at-width : (setting : Pairs) (m n : ℕ) (rs : List (Row ParamForm)) (us : List (Row Frac)) → rows_at setting m rs ≡ Ok us → rows_width rs ≤ n → rows_width us ≤ n
-rows_at-width setting m n [] us e h = let d : us ≡ [] = cc in subst (λ l. rows_width l ≤ n) (sym d) h
+rows_at-width setting m n [] us e h = subst (λ l. rows_width l ≤ n) (sym (ok_is_one [] us (rows_at setting m []) refl e)) h
 rows_at-width setting m n (r ∷ rs) us e h =
     let s = split setting m r rs us (form_on_row setting m r.form) (rows_at setting (suc m) rs) refl refl e in
-    let first : form_width s.0 ≤ n = form_on_row-width setting m n r.form s.0 s.1 (omega (arith, h)) in
-    let rest : rows_width s.2.0 ≤ n = rows_at-width setting (suc m) n rs s.2.0 s.2.1 (omega (arith, h)) in
-    subst (λ l. rows_width l ≤ n) (sym s.2.2) (omega (arith, first, rest))
+    let first : form_width s.0 ≤ n = form_on_row-width setting m n r.form s.0 s.1 (max_left (form_width r.form) (rows_width rs) n h) in
+    let rest : rows_width s.2.0 ≤ n = rows_at-width setting (suc m) n rs s.2.0 s.2.1 (max_right (form_width r.form) (rows_width rs) n h) in
+    subst (λ l. rows_width l ≤ n) (sym s.2.2) (max_within (form_width s.0) (rows_width s.2.0) n first rest)
 
 -- so they stay within the kinds of the unknowns
 pub known_rows : {K : Type 0} (setting : Pairs) (rs ts : List (Row ParamForm)) (us vs : List (Row Frac)) (kinds others : List K) → Ok us ≡ rows_at setting 0 ts → ts ≡ rs → vs ≡ us → others ≡ kinds → rows_width rs ≤ length kinds

@@ -1,10 +1,10 @@
 //! Lists of terms with rising keys: their sum, and each term changed. Forms and affine numbers both stand on it.
-ghost use Rattle.std.specs.Prelude.{◌≡◌, ℕ, Bool, List, Result, Ok, IfOk, OnOk, ◌++◌};
+ghost use Rattle.std.specs.Prelude.{◌≡◌, ℕ, Bool, List, Result, Ok, Err, IfOk, IfErr, OnOk, ◌++◌, ◌∷◌, []};
 ghost use Rattle.std.specs.Ordering.{nat_cmp};
 ghost use Rattle.dcx_frac.specs.declared.fraction.Passes.{Passes};
 ghost use Rattle.dcx_linear.specs.declared.change.Change.{Change};
 ghost use Rattle.dcx_linear.specs.Changes.{IsAllowed};
-ghost use Rattle.dcx_linear.specs.Stops.{Gives, GivesBy};
+ghost use Rattle.dcx_linear.specs.Stops.{OnPass, Gives, GivesBy};
 ghost use Rattle.std.specs.Option.{option_to_list};
 ghost use Rattle.dcx_linear.specs.Terms.{kept, IsSparse, SumsTerms, ChangesTerms};
 
@@ -85,13 +85,36 @@ pub(crate) fn push_nonzero<T: Term>(list: &mut Vec<T>, term: T) -> Result<(), Al
     Ok(())
 }
 
-/// The sum of two lists of terms, formed by rising keys.
-pub(crate) fn sum_terms<T: Term>(alloc: Global, a: &[T], b: &[T]) -> Result<Vec<T>, CoefStop>
+/// Puts a copy of the term at the end.
+fn push_copy<T: Term>(alloc: Global, list: &mut Vec<T>, term: &T) -> Result<(), AllocError>
+    ensures { OnOk result (list.new.items ≡ list.old.items ++ term.now ∷ []) }
+{
+    list.push(term.copy(alloc)?)?;
+    Ok(())
+}
+
+/// Puts the sum of two terms at the end, unless it is 0.
+fn push_term_sum<T: Term>(
+    alloc: Global,
+    list: &mut Vec<T>,
+    left: &T,
+    right: &T,
+) -> Result<(), CoefStop>
+    requires { T.key left.now ≡ T.key right.now }
+    ensures sum { OnOk result ((t : T) × T.sum_gives left.now right.now (Ok t) × (list.new.items ≡ list.old.items ++ option_to_list (kept T.is_zero t))) }
+    ensures passes { IfErr result (λ stop. OnPass stop (λ passes. T.sum_gives left.now right.now (Err passes))) }
+{
+    push_nonzero(list, left.sum(alloc, right)?)?;
+    Ok(())
+}
+
+/// Puts the sum of two lists of terms into the empty list, formed by rising keys.
+fn push_sum<T: Term>(alloc: Global, sum: &mut Vec<T>, a: &[T], b: &[T]) -> Result<(), CoefStop>
+    requires empty { sum.old.items ≡ [] }
     requires left { IsSparse T.key T.is_zero a.now }
     requires right { IsSparse T.key T.is_zero b.now }
-    ensures { GivesBy result (λ v. v.items) (SumsTerms T.key T.is_zero T.sum_gives a.now b.now) }
+    ensures { GivesBy result (λ _. sum.new.items) (SumsTerms T.key T.is_zero T.sum_gives a.now b.now) }
 {
-    let mut sum = Vec::new(alloc);
     let mut i = 0;
     let mut j = 0;
     'terms: while i < a.len() && j < b.len() {
@@ -99,22 +122,33 @@ pub(crate) fn sum_terms<T: Term>(alloc: Global, a: &[T], b: &[T]) -> Result<Vec<
         let right = &b[j];
         match left.order(right) {
             Ordering::Less => {
-                sum.push(left.copy(alloc)?)?;
+                push_copy(alloc, sum, left)?;
                 i += 1;
             }
             Ordering::Greater => {
-                sum.push(right.copy(alloc)?)?;
+                push_copy(alloc, sum, right)?;
                 j += 1;
             }
             Ordering::Equal => {
-                push_nonzero(&mut sum, left.sum(alloc, right)?)?;
+                push_term_sum(alloc, sum, left, right)?;
                 i += 1;
                 j += 1;
             }
         }
     }
-    push_copies(alloc, &mut sum, &a[i..])?;
-    push_copies(alloc, &mut sum, &b[j..])?;
+    push_copies(alloc, sum, &a[i..])?;
+    push_copies(alloc, sum, &b[j..])?;
+    Ok(())
+}
+
+/// The sum of two lists of terms, formed by rising keys.
+pub(crate) fn sum_terms<T: Term>(alloc: Global, a: &[T], b: &[T]) -> Result<Vec<T>, CoefStop>
+    requires left { IsSparse T.key T.is_zero a.now }
+    requires right { IsSparse T.key T.is_zero b.now }
+    ensures { GivesBy result (λ v. v.items) (SumsTerms T.key T.is_zero T.sum_gives a.now b.now) }
+{
+    let mut sum = Vec::new(alloc);
+    push_sum(alloc, &mut sum, a, b)?;
     Ok(sum)
 }
 

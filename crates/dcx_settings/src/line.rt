@@ -1,5 +1,6 @@
 //! Reading lines: `{}`, or names with their values.
-ghost use Rattle.std.specs.Prelude.{◌≡◌, ◌<◌, ◌≤◌, length, IfOk, IfErr};
+ghost use Rattle.std.specs.Prelude.{◌≡◌, ◌<◌, ◌≤◌, [], ◌∷◌, ◌++◌, length, IfOk, IfErr};
+ghost use Rattle.dcx_settings.specs.declared.settings.SettingItem.{SettingItem};
 ghost use Rattle.dcx_settings.specs.Terminal.{terminals, open_curly};
 ghost use Rattle.dcx_settings.specs.Steps.{Lacks, HasNames, IsItemRead, ItemStopsAt, IsNewItemRead, NewItemStopsAt, GainsName, AreItemsRead, IsLineRead, LineStopsAt};
 
@@ -60,6 +61,50 @@ fn item<'a, 'b>(
     }
 }
 
+/// Puts the item at the front of the tokens into the list, under a name that isn't among those before. Answers the tokens
+/// behind it.
+fn push_item<'a, 'b>(
+    alloc: Global,
+    text: &'b [u8],
+    tokens: &'a [Token],
+    names: &mut BTreeSet<&'b [u8]>,
+    found: &mut Vec<SettingItem>,
+) -> Result<&'a [Token], Stop<'a>>
+    ensures ok { IfOk result (λ rest. (next : SettingItem) × IsNewItemRead names.old (terminals text.now tokens.now) next (terminals text.now rest.now) × GainsName names.old names.new next.name × (found.new.items ≡ found.old.items ++ next ∷ [])) }
+    ensures stop { IfErr result (NewItemStopsAt names.old text.now (terminals text.now tokens.now)) }
+    ensures shorter { IfOk result (λ rest. length rest.now < length tokens.now) }
+{
+    let (next, rest) = item(alloc, text, tokens, names)?;
+    found.push(next)?;
+    Ok(rest)
+}
+
+/// Puts the line of items at the front of the tokens into the empty list. Answers the tokens behind it.
+fn push_items<'a, 'b>(
+    alloc: Global,
+    text: &'b [u8],
+    tokens: &'a [Token],
+    names: &mut BTreeSet<&'b [u8]>,
+    found: &mut Vec<SettingItem>,
+) -> Result<&'a [Token], Stop<'a>>
+    requires some { 0 < length tokens.now }
+    requires not_empty { Lacks open_curly (terminals text.now tokens.now) }
+    requires unnamed { HasNames names.old [] }
+    requires empty { found.old.items ≡ [] }
+    ensures ok { IfOk result (λ rest. IsLineRead (terminals text.now tokens.now) found.new.items (terminals text.now rest.now)) }
+    ensures stop { IfErr result (LineStopsAt text.now (terminals text.now tokens.now)) }
+    ensures shorter { IfOk result (λ rest. length rest.now < length tokens.now) }
+{
+    let first = push_item(alloc, text, tokens, names, found)?;
+    let mut rest = first;
+    'items: while let Some(behind) = eat(text, rest, Mark::Semicolon) {
+        let next = push_item(alloc, text, behind, names, found)?;
+        rest = next;
+    }
+    let behind = expect(text, rest, Mark::Newline)?;
+    Ok(behind)
+}
+
 /// The line of items at the front of the tokens, and the tokens behind it.
 fn items<'a>(
     alloc: Global,
@@ -73,16 +118,8 @@ fn items<'a>(
     ensures shorter { IfOk result (λ x. length x.1.now < length tokens.now) }
 {
     let mut names = BTreeSet::new(alloc);
-    let (first, behind) = item(alloc, text, tokens, &mut names)?;
     let mut found = Vec::new(alloc);
-    found.push(first)?;
-    let mut rest = behind;
-    'items: while let Some(behind) = eat(text, rest, Mark::Semicolon) {
-        let (next, behind) = item(alloc, text, behind, &mut names)?;
-        found.push(next)?;
-        rest = behind;
-    }
-    let behind = expect(text, rest, Mark::Newline)?;
+    let behind = push_items(alloc, text, tokens, &mut names, &mut found)?;
     Ok((SettingLine::from_vec(found), behind))
 }
 

@@ -1,5 +1,6 @@
 //! Reading a value: a number, a list of numbers or a list of rows.
-ghost use Rattle.std.specs.Prelude.{◌≡◌, ◌<◌, ◌≤◌, ◌*◌, length, IfOk, IfErr};
+ghost use Rattle.std.specs.Prelude.{◌≡◌, ◌<◌, ◌≤◌, ◌*◌, List, [], ◌++◌, length, Some, IfOk, IfErr};
+ghost use Rattle.dcx_frac.specs.declared.fraction.Frac.{Frac};
 ghost use Rattle.dcx_shape.specs.Sides.{HasFewEntries};
 ghost use Rattle.dcx_shape.specs.Shape.{sides_of};
 ghost use Rattle.dcx_settings.specs.Terminal.{terminals, comma, open_square};
@@ -37,6 +38,34 @@ fn is_full(width: Option<usize>, count: usize) -> bool
     }
 }
 
+/// Puts the numbers at the front of a row into the empty list. Answers the tokens behind them.
+fn push_numbers<'a>(
+    text: &[u8],
+    tokens: &'a [Token],
+    width: Option<usize>,
+    found: &mut Vec<Frac>,
+) -> Result<&'a [Token], Stop<'a>>
+    requires some { 1 ≤ most_numbers width }
+    requires empty { found.old.items ≡ [] }
+    ensures ok { IfOk result (λ rest. IsRowBegun width (terminals text.now tokens.now) found.new.items (terminals text.now rest.now)) }
+    ensures stop { IfErr result (RowStopsAt width text.now (terminals text.now tokens.now)) }
+    ensures ends { IfOk result (λ rest. Lacks comma (terminals text.now rest.now)) }
+    ensures shorter { IfOk result (λ rest. length rest.now < length tokens.now) }
+{
+    let (first, behind) = number(text, tokens)?;
+    found.push(first)?;
+    let mut rest = behind;
+    'numbers: while let Some(behind) = eat(text, rest, Mark::Comma) {
+        if found.len() >= most(width) {
+            return Err(Stop::At(rest));
+        }
+        let (next, behind) = number(text, behind)?;
+        found.push(next)?;
+        rest = behind;
+    }
+    Ok(rest)
+}
+
 /// The numbers at the front of a row, and the tokens behind them.
 fn numbers<'a>(
     alloc: Global,
@@ -50,18 +79,8 @@ fn numbers<'a>(
     ensures ends { IfOk result (λ x. Lacks comma (terminals text.now x.1.now)) }
     ensures shorter { IfOk result (λ x. length x.1.now < length tokens.now) }
 {
-    let (first, behind) = number(text, tokens)?;
     let mut found = Vec::new(alloc);
-    found.push(first)?;
-    let mut rest = behind;
-    'numbers: while let Some(behind) = eat(text, rest, Mark::Comma) {
-        if found.len() >= most(width) {
-            return Err(Stop::At(rest));
-        }
-        let (next, behind) = number(text, behind)?;
-        found.push(next)?;
-        rest = behind;
-    }
+    let rest = push_numbers(text, tokens, width, &mut found)?;
     Ok((found, rest))
 }
 
@@ -98,6 +117,24 @@ struct MatrixRows {
     numbers: Vec<Frac>,
 }
 
+/// Puts the row behind its bracket at the end of the numbers. Answers the tokens behind it.
+fn push_row<'a>(
+    alloc: Global,
+    text: &[u8],
+    tokens: &'a [Token],
+    width: usize,
+    numbers: &mut Vec<Frac>,
+) -> Result<&'a [Token], Stop<'a>>
+    requires { 1 ≤ width }
+    ensures ok { IfOk result (λ rest. (fs : List Frac) × IsRowRead (Some width) (terminals text.now tokens.now) fs (terminals text.now rest.now) × (numbers.new.items ≡ numbers.old.items ++ fs)) }
+    ensures stop { IfErr result (RowStopsAt (Some width) text.now (terminals text.now tokens.now)) }
+    ensures shorter { IfOk result (λ rest. length rest.now < length tokens.now) }
+{
+    let (next, rest) = row(alloc, text, tokens, Some(width))?;
+    numbers.extend_from_slice(&next)?;
+    Ok(rest)
+}
+
 /// The rows of a matrix behind the first two brackets, and the tokens behind them.
 fn rows<'a>(
     alloc: Global,
@@ -118,10 +155,9 @@ fn rows<'a>(
             return Err(Stop::At(rest));
         }
         let inner = expect(text, behind, Mark::OpenSquare)?;
-        let (next, behind) = row(alloc, text, inner, Some(width))?;
-        numbers.extend_from_slice(&next)?;
+        let next = push_row(alloc, text, inner, width, &mut numbers)?;
         count += 1;
-        rest = behind;
+        rest = next;
     }
     Ok((
         MatrixRows {

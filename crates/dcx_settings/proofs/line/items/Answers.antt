@@ -1,49 +1,13 @@
--- Items go on by a semicolon and end with their line.
-use Rattle.std.proofs.Common.{[], ◌∷◌, ◌++◌, arith, subst, sym, ◌∙◌, ap, refl}
-use Rattle.std.proofs.lemmas.List.{length-map}
-use Rattle.dcx_settings.specs.Terminal.{terminals, terminal_of}
-use Rattle.dcx_settings.specs.Steps.{AreItemsRead, LineStopsAt, IsLineRead}
-use Rattle.dcx_settings.proofs.Rows.{err_from}
-use Rattle.dcx_settings.proofs.Lines.{no_names, items_first, items_none, items_next, items_stop, items_end, items_open}
+-- A line begins without items and names.
+use Rattle.std.proofs.Common.{subst, sym}
+use Rattle.dcx_settings.specs.Terminal.{terminals}
+use Rattle.dcx_settings.specs.Steps.{IsLineRead}
+use Rattle.dcx_settings.proofs.Lines.{no_names}
 use Rattle.dcx_settings.proofs.line.items.Goals as goal
 
-pub returns-in_err-first-clause-stop : goal.returns-in_err-first-clause-stop
-returns-in_err-first-clause-stop c =
-    err_from (LineStopsAt c.args.text.now (terminals c.args.text.now c.args.tokens.now)) c.from_residual.result c.in_err-first.field-0.0 c.from_residual.ensures.1
-    (items_none c.new-names.result (no_names c.new-names.result c.new-names.ensures.empty) c.args.text.now (terminals c.args.text.now c.args.tokens.now) c.in_err-first.field-0.0 (let l = length-map c.args.tokens.now (terminal_of c.args.text.now) in let s = c.requires.some in omega (arith, l, s)) c.requires.not_empty c.in_err-first.ensures.stop)
-
-pub items-init : goal.items-init
-items-init c =
-    let us = terminals c.args.text.now c.args.tokens.now in
-    let rest = terminals c.args.text.now c.in_ok-first.behind.now in
-    let e = c.in_ok-push.ensures.items ∙ ap (λ xs. xs ++ c.in_ok-first.first ∷ []) c.new-found.ensures.items in (
-      subst (λ xs. AreItemsRead c.item.new.names us xs rest) (sym e)
-          (items_first c.new-names.result c.item.new.names (no_names c.new-names.result c.new-names.ensures.empty) us rest c.in_ok-first.first c.in_ok-first.ensures.names c.in_ok-first.ensures.ok),
-      c.in_ok-first.ensures.shorter,
-    )
-
-pub returns-in_err-next-clause-stop : goal.returns-in_err-next-clause-stop
-returns-in_err-next-clause-stop c =
-    err_from (LineStopsAt c.args.text.now (terminals c.args.text.now c.args.tokens.now)) c.from_residual-in_err-next.result c.in_err-next.field-0.0 c.from_residual-in_err-next.ensures.1
-    (items_stop c.items.names _ c.items.found.items _ c.items.invariant.0 _ c.in-Some.ensures.first (let l = length-map c.args.tokens.now (terminal_of c.args.text.now) in let s = c.requires.some in omega (arith, l, s)) c.requires.not_empty c.args.text.now c.in_err-next.field-0.0 c.in_err-next.ensures.stop)
-
-pub items-preserved : goal.items-preserved
-items-preserved c =
-    let us = terminals c.args.text.now c.args.tokens.now in
-    let rest = terminals c.args.text.now c.in_ok-next.behind.now in (
-      subst (λ xs. AreItemsRead c.item-in-Some.new.names us xs rest) (sym c.in_ok-push-2.ensures.items)
-          (items_next c.items.names us c.items.found.items _ c.items.invariant.0 _ c.in-Some.ensures.first c.item-in-Some.new.names c.in_ok-next.next rest c.in_ok-next.ensures.names c.in_ok-next.ensures.ok),
-      let a = c.in-Some.ensures.shorter in let b = c.in_ok-next.ensures.shorter in let d = c.items.invariant.1 in omega (arith, a, b, d),
-    )
-
-pub returns-in_err-behind-clause-stop : goal.returns-in_err-behind-clause-stop
-returns-in_err-behind-clause-stop c =
-    err_from (LineStopsAt c.args.text.now (terminals c.args.text.now c.args.tokens.now)) c.from_residual-in_err-behind.result c.in_err-behind.field-0.0 c.from_residual-in_err-behind.ensures.1
-    (items_open c.items.names _ c.items.found.items _ c.items.invariant.0 c.args.text.now c.items.rest.now refl (let l = length-map c.args.tokens.now (terminal_of c.args.text.now) in let s = c.requires.some in omega (arith, l, s)) c.requires.not_empty c.in_default.ensures.first c.in_err-behind.field-0.0 c.in_err-behind.ensures.stop.0 c.in_err-behind.ensures.stop.1)
+pub push_items-requires-clause-unnamed : goal.push_items-requires-clause-unnamed
+push_items-requires-clause-unnamed c = no_names c.new-names.result c.new-names.ensures.empty
 
 pub returns-clause-ok : goal.returns-clause-ok
 returns-clause-ok c =
-    let us = terminals c.args.text.now c.args.tokens.now in
-    let rest = terminals c.args.text.now c.in_ok-behind.behind.now in
-    subst (λ xs. IsLineRead us xs rest) (sym c.from_vec.ensures)
-    (items_end c.items.names us c.items.found.items _ c.items.invariant.0 rest c.in_ok-behind.ensures.ok (let l = length-map c.args.tokens.now (terminal_of c.args.text.now) in let s = c.requires.some in omega (arith, l, s)) c.requires.not_empty)
+    subst (λ xs. IsLineRead (terminals c.args.text.now c.args.tokens.now) xs (terminals c.args.text.now c.in_ok-behind.behind.now)) (sym c.from_vec.ensures) c.in_ok-behind.ensures.ok

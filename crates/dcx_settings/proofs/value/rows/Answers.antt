@@ -1,5 +1,5 @@
 -- A matrix goes on by a comma and a row while there is room.
-use Rattle.std.proofs.Common.{◌+◌, ◌++◌, arith, subst, sym, ◌∙◌, ap, refl}
+use Rattle.std.proofs.Common.{◌+◌, arith, subst, sym, refl}
 use Rattle.dcx_settings.specs.Terminal.{terminals}
 use Rattle.dcx_settings.specs.Steps.{AreRowsRead, RowsStopAt}
 use Rattle.dcx_settings.proofs.Rows.{err_from}
@@ -35,10 +35,10 @@ rows-smaller c = let a = c.in-Some.ensures.shorter in let b = c.in_ok-next.ensur
 pub rows-preserved : goal.rows-preserved
 rows-preserved c =
     let us = terminals c.args.text.now c.args.tokens.now in
-    let rest = terminals c.args.text.now c.in_ok-next.behind.now in
-    let e = c.in_ok-extend_from_slice.ensures.items ∙ ap (λ xs. c.rows.numbers.items ++ xs) c.deref.ensures.value in (
-      subst (λ fs. AreRowsRead c.len-width.result (c.rows.count + 1) us fs rest) (sym e)
-          (rows_more _ _ us c.rows.numbers.items _ c.rows.invariant.0 _ c.in-Some.ensures.first (let a = c.if-len-width-gt-MOST_NUMBERS.false in let b = c.len.ensures in omega (arith, a, b)) _ c.in_ok-inner.ensures.ok c.in_ok-next.next.items rest c.in_ok-next.ensures.ok),
+    let rest = terminals c.args.text.now c.in_ok-next.next.now in
+    let put = c.in_ok-next.ensures.ok in (
+      subst (λ fs. AreRowsRead c.len-width.result (c.rows.count + 1) us fs rest) (sym put.2)
+          (rows_more _ _ us c.rows.numbers.items _ c.rows.invariant.0 _ c.in-Some.ensures.first (let a = c.if-len-width-gt-MOST_NUMBERS.false in let b = c.len.ensures in omega (arith, a, b)) _ c.in_ok-inner.ensures.ok put.0 rest put.1),
       let a = c.in-Some.ensures.shorter in let b = c.in_ok-next.ensures.shorter in let d = c.in_ok-inner.ensures.shorter in let i = c.rows.invariant.1 in omega (arith, a, b, d, i),
     )
 

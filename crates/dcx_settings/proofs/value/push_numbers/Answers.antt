@@ -3,14 +3,14 @@ use Rattle.std.proofs.Common.{[], ◌∷◌, ◌++◌, arith, subst, sym, ◌∙
 use Rattle.dcx_settings.specs.Terminal.{terminals}
 use Rattle.dcx_settings.specs.Steps.{IsRowBegun, RowStopsAt}
 use Rattle.dcx_settings.proofs.Rows.{err_from, row_first, comma_stops, row_more, row_stops}
-use Rattle.dcx_settings.proofs.value.numbers.Goals as goal
+use Rattle.dcx_settings.proofs.value.push_numbers.Goals as goal
 
 pub numbers-init : goal.numbers-init
 numbers-init c =
     let us = terminals c.args.text.now c.args.tokens.now in
     let rest = terminals c.args.text.now c.in_ok-first.behind.now in
-    let e = c.in_ok-push.ensures.items ∙ ap (λ xs. xs ++ c.in_ok-first.first ∷ []) c.new-found.ensures.items in
-    (subst (λ fs. IsRowBegun c.args.width us fs rest) (sym e) (row_first c.args.width us rest c.in_ok-first.first c.requires c.in_ok-first.ensures.ok), c.in_ok-first.ensures.shorter)
+    let e = c.in_ok-push.ensures.items ∙ ap (λ xs. xs ++ c.in_ok-first.first ∷ []) c.requires.empty in
+    (subst (λ fs. IsRowBegun c.args.width us fs rest) (sym e) (row_first c.args.width us rest c.in_ok-first.first c.requires.some c.in_ok-first.ensures.ok), c.in_ok-first.ensures.shorter)
 
 pub returns-then-len-most-clause-stop : goal.returns-then-len-most-clause-stop
 returns-then-len-most-clause-stop c =

@@ -1,11 +1,11 @@
-use Rattle.std.proofs.Common.{◌≤◌, ◌++◌, ◌∷◌, [], ◌⊎◌, length, drop, Err, inl, inr, ap, ◌∙◌, arith}
+use Rattle.std.proofs.Common.{◌≤◌, ◌++◌, ◌⊎◌, length, drop, Err, inl, inr, ap, ◌∙◌, arith}
 use Rattle.std.proofs.lemmas.Cmp.{ranked}
 use Rattle.std.proofs.lemmas.Result.{err_from_is_err_and}
 use Rattle.dcx_linear.specs.Stops.{OnPass-weaker}
 use Rattle.dcx_linear.specs.Terms.{SumsTerms}
 use Rattle.dcx_linear.proofs.Formed.{rest_from, left_goes, right_goes, both_go, both_stop, ends}
-use Rattle.dcx_linear.proofs.term.sum_terms.Goals as goal
-use Rattle.dcx_linear.proofs.term.sum_terms.Goals.{then-terms-test+else-j-b, else-terms-test}
+use Rattle.dcx_linear.proofs.term.push_sum.Goals as goal
+use Rattle.dcx_linear.proofs.term.push_sum.Goals.{then-terms-test+else-j-b, else-terms-test}
 
 pub terms-preserved-in-Less : goal.terms-preserved-in-Less
 terms-preserved-in-Less g c =
@@ -14,7 +14,7 @@ terms-preserved-in-Less g c =
       left = omega arith;
       right = omega arith;
       sum = left_goes t.key t.is_zero t.sum_gives c.args.a.now c.args.b.now c.requires.left c.requires.right c.terms.i c.terms.j c.index-a-i.result c.index-b-j.result (omega arith) (omega arith) c.index-a-i.is c.index-b-j.is
-          c.terms.sum.items c.push.new.self.items (ranked _ _ _ c.in-Less.ensures) (c.in_ok-push-in-Less.ensures.items ∙ ap (λ x. c.terms.sum.items ++ x ∷ []) c.in_ok-copy-in-Less.ensures) c.terms.invariant.sum;
+          c.terms.sum.items c.push_copy.new.list.items (ranked _ _ _ c.in-Less.ensures) (c.in_ok-push_copy-in-Less.ensures {u = tt}) c.terms.invariant.sum;
     }
 
 pub terms-preserved-in-Greater : goal.terms-preserved-in-Greater
@@ -24,27 +24,28 @@ terms-preserved-in-Greater g c =
       left = omega arith;
       right = omega arith;
       sum = right_goes t.key t.is_zero t.sum_gives c.args.a.now c.args.b.now c.requires.left c.requires.right c.terms.i c.terms.j c.index-a-i.result c.index-b-j.result (omega arith) (omega arith) c.index-a-i.is c.index-b-j.is
-          c.terms.sum.items c.push-in-Greater.new.self.items (ranked _ _ _ c.in-Greater.ensures) (c.in_ok-push-in-Greater.ensures.items ∙ ap (λ x. c.terms.sum.items ++ x ∷ []) c.in_ok-copy-in-Greater.ensures) c.terms.invariant.sum;
+          c.terms.sum.items c.push_copy-in-Greater.new.list.items (ranked _ _ _ c.in-Greater.ensures) (c.in_ok-push_copy-in-Greater.ensures {u = tt}) c.terms.invariant.sum;
     }
 
-pub returns-in_err-sum-in-Equal : goal.returns-in_err-sum-in-Equal
-returns-in_err-sum-in-Equal g c =
-    let p = err_from_is_err_and c.from_residual-in_err-sum-in-Equal.result c.from_residual-in_err-sum-in-Equal.ensures.1 in
+pub returns-in_err-push_term_sum-in-Equal : goal.returns-in_err-push_term_sum-in-Equal
+returns-in_err-push_term_sum-in-Equal g c =
+    let p = err_from_is_err_and c.from_residual-in_err-push_term_sum-in-Equal.result c.from_residual-in_err-push_term_sum-in-Equal.ensures.1 in
     let t = g.T.Term in
     rw (p.1, p.2)
     (OnPass-weaker _ (λ passes. t.sum_gives c.index-a-i.result c.index-b-j.result (Err passes)) (λ passes. SumsTerms t.key t.is_zero t.sum_gives c.args.a.now c.args.b.now (Err passes))
     (λ passes h. both_stop t.key t.is_zero t.sum_gives c.args.a.now c.args.b.now c.requires.left c.requires.right c.terms.i c.terms.j c.index-a-i.result c.index-b-j.result (omega arith) (omega arith) c.index-a-i.is c.index-b-j.is
     c.terms.sum.items passes (ranked _ _ _ c.in-Equal.ensures) h c.terms.invariant.sum)
-    c.in_err-sum-in-Equal.ensures)
+    c.in_err-push_term_sum-in-Equal.ensures.passes)
 
 pub terms-preserved : goal.terms-preserved
 terms-preserved g c =
     let t = g.T.Term in
+    let added = c.in_ok-push_term_sum-in-Equal.ensures.sum in
     record {
       left = omega arith;
       right = omega arith;
       sum = both_go t.key t.is_zero t.sum_gives c.args.a.now c.args.b.now c.requires.left c.requires.right c.terms.i c.terms.j c.index-a-i.result c.index-b-j.result (omega arith) (omega arith) c.index-a-i.is c.index-b-j.is
-          c.terms.sum.items c.push_nonzero.new.list.items c.in_ok-sum-in-Equal.field-0 (ranked _ _ _ c.in-Equal.ensures) (g.met.T.Term.sum_key _ _ _ c.in_ok-sum-in-Equal.ensures) c.in_ok-sum-in-Equal.ensures c.in_ok-push_nonzero-in-Equal.ensures c.terms.invariant.sum;
+          c.terms.sum.items c.push_term_sum.new.list.items added.0 (ranked _ _ _ c.in-Equal.ensures) (g.met.T.Term.sum_key _ _ _ added.1) added.1 added.2 c.terms.invariant.sum;
     }
 
 pub returns : goal.returns

@@ -2,7 +2,7 @@ use Rattle.std.proofs.Common.{◌≤◌, ◌+◌, ◌-◌, List, Result, length,
 use Rattle.dcx_frac.specs.declared.fraction.Passes.{Passes}
 use Rattle.dcx_linear.specs.Terms.{SumsTerms}
 use Rattle.dcx_linear.proofs.Formed.{after}
-use Rattle.dcx_linear.proofs.term.sum_terms.Given as goal
+use Rattle.dcx_linear.proofs.term.push_sum.Given as goal
 
 -- the sum so far, followed by a sum of what is left, is the sum
 abbrev pub invariant-terms : goal.invariant-terms

@@ -2,7 +2,7 @@
 use Rattle.std.proofs.Common.{◌<◌, length}
 use Rattle.dcx_settings.specs.Terminal.{terminals}
 use Rattle.dcx_settings.specs.Steps.{IsRowBegun}
-use Rattle.dcx_settings.proofs.value.numbers.Given as goal
+use Rattle.dcx_settings.proofs.value.push_numbers.Given as goal
 
 abbrev pub invariant-numbers : goal.invariant-numbers
 invariant-numbers l = IsRowBegun l.fn.width (terminals l.fn.text l.fn.tokens) l.found.items (terminals l.fn.text l.rest) × (length l.rest < length l.fn.tokens)
