@@ -109,7 +109,10 @@ fn declared(
     ensures parameters { IfOk result (λ r. r.1.items ≡ filter (λ x. has_parameter tree.now x.name) roots.now.parameters) }
 {
     let variables = reached_variables(alloc, tree, roots.variables.as_slice())?;
-    beside(variables, reached_parameters(alloc, tree, roots.parameters.as_slice()))
+    beside(
+        variables,
+        reached_parameters(alloc, tree, roots.parameters.as_slice()),
+    )
 }
 
 /// The objective, then the left and the right side of each constraint.
