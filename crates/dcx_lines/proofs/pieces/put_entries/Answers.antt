@@ -12,7 +12,7 @@ one_more : (begun put now : List ℕ) (entries : List Frac) (k : ℕ) (entry : F
 one_more begun put now entries k entry lt at before added =
     let more : take (k + 1) entries ≡ take k entries ++ (entry ∷ []) = take_more entries k entry lt ∙ ap (λ (e : Frac). take k entries ++ (e ∷ [])) (sym at) in
     let texts : flat_map entry_text (take (k + 1) entries) ≡ flat_map entry_text (take k entries) ++ entry_text entry =
-          ap (flat_map entry_text) more ∙ flat_map-append entry_text (take k entries) (entry ∷ []) ∙ ap (λ (t : List ℕ). flat_map entry_text (take k entries) ++ t) (append-nil (entry_text entry)) in
+    ap (flat_map entry_text) more ∙ flat_map-append entry_text (take k entries) (entry ∷ []) ∙ ap (λ (t : List ℕ). flat_map entry_text (take k entries) ++ t) (append-nil (entry_text entry)) in
     added ∙ ap (λ (t : List ℕ). t ++ entry_text entry) before ∙ append_assoc begun (flat_map entry_text (take k entries)) (entry_text entry) ∙ ap (λ (t : List ℕ). begun ++ t) (sym texts)
 
 pub loop-entry-init : goal.loop-entry-init
