@@ -41,12 +41,11 @@ roots_below nodes o cs h k =
 pub length-ends : (order ends roots : List ℕ) → StandFor order ends roots → length ends ≡ length roots
 length-ends order ends roots e = sym (length-map ends (slice_get order)) ∙ ap length e ∙ length-map roots Some
 
-pub ends_length : (source part : List Node) (ids ends : List NodeId) (o : NodeId) (cs : List Constraint) → IsGathered source (positions ids) part (positions ends) → positions ids ≡ roots_of o cs →
-    length ends ≡ 1 + 2 * length cs
-ends_length source part ids ends o cs g e =
-    let a = length-ends (order_of source (positions ids)) (positions ends) (positions ids) g.roots_stand in
+pub ends_length : (source part : List Node) (ends : List NodeId) (o : NodeId) (cs : List Constraint) → IsGathered source (roots_of o cs) part (positions ends) → length ends ≡ 1 + 2 * length cs
+ends_length source part ends o cs g =
+    let a = length-ends (order_of source (roots_of o cs)) (positions ends) (roots_of o cs) g.roots_stand in
     let b = length-map ends (λ (z : NodeId). z.0) in
-    let d : length (positions ids) ≡ suc (length (sides_in cs)) = ap length e in
+    let d : length (roots_of o cs) ≡ suc (length (sides_in cs)) = refl in
     let f = length-sides cs in
     omega (arith, a, b, d, f)
 
@@ -63,25 +62,32 @@ ends_split (x ∷ ends) n o cs l at s =
 -- ---- the problem
 -- all that a problem of these roots keeps
 pub record IsWhole (source : List Node) (roots : Roots) (part : List Node) (o : NodeId) (cs : List Constraint) (vs : List Variable) (ps : List Parameter) : Type 0 where
-  pub nodes : IsGathered source (positions_of roots) part (roots_of o cs)
+  pub gathered : IsGathered source (positions_of roots) part (roots_of o cs)
+  pub nodes : AreNodes shape_of part
   pub objective : IsObjective part o
   pub constraints : AreConstraints part cs
   pub numbered : IsNumbered part o cs
   pub declared : problems.AreDeclared part vs ps
   pub squares : AreSquare vs
+  pub demands : map demand_of cs ≡ map demand_of roots.constraints
+  pub variables : vs ≡ filter (λ v. has_variable part v.name) roots.variables
+  pub parameters : ps ≡ filter (λ q. has_parameter part q.name) roots.parameters
 
 module _ (source : List Node) (roots : Roots) (objective : IsObjective source roots.objective) (constraints : AreConstraints source roots.constraints) (declared : AreDeclarations source roots)
-    (ids ends : List ℕ) (part : List Node) (o : NodeId) (cs : List Constraint) (vs : List Variable) (ps : List Parameter)
-    (ids_are : ids ≡ positions_of roots) (g : IsGathered source ids part ends) (are : AreNodes shape_of source) (part_are : AreNodes shape_of part) (ends_are : ends ≡ roots_of o cs)
+    (part : List Node) (ends : List NodeId) (g : IsGathered source (positions_of roots) part (positions ends)) (are : AreNodes shape_of source) (part_are : AreNodes shape_of part)
+    (o : NodeId) (cs : List Constraint) (vs : List Variable) (ps : List Parameter) (first : o ≡ get_or ends 0 o) (sides : sides_in cs ≡ positions (take (length ends - 1) (drop 1 ends)))
     (demands : map demand_of cs ≡ map demand_of roots.constraints) (vs_are : vs ≡ filter (λ v. has_variable part v.name) roots.variables) (ps_are : ps ≡ filter (λ q. has_parameter part q.name) roots.parameters) where
+  ends_are : positions ends ≡ roots_of o cs
+  ends_are = ends_split ends (2 * length roots.constraints) o cs (ends_length source part ends roots.objective roots.constraints g) first sides
+
   gathered_is : IsGathered source (positions_of roots) part (roots_of o cs)
-  gathered_is = subst (λ z. IsGathered source z part (roots_of o cs)) ids_are (subst (IsGathered source ids part) ends_are g)
+  gathered_is = subst (IsGathered source (positions_of roots) part) ends_are g
 
   objective_is : IsObjective part o
-  objective_is = parts.objective_kept source ids part ends g roots.objective o roots.constraints cs ids_are ends_are objective
+  objective_is = parts.objective_kept source (positions_of roots) part (positions ends) g roots.objective o roots.constraints cs refl ends_are objective
 
   constraints_are : AreConstraints part cs
-  constraints_are = parts.constraints_kept source ids part ends g roots.objective o roots.constraints cs ids_are ends_are demands constraints
+  constraints_are = parts.constraints_kept source (positions_of roots) part (positions ends) g roots.objective o roots.constraints cs refl ends_are demands constraints
 
   numbered_is : IsNumbered part o cs
   numbered_is = numbering.numbered source (positions_of roots) part (roots_of o cs) are part_are gathered_is
@@ -95,4 +101,16 @@ module _ (source : List Node) (roots : Roots) (objective : IsObjective source ro
   squares_are = subst AreSquare (sym vs_are) (All-filter (λ (v : Variable). has_variable part v.name) IsSquare roots.variables declared.squares)
 
   pub whole : IsWhole source roots part o cs vs ps
-  whole = record { nodes = gathered_is; objective = objective_is; constraints = constraints_are; numbered = numbered_is; declared = declared_are; squares = squares_are }
+  whole = record { gathered = gathered_is; nodes = part_are; objective = objective_is; constraints = constraints_are; numbered = numbered_is; declared = declared_are; squares = squares_are; demands = demands; variables = vs_are; parameters = ps_are }
+
+-- the same of what is handed on: an equal part, an equal list of ends, and lists of the same items
+pub handed_on : (source : List Node) (roots : Roots) → IsObjective source roots.objective → AreConstraints source roots.constraints → AreDeclarations source roots →
+    (part at : List Node) (ends named : List NodeId) (o : NodeId) (cs to : List Constraint) (vs us : List Variable) (ps qs : List Parameter) →
+    at ≡ part → named ≡ ends → to ≡ cs → us ≡ vs → qs ≡ ps →
+    IsGathered source (positions_of roots) part (positions ends) → AreNodes shape_of source → AreNodes shape_of part →
+    o ≡ get_or ends 0 o → sides_in cs ≡ positions (take (length named - 1) (drop 1 named)) → map demand_of cs ≡ map demand_of roots.constraints →
+    vs ≡ filter (λ v. has_variable part v.name) roots.variables → ps ≡ filter (λ q. has_parameter part q.name) roots.parameters → IsWhole source roots at o to us qs
+handed_on source roots objective constraints declared part at ends named o cs to vs us ps qs at_is named_is to_is us_are qs_are g are part_are first sides demands vs_are ps_are =
+    let sides_are = ap sides_in to_is ∙ sides ∙ ap (λ (xs : List NodeId). positions (take (length xs - 1) (drop 1 xs))) named_is in
+    subst (λ t. IsWhole source roots t o to us qs) (sym at_is)
+    (whole source roots objective constraints declared part ends g are part_are o to us qs first sides_are (ap (map demand_of) to_is ∙ demands) (us_are ∙ vs_are) (qs_are ∙ ps_are))

@@ -1,10 +1,12 @@
 //! How a problem is gathered: the part of a tree that its roots reach.
-ghost use Rattle.std.specs.Prelude.{◌≡◌, ℕ, ◌*◌, List, map, filter, length, IfOk, IfErr};
+ghost use Rattle.std.specs.Prelude.{◌≡◌, ℕ, ◌*◌, List, [], ◌∷◌, ◌++◌, map, filter, length, Ok, IfOk, IfErr, OnOk};
 ghost use Rattle.std.specs.HashSet.{contains};
 ghost use Rattle.dcx_point.specs.Pairs.{same_name};
-ghost use Rattle.dcx_arena.specs.Nodes.{positions};
+ghost use Rattle.dcx_arena.specs.Gather.{IsGathered};
+ghost use Rattle.dcx_arena.specs.Nodes.{positions, AreNodes};
+ghost use Rattle.dcx_call.specs.Calls.{shape_of};
 ghost use Rattle.dcx_tree.specs.Problems.{IsObjective, AreConstraints, sides_in, roots_of};
-ghost use Rattle.dcx_tree.specs.Gather.{AreDeclarations, IsProblemOf, has_variable, has_parameter, demand_of};
+ghost use Rattle.dcx_tree.specs.Gather.{AreDeclarations, IsProblemOf, has_variable, has_parameter, demand_of, positions_of};
 
 use crate::constraint::Constraint;
 use crate::lists::{Constraints, Parameters, Variables};
@@ -29,12 +31,10 @@ pub fn gather(alloc: Global, source: &Tree, roots: &Roots) -> Result<Problem, Tr
     ensures ok { IfOk result (IsProblemOf source.now roots.now) }
     ensures memory { IfErr result (λ e. e ≡ TreeFault.Memory) }
 {
-    let ids = root_ids(alloc, roots.objective, roots.constraints.as_slice())?;
-    let (tree, ends) = source.gathered(alloc, &ids)?;
+    let (tree, ends) = reached_part(alloc, source, roots)?;
     let objective = ends[0];
-    let constraints = moved(alloc, roots.constraints.as_slice(), &ends[1..])?;
-    let variables = reached_variables(alloc, &tree, roots.variables.as_slice())?;
-    let parameters = reached_parameters(alloc, &tree, roots.parameters.as_slice())?;
+    let kept = kept(alloc, &tree, &ends[1..], roots);
+    let (tree, (constraints, (variables, parameters))) = beside(tree, kept)?;
     Ok(Problem {
         tree,
         variables: Variables::from_vec(variables),
@@ -44,6 +44,75 @@ pub fn gather(alloc: Global, source: &Tree, roots: &Roots) -> Result<Problem, Tr
         objective_place: roots.objective_place,
         constraints: Constraints::from_vec(constraints),
     })
+}
+
+/// What is made, beside what was made before.
+fn beside<T: Drop, U: Drop>(made: T, next: Result<U, AllocError>) -> Result<(T, U), AllocError>
+    ensures made { IfOk result (λ r. r.0 ≡ made) }
+    ensures next { IfOk result (λ r. next ≡ Ok r.1) }
+{
+    match next {
+        Ok(next) => Ok((made, next)),
+        Err(stop) => Err(stop),
+    }
+}
+
+/// These items, and one more at the end.
+fn with_last<T: Drop>(items: Vec<T>, last: Result<T, AllocError>) -> Result<Vec<T>, AllocError>
+    ensures { IfOk result (λ v. (x : T) × (last ≡ Ok x) × (v.items ≡ items.items ++ (x ∷ []))) }
+{
+    let mut items = items;
+    items.push(last?)?;
+    Ok(items)
+}
+
+/// The part of a tree that the roots reach, and where the objective and the sides of the constraints stand in it.
+fn reached_part(
+    alloc: Global,
+    source: &Tree,
+    roots: &Roots,
+) -> Result<(Tree, Vec<NodeId>), AllocError>
+    requires objective { IsObjective source.now roots.now.objective }
+    requires constraints { AreConstraints source.now roots.now.constraints }
+    ensures gathered { IfOk result (λ r. IsGathered source.now (positions_of roots.now) r.0 (positions r.1.items)) }
+    ensures whole { OnOk result (AreNodes shape_of source.now) }
+    ensures nodes { IfOk result (λ r. AreNodes shape_of r.0) }
+{
+    let ids = root_ids(alloc, roots.objective, roots.constraints.as_slice())?;
+    source.gathered(alloc, &ids)
+}
+
+/// The constraints with these nodes as their sides, and what is declared of what stands in a tree.
+fn kept(
+    alloc: Global,
+    tree: &Tree,
+    sides: &[NodeId],
+    roots: &Roots,
+) -> Result<(Vec<Constraint>, (Vec<Variable>, Vec<Parameter>)), AllocError>
+    requires { length sides.now ≡ 2 * length roots.now.constraints }
+    ensures demands { IfOk result (λ r. map demand_of r.0.items ≡ map demand_of roots.now.constraints) }
+    ensures sides { IfOk result (λ r. sides_in r.0.items ≡ positions sides.now) }
+    ensures variables { IfOk result (λ r. r.1.0.items ≡ filter (λ x. has_variable tree.now x.name) roots.now.variables) }
+    ensures parameters { IfOk result (λ r. r.1.1.items ≡ filter (λ x. has_parameter tree.now x.name) roots.now.parameters) }
+{
+    let constraints = moved(alloc, roots.constraints.as_slice(), sides)?;
+    beside(constraints, declared(alloc, tree, roots))
+}
+
+/// The declared variables and parameters that stand in a tree.
+fn declared(
+    alloc: Global,
+    tree: &Tree,
+    roots: &Roots,
+) -> Result<(Vec<Variable>, Vec<Parameter>), AllocError>
+    ensures variables { IfOk result (λ r. r.0.items ≡ filter (λ x. has_variable tree.now x.name) roots.now.variables) }
+    ensures parameters { IfOk result (λ r. r.1.items ≡ filter (λ x. has_parameter tree.now x.name) roots.now.parameters) }
+{
+    let variables = reached_variables(alloc, tree, roots.variables.as_slice())?;
+    beside(
+        variables,
+        reached_parameters(alloc, tree, roots.parameters.as_slice()),
+    )
 }
 
 /// The objective, then the left and the right side of each constraint.
@@ -120,13 +189,24 @@ fn reached_variables(
     ensures { IfOk result (λ v. v.items ≡ filter (λ x. has_variable tree.now x.name) declared.now) }
 {
     let names = variable_names(alloc, tree)?;
-    let mut reached = Vec::new(alloc);
+    variables_named(alloc, &names, declared)
+}
+
+/// The declared variables of these names.
+fn variables_named(
+    alloc: Global,
+    names: &HashSet<Name>,
+    declared: &[Variable],
+) -> Result<Vec<Variable>, AllocError>
+    ensures { IfOk result (λ v. v.items ≡ filter (λ x. contains same_name names.now x.name) declared.now) }
+{
+    let mut named = Vec::new(alloc);
     for variable in declared {
         if names.contains(&variable.name) {
-            reached.push(copy_variable(alloc, variable)?)?;
+            named = with_last(named, copy_variable(alloc, variable))?;
         }
     }
-    Ok(reached)
+    Ok(named)
 }
 
 /// The declared parameters that stand in a tree.
@@ -138,11 +218,22 @@ fn reached_parameters(
     ensures { IfOk result (λ v. v.items ≡ filter (λ x. has_parameter tree.now x.name) declared.now) }
 {
     let names = parameter_names(alloc, tree)?;
-    let mut reached = Vec::new(alloc);
+    parameters_named(alloc, &names, declared)
+}
+
+/// The declared parameters of these names.
+fn parameters_named(
+    alloc: Global,
+    names: &HashSet<Name>,
+    declared: &[Parameter],
+) -> Result<Vec<Parameter>, AllocError>
+    ensures { IfOk result (λ v. v.items ≡ filter (λ x. contains same_name names.now x.name) declared.now) }
+{
+    let mut named = Vec::new(alloc);
     for parameter in declared {
         if names.contains(&parameter.name) {
-            reached.push(copy_parameter(alloc, parameter)?)?;
+            named = with_last(named, copy_parameter(alloc, parameter))?;
         }
     }
-    Ok(reached)
+    Ok(named)
 }
