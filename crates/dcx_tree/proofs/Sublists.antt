@@ -57,11 +57,6 @@ module _ {X : Type 0} where
       by rest true = refl
       by rest false = rest
 
-  -- by two tests that agree, the same is left
-  pub filter_same : (p q : X → Bool) (xs : List X) → ((x : X) → p x ≡ q x) → filter p xs ≡ filter q xs
-  filter_same p q [] h = refl
-  filter_same p q (y ∷ xs) h = ap₂ (λ b ys. cond b (y ∷ ys) ys) (h y) (filter_same p q xs h)
-
   -- ---- names that stand once
   all_at : (P : List ℕ → Type 0) (f : X → List ℕ) (xs : List X) (j : ℕ) (w : X) → AllByRecursion P (map f xs) → slice_get xs j ≡ Some w → P (f w)
   all_at P f [] j w all e = absurd (none-some w e)

@@ -1,5 +1,5 @@
 //! How a problem is gathered: the part of a tree that its roots reach.
-ghost use Rattle.std.specs.Prelude.{◌≡◌, ℕ, ◌*◌, List, [], ◌∷◌, ◌++◌, map, filter, length, Ok, IfOk, IfErr, OnOk};
+ghost use Rattle.std.specs.Prelude.{◌≡◌, ℕ, ◌*◌, List, map, filter, length, Ok, IfOk, IfErr, OnOk};
 ghost use Rattle.std.specs.HashSet.{contains};
 ghost use Rattle.dcx_point.specs.Pairs.{same_name};
 ghost use Rattle.dcx_arena.specs.Gather.{IsGathered};
@@ -55,15 +55,6 @@ fn beside<T: Drop, U: Drop>(made: T, next: Result<U, AllocError>) -> Result<(T, 
         Ok(next) => Ok((made, next)),
         Err(stop) => Err(stop),
     }
-}
-
-/// These items, and one more at the end.
-fn with_last<T: Drop>(items: Vec<T>, last: Result<T, AllocError>) -> Result<Vec<T>, AllocError>
-    ensures { IfOk result (λ v. (x : T) × (last ≡ Ok x) × (v.items ≡ items.items ++ (x ∷ []))) }
-{
-    let mut items = items;
-    items.push(last?)?;
-    Ok(items)
 }
 
 /// The part of a tree that the roots reach, and where the objective and the sides of the constraints stand in it.
@@ -189,24 +180,13 @@ fn reached_variables(
     ensures { IfOk result (λ v. v.items ≡ filter (λ x. has_variable tree.now x.name) declared.now) }
 {
     let names = variable_names(alloc, tree)?;
-    variables_named(alloc, &names, declared)
-}
-
-/// The declared variables of these names.
-fn variables_named(
-    alloc: Global,
-    names: &HashSet<Name>,
-    declared: &[Variable],
-) -> Result<Vec<Variable>, AllocError>
-    ensures { IfOk result (λ v. v.items ≡ filter (λ x. contains same_name names.now x.name) declared.now) }
-{
-    let mut named = Vec::new(alloc);
+    let mut reached = Vec::new(alloc);
     for variable in declared {
         if names.contains(&variable.name) {
-            named = with_last(named, copy_variable(alloc, variable))?;
+            reached.push(copy_variable(alloc, variable)?)?;
         }
     }
-    Ok(named)
+    Ok(reached)
 }
 
 /// The declared parameters that stand in a tree.
@@ -218,22 +198,11 @@ fn reached_parameters(
     ensures { IfOk result (λ v. v.items ≡ filter (λ x. has_parameter tree.now x.name) declared.now) }
 {
     let names = parameter_names(alloc, tree)?;
-    parameters_named(alloc, &names, declared)
-}
-
-/// The declared parameters of these names.
-fn parameters_named(
-    alloc: Global,
-    names: &HashSet<Name>,
-    declared: &[Parameter],
-) -> Result<Vec<Parameter>, AllocError>
-    ensures { IfOk result (λ v. v.items ≡ filter (λ x. contains same_name names.now x.name) declared.now) }
-{
-    let mut named = Vec::new(alloc);
+    let mut reached = Vec::new(alloc);
     for parameter in declared {
         if names.contains(&parameter.name) {
-            named = with_last(named, copy_parameter(alloc, parameter))?;
+            reached.push(copy_parameter(alloc, parameter)?)?;
         }
     }
-    Ok(named)
+    Ok(reached)
 }
