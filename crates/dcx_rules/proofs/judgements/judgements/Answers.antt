@@ -1,5 +1,6 @@
 -- The arguments of a node are judged before it, and so it is judged as the rules say.
-use Rattle.std.proofs.Common.{◌≡◌, ◌<◌, [], ◌∷◌, List, map, length, Some, arith, sym, ap, ap₂, subst, ◌∙◌, length-append}
+use Rattle.std.proofs.Common.{◌≡◌, ◌<◌, [], ◌∷◌, List, map, length, Some, arith, sym, ap, ap₂, subst, ◌∙◌, length-append, rules}
+use Rattle.std.proofs.lemmas.Result.{err_from_is_err_and}
 use Rattle.std.specs.List.{slice_get, All}
 use Rattle.dcx_arena.specs.Nodes.{positions, args_at}
 use Rattle.dcx_rules.specs.declared.judgement.Judgement.{Judgement}
@@ -26,3 +27,21 @@ loop-i-preserved c =
       each = judged_more (rules_of c.args.rules) p gs c.deref-in-loop-i-2.result.now _ c.loop-i.i c.call-call.result.now c.in_ok-judgement.judgement count c.loop-i.invariant.each
           read c.call-call.ensures c.in_ok-judgement.ensures c.in_ok-push.ensures.items;
     }
+
+pub loop-i-smaller : goal.loop-i-smaller
+loop-i-smaller c = search rules
+
+pub args-requires : goal.args-requires
+args-requires c = omega (arith, c.loop-i-test.true, c.nodes-i-end.ensures.count)
+
+pub returns-in_err-ids : goal.returns-in_err-ids
+returns-in_err-ids c = let p = err_from_is_err_and c.from_residual.result c.from_residual.ensures.1 in rw p.1 tt
+
+pub returns-in_err-args : goal.returns-in_err-args
+returns-in_err-args c = let p = err_from_is_err_and c.from_residual-in_err-args.result c.from_residual-in_err-args.ensures.1 in rw p.1 tt
+
+pub returns-in_err-judgement : goal.returns-in_err-judgement
+returns-in_err-judgement c = let p = err_from_is_err_and c.from_residual-in_err-judgement.result c.from_residual-in_err-judgement.ensures.1 in rw p.1 tt
+
+pub returns-in_err-push : goal.returns-in_err-push
+returns-in_err-push c = let p = err_from_is_err_and c.from_residual-in_err-push.result c.from_residual-in_err-push.ensures.1 in rw p.1 tt
