@@ -33,6 +33,18 @@ fn quotient(num: i128, den: i128) -> Frac
     }
 }
 
+/// What a row has at `column`, over its entry at its basic column `lead`.
+fn ratio<T: Tableau>(tableau: &T, row: u32, column: u32, lead: u32) -> Frac
+    requires row { row < length (T.table tableau.now).rows }
+    requires column { column < (T.table tableau.now).columns + 3 }
+    requires lead { basic_at (T.table tableau.now).basis row ≡ lead }
+    requires lead_column { lead < (T.table tableau.now).columns + 3 }
+    requires positive { pos 0 <ℤ lead_at (T.table tableau.now) row }
+    ensures { value result ≡ whole (entry_at (T.table tableau.now) row column) /ℚ whole (lead_at (T.table tableau.now) row) }
+{
+    quotient(tableau.entry(row, column), tableau.entry(row, lead))
+}
+
 /// The number, negated where the test holds.
 fn turned(is_negated: bool, x: Frac) -> Frac
     ensures { value result ≡ turned_if is_negated (value x) }
@@ -50,7 +62,7 @@ fn put_basic<T: Tableau>(tableau: &T, column: u32, is_negated: bool, xs: &mut [F
 {
     'rows: for i in 0..tableau.rows() {
         let j = tableau.basis(i);
-        let x = quotient(tableau.entry(i, column), tableau.entry(i, j));
+        let x = ratio(tableau, i, column, j);
         xs[j as usize] = turned(is_negated, x);
     }
 }
@@ -158,7 +170,7 @@ fn row_notes<T: Tableau>(
 {
     let mut notes = Vec::with_capacity(alloc, rows.len())?;
     'rows: for (i, row) in rows.iter().enumerate() {
-        let rate = quotient(tableau.entry(cost, own[i]), tableau.entry(cost, lead));
+        let rate = ratio(tableau, cost, own[i], lead);
         notes.push(RowNote {
             reduced_cost: turned(true, rate),
             factor: row.factor,
@@ -191,6 +203,18 @@ fn cost_column<T: Tableau>(tableau: &T, status: LpStatus) -> u32
     }
 }
 
+/// What the row of costs has at `column`, over its entry at its basic column.
+fn cost_ratio<T: Tableau>(tableau: &T, status: LpStatus, column: u32) -> Frac
+    requires readable { IsReadable (T.table tableau.now) }
+    requires rows { 2 ≤ length (T.table tableau.now).rows }
+    requires column { column < (T.table tableau.now).columns + 3 }
+    ensures { value result ≡ whole (entry_at (T.table tableau.now) (read_row status (T.table tableau.now)) column) /ℚ whole (lead_at (T.table tableau.now) (read_row status (T.table tableau.now))) }
+{
+    let cost = cost_row(tableau, status);
+    let lead = cost_column(tableau, status);
+    ratio(tableau, cost, column, lead)
+}
+
 /// The numbers that the tableau of a basis shows for an end of this status, without a ray: of the columns, and of the rows by the
 /// costs of that status.
 pub fn read_costs<T: Tableau>(
@@ -213,7 +237,7 @@ pub fn read_costs<T: Tableau>(
     let right = tableau.columns() + 2;
     Ok(LpAnswer {
         status,
-        number: quotient(tableau.entry(cost, right), tableau.entry(cost, lead)),
+        number: cost_ratio(tableau, status, right),
         slope: Frac::zero(),
         columns: Fracs::from_vec(columns),
         rows: RowNotes::from_vec(notes),
@@ -238,11 +262,7 @@ fn read_ray<T: Tableau>(
 {
     let mut answer = read_costs(alloc, tableau, program, LpStatus::Unbounded)?;
     let changes = column_changes(alloc, tableau, column)?;
-    let cost = tableau.rows();
-    answer.slope = quotient(
-        tableau.entry(cost, column),
-        tableau.entry(cost, tableau.columns()),
-    );
+    answer.slope = cost_ratio(tableau, LpStatus::Unbounded, column);
     answer.ray = Fracs::from_vec(changes);
     Ok(answer)
 }

@@ -1,6 +1,5 @@
 -- The next basic column is none of those written.
-use Rattle.std.proofs.Common.{◌≡◌, ◌+◌, ◌<◌, length, set, arith, sym, ap, ap₂, ◌∙◌, to_z-of_z, SFits}
-use Rattle.std.specs.Int.{w128}
+use Rattle.std.proofs.Common.{◌≡◌, ◌+◌, ◌<◌, length, set, arith, sym, ap, ◌∙◌}
 use borrow.Author.Count.{below_more}
 use Rattle.dcx_math.specs.Rational.{whole, ◌/ℚ◌}
 use Rattle.dcx_math.specs.Sums.{rat_at}
@@ -20,11 +19,7 @@ rows-preserved g c =
     let x = c.turned.result in
     let xs = c.rows.xs in
     let in_i : i + 2 < length t.rows = omega (arith, c.rows-i-end.ensures.count, c.rows-test.true) in
-    let f1 : SFits w128 c.entry.result = record { sfits = c.entry.type_inv } in
-    let f2 : SFits w128 c.entry-in-rows.result = record { sfits = c.entry-in-rows.type_inv } in
-    let q = simp to_z-of_z at c.quotient-x.ensures in
-    let e = ap₂ (λ a b. whole a /ℚ whole b) c.entry.ensures.value (c.entry-in-rows.ensures.value ∙ ap (entry_at t i) c.basis-j.ensures) in
-    let v : value x ≡ turned_if c.args.is_negated (whole (entry_at t i c.args.column) /ℚ whole (entry_at t i (basic_at t.basis i))) = c.turned.ensures ∙ ap (turned_if c.args.is_negated) (q ∙ e) in
+    let v : value x ≡ turned_if c.args.is_negated (whole (entry_at t i c.args.column) /ℚ whole (entry_at t i (basic_at t.basis i))) = c.turned.ensures ∙ ap (turned_if c.args.is_negated) c.ratio-x.ensures in
     let in_xs : j < length xs = omega (arith, c.requires.readable.basics i in_i, c.basis-j.ensures, c.requires.len, c.rows.auto.xs) in
     record {
       basic = below_more (λ k. rat_at (numbers (set xs j x)) (basic_at t.basis k) ≡ turned_if c.args.is_negated (whole (entry_at t k c.args.column) /ℚ whole (entry_at t k (basic_at t.basis k)))) i

@@ -1,6 +1,5 @@
 -- The parts of the answer are the numbers that the tableau shows.
-use Rattle.std.proofs.Common.{ℕ, ◌+◌, length, map, get_or, arith, refl, sym, ap, ap₂, ◌∙◌, subst, List, to_z-of_z, SFits}
-use Rattle.std.specs.Int.{w128}
+use Rattle.std.proofs.Common.{ℕ, ◌+◌, length, map, get_or, arith, refl, sym, ap, ap₂, ◌∙◌, subst, List}
 use Rattle.dcx_math.specs.Rational.{whole, ◌/ℚ◌}
 use Rattle.dcx_math.specs.Sums.{rat_at}
 use Rattle.dcx_frac.specs.declared.fraction.Frac.{Frac}
@@ -8,6 +7,7 @@ use Rattle.dcx_tab.specs.Table.{entry_at}
 use Rattle.dcx_tab.specs.Program.{is_negated}
 use Rattle.dcx_lp_answer.specs.declared.answer.RowNote.{RowNote}
 use Rattle.dcx_lp_answer.specs.Notes.{numbers, reduced_cost_of, factor_of, was_negated, row_factor}
+use Rattle.dcx_simplex.specs.Basis.{lead_at}
 use Rattle.dcx_simplex.specs.Reading.{IsColumnNumber, reduced_cost_at, read_row}
 use Rattle.dcx_simplex.proofs.Owns.{own_low, own_unique}
 use Rattle.dcx_simplex.proofs.read.read_costs.Goals as goal
@@ -25,13 +25,7 @@ returns-clause-reading g c =
     let t = g.T.Tableau.table c.args.tableau.now in
     let p = c.args.program.now in
     let row = read_row c.args.status t in
-    let f1 : SFits w128 c.entry.result = record { sfits = c.entry.type_inv } in
-    let f2 : SFits w128 c.entry-2.result = record { sfits = c.entry-2.type_inv } in
-    let q = simp to_z-of_z at c.quotient.ensures in
     let cost = c.cost_row-cost.ensures in
-    let lead = c.cost_column-lead.ensures.basic in
-    let num = c.entry.ensures.value ∙ ap₂ (λ k n. entry_at t k (n + 2)) cost c.columns-right.ensures in
-    let den = c.entry-2.ensures.value ∙ ap₂ (entry_at t) cost (sym lead) in
     let columns = c.from_vec.ensures in
     let notes = c.from_vec-2.ensures in
     let slice = c.as_slice.ensures in
@@ -39,7 +33,7 @@ returns-clause-reading g c =
       status = refl;
       columns = ap length columns ∙ c.in_ok-columns.ensures.len ∙ c.requires.columns;
       column = λ j h. subst (λ (xs : List Frac). IsColumnNumber t j (rat_at (numbers xs) j)) (sym columns) (c.in_ok-columns.ensures.numbers j (omega (arith, h, c.requires.columns)));
-      number = q ∙ ap₂ (λ a b. whole a /ℚ whole b) num den;
+      number = c.cost_ratio.ensures ∙ ap (λ n. whole (entry_at t row (n + 2)) /ℚ whole (lead_at t row)) c.columns-right.ensures;
       notes = ap length notes ∙ c.in_ok-notes.ensures.len ∙ ap length slice;
       reduced_costs = λ i j h own.
           let mine = c.in_ok-own.ensures.own i h in

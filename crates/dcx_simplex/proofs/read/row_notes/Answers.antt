@@ -1,11 +1,8 @@
 -- The next row has its note.
-use Rattle.std.proofs.Common.{◌≡◌, ℕ, ◌+◌, ◌<◌, [], ◌∷◌, length, map, get_or, arith, refl, sym, ap, ap₂, ◌∙◌, subst, List, to_z-of_z, SFits, true}
-use Rattle.std.specs.Int.{w128}
+use Rattle.std.proofs.Common.{◌≡◌, ℕ, ◌+◌, ◌<◌, [], ◌∷◌, length, map, get_or, arith, refl, sym, ap, ◌∙◌, subst, List, true}
 use Rattle.std.proofs.lemmas.List.{length-append, length-map, map-append}
-use Rattle.dcx_math.specs.Rational.{whole, ◌/ℚ◌}
 use Rattle.dcx_math.specs.Sums.{rat_at}
 use Rattle.dcx_frac.specs.Frac.{value}
-use Rattle.dcx_tab.specs.Table.{entry_at}
 use Rattle.dcx_tab.specs.Program.{is_negated}
 use Rattle.dcx_lp_answer.specs.declared.answer.RowNote.{RowNote}
 use Rattle.dcx_lp_answer.specs.Notes.{reduced_cost_of, factor_of, was_negated, row_factor}
@@ -21,11 +18,7 @@ rows-preserved g c =
     let rows = c.args.rows.now in
     let row = c.index-rows-i.result in
     let own = get_or c.args.own.now i 0 in
-    let f1 : SFits w128 c.entry.result = record { sfits = c.entry.type_inv } in
-    let f2 : SFits w128 c.entry-in-rows.result = record { sfits = c.entry-in-rows.type_inv } in
-    let q = simp to_z-of_z at c.quotient-rate.ensures in
-    let e = ap₂ (λ a b. whole a /ℚ whole b) c.entry.ensures.value (c.entry-in-rows.ensures.value ∙ ap (entry_at t c.args.cost) (sym c.requires.lead)) in
-    let v : value c.turned.result ≡ reduced_cost_at t c.args.cost own = c.turned.ensures ∙ ap (turned_if true) (q ∙ e) in
+    let v : value c.turned.result ≡ reduced_cost_at t c.args.cost own = c.turned.ensures ∙ ap (turned_if true) c.ratio-rate.ensures in
     let notes = c.rows.notes.items in
     let note : RowNote = record { reduced_cost = c.turned.result; factor = row.factor; negated = row.negated } in
     let items = c.in_ok-push.ensures.items in
