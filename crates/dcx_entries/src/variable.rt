@@ -1,5 +1,5 @@
 //! The entries of a variable: its unknowns.
-ghost use Rattle.std.specs.Prelude.{◌≡◌, map, IfOk};
+ghost use Rattle.std.specs.Prelude.{◌≡◌, [], ◌∷◌, ◌++◌, map, IfOk, OnOk};
 ghost use Rattle.dcx_entries.specs.Parts.{form_of_unknown};
 ghost use Rattle.dcx_entries.specs.Entries.{alone};
 
@@ -17,6 +17,19 @@ fn form_of_unknown<C: Coef>(alloc: Global, unknown: Option<u32>) -> Result<Form<
     }
 }
 
+/// Puts the entry of an unknown at the end.
+fn push_unknown<C: Coef>(
+    alloc: Global,
+    entries: &mut Vec<EntryForms<C>>,
+    unknown: Option<u32>,
+) -> Result<(), AllocError>
+    ensures { OnOk result (entries.new.items ≡ entries.old.items ++ alone (form_of_unknown C.of_number unknown) ∷ []) }
+{
+    let form = form_of_unknown(alloc, unknown)?;
+    entries.push(EntryForms::alone(alloc, form))?;
+    Ok(())
+}
+
 /// The entries of a variable, where these unknowns stand for them: 0 where there is none. Only memory may be wanting.
 pub fn variable_entries<C: Coef>(
     alloc: Global,
@@ -26,8 +39,7 @@ pub fn variable_entries<C: Coef>(
 {
     let mut entries = Vec::new(alloc);
     'unknowns: for unknown in unknowns {
-        let form = form_of_unknown(alloc, *unknown)?;
-        entries.push(EntryForms::alone(alloc, form))?;
+        push_unknown(alloc, &mut entries, *unknown)?;
     }
     Ok(EntryList::from_vec(entries))
 }

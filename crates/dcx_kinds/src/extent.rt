@@ -1,8 +1,9 @@
 //! Shapes as a script asks for them: sides of any size, of which no array may have come yet.
-ghost use Rattle.std.specs.Prelude.{◌≡◌, option_map, pos};
+ghost use Rattle.std.specs.Prelude.{◌≡◌, map, option_map, pos};
 ghost use Rattle.dcx_shape.specs.Sides.{entries_of};
 ghost use Rattle.dcx_array.specs.Shapes.{shape_with, told};
-ghost use Rattle.dcx_kinds.specs.Kinds.{side_of, is_square, sides_from, axis_of};
+ghost use Rattle.dcx_shape.specs.declared.shape.Sides.TheVariants.{Vector};
+ghost use Rattle.dcx_kinds.specs.Kinds.{side_of, two_sides, tuple_sides, is_square, sides_from, axis_from, axis_of};
 ghost use Rattle.dcx_kinds.specs.Meant.{meant};
 ghost use Rattle.dcx_kinds.specs.View.{extent_sides};
 
@@ -86,18 +87,50 @@ fn side_of(least: u8, value: &Value) -> Option<u128>
     Some(side.unsigned_abs())
 }
 
+/// One side, where it is there.
+fn one_side(n: Option<u128>) -> Option<Extent>
+    ensures { option_map extent_sides result ≡ option_map Vector n }
+{
+    Some(Extent::Vector(n?))
+}
+
+/// Two sides, where both are there.
+fn two_sides(m: Option<u128>, n: Option<u128>) -> Option<Extent>
+    ensures { option_map extent_sides result ≡ two_sides m n }
+{
+    Some(Extent::Matrix(m?, n?))
+}
+
+/// The sides that at most two items are, each at least the least.
+fn tuple_sides(least: u8, items: &[Value]) -> Option<Extent>
+    ensures { option_map extent_sides result ≡ tuple_sides (pos least) (map meant items.now) }
+{
+    match items {
+        [] => Some(Extent::Scalar),
+        [n] => one_side(side_of(least, n)),
+        [m, n] => two_sides(side_of(least, m), side_of(least, n)),
+        _ => None,
+    }
+}
+
 /// The sides that a whole number or a tuple of at most two is, each at least the least.
 pub fn sides_from(least: u8, value: &Value) -> Option<Extent>
     ensures { option_map extent_sides result ≡ sides_from (pos least) (meant value.now) }
 {
     match value {
-        Value::Tuple(items) => match items.values() {
-            [] => Some(Extent::Scalar),
-            [n] => Some(Extent::Vector(side_of(least, n)?)),
-            [m, n] => Some(Extent::Matrix(side_of(least, m)?, side_of(least, n)?)),
-            _ => None,
-        },
-        Value::Plain(_) => Some(Extent::Vector(side_of(least, value)?)),
+        Value::Tuple(items) => tuple_sides(least, items.values()),
+        Value::Plain(_) => one_side(side_of(least, value)),
+        _ => None,
+    }
+}
+
+/// The axis that 0 or 1 is.
+fn axis_from(whole: i128) -> Option<Axis>
+    ensures { result ≡ axis_from whole }
+{
+    match whole {
+        0 => Some(Axis::Zero),
+        1 => Some(Axis::One),
         _ => None,
     }
 }
@@ -108,11 +141,7 @@ pub fn axis_of(value: &Value) -> Option<Axis>
 {
     match value {
         Value::Nothing => Some(Axis::All),
-        Value::Plain(_) => match whole_number(value)? {
-            0 => Some(Axis::Zero),
-            1 => Some(Axis::One),
-            _ => None,
-        },
+        Value::Plain(_) => axis_from(whole_number(value)?),
         _ => None,
     }
 }

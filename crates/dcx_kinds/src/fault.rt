@@ -9,10 +9,11 @@ use dcx_array::ArrayFault;
 use dcx_frac::Passes;
 use dcx_shape::Place;
 use std::alloc::{AllocError, AllocFailed};
+use std::fmt;
 use thiserror::Error;
 
 /// The first fault of a script, and where it stands.
-#[derive(Clone, Copy, Debug, Error)]
+#[derive(Clone, Copy, Error)]
 pub enum ElabFault {
     /// A name isn't bound.
     #[error("the name is not bound")]
@@ -60,6 +61,13 @@ pub enum ElabFault {
     /// No memory.
     #[error("out of memory")]
     Memory,
+}
+
+/// The message, as `Display` has it.
+impl fmt::Debug for ElabFault {
+    fn fmt<W: fmt::Write>(&self, f: &mut fmt::Formatter<W>) -> fmt::Result {
+        fmt::Display::fmt(self, f)
+    }
 }
 
 impl From<AllocError> for ElabFault {
