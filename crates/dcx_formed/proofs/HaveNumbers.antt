@@ -40,7 +40,7 @@ use Rattle.dcx_entries.specs.declared.entries.EntryForms.{EntryForms}
 use Rattle.dcx_entries.specs.Parts.{Arguments, unknown_form, form_of_unknown}
 use Rattle.dcx_entries.specs.Standing.{args_among}
 use Rattle.dcx_entries.specs.Nodes.{Table, table_forms, numbers_in, scaling_of, ReducedEntry, NodeEntryBy, AreFormed}
-use Rattle.dcx_within.proofs.Entries.{IsKept, linear_keeps, atom_keeps, terms_have, result_has, rows_have, pair_sum_keeps}
+use Rattle.dcx_formed.proofs.Entries.{IsKept, linear_keeps, atom_keeps, terms_have, result_has, rows_have, pair_sum_keeps}
 use Rattle.dcx_formed.proofs.Coefs.{AreCoefs}
 use Rattle.dcx_formed.proofs.Tables.{form_in, args_have, entry_there, entry_past}
 use Rattle.dcx_formed.proofs.Made.{entry_is, pair_summed}

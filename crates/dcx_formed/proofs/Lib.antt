@@ -19,4 +19,9 @@ pub mod Pairs
 pub mod Nodes
 pub mod All
 pub mod Rows
+mod Unknowns
+pub mod Entries
+mod NarrowNodes
+mod Parameters
+pub mod NarrowHold
 pub mod LawsHold

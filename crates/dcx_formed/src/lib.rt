@@ -5,8 +5,9 @@
 //! `dcx_reduced` says over exact numbers when forms and rows are a reduced program. `specs/Forms.antt` reads the forms of a
 //! table of formed nodes as numbers at unknowns and at numbers for the parameters. Where parameters are numbers, nodes are
 //! formed of fractions, at a setting; where parameters are affine, of affine numbers, and what is formed once holds at every
-//! setting. Nothing is asked of the setting: what it lacks counts as 0 on both sides. There is no code: each function of `laws`
-//! is a law, whose clause is a statement about all problems.
+//! setting. Nothing is asked of the setting: what it lacks counts as 0 on both sides. A form of a node is made of forms of earlier
+//! nodes, of unknowns of the layout, and of entries of declared parameters, by sums, multiplications and divisions, none of which
+//! brings in anything else. There is no code: each function of `laws` is a law, whose clause is a statement about all problems.
 //!
 //! | what must hold | where |
 //! |---|---|
@@ -14,6 +15,8 @@
 //! | nodes of a problem that is accepted where parameters are affine, formed of affine numbers, meet the equations at every setting | `laws::param_forms_meet_equations` |
 //! | the rows are those of the graphs, in order | the same laws, `rows` |
 //! | so forms and rows are a reduced program | the same laws, `reduction` |
+//! | forms and rows speak of unknowns of the layout alone | `laws::forms_are_narrow` |
+//! | where parameters are affine, they list entries of declared parameters alone, under their names | `laws::forms_are_known` |
 #![tactic(auto)]
 
 pub mod laws;

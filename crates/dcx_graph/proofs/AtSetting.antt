@@ -31,7 +31,7 @@ use Rattle.dcx_linear.specs.Forms.{linear_value}
 use Rattle.dcx_linear.specs.FormsAt.{frac_value, with_form, at_row, form_on_row, then_row, rows_at, form_at, IsListedForm}
 use Rattle.dcx_linear.specs.Rows.{RowAt, LinearProgram}
 use Rattle.dcx_linear.proofs.SettingForms.{form_at-value}
-use Rattle.dcx_within.specs.Within.{IsKnown, IsKnownNumber, IsKnownTerm}
+use Rattle.dcx_formed.specs.Within.{IsKnown, IsKnownNumber, IsKnownTerm}
 use Rattle.dcx_std.proofs.Solutions.{at_place}
 use Rattle.dcx_graph.specs.Program.{Program}
 use Rattle.dcx_graph.specs.AsLinear.{row_at, linear_at, IsReductionAt}

@@ -10,8 +10,8 @@ use Rattle.dcx_linear.specs.ParamForms.{form_of_number, number_of_form, sum_give
 use Rattle.dcx_unknowns.specs.Layout.{unknown_kinds}
 use Rattle.dcx_entries.specs.Nodes.{table_forms}
 use Rattle.dcx_entries.specs.Kept.{graph_rows}
-use Rattle.dcx_within.specs.Within.{IsKnown}
-use Rattle.dcx_within.proofs.LawsHold.{forms_are_known, known_number, sum_keeps_known, change_keeps_known}
+use Rattle.dcx_formed.specs.Within.{IsKnown}
+use Rattle.dcx_formed.proofs.NarrowHold.{forms_are_known, known_number, sum_keeps_known, change_keeps_known}
 use Rattle.dcx_graph.specs.Fixed.{ProgramsAreKnown}
 use Rattle.dcx_graph.proofs.Sizes.{OfNode, program_rows_have, program_objective_has}
 use Rattle.dcx_graph.proofs.Widths.{node_has, rows_have}

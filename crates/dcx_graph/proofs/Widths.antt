@@ -22,7 +22,7 @@ use Rattle.dcx_entries.specs.Standing.{all_forms}
 use Rattle.dcx_entries.specs.Nodes.{Table, table_forms}
 use Rattle.dcx_entries.specs.Kept.{entry_rows, node_rows, graph_rows, IsKept}
 use Rattle.dcx_entries.proofs.Past.{past_end}
-use Rattle.dcx_within.specs.Within.{OfEntry, OfTable}
+use Rattle.dcx_formed.specs.Within.{OfEntry, OfTable}
 
 -- what is so of each item, told in the two ways
 pub each_all : {A : Type 0} (P : A → Type 0) (xs : List A) → Each P xs → All P xs

@@ -13,7 +13,7 @@ use Rattle.dcx_linear.specs.Parameters.{Parameters}
 use Rattle.dcx_linear.specs.ParamForms.{form_of_number, number_of_form, sum_gives_form, change_gives_form, form_value, IsEntryForm}
 use Rattle.dcx_linear.specs.FormsAt.{frac_value}
 use Rattle.dcx_entries.specs.Nodes.{Table, AreFormed}
-use Rattle.dcx_within.specs.Within.{IsKnown}
+use Rattle.dcx_formed.specs.Within.{IsKnown}
 use Rattle.dcx_graph.specs.Program.{Program, IsProgram}
 use Rattle.dcx_graph.specs.Fixing.{IsListedProgram, FixGives}
 use Rattle.dcx_graph.specs.AsLinear.{linear_at, IsReductionAt}

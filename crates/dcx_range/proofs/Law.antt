@@ -31,7 +31,7 @@ use Rattle.dcx_linear.specs.FormsAt.{form_at}
 use Rattle.dcx_linear.specs.Rows as rows
 use Rattle.dcx_linear.specs.Rows.{RowAt}
 use Rattle.dcx_formed.proofs.Lists.{map-map}
-use Rattle.dcx_within.specs.Within.{IsKnownNumber, IsKnownTerm}
+use Rattle.dcx_formed.specs.Within.{IsKnownNumber, IsKnownTerm}
 use Rattle.dcx_std.specs.Solutions as solutions
 use Rattle.dcx_std.specs.Solutions.{linear_program}
 use Rattle.dcx_std.proofs.Solutions.{unmapped_at}

@@ -6,8 +6,8 @@ use Rattle.std.specs.Prelude.{slice_index_or, ◌≤◌, []}
 use Rattle.dcx_unknowns.specs.Layout.{marked, kinds_with, rows_with, columns_with, unknown_kinds, AreFew}
 use Rattle.dcx_unknowns.proofs.Layouts.{marks_are}
 use Rattle.dcx_entries.specs.Standing.{all_forms}
-use Rattle.dcx_within.specs.Within.{IsNarrow}
-use Rattle.dcx_within.proofs.LawsHold.{forms_are_narrow}
+use Rattle.dcx_formed.specs.Within.{IsNarrow}
+use Rattle.dcx_formed.proofs.NarrowHold.{forms_are_narrow}
 use Rattle.dcx_graph.proofs.Given.{numbers_given, parameters_readable}
 use Rattle.dcx_graph.proofs.Counted.{graph-counted}
 use Rattle.dcx_graph.proofs.Widths.{roots_kept, rows_kept}

@@ -23,7 +23,7 @@ use Rattle.dcx_entries.specs.declared.scaling.Scaling.TheVariants.{LeftNumber, R
 use Rattle.dcx_entries.specs.Parts.{Arguments, zero_form, unknown_form, term_part, aux_part, operand_form, row_part}
 use Rattle.dcx_entries.specs.Sums.{adds_multiple, adds_pair, adds_each}
 use Rattle.dcx_entries.specs.Entries.{alone, LinearEntry, EachSum, AtomEntry, PairSum}
-use Rattle.dcx_within.specs.Within.{OfEntry}
+use Rattle.dcx_formed.specs.Within.{OfEntry}
 
 -- what stands at a place of a list, or past its end
 pub at_or : {A : Type 0} (P : A → Type 0) (xs : List A) (j : ℕ) (d : A) → Each P xs → P d → P (slice_index_or xs j d)

@@ -1,4 +1,4 @@
--- The laws hold.
+-- The laws of which unknowns and parameters forms speak hold.
 use Rattle.std.proofs.Common.{◌≡◌, ℕ, ◌<◌, arith, List, [], length, map, Option, Some, option_map, Result, Ok, slice_get, slice_index_or, sym, ap, ◌∙◌, subst}
 use Rattle.std.specs.List.{All, Contains}
 use Rattle.std.proofs.Props.{props}
@@ -30,11 +30,11 @@ use Rattle.dcx_linear.specs.declared.param_form.ParamForm.{ParamForm}
 use Rattle.dcx_linear.proofs.Widths.{sum_width, change_width}
 use Rattle.dcx_linear.proofs.MultipleLaws.{multiple_width}
 use Rattle.dcx_unknowns.specs.Layout.{unknown_kinds}
-use Rattle.dcx_within.specs.Within.{IsNarrow, IsKnown, IsKnownNumber, IsKnownTerm}
-use Rattle.dcx_within.specs.Laws.{FormsAreNarrow, FormsAreKnown}
-use Rattle.dcx_within.proofs.Entries.{IsKept}
-use Rattle.dcx_within.proofs.Parameters.{sum_lists, change_lists}
-use Rattle.dcx_within.proofs.Nodes.{table_keeps}
+use Rattle.dcx_formed.specs.Within.{IsNarrow, IsKnown, IsKnownNumber, IsKnownTerm}
+use Rattle.dcx_formed.specs.Laws.{FormsAreNarrow, FormsAreKnown}
+use Rattle.dcx_formed.proofs.Entries.{IsKept}
+use Rattle.dcx_formed.proofs.Parameters.{sum_lists, change_lists}
+use Rattle.dcx_formed.proofs.NarrowNodes.{table_keeps}
 
 module _ {C : Type 0} (of_number : Frac → C) (number_of : C → Option Frac) (Sums : C → C → Result C Passes → Type 0) (Changes : Change → C → Result C Passes → Type 0)
     (Reads : ℕ → List ℕ → ℕ → Pairs → C → Type 0) where

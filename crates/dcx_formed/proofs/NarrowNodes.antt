@@ -47,9 +47,9 @@ use Rattle.dcx_entries.specs.Entries.{alone, entry_forms, PairEntryBy}
 use Rattle.dcx_entries.specs.Standing.{args_among}
 use Rattle.dcx_entries.specs.Nodes.{Table, table_forms, numbers_in, number_entry, ReducedEntry, NodeEntryBy, scaling_of, AreFormed}
 use Rattle.dcx_entries.proofs.Past.{past_end}
-use Rattle.dcx_within.specs.Within.{OfEntry, OfTable}
-use Rattle.dcx_within.proofs.Unknowns.{aux_within, variable_within}
-use Rattle.dcx_within.proofs.Entries.{at_or, IsKept, linear_keeps, atom_keeps, terms_have, result_has, rows_have, pair_sum_keeps, number_has}
+use Rattle.dcx_formed.specs.Within.{OfEntry, OfTable}
+use Rattle.dcx_formed.proofs.Unknowns.{aux_within, variable_within}
+use Rattle.dcx_formed.proofs.Entries.{at_or, IsKept, linear_keeps, atom_keeps, terms_have, result_has, rows_have, pair_sum_keeps, number_has}
 
 -- the entries that stand at a place of the table, as forms
 forms_there : {C : Type 0} (table : Table C) (a : ℕ) (es : List (EntryForms C)) → slice_get table a ≡ Some es → slice_index_or (table_forms table) a [] ≡ entry_forms es
