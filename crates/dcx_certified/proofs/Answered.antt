@@ -20,9 +20,9 @@ use Rattle.dcx_tree.specs.Meaning.{convex_constraint, convex_problem}
 use Rattle.dcx_linear.specs.Rows.{RowAt, LinearProgram, AreOfKinds, combined, combined_from, HaveSigns}
 use Rattle.dcx_unknowns.specs.Layout.{constraint_rows, unknown_kinds, rows_at}
 use Rattle.dcx_unknowns.proofs.Places.{in_right}
-use Rattle.dcx_reduced.specs.Equations.{Forms, graph_numbers, reduced_with}
-use Rattle.dcx_reduced.proofs.Lists.{same_place, flat_first}
-use Rattle.dcx_reduced.proofs.OfKinds.{nonneg_from, nonpos_from}
+use Rattle.dcx_unknowns.specs.Equations.{Forms, graph_numbers, reduced_with}
+use Rattle.dcx_unknowns.proofs.Lists.{same_place, flat_first}
+use Rattle.dcx_unknowns.proofs.OfKinds.{nonneg_from, nonpos_from}
 use Rattle.dcx_entries.proofs.Each.{some_before}
 use Rattle.dcx_mapping.specs.Programs.{gap_rows, bound_row, IsProgramOf, multipliers_of}
 use Rattle.dcx_mapping.proofs.Rows.{combined_append, combined_gaps}

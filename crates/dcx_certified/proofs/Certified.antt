@@ -22,7 +22,7 @@ use Rattle.dcx_std.specs.Solutions.{HasKinds, linear_program}
 use Rattle.dcx_std.proofs.ScaledProgram.{scaled_program}
 use Rattle.dcx_std.proofs.RightAnswers.{shown_of}
 use Rattle.dcx_mapping.specs.Programs.{bound_row, multipliers_of}
-use Rattle.dcx_reduced.specs.Equations.{graph_numbers}
+use Rattle.dcx_unknowns.specs.Equations.{graph_numbers}
 use Rattle.dcx_postsolve.specs.Duals.{AreDuals, multipliers_in}
 use Rattle.dcx_postsolve.specs.Laws.{AreSameMultipliers}
 use Rattle.dcx_postsolve.proofs.DualLaws.{right_multiplier}

@@ -20,7 +20,7 @@ use Rattle.dcx_call.specs.Calls.{shape_of}
 use Rattle.dcx_tree.specs.Nodes.{Names, Node, head_of, arg_sides, convex_node, convex_nodes}
 use Rattle.dcx_tree.specs.Values.{array_at}
 use Rattle.dcx_tree.proofs.Lawful.{tree_lawful}
-use Rattle.dcx_reduced.specs.Equations.{call_entry}
+use Rattle.dcx_unknowns.specs.Equations.{call_entry}
 use Rattle.dcx_collect.specs.Starts.{start_of}
 use Rattle.dcx_collect.proofs.Flat.{dot, dot-sum, flat, flat-place, by_nodes}
 use Rattle.dcx_collect.proofs.Points.{some_item, first_past, past_size, End}

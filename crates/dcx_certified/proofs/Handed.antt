@@ -1,6 +1,6 @@
 -- One node of the pass: what bounds the coefficients of the nodes up to it, with the weighted rows of their graphs, bounds those of the
 -- nodes before it, and its weights meet the conditions of slopes.
-use Rattle.std.proofs.Common.{◌≡◌, ◌⊎◌, ℕ, zero, suc, ◌+◌, ◌<◌, ◌≤◌, arith, List, [], ◌∷◌, ◌++◌, map, length, get_or, All, refl, sym, ap, ap₂, ◌∙◌, subst, inl, inr, append-nil, Option, Some, None, IsSome, Result, Ok, Err, slice_get, pos}
+use Rattle.std.proofs.Common.{◌≡◌, ◌⊎◌, ℕ, zero, suc, ◌+◌, ◌<◌, ◌≤◌, arith, List, [], ◌∷◌, ◌++◌, map, length, get_or, All, refl, sym, ap, ap₂, ◌∙◌, subst, inl, inr, append-nil, Option, Some, None, IsSome, Result, Ok, Err, slice_get, pos, ⊎_elim}
 use Rattle.std.proofs.lemmas.List.{length-map, get_or-map}
 use Rattle.std.specs.Prelude.{option_map}
 use Rattle.dcx_math.specs.Rational.{ℚ, whole, ◌+ℚ◌, ◌*ℚ◌, ◌-ℚ◌, ◌≤ℚ◌}
@@ -10,7 +10,6 @@ use Rattle.dcx_math.proofs.Orders.{≤ℚ_refl, ≤ℚ-from_≡, +ℚ_idr, zero-
 use Rattle.dcx_math.proofs.Products.{*ℚ-nonnegative}
 use native.Mathlib.Decide.{ℕ_discrete}
 use Rattle.std.proofs.lemmas.Option.{same_Some}
-use Rattle.std.proofs.Common.{⊎_elim}
 use Rattle.dcx_atom.proofs.Accepted.{earlier-none}
 use Rattle.dcx_atom.proofs.BoundRows.{below_or_last}
 use Rattle.dcx_math.proofs.Sums.{rat_sum_below-same, rat_sum_below-+ℚ, rat_sum_by-++}
@@ -31,8 +30,7 @@ use Rattle.dcx_atom.proofs.Duality.{no_entries, no_filling, balance, weighted_pa
 use Rattle.dcx_affine.specs.declared.pairing.Pairing.{Pairing}
 use Rattle.dcx_affine.specs.declared.pairing.Pairing.TheVariants.{Times, MatTimes, Over}
 use Rattle.dcx_affine.specs.Pairing.{pairs_at}
-use Rattle.dcx_arena.specs.Nodes.{AreNodes, IsNode}
-use Rattle.dcx_arena.specs.Nodes.{sides_at as sides_of_node}
+use Rattle.dcx_arena.specs.Nodes.{AreNodes, IsNode, sides_at as sides_of_node}
 use Rattle.dcx_convex.specs.Nodes.{Numbers, Setting, Point, arguments, zeros}
 use Rattle.dcx_convex.proofs.Told.{map-same}
 use Rattle.dcx_call.specs.declared.atoms.AtomCall.{AtomCall}
@@ -48,7 +46,7 @@ use Rattle.dcx_exact.proofs.Coefficients.{coefficients_fit}
 use Rattle.dcx_tree.specs.Nodes.{Names, Node, arg_sides, number_in}
 use Rattle.dcx_shape.specs.Shape.{sides_of}
 use Rattle.dcx_tree.specs.Values.{array_at}
-use Rattle.dcx_reduced.specs.Equations.{call_entry}
+use Rattle.dcx_unknowns.specs.Equations.{call_entry}
 use Rattle.dcx_collect.specs.declared.collected.Reached.{Reached}
 use Rattle.dcx_collect.specs.declared.stop.CollectStop.{CollectStop}
 use Rattle.dcx_collect.specs.declared.stop.CollectStop.TheVariants as stops

@@ -34,16 +34,16 @@ use Rattle.dcx_tree.proofs.AllReached.{convex_at}
 use Rattle.dcx_linear.specs.Rows.{AreOfKinds}
 use Rattle.dcx_unknowns.specs.Unknowns.{point_at}
 use Rattle.dcx_unknowns.specs.Layout.{is_reduced, call_aux, aux_if, aux_at, unknown_kinds}
-use Rattle.dcx_reduced.specs.Equations.{Forms, call_entry, args_of, filling_of, AllStand}
-use Rattle.dcx_reduced.proofs.OwnTerms.{Agree, form_same}
-use Rattle.dcx_reduced.proofs.OwnGraphs.{atom_own}
-use Rattle.dcx_reduced.proofs.CallGraphs.{call_filling, filled_kinds, filled_value}
-use Rattle.dcx_reduced.proofs.CallEntries.{first_same}
-use Rattle.dcx_reduced.proofs.Lift.{filling_if, lift, lift_filling}
-use Rattle.dcx_reduced.proofs.Lifted.{lifted_kinds, lifted_point}
-use Rattle.dcx_reduced.proofs.Variables.{AreSameAt, node_same, same_value}
-use Rattle.dcx_reduced.proofs.NodeForms.{nodes_of, nodes_ordered, node_at, reducible, constant_form, reduced_form, not_reduced}
-use Rattle.dcx_reduced.proofs.Sound.{aux_is}
+use Rattle.dcx_unknowns.specs.Equations.{Forms, call_entry, args_of, filling_of, AllStand}
+use Rattle.dcx_unknowns.proofs.OwnTerms.{Agree, form_same}
+use Rattle.dcx_unknowns.proofs.OwnGraphs.{atom_own}
+use Rattle.dcx_unknowns.proofs.CallGraphs.{call_filling, filled_kinds, filled_value}
+use Rattle.dcx_unknowns.proofs.CallEntries.{first_same}
+use Rattle.dcx_unknowns.proofs.Lift.{filling_if, lift, lift_filling}
+use Rattle.dcx_unknowns.proofs.Lifted.{lifted_kinds, lifted_point}
+use Rattle.dcx_unknowns.proofs.Variables.{AreSameAt, node_same, same_value}
+use Rattle.dcx_unknowns.proofs.NodeForms.{nodes_of, nodes_ordered, node_at, reducible, constant_form, reduced_form, not_reduced}
+use Rattle.dcx_unknowns.proofs.Sound.{aux_is}
 use Rattle.dcx_affine.specs.declared.pairing.Pairing.TheVariants.{Times, MatTimes, Over}
 use Rattle.dcx_build.proofs.Fixed.{unfixed_is_reduced}
 use Rattle.dcx_bound.specs.Fixed.{AreFixedValues}

@@ -8,7 +8,7 @@ use Rattle.dcx_convex.specs.Rules.{Rules}
 use Rattle.dcx_tree.specs.declared.problem.Problem.{Problem}
 use Rattle.dcx_tree.specs.Nodes.{Node}
 use Rattle.dcx_unknowns.specs.Layout.{is_reduced, rows_if, rows_at}
-use Rattle.dcx_reduced.specs.Equations.{Forms, row_number, numbers_if}
+use Rattle.dcx_unknowns.specs.Equations.{Forms, row_number, numbers_if}
 
 module _ (rules : Rules) (p : Problem) (s : Setting) (forms : Forms) where
   -- the numbers of the rows of node i

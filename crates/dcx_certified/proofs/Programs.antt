@@ -8,7 +8,7 @@ use Rattle.dcx_tree.specs.Meaning.{convex_problem, setting_of, IsAccepted, IsDpp
 use Rattle.dcx_linear.specs.declared.param_form.ParamForm.{ParamForm}
 use Rattle.dcx_linear.specs.ParamForms.{form_of_number, form_value}
 use Rattle.dcx_linear.specs.FormsAt.{frac_value}
-use Rattle.dcx_reduced.specs.Equations.{reduced_with}
+use Rattle.dcx_unknowns.specs.Equations.{reduced_with}
 use Rattle.dcx_formed.specs.Forms.{forms_at}
 use Rattle.dcx_formed.proofs.LawsHold.{fracs_meet_equations, param_forms_meet_equations}
 use Rattle.dcx_mapping.specs.Programs.{IsProgramOf}

@@ -35,12 +35,12 @@ use Rattle.dcx_tree.specs.Meaning.{IsInDomain, setting_of}
 use Rattle.dcx_tree.specs.Values.{array_at}
 use Rattle.dcx_linear.specs.Rows.{combined_from}
 use Rattle.dcx_unknowns.specs.Layout.{is_reduced, call_aux, call_rows, rows_if, rows_at}
-use Rattle.dcx_reduced.specs.Equations.{Forms, args_of, filling_of, AllStand, row_number, numbers_if, graph_numbers}
-use Rattle.dcx_reduced.proofs.Lists.{same_place}
-use Rattle.dcx_reduced.proofs.OwnTerms.{Agree, AreOwnRows, row_same, rows_same}
-use Rattle.dcx_reduced.proofs.OwnGraphs.{atom_own}
-use Rattle.dcx_reduced.proofs.CallGraphs.{call_filling}
-use Rattle.dcx_reduced.proofs.NodeForms.{node_at}
+use Rattle.dcx_unknowns.specs.Equations.{Forms, args_of, filling_of, AllStand, row_number, numbers_if, graph_numbers}
+use Rattle.dcx_unknowns.proofs.Lists.{same_place}
+use Rattle.dcx_unknowns.proofs.OwnTerms.{Agree, AreOwnRows, row_same, rows_same}
+use Rattle.dcx_unknowns.proofs.OwnGraphs.{atom_own}
+use Rattle.dcx_unknowns.proofs.CallGraphs.{call_filling}
+use Rattle.dcx_unknowns.proofs.NodeForms.{node_at}
 use Rattle.dcx_mapping.specs.Programs.{bound_row}
 use Rattle.dcx_mapping.proofs.Rows.{combined_append}
 use Rattle.dcx_bound.specs.Fixed.{AreFixedValues}

@@ -28,7 +28,7 @@ use Rattle.dcx_outline.proofs.Rows.{range_more}
 use Rattle.dcx_linear.specs.declared.row.RowKind.TheVariants.{AtMost}
 use Rattle.dcx_linear.specs.Rows.{HaveSigns}
 use Rattle.dcx_unknowns.specs.Layout.{is_reduced, call_rows, rows_if, rows_at}
-use Rattle.dcx_reduced.proofs.Lists.{flat_first}
+use Rattle.dcx_unknowns.proofs.Lists.{flat_first}
 use Rattle.dcx_mapping.specs.Programs.{bound_row}
 use Rattle.dcx_lp_answer.specs.declared.answer.RowNote.{RowNote}
 use Rattle.dcx_lp_answer.specs.declared.answer.LpAnswer.{LpAnswer}

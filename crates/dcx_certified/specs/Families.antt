@@ -19,7 +19,7 @@ use Rattle.dcx_call.specs.Atoms.{atom_meaning}
 use Rattle.dcx_convex.specs.Nodes.{Numbers, Point, Setting, first_of, arguments, zeros, value_at}
 use Rattle.dcx_tree.specs.Nodes.{Names, Node, arg_sides, convex_nodes, number_in}
 use Rattle.dcx_tree.specs.Values.{array_at}
-use Rattle.dcx_reduced.specs.Equations.{call_entry}
+use Rattle.dcx_unknowns.specs.Equations.{call_entry}
 
 module _ (names : Names) (nodes : List Node) (s : Setting) (values : List (Option Array)) where
   -- the arrays g stand for the nodes at a point x and at unknowns t of the graph of each node: where a value is known it is that, and

@@ -18,7 +18,7 @@ use Rattle.dcx_bound.specs.Checks.{bound_checks}
 use Rattle.dcx_convex.specs.Nodes.{Setting, Point}
 use Rattle.dcx_convex.specs.Rules.{Rules}
 use Rattle.dcx_recession.specs.Rays.{IsRay}
-use Rattle.dcx_reduced.specs.Equations.{Forms, AllStand}
+use Rattle.dcx_unknowns.specs.Equations.{Forms, AllStand}
 use Rattle.dcx_fit.specs.Fit.{FitsParameters}
 use Rattle.dcx_sections.specs.declared.cert.Cert.{Cert}
 use Rattle.dcx_answer.specs.declared.answer.Answer.{Answer}

@@ -6,7 +6,7 @@ use Rattle.dcx_convex.specs.Rules.{Rules}
 use Rattle.dcx_tree.specs.declared.problem.Problem.{Problem}
 use Rattle.dcx_tree.specs.Meaning.{convex_problem}
 use Rattle.dcx_std.specs.Solutions.{linear_program}
-use Rattle.dcx_reduced.specs.Equations.{Forms, AllStand, reduced_with}
+use Rattle.dcx_unknowns.specs.Equations.{Forms, AllStand, reduced_with}
 use Rattle.dcx_mapping.specs.Programs.{IsProgramOf}
 use Rattle.dcx_graph.specs.Program.{Program, entry_origin, constraint_entries}
 use Rattle.dcx_graph.specs.Answers.{rows_of}

@@ -15,7 +15,7 @@ use Rattle.dcx_tree.specs.declared.problem.Problem.{Problem}
 use Rattle.dcx_tree.specs.Nodes.{arg_sides}
 use Rattle.dcx_linear.specs.Rows.{AreOfKinds, combined_from}
 use Rattle.dcx_unknowns.specs.Layout.{unknown_kinds, rows_at}
-use Rattle.dcx_reduced.specs.Equations.{Forms, graph_numbers}
+use Rattle.dcx_unknowns.specs.Equations.{Forms, graph_numbers}
 use Rattle.dcx_mapping.specs.Programs.{bound_row}
 use Rattle.dcx_certified.specs.Families.{EachAtom}
 use Rattle.dcx_certified.specs.Bounded.{started}

@@ -17,8 +17,8 @@ use Rattle.dcx_tree.specs.Meaning.{names_in, convex_problem, value_at as problem
 use Rattle.dcx_linear.specs.declared.change.Change.{Change}
 use Rattle.dcx_linear.specs.Parameters.{Parameters}
 use Rattle.dcx_unknowns.specs.Layout.{is_reduced}
-use Rattle.dcx_reduced.specs.Equations.{Stands, AllStand}
-use Rattle.dcx_reduced.proofs.NodeForms.{nodes_of}
+use Rattle.dcx_unknowns.specs.Equations.{Stands, AllStand}
+use Rattle.dcx_unknowns.proofs.NodeForms.{nodes_of}
 use Rattle.dcx_entries.specs.Nodes.{Table, AreFormed}
 use Rattle.dcx_formed.specs.Forms.{forms_at}
 use Rattle.dcx_formed.proofs.Coefs.{AreCoefs}

@@ -34,8 +34,8 @@ use Rattle.dcx_linear.specs.Multiples.{HasNumbers}
 use Rattle.dcx_linear.specs.Parameters.{Parameters}
 use Rattle.dcx_linear.proofs.Coefficients.{sum_keeps, change_keeps, multiple_keeps}
 use Rattle.dcx_unknowns.specs.Layout.{is_reduced, first_aux}
-use Rattle.dcx_reduced.proofs.OwnGraphs.{atom_own}
-use Rattle.dcx_reduced.proofs.NodeForms.{nodes_of, nodes_ordered, node_at}
+use Rattle.dcx_unknowns.proofs.OwnGraphs.{atom_own}
+use Rattle.dcx_unknowns.proofs.NodeForms.{nodes_of, nodes_ordered, node_at}
 use Rattle.dcx_entries.specs.declared.entries.EntryForms.{EntryForms}
 use Rattle.dcx_entries.specs.Parts.{Arguments, unknown_form, form_of_unknown}
 use Rattle.dcx_entries.specs.Standing.{args_among}

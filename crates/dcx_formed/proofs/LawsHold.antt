@@ -16,9 +16,9 @@ use Rattle.dcx_linear.specs.Changes.{changed_frac}
 use Rattle.dcx_linear.specs.Parameters.{Parameters, entry_of}
 use Rattle.dcx_linear.specs.ParamForms.{form_value, number_of_form, form_of_number, sum_gives_form, change_gives_form, IsEntryForm}
 use Rattle.dcx_linear.specs.ParamLaws.{form_entry_value}
-use Rattle.dcx_reduced.specs.Equations.{AllStand}
-use Rattle.dcx_reduced.proofs.LawsHold.{equations_reduce}
-use Rattle.dcx_reduced.proofs.NodeForms.{nodes_of, not_constant, not_reduced}
+use Rattle.dcx_unknowns.specs.Equations.{AllStand}
+use Rattle.dcx_unknowns.proofs.EquationsHold.{equations_reduce}
+use Rattle.dcx_unknowns.proofs.NodeForms.{nodes_of, not_constant, not_reduced}
 use Rattle.dcx_entries.specs.Nodes.{Table}
 use Rattle.dcx_linear.specs.FormsAt.{frac_value}
 use Rattle.dcx_formed.specs.Forms.{forms_at, AreFormedOfFracs, AreFormedOfParamForms}

@@ -37,9 +37,9 @@ use Rattle.dcx_linear.specs.Forms.{is_constant}
 use Rattle.dcx_unknowns.specs.Unknowns.{first_unknown, unknown_from}
 use Rattle.dcx_unknowns.specs.Layout.{is_reduced, first_aux, aux_at, call_aux, aux_if, unknown_kinds}
 use Rattle.dcx_unknowns.proofs.Domains.{number_is}
-use Rattle.dcx_reduced.proofs.Lists.{Each, each_nil, each_map}
-use Rattle.dcx_reduced.proofs.OwnGraphs.{atom_own}
-use Rattle.dcx_reduced.proofs.NodeForms.{node_at}
+use Rattle.dcx_unknowns.proofs.Lists.{Each, each_nil, each_map}
+use Rattle.dcx_unknowns.proofs.OwnGraphs.{atom_own}
+use Rattle.dcx_unknowns.proofs.NodeForms.{node_at}
 use Rattle.dcx_entries.specs.declared.entries.EntryForms.{EntryForms}
 use Rattle.dcx_entries.specs.declared.scaling.Scaling.{Scaling}
 use Rattle.dcx_entries.specs.Parts.{Arguments, form_of_unknown, has_zero_divisor}

@@ -53,10 +53,10 @@ use Rattle.dcx_linear.specs.Forms.{linear_value, is_constant as constant_form}
 use Rattle.dcx_linear.specs.Multiples.{HasNumbers}
 use Rattle.dcx_unknowns.specs.Unknowns.{sides_in, first_unknown, unknown_from, number_at, array_from, point_at}
 use Rattle.dcx_unknowns.specs.Layout.{is_reduced, first_aux}
-use Rattle.dcx_reduced.specs.Equations.{Forms, call_entry, filling_of, entry_by, Stands}
-use Rattle.dcx_reduced.proofs.Constants.{call_constant}
-use Rattle.dcx_reduced.proofs.CallGraphs.{IsReducible}
-use Rattle.dcx_reduced.proofs.NodeForms.{nodes_of, nodes_ordered, node_at, not_constant, reducible}
+use Rattle.dcx_unknowns.specs.Equations.{Forms, call_entry, filling_of, entry_by, Stands}
+use Rattle.dcx_unknowns.proofs.Constants.{call_constant}
+use Rattle.dcx_unknowns.proofs.CallGraphs.{IsReducible}
+use Rattle.dcx_unknowns.proofs.NodeForms.{nodes_of, nodes_ordered, node_at, not_constant, reducible}
 use Rattle.dcx_entries.specs.declared.entries.EntryForms.{EntryForms}
 use Rattle.dcx_entries.specs.declared.scaling.Scaling.{Scaling}
 use Rattle.dcx_entries.specs.declared.scaling.Scaling.TheVariants.{Divisor}

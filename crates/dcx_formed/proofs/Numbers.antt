@@ -41,7 +41,7 @@ use Rattle.dcx_linear.specs.FormTerms.{Unknowns}
 use Rattle.dcx_linear.specs.Forms.{linear_value, is_constant as constant_form}
 use Rattle.dcx_linear.specs.Parameters.{Parameters}
 use Rattle.dcx_unknowns.specs.Layout.{is_reduced}
-use Rattle.dcx_reduced.proofs.NodeForms.{nodes_of, nodes_ordered, node_at, not_reduced}
+use Rattle.dcx_unknowns.proofs.NodeForms.{nodes_of, nodes_ordered, node_at, not_reduced}
 use Rattle.dcx_entries.specs.declared.entries.EntryForms.{EntryForms}
 use Rattle.dcx_entries.specs.Parts.{zero_form, number_in}
 use Rattle.dcx_entries.specs.Entries.{alone}

@@ -6,7 +6,7 @@ use Rattle.dcx_convex.proofs.Reached.{IsBent, reached_bent}
 use Rattle.dcx_tree.specs.declared.problem.Problem.{Problem}
 use Rattle.dcx_tree.specs.Meaning.{convex_problem}
 use Rattle.dcx_tree.proofs.AllReached.{node_reached}
-use Rattle.dcx_reduced.proofs.NodeForms.{nodes_ordered}
+use Rattle.dcx_unknowns.proofs.NodeForms.{nodes_ordered}
 
 -- each node is convex or concave
 pub node_bent : (p : Problem) (rules : Rules) → IsTrue (accepted_by rules (convex_problem p)) → (i : ℕ) → i < length p.tree → IsBent (judgement_at rules (convex_problem p).nodes i)

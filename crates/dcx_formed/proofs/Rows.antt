@@ -31,8 +31,8 @@ use Rattle.dcx_linear.specs.Parameters.{Parameters}
 use Rattle.dcx_linear.specs.Forms.{linear_value}
 use Rattle.dcx_linear.specs.Parts.{sums_parts}
 use Rattle.dcx_unknowns.specs.Layout.{is_reduced, first_aux, call_rows, rows_if, rows_at}
-use Rattle.dcx_reduced.specs.Equations.{Forms, filling_of, row_number, numbers_if, graph_numbers}
-use Rattle.dcx_reduced.proofs.NodeForms.{node_at}
+use Rattle.dcx_unknowns.specs.Equations.{Forms, filling_of, row_number, numbers_if, graph_numbers}
+use Rattle.dcx_unknowns.proofs.NodeForms.{node_at}
 use Rattle.dcx_entries.specs.declared.entries.EntryForms.{EntryForms}
 use Rattle.dcx_entries.specs.declared.formed.FormedRow.{FormedRow}
 use Rattle.dcx_entries.specs.Parts.{Arguments, zero_form, term_part, aux_part, row_part}

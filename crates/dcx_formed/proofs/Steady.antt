@@ -45,9 +45,9 @@ use Rattle.dcx_tree.proofs.Lawful.{tree_lawful}
 use Rattle.dcx_tree.proofs.AllReached.{convex_at}
 use Rattle.dcx_unknowns.specs.Unknowns.{point_at}
 use Rattle.dcx_unknowns.specs.Layout.{is_reduced}
-use Rattle.dcx_reduced.specs.Equations.{Forms, call_entry, filling_of, Stands}
-use Rattle.dcx_reduced.proofs.Constants.{call_constant}
-use Rattle.dcx_reduced.proofs.NodeForms.{nodes_of, nodes_ordered, node_at, not_constant, not_reduced}
+use Rattle.dcx_unknowns.specs.Equations.{Forms, call_entry, filling_of, Stands}
+use Rattle.dcx_unknowns.proofs.Constants.{call_constant}
+use Rattle.dcx_unknowns.proofs.NodeForms.{nodes_of, nodes_ordered, node_at, not_constant, not_reduced}
 use Rattle.dcx_formed.proofs.Settled.{settled_zero}
 
 -- ---- what a call that is convex and concave asks of its arguments

@@ -14,7 +14,7 @@ use Rattle.dcx_linear.specs.Changes.{changed_frac}
 use Rattle.dcx_linear.specs.Parameters.{Parameters, entry_of}
 use Rattle.dcx_linear.specs.ParamForms.{number_of_form, form_of_number, sum_gives_form, change_gives_form, IsEntryForm}
 use Rattle.dcx_linear.specs.Forms.{linear_value}
-use Rattle.dcx_reduced.specs.Equations.{Forms, AllStand, graph_numbers, reduced_with}
+use Rattle.dcx_unknowns.specs.Equations.{Forms, AllStand, graph_numbers, reduced_with}
 use Rattle.dcx_entries.specs.declared.formed.FormedRow.{FormedRow}
 use Rattle.dcx_entries.specs.Parts.{zero_form}
 use Rattle.dcx_entries.specs.Nodes.{Table, table_forms, AreFormed}

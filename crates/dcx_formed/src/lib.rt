@@ -2,7 +2,7 @@
 //! program over exact numbers.
 //!
 //! `dcx_entries` says what the forms and rows of the nodes of a problem are, as they are formed one operation after the other;
-//! `dcx_reduced` says over exact numbers when forms and rows are a reduced program. `specs/Forms.antt` reads the forms of a
+//! `dcx_unknowns` says over exact numbers when forms and rows are a reduced program. `specs/Forms.antt` reads the forms of a
 //! table of formed nodes as numbers at unknowns and at numbers for the parameters. Where parameters are numbers, nodes are
 //! formed of fractions, at a setting; where parameters are affine, of affine numbers, and what is formed once holds at every
 //! setting. Nothing is asked of the setting: what it lacks counts as 0 on both sides. A form of a node is made of forms of earlier

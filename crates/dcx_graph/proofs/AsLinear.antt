@@ -35,8 +35,8 @@ use Rattle.dcx_linear.specs.Parameters.{Parameters}
 use Rattle.dcx_linear.specs.Forms.{linear_value, sum_gives_linear, change_gives_linear}
 use Rattle.dcx_linear.specs.Rows.{RowAt, AreOfKinds}
 use Rattle.dcx_unknowns.specs.Layout.{unknown_kinds}
-use Rattle.dcx_reduced.specs.Equations.{Forms, graph_numbers, reduced_with}
-use Rattle.dcx_reduced.proofs.OfKinds.{kinds_from, nonneg_from, nonpos_from}
+use Rattle.dcx_unknowns.specs.Equations.{Forms, graph_numbers, reduced_with}
+use Rattle.dcx_unknowns.proofs.OfKinds.{kinds_from, nonneg_from, nonpos_from}
 use Rattle.dcx_entries.specs.declared.formed.FormedRow.{FormedRow}
 use Rattle.dcx_entries.specs.Nodes.{Table, table_forms}
 use Rattle.dcx_entries.specs.Kept.{graph_rows}

@@ -15,7 +15,7 @@ use Rattle.dcx_linear.specs.Parameters.{Parameters}
 use Rattle.dcx_linear.specs.ParamForms.{form_of_number, number_of_form, sum_gives_form, change_gives_form, form_value}
 use Rattle.dcx_linear.specs.ParamLaws.{form_number_value, form_told_number, form_sum_value, form_change_value}
 use Rattle.dcx_linear.specs.FormsAt.{frac_value}
-use Rattle.dcx_reduced.specs.Equations.{reduced_with}
+use Rattle.dcx_unknowns.specs.Equations.{reduced_with}
 use Rattle.dcx_entries.specs.Nodes.{table_forms}
 use Rattle.dcx_mapping.specs.Programs.{IsProgramOf}
 use Rattle.dcx_formed.specs.Forms.{forms_at}

@@ -14,7 +14,7 @@ use Rattle.dcx_tree.specs.Nodes.{Node, head_of, arg_sides, convex_node}
 use Rattle.dcx_tree.specs.Meaning.{names_in}
 use Rattle.dcx_tree.proofs.AllReached.{convex_at}
 use Rattle.dcx_unknowns.specs.Layout.{is_reduced, AreReduced}
-use Rattle.dcx_reduced.proofs.NodeForms.{nodes_of, nodes_ordered}
+use Rattle.dcx_unknowns.proofs.NodeForms.{nodes_of, nodes_ordered}
 use Rattle.dcx_nodes.specs.Given.{IsReadable, NumbersAreGiven, ParametersAreReadable}
 use Rattle.dcx_graph.specs.Reducing.{IsGivenFor, ParametersAreGiven}
 

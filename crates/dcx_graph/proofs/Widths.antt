@@ -12,7 +12,7 @@ use Rattle.dcx_tree.specs.declared.problem.Problem.{Problem}
 use Rattle.dcx_tree.specs.Problems.{roots_of}
 use Rattle.dcx_linear.specs.declared.change.Change.{Change}
 use Rattle.dcx_linear.specs.declared.form.Form.{Form}
-use Rattle.dcx_reduced.proofs.Lists.{Each, each_nil, each_cons, each_append, each_joined, each_map}
+use Rattle.dcx_unknowns.proofs.Lists.{Each, each_nil, each_cons, each_append, each_joined, each_map}
 use Rattle.dcx_entries.specs.declared.entries.EntryForms.{EntryForms}
 use Rattle.dcx_entries.specs.declared.formed.Formed.{Formed}
 use Rattle.dcx_entries.specs.declared.formed.FormedRow.{FormedRow}

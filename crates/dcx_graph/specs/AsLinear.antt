@@ -15,7 +15,7 @@ use Rattle.dcx_mapping.specs.Programs.{IsProgramOf}
 use Rattle.dcx_frac.specs.declared.fraction.Frac.{Frac}
 use Rattle.dcx_frac.specs.declared.fraction.Passes.{Passes}
 use Rattle.dcx_linear.specs.declared.change.Change.{Change}
-use Rattle.dcx_reduced.specs.Equations.{graph_numbers, reduced_with}
+use Rattle.dcx_unknowns.specs.Equations.{graph_numbers, reduced_with}
 use Rattle.dcx_entries.specs.Nodes.{Table}
 use Rattle.dcx_entries.specs.Kept.{graph_rows}
 use Rattle.dcx_formed.specs.Forms.{forms_at, rows_at}

@@ -26,10 +26,10 @@ use Rattle.dcx_tree.specs.declared.problem.Problem.{Problem}
 use Rattle.dcx_tree.specs.Nodes.{Node, arg_sides}
 use Rattle.dcx_tree.proofs.NodeValues.{args_are, sides_are}
 use Rattle.dcx_unknowns.specs.Layout.{marked, IsCallGraph, IsNodeGraph}
-use Rattle.dcx_reduced.proofs.Lists.{Each, each_head, each_tail, each_nil, each_cons, each_joined}
-use Rattle.dcx_reduced.proofs.OwnTerms.{IsOwn, AreOwnTerms, AreOwnRows, IsOwnForm}
-use Rattle.dcx_reduced.proofs.OwnUnknowns.{UsesOwn}
-use Rattle.dcx_reduced.proofs.OwnGraphs.{atom_own}
+use Rattle.dcx_unknowns.proofs.Lists.{Each, each_head, each_tail, each_nil, each_cons, each_joined}
+use Rattle.dcx_unknowns.proofs.OwnTerms.{IsOwn, AreOwnTerms, AreOwnRows, IsOwnForm}
+use Rattle.dcx_unknowns.proofs.OwnUnknowns.{UsesOwn}
+use Rattle.dcx_unknowns.proofs.OwnGraphs.{atom_own}
 use Rattle.dcx_linear.specs.declared.change.Change.{Change}
 use Rattle.dcx_linear.specs.declared.form.Form.{Form}
 use Rattle.dcx_entries.specs.declared.entries.EntryForms.{EntryForms}

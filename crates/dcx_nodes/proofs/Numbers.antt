@@ -35,9 +35,8 @@ use Rattle.dcx_exact.specs.Exact.{AreFractions, HaveFewEntries}
 use Rattle.dcx_exact.proofs.Exact.{forms_exactly}
 use Rattle.dcx_tree.specs.declared.problem.Problem.{Problem}
 use Rattle.dcx_tree.specs.Nodes.{Node, arg_sides}
-use Rattle.dcx_reduced.proofs.NodeForms.{node_at}
-use Rattle.dcx_tree.proofs.NodeValues.{args_are, sides_are as sides_are_at}
-use Rattle.dcx_tree.proofs.NodeValues.{number_there, number_past}
+use Rattle.dcx_unknowns.proofs.NodeForms.{node_at}
+use Rattle.dcx_tree.proofs.NodeValues.{args_are, sides_are as sides_are_at, number_there, number_past}
 use Rattle.dcx_linear.specs.declared.change.Change.{Change}
 use Rattle.dcx_linear.specs.declared.form.Form.{Form}
 use Rattle.dcx_linear.specs.Forms.{is_constant}

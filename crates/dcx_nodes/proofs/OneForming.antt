@@ -18,7 +18,7 @@ use Rattle.dcx_convex.specs.Rules.{Rules}
 use Rattle.dcx_tree.specs.declared.problem.Problem.{Problem}
 use Rattle.dcx_tree.specs.Nodes.{Node, arg_sides}
 use Rattle.dcx_unknowns.specs.Layout.{is_reduced, first_aux}
-use Rattle.dcx_reduced.proofs.NodeForms.{node_at}
+use Rattle.dcx_unknowns.proofs.NodeForms.{node_at}
 use Rattle.dcx_linear.specs.declared.change.Change.{Change}
 use Rattle.dcx_linear.specs.declared.form.Form.{Form}
 use Rattle.dcx_linear.specs.Forms.{is_constant}

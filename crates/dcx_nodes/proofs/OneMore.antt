@@ -20,7 +20,7 @@ use Rattle.dcx_tree.specs.Nodes.{Node}
 use Rattle.dcx_tree.specs.Problems.{roots_of}
 use Rattle.dcx_tree.proofs.Gathered.{roots_below}
 use Rattle.dcx_tree.proofs.NodeValues.{args_are, sides_are}
-use Rattle.dcx_reduced.proofs.NodeForms.{node_at}
+use Rattle.dcx_unknowns.proofs.NodeForms.{node_at}
 use Rattle.dcx_linear.specs.declared.change.Change.{Change}
 use Rattle.dcx_linear.specs.Forms.{is_constant}
 use Rattle.dcx_entries.specs.declared.entries.EntryForms.{EntryForms}

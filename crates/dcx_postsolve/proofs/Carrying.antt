@@ -29,7 +29,7 @@ use Rattle.dcx_tree.proofs.Lawful.{mapped}
 use Rattle.dcx_unknowns.specs.Unknowns.{demanded, sides_in}
 use Rattle.dcx_unknowns.specs.Laws.{AreAlike}
 use Rattle.dcx_unknowns.proofs.Domains.{to_domain, to_variables}
-use Rattle.dcx_reduced.proofs.Variables.{node_same, same_value}
+use Rattle.dcx_unknowns.proofs.Variables.{node_same, same_value}
 use Rattle.dcx_postsolve.specs.Laws.{AreSameMultipliers, StayAnswers}
 
 -- ---- values

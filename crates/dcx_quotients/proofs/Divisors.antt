@@ -1,11 +1,10 @@
 -- No entry of a divisor is 0 where all nodes are formed.
 use Rattle.std.proofs.Common.{◌≡◌, ◌≢◌, ℕ, ◌<◌, arith, Bool, true, false, not, ◌||◌, IsTrue, List, [], ◌∷◌, length, map, Option, Some, Result, Ok, Err, refl, sym, ap, ◌∙◌, subst, inl, inr, pos}
-use Rattle.std.specs.List.{list_all, list_any}
+use Rattle.std.specs.List.{list_all, list_any, All}
 use Rattle.std.specs.Prelude.{if◌then◌else◌}
 use Rattle.std.proofs.lemmas.Bool.{and_parts, false≢true}
 use Rattle.std.proofs.lemmas.List.Elements.{All-head, All-tail}
 use Rattle.std.proofs.lemmas.Option.{slice_get_within}
-use Rattle.std.specs.List.{All}
 use Rattle.dcx_math.specs.Rational.{ℚ, whole, rat_eq}
 use Rattle.dcx_math.proofs.Ratios.{IsTrue-rat_eq}
 use Rattle.dcx_frac.specs.declared.fraction.Frac.{Frac}
@@ -44,8 +43,8 @@ use Rattle.dcx_linear.specs.declared.change.Change.{Change}
 use Rattle.dcx_linear.specs.declared.form.Form.{Form}
 use Rattle.dcx_linear.specs.Parameters.{Parameters}
 use Rattle.dcx_unknowns.specs.Layout.{is_reduced}
-use Rattle.dcx_reduced.proofs.Constants.{call_constant}
-use Rattle.dcx_reduced.proofs.NodeForms.{nodes_of, nodes_ordered, node_at, not_constant, not_reduced}
+use Rattle.dcx_unknowns.proofs.Constants.{call_constant}
+use Rattle.dcx_unknowns.proofs.NodeForms.{nodes_of, nodes_ordered, node_at, not_constant, not_reduced}
 use Rattle.dcx_entries.specs.declared.entries.EntryForms.{EntryForms}
 use Rattle.dcx_entries.specs.declared.scaling.Scaling.TheVariants.{Divisor}
 use Rattle.dcx_entries.specs.Parts.{number_in, has_zero_divisor}

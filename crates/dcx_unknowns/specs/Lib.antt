@@ -2,4 +2,6 @@
 pub mod Own
 pub mod Unknowns
 pub mod Layout
+pub mod Equations
+pub mod EquationLaws
 pub mod Laws

@@ -6,7 +6,7 @@ use Rattle.dcx_atom.specs.declared.flags.Bend.TheVariants.{Convex, Concave}
 use Rattle.dcx_call.specs.declared.atoms.AtomCall.{AtomCall}
 use Rattle.dcx_call.specs.declared.atoms.AtomCall.TheVariants.{Abs, Maximum, Minimum, Pos, Neg, MaxOf, MinOf, Norm1, NormInf, SumLargest, SumSmallest, CumMax}
 use Rattle.dcx_call.specs.Atoms.{atom_meaning}
-use Rattle.dcx_reduced.proofs.OwnUnknowns.{UsesOwn, abs_own, pos_own, neg_own, extreme_own, max_of_own, min_of_own, norm1_own, norm_inf_own, largest_own, cum_max_own}
+use Rattle.dcx_unknowns.proofs.OwnUnknowns.{UsesOwn, abs_own, pos_own, neg_own, extreme_own, max_of_own, min_of_own, norm1_own, norm_inf_own, largest_own, cum_max_own}
 
 pub atom_own : (call : AtomCall) (args : List Sides) (sides : Sides) → (atom_meaning call).shape args ≡ Some sides → UsesOwn (atom_meaning call) args (entries_of sides)
 atom_own (Abs x) args sides is = abs_own args sides is

@@ -20,13 +20,13 @@ use Rattle.dcx_linear.specs.Rows.{AreOfKinds}
 use Rattle.dcx_unknowns.specs.Unknowns.{variable_unknowns, variable_kinds, point_at}
 use Rattle.dcx_unknowns.specs.Layout.{is_reduced, call_aux, aux_if, call_rows, rows_if, aux_kind, aux_at, aux_before, unknown_kinds}
 use Rattle.dcx_unknowns.proofs.Owners.{are_numbered}
-use Rattle.dcx_reduced.specs.Equations.{Forms, args_of, filling_of, AllStand, row_number, numbers_if, reduced_with}
-use Rattle.dcx_reduced.proofs.Lists.{Each, each_part, each_unmap}
-use Rattle.dcx_reduced.proofs.Constants.{value_stands, number_is}
-use Rattle.dcx_reduced.proofs.CallEntries.{CallHolds, entries_stand}
-use Rattle.dcx_reduced.proofs.CallGraphs.{RowHolds, graph_holds}
-use Rattle.dcx_reduced.proofs.OfKinds.{kinds_from, kinds_right, part_holds}
-use Rattle.dcx_reduced.proofs.NodeForms.{nodes_of, nodes_ordered, nodes_counted, not_constant, constant_form, reduced_form, not_reduced}
+use Rattle.dcx_unknowns.specs.Equations.{Forms, args_of, filling_of, AllStand, row_number, numbers_if, reduced_with}
+use Rattle.dcx_unknowns.proofs.Lists.{Each, each_part, each_unmap}
+use Rattle.dcx_unknowns.proofs.Constants.{value_stands, number_is}
+use Rattle.dcx_unknowns.proofs.CallEntries.{CallHolds, entries_stand}
+use Rattle.dcx_unknowns.proofs.CallGraphs.{RowHolds, graph_holds}
+use Rattle.dcx_unknowns.proofs.OfKinds.{kinds_from, kinds_right, part_holds}
+use Rattle.dcx_unknowns.proofs.NodeForms.{nodes_of, nodes_ordered, nodes_counted, not_constant, constant_form, reduced_form, not_reduced}
 
 -- a row of the program is at most 0
 abbrev pub IsKept : Unknowns → (Unknowns → ℚ) → Type 0

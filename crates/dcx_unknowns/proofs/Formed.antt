@@ -13,8 +13,8 @@ use Rattle.dcx_tree.specs.Nodes.{Node, arg_sides}
 use Rattle.dcx_tree.specs.Meaning.{names_in}
 use Rattle.dcx_unknowns.specs.Unknowns.{point_at}
 use Rattle.dcx_unknowns.specs.Layout.{is_reduced}
-use Rattle.dcx_reduced.specs.Equations.{Forms, call_entry, filling_of, Stands, AllStand}
-use Rattle.dcx_reduced.proofs.NodeForms.{nodes_of, not_reduced}
+use Rattle.dcx_unknowns.specs.Equations.{Forms, call_entry, filling_of, Stands, AllStand}
+use Rattle.dcx_unknowns.proofs.NodeForms.{nodes_of, not_reduced}
 
 -- a number reaches no variable
 constant_fixed : (rules : Rules) (g : Judgement) → IsTrue (is_constant rules g) → IsTrue g.fixed

@@ -14,8 +14,8 @@ use Rattle.dcx_linear.specs.FormTerms.{Unknowns}
 use Rattle.dcx_linear.specs.Rows.{IsOfKind, AreOfKinds}
 use Rattle.dcx_unknowns.specs.Layout.{aux_kind}
 use Rattle.dcx_unknowns.proofs.Places.{in_left, in_right, in_either}
-use Rattle.dcx_reduced.specs.Equations.{is_nonneg, is_nonpos}
-use Rattle.dcx_reduced.proofs.Lists.{flat_first, zip_at}
+use Rattle.dcx_unknowns.specs.Equations.{is_nonneg, is_nonpos}
+use Rattle.dcx_unknowns.proofs.Lists.{flat_first, zip_at}
 
 -- ---- kinds by tests
 module _ (ks : List UnknownKind) (u : Unknowns) where

@@ -31,8 +31,8 @@ use Rattle.dcx_call.specs.Linears.{linear_meaning, linear_lawful}
 use Rattle.dcx_call.specs.Calls.{shape_of}
 use Rattle.dcx_call.proofs.CallLaws.{own_is}
 use Rattle.dcx_tree.specs.Nodes.{Names, head_of}
-use Rattle.dcx_reduced.specs.Equations.{call_entry}
-use Rattle.dcx_reduced.proofs.Constants.{value_stands, call_constant, numbers_constant}
+use Rattle.dcx_unknowns.specs.Equations.{call_entry}
+use Rattle.dcx_unknowns.proofs.Constants.{value_stands, call_constant, numbers_constant}
 
 -- a call whose entries are no numbers by the rules and no results of a graph
 abbrev pub IsDirect : Call → Type 0

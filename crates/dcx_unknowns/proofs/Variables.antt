@@ -25,7 +25,7 @@ use Rattle.dcx_unknowns.specs.Laws.{IsVariable, AreAlike}
 use Rattle.dcx_unknowns.proofs.Sources.{source_own}
 use Rattle.dcx_unknowns.proofs.Owners.{are_numbered}
 use Rattle.dcx_unknowns.proofs.Domains.{number_is}
-use Rattle.dcx_reduced.proofs.CallEntries.{first_same}
+use Rattle.dcx_unknowns.proofs.CallEntries.{first_same}
 
 -- ---- unknowns of variables
 module _ (vs : List Variable) (square : AreSquare vs) (u w : Unknowns) (same : (n : ℕ) → n < variable_unknowns vs → u n ≡ w n) where

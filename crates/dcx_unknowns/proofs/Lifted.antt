@@ -24,15 +24,15 @@ use Rattle.dcx_unknowns.specs.Laws.{AreAlike}
 use Rattle.dcx_unknowns.specs.Layout.{is_reduced, call_aux, aux_if, call_rows, rows_if, aux_kind, aux_at, aux_before, unknown_kinds}
 use Rattle.dcx_unknowns.proofs.Owners.{are_numbered}
 use Rattle.dcx_unknowns.proofs.Domains.{stand_for_domain}
-use Rattle.dcx_reduced.specs.Equations.{Forms, call_entry, args_of, filling_of, AllStand, row_number, numbers_if, reduced_with}
-use Rattle.dcx_reduced.proofs.Lists.{Each, each_nil, each_map, each_flat, each_range, zip_flat}
-use Rattle.dcx_reduced.proofs.OwnTerms.{Agree}
-use Rattle.dcx_reduced.proofs.CallGraphs.{call_filling, filled_kinds, filled_rows, filled_value}
-use Rattle.dcx_reduced.proofs.OfKinds.{nonneg_from, nonpos_from, kinds_both, IsOfAuxKind, taken_kinds, zipped_kinds}
-use Rattle.dcx_reduced.proofs.Lift.{filling_if, filling_at, numbers_at, aux_numbers, lift, lift_variable, lift_aux, lift_filling}
-use Rattle.dcx_reduced.proofs.Variables.{point_local, node_same, same_value}
-use Rattle.dcx_reduced.proofs.NodeForms.{nodes_of, nodes_ordered, nodes_counted, node_at, reducible, constant_form, reduced_form, not_reduced}
-use Rattle.dcx_reduced.proofs.Sound.{IsKept, aux_is}
+use Rattle.dcx_unknowns.specs.Equations.{Forms, call_entry, args_of, filling_of, AllStand, row_number, numbers_if, reduced_with}
+use Rattle.dcx_unknowns.proofs.Lists.{Each, each_nil, each_map, each_flat, each_range, zip_flat}
+use Rattle.dcx_unknowns.proofs.OwnTerms.{Agree}
+use Rattle.dcx_unknowns.proofs.CallGraphs.{call_filling, filled_kinds, filled_rows, filled_value}
+use Rattle.dcx_unknowns.proofs.OfKinds.{nonneg_from, nonpos_from, kinds_both, IsOfAuxKind, taken_kinds, zipped_kinds}
+use Rattle.dcx_unknowns.proofs.Lift.{filling_if, filling_at, numbers_at, aux_numbers, lift, lift_variable, lift_aux, lift_filling}
+use Rattle.dcx_unknowns.proofs.Variables.{point_local, node_same, same_value}
+use Rattle.dcx_unknowns.proofs.NodeForms.{nodes_of, nodes_ordered, nodes_counted, node_at, reducible, constant_form, reduced_form, not_reduced}
+use Rattle.dcx_unknowns.proofs.Sound.{IsKept, aux_is}
 
 -- ---- unknowns with given fillings
 module _ (rules : Rules) (p : Problem) (y : Point) (F : ℕ → Filling) (dom : IsInDomain p y) where

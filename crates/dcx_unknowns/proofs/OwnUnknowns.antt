@@ -24,7 +24,7 @@ use Rattle.dcx_fold.specs.Calls.{max_of_meaning, min_of_meaning, norm1_meaning, 
 use Rattle.dcx_fold.specs.Largest.{level_row, level_form, largest_meaning}
 use Rattle.dcx_fold.specs.Running.{only_vector, running_rows, running_meaning}
 use Rattle.dcx_fold.specs.RunningLaws.{is_running}
-use Rattle.dcx_reduced.proofs.OwnTerms.{AreOwnTerms, AreOwnRows, IsOwnForm, rows_below, rows_joined, form_below, bound_own, bounds_own}
+use Rattle.dcx_unknowns.proofs.OwnTerms.{AreOwnTerms, AreOwnRows, IsOwnForm, rows_below, rows_joined, form_below, bound_own, bounds_own}
 
 -- the rows and the results of a value of so many entries speak of the call's own unknowns
 pub record UsesOwn (m : Meaning) (args : List Sides) (size : ℕ) : Type 0 where

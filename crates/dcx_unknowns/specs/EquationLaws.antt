@@ -1,11 +1,11 @@
--- The main statements, as the clauses of the laws say them.
+-- What is true of forms that meet the equations, as the clauses of the laws say it.
 use Rattle.std.specs.Prelude.{◌≡◌, ℕ, ◌<◌, length}
 use Rattle.dcx_convex.specs.Nodes.{Setting}
 use Rattle.dcx_convex.specs.Rules.{Rules}
 use Rattle.dcx_convex.specs.Reductions.{Unknowns, IsReduction}
 use Rattle.dcx_tree.specs.declared.problem.Problem.{Problem}
 use Rattle.dcx_tree.specs.Meaning.{convex_problem}
-use Rattle.dcx_reduced.specs.Equations.{Forms, AllStand, reduced_with}
+use Rattle.dcx_unknowns.specs.Equations.{Forms, AllStand, reduced_with}
 
 -- forms that meet the equation of each node, with the rows of the graphs, are a reduced program of the problem
 abbrev pub EquationsReduce : Type 0

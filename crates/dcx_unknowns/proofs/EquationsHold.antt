@@ -1,4 +1,4 @@
--- The main statements hold.
+-- The laws of forms that meet the equations hold.
 use Rattle.std.proofs.Common.{◌≡◌, ℕ, zero, suc, ◌<◌, arith, Bool, true, false, List, length, map, refl, sym, ap, ◌∙◌}
 use Rattle.std.proofs.Math.Path.{fun_ext}
 use Rattle.dcx_shape.specs.Sides.{entries_of}
@@ -13,14 +13,14 @@ use Rattle.dcx_tree.specs.Meaning.{names_in}
 use Rattle.dcx_unknowns.specs.Unknowns.{variable_kinds, point_at}
 use Rattle.dcx_unknowns.specs.Layout.{is_reduced, aux_kind, aux_before}
 use Rattle.dcx_unknowns.proofs.LawsHold as unknowns
-use Rattle.dcx_reduced.specs.Equations.{Forms, call_entry, filling_of, AllStand}
-use Rattle.dcx_reduced.specs.Laws.{EquationsReduce, EquationsHaveForms, EquationsDetermine}
-use Rattle.dcx_reduced.proofs.OfKinds.{kinds_left}
-use Rattle.dcx_reduced.proofs.NodeForms.{nodes_of, node_at, constant_form, reduced_form, not_reduced}
-use Rattle.dcx_reduced.proofs.Sound.{assigned_kinds, all_stand}
-use Rattle.dcx_reduced.proofs.Lift.{filling_at, lift}
-use Rattle.dcx_reduced.proofs.Lifted.{lifted}
-use Rattle.dcx_reduced.proofs.Formed.{formed, formed_stand}
+use Rattle.dcx_unknowns.specs.Equations.{Forms, call_entry, filling_of, AllStand}
+use Rattle.dcx_unknowns.specs.EquationLaws.{EquationsReduce, EquationsHaveForms, EquationsDetermine}
+use Rattle.dcx_unknowns.proofs.OfKinds.{kinds_left}
+use Rattle.dcx_unknowns.proofs.NodeForms.{nodes_of, node_at, constant_form, reduced_form, not_reduced}
+use Rattle.dcx_unknowns.proofs.Sound.{assigned_kinds, all_stand}
+use Rattle.dcx_unknowns.proofs.Lift.{filling_at, lift}
+use Rattle.dcx_unknowns.proofs.Lifted.{lifted}
+use Rattle.dcx_unknowns.proofs.Formed.{formed, formed_stand}
 
 pub equations_reduce : EquationsReduce
 equations_reduce rules p s forms all = record {

@@ -14,11 +14,11 @@ use Rattle.dcx_call.specs.Atoms.{atom_meaning, atom_lawful}
 use Rattle.dcx_call.specs.Calls.{shape_of}
 use Rattle.dcx_tree.specs.Nodes.{Names, Node, head_of, arg_sides}
 use Rattle.dcx_unknowns.specs.Layout.{call_aux, call_rows}
-use Rattle.dcx_reduced.specs.Equations.{call_entry}
-use Rattle.dcx_reduced.proofs.Lists.{Each, each_nil, each_cons, each_joined, joined_part, each_map, each_unmap}
-use Rattle.dcx_reduced.proofs.OwnTerms.{Agree, rows_same, form_same}
-use Rattle.dcx_reduced.proofs.OwnGraphs.{atom_own}
-use Rattle.dcx_reduced.proofs.CallEntries.{CallHolds, first_same, direct_value}
+use Rattle.dcx_unknowns.specs.Equations.{call_entry}
+use Rattle.dcx_unknowns.proofs.Lists.{Each, each_nil, each_cons, each_joined, joined_part, each_map, each_unmap}
+use Rattle.dcx_unknowns.proofs.OwnTerms.{Agree, rows_same, form_same}
+use Rattle.dcx_unknowns.proofs.OwnGraphs.{atom_own}
+use Rattle.dcx_unknowns.proofs.CallEntries.{CallHolds, first_same, direct_value}
 
 -- a row is at most 0
 abbrev pub RowHolds : Entries → Filling → PlacedRow → Type 0

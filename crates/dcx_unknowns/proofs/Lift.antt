@@ -14,9 +14,9 @@ use Rattle.dcx_tree.specs.Nodes.{Node, arg_sides}
 use Rattle.dcx_tree.specs.Meaning.{value_at}
 use Rattle.dcx_unknowns.specs.Unknowns.{variable_unknowns, unknowns_of}
 use Rattle.dcx_unknowns.specs.Layout.{aux_at, aux_before, first_aux}
-use Rattle.dcx_reduced.proofs.Lists.{same_place, flat_first}
-use Rattle.dcx_reduced.proofs.OfKinds.{taken, taken_at, taken_length}
-use Rattle.dcx_reduced.proofs.CallGraphs.{call_filling}
+use Rattle.dcx_unknowns.proofs.Lists.{same_place, flat_first}
+use Rattle.dcx_unknowns.proofs.OfKinds.{taken, taken_at, taken_length}
+use Rattle.dcx_unknowns.proofs.CallGraphs.{call_filling}
 
 -- the filling of a node's graph, where its arguments have these numbers
 abbrev pub filling_if : List Node → (ℕ → Numbers) → Option Node → Filling

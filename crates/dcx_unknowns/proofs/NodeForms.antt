@@ -19,9 +19,9 @@ use Rattle.dcx_tree.specs.Meaning.{names_in, convex_problem}
 use Rattle.dcx_tree.proofs.Lawful.{tree_lawful}
 use Rattle.dcx_tree.proofs.AllReached.{convex_at}
 use Rattle.dcx_unknowns.specs.Layout.{is_reduced}
-use Rattle.dcx_reduced.specs.Equations.{Forms, entry_by, Stands, AllStand}
-use Rattle.dcx_reduced.proofs.Constants.{numbers_constant}
-use Rattle.dcx_reduced.proofs.CallGraphs.{IsReducible}
+use Rattle.dcx_unknowns.specs.Equations.{Forms, entry_by, Stands, AllStand}
+use Rattle.dcx_unknowns.proofs.Constants.{numbers_constant}
+use Rattle.dcx_unknowns.proofs.CallGraphs.{IsReducible}
 
 module _ (p : Problem) where
   abbrev pub nodes_of : List convex.Node

@@ -1,6 +1,0 @@
--- No two forms meet the equations.
-use Rattle.dcx_reduced.proofs.LawsHold.{equations_determine}
-use Rattle.dcx_reduced.proofs.laws.equations_determine.Goals as goal
-
-pub returns : goal.returns
-returns c = equations_determine

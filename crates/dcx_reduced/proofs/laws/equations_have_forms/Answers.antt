@@ -1,6 +1,0 @@
--- There are forms that meet the equations.
-use Rattle.dcx_reduced.proofs.LawsHold.{equations_have_forms}
-use Rattle.dcx_reduced.proofs.laws.equations_have_forms.Goals as goal
-
-pub returns : goal.returns
-returns c = equations_have_forms
