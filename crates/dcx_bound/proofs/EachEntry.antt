@@ -23,7 +23,7 @@ use Rattle.dcx_unknowns.specs.Own.{row_in, column_in, is_own, mirror_of}
 use Rattle.dcx_unknowns.proofs.Sources.{row_is, column_is, turned}
 use Rattle.dcx_collect.specs.Shares.{frac_in}
 use Rattle.dcx_collect.proofs.Flat.{frac_value}
-use Rattle.dcx_faults.specs.Checks.{Check}
+use Rattle.dcx_sections.specs.Checks.{Check}
 use Rattle.dcx_bound.specs.Variables.{mirrored, reaching_entry, number_check, asked, entry_check}
 
 -- what is asked of entries, of one kind of variable

@@ -13,7 +13,7 @@ use Rattle.dcx_collect.specs.declared.stop.CollectStop.{CollectStop}
 use Rattle.dcx_collect.specs.Pass.{Kept, HaveFractions}
 use Rattle.dcx_sections.specs.declared.weights.NodeWeights.{NodeWeights}
 use Rattle.dcx_sections.specs.declared.fault.CertFault.{CertFault}
-use Rattle.dcx_faults.specs.Checks.{Checked, in_turn}
+use Rattle.dcx_sections.specs.Checks.{Checked, in_turn}
 use Rattle.dcx_values.specs.Forming.{forming_fixed}
 use Rattle.dcx_bound.specs.Fixed.{HasValue, AreFixedValues, kept_if, AreMarkedOf}
 use Rattle.dcx_bound.specs.Collecting.{IsFaultOrMemory}

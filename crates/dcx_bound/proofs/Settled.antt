@@ -22,9 +22,9 @@ use Rattle.dcx_collect.specs.declared.stop.CollectStop.{CollectStop}
 use Rattle.dcx_collect.specs.Pass.{Kept}
 use Rattle.dcx_sections.specs.declared.fault.CertFault.{CertFault}
 use Rattle.dcx_sections.specs.declared.fault.CertFault.TheVariants as faults
-use Rattle.dcx_faults.specs.Checks.{Check}
-use Rattle.dcx_faults.specs.Laws.{IsSettled}
-use Rattle.dcx_faults.proofs.Settled.{settled_together, two, many}
+use Rattle.dcx_sections.specs.Checks.{Check}
+use Rattle.dcx_sections.specs.Laws.{IsSettled}
+use Rattle.dcx_sections.proofs.Settled.{settled_together, two, many}
 use Rattle.dcx_values.specs.Forming.{forming_fixed}
 use Rattle.dcx_bound.specs.Refusal.{refused}
 use Rattle.dcx_bound.specs.Weights.{weights_at}

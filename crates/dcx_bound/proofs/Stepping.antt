@@ -11,7 +11,7 @@ use Rattle.dcx_unknowns.specs.Unknowns.{demanded, sides_in}
 use Rattle.dcx_collect.specs.declared.collected.Reached.{Reached}
 use Rattle.dcx_sections.specs.declared.fault.CertFault.{CertFault}
 use Rattle.dcx_sections.specs.declared.fault.CertFault.TheVariants.{Memory}
-use Rattle.dcx_faults.specs.Checks.{Check, each_below}
+use Rattle.dcx_sections.specs.Checks.{Check, each_below}
 use Rattle.dcx_bound.specs.Variables.{reaching, entry_check, variable_check}
 
 -- the fault is told, or memory ran out

@@ -10,7 +10,7 @@ use Rattle.dcx_collect.specs.declared.stop.CollectStop.{CollectStop}
 use Rattle.dcx_collect.specs.Pass.{Kept, HaveFractions}
 use Rattle.dcx_sections.specs.declared.weights.NodeWeights.{NodeWeights}
 use Rattle.dcx_sections.specs.declared.fault.CertFault.TheVariants as faults
-use Rattle.dcx_faults.specs.Checks.{Check, in_turn}
+use Rattle.dcx_sections.specs.Checks.{Check, in_turn}
 use Rattle.dcx_values.specs.Forming.{forming_fixed}
 use Rattle.dcx_bound.specs.Refusal.{refused}
 use Rattle.dcx_bound.specs.Fixed.{AreFixedValues}

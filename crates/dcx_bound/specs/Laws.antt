@@ -13,7 +13,7 @@ use Rattle.dcx_tree.specs.declared.problem.Problem.{Problem}
 use Rattle.dcx_tree.specs.Meaning.{convex_problem, setting_of, objective_at, IsAccepted, IsFeasible, IsOptimal, IsInfeasible}
 use Rattle.dcx_sections.specs.declared.weights.NodeWeights.{NodeWeights}
 use Rattle.dcx_outline.specs.Drawn.{problem_outline}
-use Rattle.dcx_faults.specs.Laws.{IsSettled}
+use Rattle.dcx_sections.specs.Laws.{IsSettled}
 use Rattle.dcx_bound.specs.Checks.{bound_checks}
 
 -- they tell one thing

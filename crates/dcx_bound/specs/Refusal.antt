@@ -1,7 +1,7 @@
 -- A check that fails.
 use Rattle.std.specs.Prelude.{◌≡◌}
 use Rattle.dcx_sections.specs.declared.fault.CertFault.{CertFault}
-use Rattle.dcx_faults.specs.Checks.{Check}
+use Rattle.dcx_sections.specs.Checks.{Check}
 
 -- it fails with this fault
 abbrev pub refused : CertFault → Check

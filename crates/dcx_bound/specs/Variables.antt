@@ -23,7 +23,7 @@ use Rattle.dcx_unknowns.specs.Unknowns.{demanded, sides_in}
 use Rattle.dcx_collect.specs.declared.collected.Reached.{Reached}
 use Rattle.dcx_collect.specs.Shares.{frac_in}
 use Rattle.dcx_sections.specs.declared.fault.CertFault.TheVariants as faults
-use Rattle.dcx_faults.specs.Checks.{Check, nothing, each_below}
+use Rattle.dcx_sections.specs.Checks.{Check, nothing, each_below}
 use Rattle.dcx_bound.specs.Refusal.{refused}
 
 -- ---- what reaches a variable

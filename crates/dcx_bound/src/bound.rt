@@ -3,7 +3,7 @@ ghost use Rattle.std.specs.Prelude.{◌≡◌, IfOk, length};
 ghost use Rattle.dcx_lines.specs.Shown.{constraints_of};
 ghost use Rattle.dcx_sections.specs.Shown.{atoms_of};
 ghost use Rattle.dcx_outline.specs.Drawn.{AreFixed, problem_outline};
-ghost use Rattle.dcx_faults.specs.Checks.{Checked};
+ghost use Rattle.dcx_sections.specs.Checks.{Checked};
 ghost use Rattle.dcx_tree.specs.Values.{array_at};
 ghost use Rattle.dcx_values.specs.Forming.{GivesParameters, forming_fixed};
 ghost use Rattle.dcx_bound.specs.Fixed.{kept_if, AreMarkedOf, AreFixedValues};

@@ -2,7 +2,7 @@
 ghost use Rattle.std.specs.Prelude.{◌≡◌, ◌<◌, All, length};
 ghost use Rattle.dcx_collect.specs.Multipliers.{AreDuals};
 ghost use Rattle.dcx_collect.specs.Pass.{HaveWeights};
-ghost use Rattle.dcx_faults.specs.Checks.{Checked, in_turn};
+ghost use Rattle.dcx_sections.specs.Checks.{Checked, in_turn};
 ghost use Rattle.dcx_bound.specs.Weights.{weights_at};
 ghost use Rattle.dcx_bound.specs.Variables.{variables_check};
 ghost use Rattle.dcx_bound.specs.Checks.{total_check, shown_with};

@@ -5,7 +5,7 @@ ghost use Rattle.dcx_shape.specs.Shape.{sides_of};
 ghost use Rattle.dcx_shape.specs.Sides.{entries_of};
 ghost use Rattle.dcx_unknowns.specs.Own.{is_own, mirror_of};
 ghost use Rattle.dcx_unknowns.specs.Unknowns.{demanded, sides_in};
-ghost use Rattle.dcx_faults.specs.Checks.{Checked, each_below};
+ghost use Rattle.dcx_sections.specs.Checks.{Checked, each_below};
 ghost use Rattle.dcx_bound.specs.Variables.{mirrored, reaching_entry, MayReachEntry, MayNotReachEntry, number_check, entry_check};
 
 use dcx_atom::{is_at_most, is_equal, number_at};

@@ -2,7 +2,7 @@
 ghost use Rattle.std.specs.Prelude.{◌≡◌, ◌<◌, ◌^◌, ℕ, List, All, IfOk, length};
 ghost use Rattle.std.specs.HashMap.{get};
 ghost use Rattle.dcx_point.specs.Pairs.{same_name};
-ghost use Rattle.dcx_faults.specs.Checks.{Checked};
+ghost use Rattle.dcx_sections.specs.Checks.{Checked};
 ghost use Rattle.dcx_bound.specs.Variables.{reaching, coefficients_in, variables_check};
 
 use crate::entries::check_entries;

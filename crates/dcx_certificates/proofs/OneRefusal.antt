@@ -8,7 +8,7 @@ use Rattle.dcx_tree.specs.declared.problem.Problem.{Problem}
 use Rattle.dcx_sections.specs.declared.fault.CertFault.{CertFault}
 use Rattle.dcx_sections.specs.declared.section.Section.{Section}
 use Rattle.dcx_sections.specs.declared.section.Section.TheVariants as sections
-use Rattle.dcx_faults.specs.Laws.{IsSettled}
+use Rattle.dcx_sections.specs.Laws.{IsSettled}
 use Rattle.dcx_certify.proofs.Settled.{tells_one_thing}
 use Rattle.dcx_certificates.specs.Checking.{section_check, ArePassed, IsFirstRefused}
 use Rattle.dcx_certificates.specs.Laws.{RefusalsAreOne}

@@ -5,7 +5,7 @@ use Rattle.dcx_tree.specs.declared.problem.Problem.{Problem}
 use Rattle.dcx_sections.specs.declared.fault.CertFault.{CertFault}
 use Rattle.dcx_sections.specs.declared.section.Section.{Section}
 use Rattle.dcx_sections.specs.declared.section.Section.TheVariants as sections
-use Rattle.dcx_faults.specs.Checks.{Check, nothing}
+use Rattle.dcx_sections.specs.Checks.{Check, nothing}
 use Rattle.dcx_certify.specs.Checks.{checks_of}
 use Rattle.dcx_certify.specs.Shown.{IsShown}
 

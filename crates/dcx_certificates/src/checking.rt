@@ -3,7 +3,7 @@ ghost use Rattle.std.specs.Prelude.{◌≡◌, ◌⊎◌, ◌<◌, ◌-◌, ◌^
 ghost use Rattle.dcx_tree.specs.Meaning.{IsAccepted};
 ghost use Rattle.dcx_outline.specs.Drawn.{problem_outline};
 ghost use Rattle.dcx_sections.specs.Shown.{IsSectionOf, AreSectionsOf};
-ghost use Rattle.dcx_faults.specs.Checks.{Checked};
+ghost use Rattle.dcx_sections.specs.Checks.{Checked};
 ghost use Rattle.dcx_certificates.specs.Checking.{is_cert as is_filled, section_check, IsSectionShown, ArePassed, AreShown, IsFirstRefused};
 
 use dcx_certify::certify;

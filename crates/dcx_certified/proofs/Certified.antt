@@ -39,7 +39,7 @@ use Rattle.dcx_graph.proofs.Mapped.{read_right}
 use Rattle.dcx_build.specs.Built.{AreWeightsIn, values_in, IsBuilt}
 use Rattle.dcx_bound.specs.Weights.{weights_at}
 use Rattle.dcx_bound.specs.Checks.{bound_checks}
-use Rattle.dcx_faults.specs.Checks.{Check, Checked}
+use Rattle.dcx_sections.specs.Checks.{Check, Checked}
 use Rattle.dcx_certify.specs.Checks.{checks_of}
 use Rattle.dcx_cache.proofs.Answered.{is_answered}
 use Rattle.dcx_certified.specs.Certified.{FailsWide, IsAcceptedOrWide}

@@ -46,7 +46,7 @@ use Rattle.dcx_collect.specs.Laws.{table_times, reached_times}
 use Rattle.dcx_collect.proofs.Multiplied.{start_count, starts_are_lagrangians}
 use Rattle.dcx_sections.specs.declared.weights.NodeWeights.{NodeWeights}
 use Rattle.dcx_sections.specs.declared.fault.CertFault.{CertFault}
-use Rattle.dcx_faults.specs.Checks.{Check}
+use Rattle.dcx_sections.specs.Checks.{Check}
 use Rattle.dcx_values.specs.Forming as forming
 use Rattle.dcx_bound.specs.Fixed.{AreFixedValues}
 use Rattle.dcx_bound.specs.Weights.{weights_at}

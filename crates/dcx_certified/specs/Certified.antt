@@ -2,7 +2,7 @@
 use Rattle.std.specs.Prelude.{◌≡◌, ◌⊎◌, Result, Ok, Err}
 use Rattle.dcx_sections.specs.declared.fault.CertFault.{CertFault}
 use Rattle.dcx_sections.specs.declared.fault.CertFault.TheVariants.{Memory}
-use Rattle.dcx_faults.specs.Checks.{Check, Checked}
+use Rattle.dcx_sections.specs.Checks.{Check, Checked}
 use Rattle.dcx_certified.specs.Bounded.{IsWide}
 
 -- the check fails with nothing but an operation that passes 128 bits

@@ -3,9 +3,9 @@ use Rattle.std.specs.Prelude.{true, false, Option}
 use Rattle.dcx_point.specs.Pairs.{Pairs}
 use Rattle.dcx_tree.specs.declared.problem.Problem.{Problem}
 use Rattle.dcx_sections.specs.declared.cert.Cert.TheVariants.{Optimal, Infeasible, Unbounded}
-use Rattle.dcx_faults.specs.Checks.{Check, in_turn}
-use Rattle.dcx_faults.specs.Laws.{IsSettled}
-use Rattle.dcx_faults.proofs.Settled.{two}
+use Rattle.dcx_sections.specs.Checks.{Check, in_turn}
+use Rattle.dcx_sections.specs.Laws.{IsSettled}
+use Rattle.dcx_sections.proofs.Settled.{two}
 use Rattle.dcx_checks.proofs.Settled.{checks_settled}
 use Rattle.dcx_values.proofs.Settling.{settled_here}
 use Rattle.dcx_bound.proofs.Settled as bound

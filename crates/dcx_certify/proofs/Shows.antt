@@ -8,7 +8,7 @@ use Rattle.dcx_sections.specs.declared.cert.Cert.{Cert}
 use Rattle.dcx_sections.specs.declared.cert.Cert.TheVariants.{Optimal, Infeasible, Unbounded}
 use Rattle.dcx_sections.specs.declared.fault.CertFault.{CertFault}
 use Rattle.dcx_sections.specs.Shown.{IsCertOf}
-use Rattle.dcx_faults.specs.Checks.{Checked}
+use Rattle.dcx_sections.specs.Checks.{Checked}
 use Rattle.dcx_outline.specs.Drawn.{problem_outline}
 use Rattle.dcx_checks.specs.Checks.{point_inside}
 use Rattle.dcx_checks.proofs.Sound.{checks_sound}

@@ -7,7 +7,7 @@ use Rattle.dcx_tree.specs.declared.problem.Problem.{Problem}
 use Rattle.dcx_sections.specs.declared.weights.NodeWeights.{NodeWeights}
 use Rattle.dcx_sections.specs.declared.cert.Cert.{Cert}
 use Rattle.dcx_sections.specs.declared.cert.Cert.TheVariants.{Optimal, Infeasible, Unbounded}
-use Rattle.dcx_faults.specs.Checks.{Check, in_turn}
+use Rattle.dcx_sections.specs.Checks.{Check, in_turn}
 use Rattle.dcx_checks.specs.Checks.{setting_fits, setting_is, point_inside, ray_inside, constraints_hold, value_is, start_bounded, duals_signed, gap_positive, slope_positive}
 use Rattle.dcx_bound.specs.Checks.{bound_checks}
 use Rattle.dcx_rays.specs.Rays.{ray_checks}

@@ -5,7 +5,7 @@ use Rattle.dcx_tree.specs.Meaning.{IsAccepted}
 use Rattle.dcx_outline.specs.Drawn.{problem_outline}
 use Rattle.dcx_sections.specs.declared.cert.Cert.{Cert}
 use Rattle.dcx_sections.specs.Shown.{IsCertOf}
-use Rattle.dcx_faults.specs.Laws.{IsSettled}
+use Rattle.dcx_sections.specs.Laws.{IsSettled}
 use Rattle.dcx_certify.specs.Checks.{checks_of}
 use Rattle.dcx_certify.specs.Shown.{IsShown}
 

@@ -5,7 +5,7 @@ ghost use Rattle.dcx_tree.specs.declared.constraint.Constraint.{Constraint as Ro
 ghost use Rattle.dcx_lines.specs.Shown.{constraints_of};
 ghost use Rattle.dcx_sections.specs.Shown.{IsCertOf, atoms_of};
 ghost use Rattle.dcx_outline.specs.Drawn.{problem_outline};
-ghost use Rattle.dcx_faults.specs.Checks.{Checked};
+ghost use Rattle.dcx_sections.specs.Checks.{Checked};
 ghost use Rattle.dcx_values.specs.Forming.{GivesParameters, GivesVariables};
 ghost use Rattle.dcx_values.specs.Tables.{AreKeptValues, AreKeptBelow};
 ghost use Rattle.dcx_certify.specs.Checks.{setting_checks, point_checks, optimal_checks, infeasible_checks, unbounded_checks, checks_of};

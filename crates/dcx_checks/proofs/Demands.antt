@@ -25,7 +25,7 @@ use Rattle.dcx_domain.proofs.Comparisons.{at_most}
 use Rattle.dcx_domain.proofs.Entries.{entries_hold, not_both}
 use Rattle.dcx_sections.specs.declared.fault.CertFault.{CertFault}
 use Rattle.dcx_sections.specs.declared.fault.CertFault.TheVariants as faults
-use Rattle.dcx_faults.specs.Checks.{Checked}
+use Rattle.dcx_sections.specs.Checks.{Checked}
 use Rattle.dcx_checks.specs.Demands.{check_if, each_in}
 use Rattle.dcx_checks.specs.Numbers.{number_if}
 use Rattle.dcx_checks.specs.Checks.{entry_is, multiplier_signed, entries_signed, multipliers_signed, variable_inside}

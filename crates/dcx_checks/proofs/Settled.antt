@@ -12,9 +12,9 @@ use Rattle.dcx_tree.specs.declared.problem.Problem.{Problem}
 use Rattle.dcx_fit.proofs.First.{stops_hold}
 use Rattle.dcx_sections.specs.declared.fault.CertFault.{CertFault}
 use Rattle.dcx_sections.specs.declared.fault.CertFault.TheVariants as faults
-use Rattle.dcx_faults.specs.Checks.{each_below}
-use Rattle.dcx_faults.specs.Laws.{IsSettled}
-use Rattle.dcx_faults.proofs.Settled.{settled_together}
+use Rattle.dcx_sections.specs.Checks.{each_below}
+use Rattle.dcx_sections.specs.Laws.{IsSettled}
+use Rattle.dcx_sections.proofs.Settled.{settled_together}
 use Rattle.dcx_values.proofs.Settling.{settled_here}
 use Rattle.dcx_checks.specs.Demands.{demand}
 use Rattle.dcx_checks.specs.Checks as checks

@@ -32,7 +32,7 @@ use Rattle.dcx_tree.specs.Values.{IsNamed, AreNamed, IsValueOf}
 use Rattle.dcx_tree.proofs.Sublists.{contains_at}
 use Rattle.dcx_sections.specs.declared.fault.CertFault.{CertFault}
 use Rattle.dcx_sections.specs.declared.fault.CertFault.TheVariants as faults
-use Rattle.dcx_faults.specs.Checks.{Checked}
+use Rattle.dcx_sections.specs.Checks.{Checked}
 use Rattle.dcx_values.specs.Broken.{IsFirstBroken}
 use Rattle.dcx_checks.specs.Checks.{numbers_hold, entries_hold}
 

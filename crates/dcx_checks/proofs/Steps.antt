@@ -10,9 +10,9 @@ use Rattle.dcx_answer.specs.declared.stop.Stop.TheVariants as stops
 use Rattle.dcx_fit.specs.Fit.{IsFirstMisfit}
 use Rattle.dcx_sections.specs.declared.fault.CertFault.{CertFault}
 use Rattle.dcx_sections.specs.declared.fault.CertFault.TheVariants.{Fit, Memory}
-use Rattle.dcx_faults.specs.Checks.{Check, Checked, in_turn, each_below}
-use Rattle.dcx_faults.specs.Laws.{IsSettled}
-use Rattle.dcx_faults.proofs.Settled.{settled_together}
+use Rattle.dcx_sections.specs.Checks.{Check, Checked, in_turn, each_below}
+use Rattle.dcx_sections.specs.Laws.{IsSettled}
+use Rattle.dcx_sections.proofs.Settled.{settled_together}
 use Rattle.dcx_checks.specs.Demands.{demand, check_if, each_in}
 use Rattle.dcx_checks.specs.Checks.{parameters_fit}
 

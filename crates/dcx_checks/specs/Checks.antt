@@ -28,7 +28,7 @@ use Rattle.dcx_answer.specs.declared.stop.Stop.TheVariants as stops
 use Rattle.dcx_fit.specs.Fit.{FitsParameters, IsFirstMisfit}
 use Rattle.dcx_sections.specs.declared.fault.CertFault.{CertFault}
 use Rattle.dcx_sections.specs.declared.fault.CertFault.TheVariants as faults
-use Rattle.dcx_faults.specs.Checks.{Check, nothing, in_turn, each_below}
+use Rattle.dcx_sections.specs.Checks.{Check, nothing, in_turn, each_below}
 use Rattle.dcx_values.specs.Forming.{forming, divisors}
 use Rattle.dcx_checks.specs.Demands.{demand, each_in}
 

@@ -1,7 +1,7 @@
 -- Single demands, and checks of each item of a list.
 use Rattle.std.specs.Prelude.{◌≡◌, ℕ, List, length, Option, Some, None, slice_get}
 use Rattle.dcx_sections.specs.declared.fault.CertFault.{CertFault}
-use Rattle.dcx_faults.specs.Checks.{Check, nothing, each_below}
+use Rattle.dcx_sections.specs.Checks.{Check, nothing, each_below}
 
 -- a demand, and the fault that tells that it isn't met
 abbrev pub demand : Type 0 → CertFault → Check

@@ -15,7 +15,7 @@ use Rattle.dcx_tree.specs.declared.problem.Problem.{Problem}
 use Rattle.dcx_tree.specs.Meaning.{IsAccepted, IsFitting, IsFeasible, IsInDomain, IsDomainPoint, objective_at, convex_problem, setting_of, point_of}
 use Rattle.dcx_fit.specs.Fit.{FitsParameters}
 use Rattle.dcx_lines.specs.Shown.{variables_of}
-use Rattle.dcx_faults.specs.Laws.{IsSettled}
+use Rattle.dcx_sections.specs.Laws.{IsSettled}
 use Rattle.dcx_values.specs.Forming.{GivesParameters, GivesVariables}
 use Rattle.dcx_checks.specs.Checks.{setting_fits, setting_is, point_inside, ray_inside, constraints_hold, value_is, start_bounded, duals_signed, gap_positive, slope_positive}
 

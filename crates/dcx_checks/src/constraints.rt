@@ -2,7 +2,7 @@
 ghost use Rattle.std.specs.Prelude.{◌≡◌, ℕ, ◌∷◌, [], length, slice_get, Some, OnOk};
 ghost use Rattle.dcx_shape.specs.Shape.{sides_of};
 ghost use Rattle.dcx_atom.specs.Arrays.{number_at};
-ghost use Rattle.dcx_faults.specs.Checks.{Checked};
+ghost use Rattle.dcx_sections.specs.Checks.{Checked};
 ghost use Rattle.dcx_values.specs.Forming.{GivesParameters, GivesVariables};
 ghost use Rattle.dcx_values.specs.Tables.{AreKeptValues, AreKeptBelow, StaysKept};
 ghost use Rattle.dcx_tree.specs.declared.constraint.Constraint.{Constraint as Row};

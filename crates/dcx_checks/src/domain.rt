@@ -1,7 +1,7 @@
 //! Whether a point and a ray lie in the domain of a problem.
 ghost use Rattle.std.specs.Prelude.{◌≡◌, ◌<◌, length, Some, slice_get};
 ghost use Rattle.dcx_frac.specs.Frac.{value};
-ghost use Rattle.dcx_faults.specs.Checks.{Checked};
+ghost use Rattle.dcx_sections.specs.Checks.{Checked};
 ghost use Rattle.dcx_checks.specs.Checks.{point_inside, ray_inside};
 ghost use Rattle.dcx_call.specs.declared.attribute.Variable.{Variable};
 ghost use Rattle.dcx_call.specs.Values.{given_by};

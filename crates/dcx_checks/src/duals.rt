@@ -2,7 +2,7 @@
 ghost use Rattle.std.specs.Prelude.{◌≡◌, ◌<◌, ◌^◌, length, slice_get};
 ghost use Rattle.std.specs.Option.{option_copied};
 ghost use Rattle.dcx_frac.specs.Frac.{value};
-ghost use Rattle.dcx_faults.specs.Checks.{Checked};
+ghost use Rattle.dcx_sections.specs.Checks.{Checked};
 ghost use Rattle.dcx_checks.specs.Demands.{each_in};
 ghost use Rattle.dcx_checks.specs.Numbers.{number_if};
 ghost use Rattle.dcx_checks.specs.Checks.{multiplier_signed, entries_signed, multipliers_signed, duals_signed};

@@ -2,7 +2,7 @@
 ghost use Rattle.std.specs.Prelude.{◌≡◌, ◌≢◌, ◌⊎◌, [], OnOk};
 ghost use Rattle.dcx_answer.specs.declared.stop.Stop.TheVariants as stops;
 ghost use Rattle.dcx_sections.specs.declared.fault.CertFault.TheVariants as faults;
-ghost use Rattle.dcx_faults.specs.Checks.{Checked};
+ghost use Rattle.dcx_sections.specs.Checks.{Checked};
 ghost use Rattle.dcx_tree.specs.Meaning.{IsAccepted};
 ghost use Rattle.dcx_values.specs.Forming.{GivesParameters};
 ghost use Rattle.dcx_values.specs.Tables.{AreKeptValues};

@@ -4,7 +4,7 @@ ghost use Rattle.dcx_frac.specs.Frac.{value};
 ghost use Rattle.dcx_atom.specs.Arrays.{number_at};
 ghost use Rattle.dcx_convex.specs.Problems.{minimized};
 ghost use Rattle.dcx_tree.specs.Meaning.{sense_of, setting_of, point_of, objective_at};
-ghost use Rattle.dcx_faults.specs.Checks.{Checked};
+ghost use Rattle.dcx_sections.specs.Checks.{Checked};
 ghost use Rattle.dcx_values.specs.Forming.{GivesParameters, GivesVariables, forming};
 ghost use Rattle.dcx_values.specs.Tables.{AreKeptValues, AreKeptBelow, StaysKept};
 ghost use Rattle.dcx_checks.specs.Checks.{value_is, start_bounded};

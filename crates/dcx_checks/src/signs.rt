@@ -1,5 +1,5 @@
 //! Whether the gap and the slope of a certificate are above 0.
-ghost use Rattle.dcx_faults.specs.Checks.{Checked};
+ghost use Rattle.dcx_sections.specs.Checks.{Checked};
 ghost use Rattle.dcx_checks.specs.Checks.{gap_positive, slope_positive};
 
 use dcx_atom::is_at_most;

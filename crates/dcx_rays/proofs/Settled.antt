@@ -13,8 +13,8 @@ use Rattle.dcx_tree.specs.declared.problem.Problem.{Problem}
 use Rattle.dcx_tree.specs.Nodes.{Node}
 use Rattle.dcx_sections.specs.declared.fault.CertFault.{CertFault}
 use Rattle.dcx_sections.specs.declared.fault.CertFault.TheVariants.{Wide}
-use Rattle.dcx_faults.specs.Laws.{IsSettled}
-use Rattle.dcx_faults.proofs.Settled.{settled_together}
+use Rattle.dcx_sections.specs.Laws.{IsSettled}
+use Rattle.dcx_sections.proofs.Settled.{settled_together}
 use Rattle.dcx_rays.specs.Steepness.{steepness_formed, IsFormed, IsUnformed, forming_at, forming}
 use Rattle.dcx_rays.specs.Rays.{broken_fault, IsFirstBroken, sides_hold, constraint_check, falls, value_check, constraints_check}
 use Rattle.dcx_rays.specs.Laws.{RayChecksAreSettled}

@@ -15,7 +15,7 @@ use Rattle.dcx_tree.specs.declared.problem.Problem.{Problem}
 use Rattle.dcx_tree.specs.Meaning.{relation_of}
 use Rattle.dcx_sections.specs.declared.fault.CertFault.{CertFault}
 use Rattle.dcx_sections.specs.declared.fault.CertFault.TheVariants.{Memory, RayConstraint, RayValue}
-use Rattle.dcx_faults.specs.Checks.{Check, in_turn, each_below, Checked}
+use Rattle.dcx_sections.specs.Checks.{Check, in_turn, each_below, Checked}
 use Rattle.dcx_rays.specs.Steepness.{steepness_at, forming}
 use Rattle.dcx_rays.specs.Rays.{HoldsAt, IsFirstBroken, sides_hold, constraint_check, objective_steepness, falls}
 

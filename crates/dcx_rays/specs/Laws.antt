@@ -6,7 +6,7 @@ use Rattle.dcx_frac.specs.Frac.{value}
 use Rattle.dcx_point.specs.Pairs.{Pairs}
 use Rattle.dcx_tree.specs.declared.problem.Problem.{Problem}
 use Rattle.dcx_tree.specs.Meaning.{setting_of, point_of, objective_at, IsAccepted, IsFitting, IsFeasible, IsInDomain, IsUnbounded}
-use Rattle.dcx_faults.specs.Laws.{IsSettled}
+use Rattle.dcx_sections.specs.Laws.{IsSettled}
 use Rattle.dcx_rays.specs.Rays.{ray_checks}
 
 -- the checks of a ray pass or fail and not both, with one fault

@@ -13,7 +13,7 @@ use Rattle.dcx_tree.specs.declared.problem.Problem.{Problem}
 use Rattle.dcx_tree.specs.Meaning.{relation_of, convex_constraint, convex_problem}
 use Rattle.dcx_sections.specs.declared.fault.CertFault.{CertFault}
 use Rattle.dcx_sections.specs.declared.fault.CertFault.TheVariants.{RayConstraint, RayValue}
-use Rattle.dcx_faults.specs.Checks.{Check, nothing, in_turn, each_below}
+use Rattle.dcx_sections.specs.Checks.{Check, nothing, in_turn, each_below}
 use Rattle.dcx_rays.specs.Steepness.{steepness_at, forming}
 
 -- at entry j of a constraint the steepness of the left side is at most that of the right one, or is the same

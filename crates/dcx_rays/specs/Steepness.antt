@@ -29,7 +29,7 @@ use Rattle.dcx_outline.specs.Drawn.{AreFixed}
 use Rattle.dcx_recession.specs.Steepness.{steep_at}
 use Rattle.dcx_sections.specs.declared.fault.CertFault.{CertFault}
 use Rattle.dcx_sections.specs.declared.fault.CertFault.TheVariants.{Wide}
-use Rattle.dcx_faults.specs.Checks.{Check, each_below}
+use Rattle.dcx_sections.specs.Checks.{Check, each_below}
 
 -- node i has no variable below it
 abbrev pub is_fixed : Problem → ℕ → Bool

@@ -5,7 +5,7 @@ ghost use Rattle.dcx_shape.specs.Shape.{sides_of};
 ghost use Rattle.dcx_call.specs.Values.{HasArray};
 ghost use Rattle.dcx_tree.specs.Meaning.{IsAccepted, IsFitting};
 ghost use Rattle.dcx_outline.specs.Drawn.{AreFixed};
-ghost use Rattle.dcx_faults.specs.Checks.{Checked};
+ghost use Rattle.dcx_sections.specs.Checks.{Checked};
 ghost use Rattle.dcx_rays.specs.Steepness.{IsGiven, IsKnown, AreKept, AreFixedValues};
 ghost use Rattle.dcx_rays.specs.Rays.{sides_hold, constraint_check, constraints_check, objective_steepness, value_check, ray_checks};
 

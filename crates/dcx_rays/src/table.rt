@@ -3,7 +3,7 @@ ghost use Rattle.std.specs.Prelude.{◌≡◌, ◌⊎◌, ◌<◌, ℕ, length, 
 ghost use Rattle.dcx_frac.specs.Frac.{value};
 ghost use Rattle.dcx_arena.specs.Nodes.{positions, args_at};
 ghost use Rattle.dcx_arena.specs.Unfold.{IsReached};
-ghost use Rattle.dcx_faults.specs.Checks.{Checked};
+ghost use Rattle.dcx_sections.specs.Checks.{Checked};
 ghost use Rattle.dcx_rays.specs.Steepness.{steepness_at, forming, IsGiven, IsUnformed, IsKnown, StaysKnown, AreKept};
 
 use crate::along::Along;

@@ -2,3 +2,5 @@
 pub mod Formats
 pub mod Outlines
 pub mod Shown
+pub mod Checks
+pub mod Laws

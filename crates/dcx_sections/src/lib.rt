@@ -10,6 +10,8 @@
 //! | names, shapes, counts and order of a certificate are those of a problem | `IsCertOf`, `AreSectionsOf` of `specs/Shown.antt` |
 //! | in format 1 no section is unbounded or has the setting's values, in format 2 each certificate has them | `AreOfFormat` of `specs/Formats.antt` |
 //! | of the faults, the empty allocation is want of memory | `CertFault` |
+//! | what a check of a certificate is, and checks one after the other, of which the first that fails counts | `specs/Checks.antt` |
+//! | checks that tell one thing each tell one thing in order | `proofs/Settled.antt` |
 #![tactic(auto)]
 
 mod cert;

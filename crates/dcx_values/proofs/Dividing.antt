@@ -20,7 +20,7 @@ use Rattle.dcx_tree.proofs.Forming.{All-from_has}
 use Rattle.dcx_tree.proofs.Marks.{mark_one, unmarked, reached_self}
 use Rattle.dcx_sections.specs.declared.fault.CertFault.{CertFault}
 use Rattle.dcx_sections.specs.declared.fault.CertFault.TheVariants.{Memory}
-use Rattle.dcx_faults.specs.Checks.{Checked, each_below}
+use Rattle.dcx_sections.specs.Checks.{Checked, each_below}
 use Rattle.dcx_values.specs.Forming.{IsUnformedAt, forming_at, divisor_in, IsBelowDivisor, nonzero, dividing_if, dividing_at, divisor_step, divisors}
 use Rattle.dcx_values.specs.Tables.{AreKeptValues, StaysKept}
 use Rattle.dcx_values.specs.Marks.{AreClosed, IsDivisor}

@@ -15,8 +15,8 @@ use Rattle.dcx_tree.specs.Nodes.{Node, source_value}
 use Rattle.dcx_tree.specs.Meaning.{names_in}
 use Rattle.dcx_tree.specs.Values.{node_formed}
 use Rattle.dcx_sections.specs.declared.fault.CertFault.{CertFault}
-use Rattle.dcx_faults.specs.Laws.{IsSettled}
-use Rattle.dcx_faults.proofs.Settled.{settled_together, two, many}
+use Rattle.dcx_sections.specs.Laws.{IsSettled}
+use Rattle.dcx_sections.proofs.Settled.{settled_together, two, many}
 use Rattle.dcx_values.specs.Forming.{fault_of, IsUnformedAt, forming_at, forming_where, IsFixedNode, divisor_in, IsBelowDivisor, nonzero, dividing_if, dividing_at, divisor_step}
 use Rattle.dcx_values.specs.Laws.{AreSettledHere}
 

@@ -2,7 +2,7 @@
 use Rattle.std.proofs.Common.{◌≡◌, ◌⊎◌, inl, inr, Result, Ok, Err, OnOk}
 use Rattle.dcx_sections.specs.declared.fault.CertFault.{CertFault}
 use Rattle.dcx_sections.specs.declared.fault.CertFault.TheVariants.{Memory}
-use Rattle.dcx_faults.specs.Checks.{Check, Checked, in_turn}
+use Rattle.dcx_sections.specs.Checks.{Check, Checked, in_turn}
 
 -- what one check comes to, where it comes to the same as another
 pub checked_weaker : {T : Type 0} (a b : Check) (r : Result T CertFault) → (a.passes → b.passes) → ((f : CertFault) → (f ≡ Memory) ⊎ a.fails f → (f ≡ Memory) ⊎ b.fails f) → Checked a r → Checked b r

@@ -22,7 +22,7 @@ use Rattle.dcx_tree.specs.Values.{node_formed, IsFormed}
 use Rattle.dcx_answer.specs.declared.stop.Stop.TheVariants as stops
 use Rattle.dcx_sections.specs.declared.fault.CertFault.{CertFault}
 use Rattle.dcx_sections.specs.declared.fault.CertFault.TheVariants.{Fit, Wide, Memory}
-use Rattle.dcx_faults.specs.Checks.{Check, nothing, in_turn, each_below}
+use Rattle.dcx_sections.specs.Checks.{Check, nothing, in_turn, each_below}
 
 -- ---- what setting and point give
 -- the setting gives each parameter an array of its shape

@@ -5,7 +5,7 @@ use Rattle.dcx_tree.specs.declared.problem.Problem.{Problem}
 use Rattle.dcx_tree.specs.Meaning.{IsAccepted, IsFitting, setting_of}
 use Rattle.dcx_fit.specs.Fit.{FitsParameters}
 use Rattle.dcx_fit.specs.Laws.{DividesByNoZero}
-use Rattle.dcx_faults.specs.Laws.{IsSettled}
+use Rattle.dcx_sections.specs.Laws.{IsSettled}
 use Rattle.dcx_values.specs.Forming.{forming, forming_fixed, divisors}
 
 -- the checks of forming tell one thing each

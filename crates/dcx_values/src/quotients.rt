@@ -7,7 +7,7 @@ ghost use Rattle.dcx_call.specs.Values.{IsGiven};
 ghost use Rattle.dcx_tree.specs.Nodes.{Node};
 ghost use Rattle.dcx_tree.specs.Meaning.{IsAccepted};
 ghost use Rattle.dcx_tree.specs.Values.{array_at, IsMarked};
-ghost use Rattle.dcx_faults.specs.Checks.{Checked, each_below};
+ghost use Rattle.dcx_sections.specs.Checks.{Checked, each_below};
 ghost use Rattle.dcx_values.specs.Forming.{GivesParameters, IsBelowDivisor, divisor_in, forming_at, nonzero, dividing_at, divisor_step, divisors};
 ghost use Rattle.dcx_values.specs.Tables.{AreKeptValues, StaysKept};
 ghost use Rattle.dcx_values.specs.Marks.{IsDivisor, AreClosed};

@@ -9,7 +9,7 @@ ghost use Rattle.dcx_tree.specs.Nodes.{Node};
 ghost use Rattle.dcx_tree.specs.Meaning.{convex_problem};
 ghost use Rattle.dcx_tree.specs.Values.{array_at, IsMarked};
 ghost use Rattle.dcx_sections.specs.declared.fault.CertFault.TheVariants.{Memory};
-ghost use Rattle.dcx_faults.specs.Checks.{Checked};
+ghost use Rattle.dcx_sections.specs.Checks.{Checked};
 ghost use Rattle.dcx_values.specs.Forming.{GivesParameters, GivesVariables, IsUnformedAt, forming_where, forming, forming_fixed};
 ghost use Rattle.dcx_values.specs.Tables.{AreKeptValues, StaysKept, AreKeptBelow, AreKeptWhere, AreKeptFixed};
 ghost use Rattle.dcx_values.specs.Marks.{AreWithin, AreClosed};

@@ -4,7 +4,7 @@ use Rattle.std.proofs.lemmas.Result.{err_from_is_err_and}
 use Rattle.dcx_sections.specs.declared.cert.Cert.{Cert}
 use Rattle.dcx_sections.specs.Shown.{IsCertOf}
 use Rattle.dcx_outline.specs.Drawn.{problem_outline}
-use Rattle.dcx_faults.specs.Checks.{Checked}
+use Rattle.dcx_sections.specs.Checks.{Checked}
 use Rattle.dcx_checks.proofs.Given.{arrays_given}
 use Rattle.dcx_checks.proofs.Sound.{checks_sound}
 use Rattle.dcx_checks.proofs.Steps.{first_stops, second_counts}

@@ -1,11 +1,10 @@
 -- All values are kept when the ray is checked.
-use Rattle.std.proofs.Common.{List, Option, sym, subst}
+use Rattle.std.proofs.Common.{List, Option, sym, subst, [], ◌∷◌}
 use Rattle.dcx_atom.specs.declared.array.Array.{Array}
 use Rattle.dcx_checks.specs.Checks.{start_bounded, slope_positive, ray_inside}
 use Rattle.dcx_checks.proofs.Below.{below_stays}
 use Rattle.dcx_checks.proofs.Steps.{second_counts}
-use Rattle.std.proofs.Common.{[], ◌∷◌}
-use Rattle.dcx_faults.specs.Checks.{in_turn}
+use Rattle.dcx_sections.specs.Checks.{in_turn}
 use Rattle.dcx_rays.specs.Rays.{ray_checks}
 use Rattle.dcx_rays.specs.Steepness.{AreFixedValues}
 use Rattle.dcx_certify.specs.Checks.{point_checks}

@@ -3,7 +3,7 @@ use Rattle.std.proofs.Common.{List, Option, length, sym, ap, subst, arith}
 use Rattle.dcx_point.specs.Pairs.{Pairs}
 use Rattle.dcx_call.specs.declared.attribute.Parameter.{Parameter}
 use Rattle.dcx_tree.proofs.Few.{few_parameters}
-use Rattle.dcx_faults.specs.Checks.{Checked}
+use Rattle.dcx_sections.specs.Checks.{Checked}
 use Rattle.dcx_checks.specs.Demands.{each_in}
 use Rattle.dcx_checks.specs.Checks.{parameter_is, setting_is}
 use Rattle.dcx_checks.proofs.parameters.check_params.Goals as goal

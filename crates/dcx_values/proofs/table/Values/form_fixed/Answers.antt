@@ -4,7 +4,7 @@ use Rattle.dcx_point.specs.Pairs.{Pairs}
 use Rattle.dcx_arena.proofs.Orders.{arg_below}
 use Rattle.dcx_call.specs.Calls.{shape_of}
 use Rattle.dcx_tree.specs.Values.{IsMarked}
-use Rattle.dcx_faults.specs.Checks.{Checked}
+use Rattle.dcx_sections.specs.Checks.{Checked}
 use Rattle.dcx_values.specs.Forming.{IsFixedNode, forming_where, forming_fixed}
 use Rattle.dcx_values.proofs.Known.{no_variable_given}
 use Rattle.dcx_values.proofs.Marking.{marked_within}

@@ -1,7 +1,7 @@
 -- Checks that tell one thing: they pass or fail and not both, with one fault.
 use Rattle.std.specs.Prelude.{◌≡◌, ℕ}
 use Rattle.dcx_sections.specs.declared.fault.CertFault.{CertFault}
-use Rattle.dcx_faults.specs.Checks.{Check, nothing, in_turn, each_below}
+use Rattle.dcx_sections.specs.Checks.{Check, nothing, in_turn, each_below}
 
 -- a check that passes doesn't fail, and one that fails has one fault
 pub record IsSettled (check : Check) : Type 0 where

@@ -3,8 +3,8 @@ use Rattle.std.proofs.Common.{◌≡◌, ℕ, ◌<◌, subst, arith}
 use mathlib.Core.Logic.{inl, inr}
 use native.Mathlib.Decide.{dec_lt}
 use Rattle.dcx_sections.specs.declared.fault.CertFault.{CertFault}
-use Rattle.dcx_faults.specs.Checks.{Check, nothing, in_turn, each_below, IsFirstOf}
-use Rattle.dcx_faults.specs.Laws.{IsSettled, AreSettledTogether}
+use Rattle.dcx_sections.specs.Checks.{Check, nothing, in_turn, each_below, IsFirstOf}
+use Rattle.dcx_sections.specs.Laws.{IsSettled, AreSettledTogether}
 
 -- no check tells nothing
 none : IsSettled nothing

@@ -1,3 +1,0 @@
--- What the contracts of the checks of a certificate cite.
-pub mod Checks
-pub mod Laws
