@@ -4,121 +4,188 @@ use dcx_host::{
     SteadyLibrary, SteadySink,
 };
 use dcx_shape::Bytes;
-use std::alloc::Global;
+use std::alloc::{AllocError, Global};
 use std::collections::BTreeMap;
 use std::fs;
-use std::process::Abort;
+use std::rt::Files;
 use std::test::Fail;
 
-fn two_files(alloc: Global) -> Result<BTreeMap<String, Bytes>, Fail> {
-    let mut files = BTreeMap::new(alloc);
-    for (name, bytes) in [("a", b"xyz".as_slice()), ("b", b"")] {
-        let name = String::from_str(alloc, name)?;
-        let bytes = Bytes::from_vec(bytes.to_vec(alloc)?);
-        files.insert(name, bytes)?;
+/// Adds a file, and says whether there was memory for its bytes and for it.
+fn add_read(
+    files: &mut BTreeMap<String, Bytes>,
+    name: String,
+    bytes: Result<Vec<u8>, AllocError>,
+) -> bool {
+    match bytes {
+        Ok(bytes) => files.insert(name, Bytes::from_vec(bytes)).is_ok(),
+        Err(_) => false,
     }
-    Ok(files)
 }
 
-/// Any library gives these bytes, or this fault.
-fn expect_fetch<L: Library>(
-    rt: &impl Abort,
+/// Adds a file, and says whether there was memory for it.
+fn add_file(alloc: Global, files: &mut BTreeMap<String, Bytes>, name: &str, bytes: &[u8]) -> bool {
+    match String::from_str(alloc, name) {
+        Ok(name) => add_read(files, name, bytes.to_vec(alloc)),
+        Err(_) => false,
+    }
+}
+
+/// Adds the two files, and says whether there was memory for them.
+fn add_files(alloc: Global, files: &mut BTreeMap<String, Bytes>) -> bool {
+    add_file(alloc, files, "a", b"xyz") && add_file(alloc, files, "b", b"")
+}
+
+/// Whether a library gives these bytes.
+fn gives<L: Library>(
     alloc: Global,
     library: &mut L,
     name: &str,
     most: usize,
-    wanted: Result<&str, FetchFault>,
-) {
+    wanted: &[u8],
+) -> bool {
     match library.fetch(alloc, name, most) {
-        Ok(bytes) => assert_eq!(rt; Ok(bytes.as_slice()), wanted.map(|text| text.as_bytes())),
-        Err(fault) => assert_eq!(rt; Err(fault), wanted),
+        Ok(bytes) => bytes.as_slice() == wanted,
+        Err(_) => false,
     }
+}
+
+/// Whether a library answers this fault.
+fn refuses<L: Library>(
+    alloc: Global,
+    library: &mut L,
+    name: &str,
+    most: usize,
+    wanted: FetchFault,
+) -> bool {
+    match library.fetch(alloc, name, most) {
+        Ok(_) => false,
+        Err(fault) => fault == wanted,
+    }
+}
+
+/// Whether a library gives the two files at each call.
+fn never_fails<L: Library>(alloc: Global, library: &mut L) -> bool {
+    gives(alloc, library, "a", 3, b"xyz")
+        && gives(alloc, library, "a", 3, b"xyz")
+        && refuses(alloc, library, "a", 2, FetchFault::TooLong)
+        && refuses(alloc, library, "c", 9, FetchFault::Absent)
+        && gives(alloc, library, "b", 0, b"")
+        && refuses(alloc, library, "c", 9, FetchFault::Absent)
+}
+
+/// Whether a library gives the two files at each call but 1 and 3.
+fn fails_twice<L: Library>(alloc: Global, library: &mut L) -> bool {
+    gives(alloc, library, "a", 3, b"xyz")
+        && refuses(alloc, library, "a", 3, FetchFault::Failed)
+        && refuses(alloc, library, "a", 2, FetchFault::TooLong)
+        && refuses(alloc, library, "c", 9, FetchFault::Failed)
+        && gives(alloc, library, "b", 0, b"")
+        && refuses(alloc, library, "c", 9, FetchFault::Absent)
+}
+
+/// Whether the library with no list of failing calls gives its files.
+fn is_steady(alloc: Global) -> bool {
+    let mut library = SteadyLibrary::new(BTreeMap::new(alloc));
+    add_files(alloc, &mut library.files) && never_fails(alloc, &mut library)
+}
+
+/// Whether a library fails at the calls that are listed, and counts its faults.
+fn fails_as_listed(alloc: Global, failing: Vec<u64>) -> bool {
+    let mut library = MemoryLibrary::new(BTreeMap::new(alloc), failing);
+    add_files(alloc, &mut library.files) && fails_twice(alloc, &mut library) && library.faults == 2
 }
 
 #[test]
 fn files_in_memory(rt: HostRuntime) -> Result<(), Fail> {
-    let alloc = rt.alloc();
-    let mut steady = SteadyLibrary::new(two_files(alloc)?);
-    let failing = vec![in alloc; 1u64, 3]?;
-    let mut library = MemoryLibrary::new(two_files(alloc)?, failing);
-    for (name, most, wanted, at_call) in [
-        ("a", 3, Ok("xyz"), Ok("xyz")),
-        ("a", 3, Ok("xyz"), Err(FetchFault::Failed)),
-        ("a", 2, Err(FetchFault::TooLong), Err(FetchFault::TooLong)),
-        ("c", 9, Err(FetchFault::Absent), Err(FetchFault::Failed)),
-        ("b", 0, Ok(""), Ok("")),
-        ("c", 9, Err(FetchFault::Absent), Err(FetchFault::Absent)),
-    ] {
-        expect_fetch(&rt, alloc, &mut steady, name, most, wanted);
-        expect_fetch(&rt, alloc, &mut library, name, most, at_call);
-    }
-    assert_eq!(rt; library.faults, 2);
+    let failing = vec![in rt.alloc(); 1u64, 3]?;
+    assert!(rt; is_steady(rt.alloc()));
+    assert!(rt; fails_as_listed(rt.alloc(), failing));
     Ok(())
+}
+
+/// Whether a library gives files of the host, where `fetched` holds `abc`.
+fn is_of_host<L: Library>(alloc: Global, library: &mut L) -> bool {
+    gives(alloc, library, "/dev/null", 0, b"")
+        && gives(alloc, library, "fetched", 3, b"abc")
+        && gives(alloc, library, "fetched", usize::MAX, b"abc")
+        && refuses(alloc, library, "fetched", 2, FetchFault::TooLong)
+        && refuses(alloc, library, "fetched", 0, FetchFault::TooLong)
+        && refuses(alloc, library, "/dev/zero", 5000, FetchFault::TooLong)
+        && refuses(alloc, library, ".", 5000, FetchFault::Failed)
+        && refuses(alloc, library, "/no/such/file", 5000, FetchFault::Failed)
+}
+
+/// Whether the files of the host are given, and each refusal is counted.
+fn are_counted<R: Files>(rt: &R, alloc: Global) -> bool {
+    let mut library = FileLibrary::new(rt);
+    is_of_host(alloc, &mut library) && library.faults == 5
 }
 
 #[test]
 fn files_of_the_host(rt: HostRuntime) -> Result<(), Fail> {
-    let alloc = rt.alloc();
-    let mut library = FileLibrary::new(&rt);
     fs::write(&rt, "fetched", b"abc")?;
-    for (name, most, wanted) in [
-        ("/dev/null", 0, Ok("")),
-        ("fetched", 3, Ok("abc")),
-        ("fetched", usize::MAX, Ok("abc")),
-        ("fetched", 2, Err(FetchFault::TooLong)),
-        ("fetched", 0, Err(FetchFault::TooLong)),
-        ("/dev/zero", 5000, Err(FetchFault::TooLong)),
-        (".", 5000, Err(FetchFault::Failed)),
-        ("/no/such/file", 5000, Err(FetchFault::Failed)),
-    ] {
-        expect_fetch(&rt, alloc, &mut library, name, most, wanted);
-    }
-    // each `Err` of the table is counted
-    assert_eq!(rt; library.faults, 5);
-    fs::remove_file(&rt, "fetched")?;
-    Ok(())
+    assert!(rt; are_counted(&rt, rt.alloc()));
+    Ok(fs::remove_file(&rt, "fetched")?)
 }
 
-/// Any sink takes so many bytes of each piece, or fails.
-fn expect_writes<K: Sink>(
-    rt: &impl Abort,
-    sink: &mut K,
-    pieces: &[(&[u8], Result<usize, SinkFault>)],
-) {
-    for (piece, wanted) in pieces {
-        assert_eq!(rt; sink.write(*piece), *wanted);
+/// Whether a sink takes so many bytes of a piece.
+fn takes<K: Sink>(sink: &mut K, piece: &[u8], wanted: usize) -> bool {
+    match sink.write(piece) {
+        Ok(n) => n == wanted,
+        Err(_) => false,
     }
+}
+
+/// Whether a sink fails at a piece.
+fn fails<K: Sink>(sink: &mut K, piece: &[u8]) -> bool {
+    match sink.write(piece) {
+        Ok(_) => false,
+        Err(fault) => fault == SinkFault::Failed,
+    }
+}
+
+/// Whether a sink that takes two bytes at once and fails at its call 1 does so, and keeps the bytes.
+fn takes_two(sink: &mut MemorySink) -> bool {
+    takes(sink, b"abc", 2)
+        && fails(sink, b"c")
+        && takes(sink, b"", 0)
+        && takes(sink, b"c", 1)
+        && sink.bytes.as_slice() == b"abc".as_slice()
+        && sink.faults == 1
+}
+
+/// Whether a sink that takes nothing fails.
+fn is_closed(alloc: Global) -> bool {
+    fails(&mut MemorySink::new(alloc, 0, Vec::new(alloc)), b"a")
+}
+
+/// Whether a sink that never fails keeps the bytes.
+fn keeps_all(alloc: Global) -> bool {
+    let mut sink = SteadySink::new(alloc);
+    takes(&mut sink, b"abc", 3) && sink.bytes.as_slice() == b"abc".as_slice()
+}
+
+/// Whether a writer of three bytes fails where it is full.
+fn fills_up() -> bool {
+    let mut place = [0u8; 3];
+    let mut sink = OutSink::new(place.as_mut_slice());
+    takes(&mut sink, b"ab", 2)
+        && takes(&mut sink, b"cd", 1)
+        && takes(&mut sink, b"", 0)
+        && fails(&mut sink, b"d")
+        && sink.faults == 1
 }
 
 #[test]
 fn sinks(rt: HostRuntime) -> Result<(), Fail> {
-    let alloc = rt.alloc();
-    let failed = Err(SinkFault::Failed);
-    let mut sink = MemorySink::new(alloc, 2, vec![in alloc; 1u64]?);
-    let pieces = [
-        (b"abc".as_slice(), Ok(2)),
-        (b"c", failed),
-        (b"", Ok(0)),
-        (b"c", Ok(1)),
+    let failing = vec![in rt.alloc(); 1u64]?;
+    let mut sink = MemorySink::new(rt.alloc(), 2, failing);
+    let found = [
+        takes_two(&mut sink),
+        is_closed(rt.alloc()),
+        keeps_all(rt.alloc()),
+        fills_up(),
     ];
-    expect_writes(&rt, &mut sink, &pieces);
-    assert_eq!(rt; sink.bytes.as_slice(), b"abc".as_slice());
-    assert_eq!(rt; sink.faults, 1);
-    let mut closed = MemorySink::new(alloc, 0, Vec::new(alloc));
-    expect_writes(&rt, &mut closed, &[(b"a", failed)]);
-    let mut steady = SteadySink::new(alloc);
-    expect_writes(&rt, &mut steady, &[(b"abc", Ok(3))]);
-    assert_eq!(rt; steady.bytes.as_slice(), b"abc".as_slice());
-    // a writer that fills up
-    let mut place = [0u8; 3];
-    let mut full = OutSink::new(place.as_mut_slice());
-    let pieces = [
-        (b"ab".as_slice(), Ok(2)),
-        (b"cd", Ok(1)),
-        (b"", Ok(0)),
-        (b"d", failed),
-    ];
-    expect_writes(&rt, &mut full, &pieces);
-    assert_eq!(rt; full.faults, 1);
+    assert_eq!(rt; found, [true; 4]);
     Ok(())
 }

@@ -21,7 +21,6 @@ use dcx_atom::{
 use dcx_frac::{Frac, Fracs, Op, Passes};
 use dcx_shape::{Shape, Sides};
 use std::alloc::{AllocError, Global};
-use std::test::Fail;
 
 /// The part of a scalar above 0.
 struct Hinge;
@@ -283,121 +282,170 @@ fn additive<L: LinearOp>(op: &L) -> Trend
     op.trend(0)
 }
 
-fn whole_number(n: i128) -> Result<Frac, Fail> {
-    Ok(Frac::of(n, 1).ok_or("no fraction")?)
+/// The whole number that a fraction is.
+fn whole_of(x: Frac) -> Option<i128> {
+    if x.den() == 1 { Some(x.num()) } else { None }
 }
 
-#[test]
-fn a_hinge_through_its_trait(rt: HostRuntime) -> Result<(), Fail> {
+/// Whether a hinge takes a scalar, gives a scalar, and takes nothing else than one argument.
+fn is_shaped_by_hinge() -> bool {
+    Hinge.shape(&[Shape::scalar()]) == Some(Shape::scalar()) && Hinge.shape(&[]).is_none()
+}
+
+/// Whether generic functions find that a hinge is convex.
+fn is_hinge_convex() -> bool {
+    let bends = [
+        chord(&Hinge),
+        two_steps(&Hinge),
+        in_place(&Hinge),
+        best(&Hinge),
+    ];
+    bends.iter().all(|bend| matches!(bend, Bend::Convex))
+}
+
+/// The sign that a hinge's value has, and how it moves, where nothing is known of its argument.
+fn flags_of_hinge() -> (Sign, Trend) {
     let unknown = Sign {
         nonneg: false,
         nonpos: false,
     };
-    let shapes = [Shape::scalar()];
-    assert_eq!(rt; Hinge.shape(&shapes), Some(Shape::scalar()));
-    assert_eq!(rt; Hinge.shape(&[]), None);
-    assert_eq!(rt; chord(&Hinge), Bend::Convex);
-    assert_eq!(rt; two_steps(&Hinge), Bend::Convex);
-    assert_eq!(rt; in_place(&Hinge), Bend::Convex);
-    assert_eq!(rt; best(&Hinge), Bend::Convex);
-    assert_eq!(rt;
-        formed_sign(&Hinge, &[unknown]),
-        Sign {
-            nonneg: true,
-            nonpos: false
-        }
-    );
-    assert_eq!(rt;
-        Hinge.trend(0, unknown),
-        Trend {
-            rising: true,
-            falling: false
-        }
-    );
-    Ok(())
+    (formed_sign(&Hinge, &[unknown]), Hinge.trend(0, unknown))
 }
 
 #[test]
-fn values_and_rows_of_a_hinge(rt: HostRuntime) -> Result<(), Fail> {
-    let alloc = rt.alloc();
-    let table = [(5, 5), (-5, 0), (0, 0)];
-    for (x, want) in table {
-        let array = scalar_array(alloc, whole_number(x)?)?;
-        let value = Hinge.value(alloc, &[array])?;
-        assert_eq!(rt;
-            value.entries.as_slice(),
-            [whole_number(want)?].as_slice(),
-            "at {x}"
-        );
+fn a_hinge_through_its_trait(rt: HostRuntime) {
+    let (sign, trend) = flags_of_hinge();
+    let found = [
+        is_shaped_by_hinge(),
+        is_hinge_convex(),
+        sign.nonneg && !sign.nonpos,
+        trend.rising && !trend.falling,
+    ];
+    assert_eq!(rt; found, [true; 4]);
+}
+
+/// The only entry of a value, if it is a whole number.
+fn only_entry(value: Result<Array, ValueStop>) -> Option<i128> {
+    match value {
+        Ok(value) => match value.entries.as_slice() {
+            [x] => whole_of(*x),
+            _ => None,
+        },
+        Err(_) => None,
     }
-    let graph = Hinge.graph(alloc, &[Shape::scalar()])?;
-    assert_eq!(rt; graph.aux.as_slice(), [AuxKind::Nonneg].as_slice());
-    assert_eq!(rt; graph.rows.as_slice().len(), 1);
-    assert_eq!(rt; graph.results.as_slice().len(), 1);
-    Ok(())
+}
+
+/// The value of a hinge at a number.
+fn hinge_at(alloc: Global, x: i128) -> Option<i128> {
+    match scalar_array(alloc, Frac::of(x, 1)?) {
+        Ok(array) => only_entry(Hinge.value(alloc, &[array])),
+        Err(_) => None,
+    }
 }
 
 #[test]
-fn slopes_of_a_hinge(rt: HostRuntime) -> Result<(), Fail> {
-    let alloc = rt.alloc();
+fn values_of_a_hinge(rt: HostRuntime) {
+    for (x, want) in [(5, 5), (-5, 0), (0, 0)] {
+        assert_eq!(rt; (x, hinge_at(rt.alloc(), x)), (x, Some(want)));
+    }
+}
+
+/// Whether the rows of a hinge have one unknown, at least 0, and how many rows and results there are.
+fn told_of_graph(graph: &Graph) -> (bool, usize, usize) {
+    (
+        matches!(graph.aux.as_slice(), [AuxKind::Nonneg]),
+        graph.rows.as_slice().len(),
+        graph.results.as_slice().len(),
+    )
+}
+
+/// What is told of the rows of a hinge.
+fn rows_told(alloc: Global) -> Option<(bool, usize, usize)> {
+    match Hinge.graph(alloc, &[Shape::scalar()]) {
+        Ok(graph) => Some(told_of_graph(&graph)),
+        Err(_) => None,
+    }
+}
+
+#[test]
+fn rows_of_a_hinge(rt: HostRuntime) {
+    assert_eq!(rt; rows_told(rt.alloc()), Some((true, 1, 1)));
+}
+
+/// The only slope, or both sides of the condition that a weight breaks.
+fn slope_told(found: Result<Fracs, SlopeStop>) -> Result<i128, (i128, i128)> {
+    match found {
+        Ok(slopes) => match slopes.as_slice() {
+            [slope] => Ok(slope.num()),
+            _ => Err((0, 0)),
+        },
+        Err(
+            SlopeStop::Refused {
+                entry: _,
+                stated,
+                found,
+            },
+        ) => Err((stated.num(), found.num())),
+        Err(_) => Err((0, 0)),
+    }
+}
+
+/// What is told of the slope of a hinge under a coefficient and a weight.
+fn slope_of_hinge(alloc: Global, c: i128, w: i128) -> Result<i128, (i128, i128)> {
+    match (Frac::of(c, 1), Frac::of(w, 1)) {
+        (Some(c), Some(w)) => slope_told(bound(alloc, &Hinge, &[Shape::scalar()], &[c], &[w])),
+        _ => Err((0, 0)),
+    }
+}
+
+#[test]
+fn slopes_of_a_hinge(rt: HostRuntime) {
     // coefficient, weight, and the slope or both sides of the condition that the weight breaks
-    let table = [
+    for (c, w, want) in [
         (3, 2, Ok(2)),
         (3, 3, Ok(3)),
         (3, 0, Ok(0)),
         (3, 4, Err((4, 3))),
         (3, -1, Err((-1, 0))),
         (-2, -1, Err((-1, 0))),
-    ];
-    for (coefficient, weight, want) in table {
-        let (c, w) = (whole_number(coefficient)?, whole_number(weight)?);
-        let found = match bound(alloc, &Hinge, &[Shape::scalar()], &[c], &[w]) {
-            Ok(slopes) => match slopes.as_slice() {
-                [slope] => Ok(slope.num()),
-                _ => Err((0, 0)),
-            },
-            Err(
-                SlopeStop::Refused {
-                    entry: _,
-                    stated,
-                    found,
-                },
-            ) => Err((stated.num(), found.num())),
-            Err(_) => Err((0, 0)),
-        };
-        assert_eq!(rt; found, want, "{coefficient} and {weight}");
+    ] {
+        assert_eq!(rt; (c, w, slope_of_hinge(rt.alloc(), c, w)), (c, w, want));
     }
-    Ok(())
 }
 
-#[test]
-fn a_turned_number_through_its_trait(rt: HostRuntime) -> Result<(), Fail> {
+/// Whether the sign of a scalar of at least 0 is turned round, and whether it falls where that rises.
+fn is_turned_round() -> bool {
     let nonneg = Sign {
         nonneg: true,
         nonpos: false,
     };
-    assert_eq!(rt; Turned.shape(&[Shape::scalar()]), Some(Shape::scalar()));
-    assert_eq!(rt;
-        Turned.sign(&[nonneg]),
-        Sign {
-            nonneg: false,
-            nonpos: true
-        }
-    );
-    assert_eq!(rt;
-        additive(&Turned),
-        Trend {
-            rising: false,
-            falling: true
-        }
-    );
-    let terms = Turned.map(rt.alloc(), &[Shape::scalar()])?;
-    let want = Triple {
-        argument: 0,
-        entry: 0,
-        coefficient: whole_number(-1)?,
-    };
-    assert_eq!(rt; terms.as_slice().len(), 1);
-    assert_eq!(rt; terms.as_slice()[0].as_slice(), [want].as_slice());
-    Ok(())
+    let sign = Turned.sign(&[nonneg]);
+    let trend = additive(&Turned);
+    sign.nonpos && !sign.nonneg && trend.falling && !trend.rising
+}
+
+/// Whether a term is the first entry of the first argument times -1.
+fn is_minus_first(term: &Triple) -> bool {
+    term.argument == 0 && term.entry == 0 && whole_of(term.coefficient) == Some(-1)
+}
+
+/// Whether terms are a single one, the first entry of the first argument times -1.
+fn are_minus_first(terms: Result<Terms, AllocError>) -> bool {
+    match terms {
+        Ok(terms) => match terms.as_slice() {
+            [list] => matches!(list.as_slice(), [term] if is_minus_first(term)),
+            _ => false,
+        },
+        Err(_) => false,
+    }
+}
+
+#[test]
+fn a_turned_number_through_its_trait(rt: HostRuntime) {
+    let found = [
+        Turned.shape(&[Shape::scalar()]) == Some(Shape::scalar()),
+        is_turned_round(),
+        are_minus_first(Turned.map(rt.alloc(), &[Shape::scalar()])),
+    ];
+    assert_eq!(rt; found, [true; 3]);
 }
