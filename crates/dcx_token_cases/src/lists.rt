@@ -43,7 +43,6 @@ fn text_told(alloc: Global, verb: &str, text: &str, out: &mut String) -> Result<
     match verb {
         "end" => Ok(put_place(out, end_place(text))?),
         "kept" => put_kept(out, &lexed(alloc, text)?),
-        "fault" => put_read(out, &tokens(alloc, text)),
         _ => list_told(verb, &tokens(alloc, text), out),
     }
 }
@@ -59,28 +58,28 @@ fn put_kept(out: &mut String, lexed: &Lexed) -> Result<(), CaseFault> {
     }
 }
 
-fn put_read(out: &mut String, read: &Result<Tokens, ReadFault>) -> Result<(), CaseFault> {
-    match read {
-        Ok(_) => Ok(out.push_str("none")?),
-        Err(fault) => put_fault(out, *fault),
-    }
-}
-
-/// What is asked of tokens.
+/// What is asked of tokens that may not be read.
 fn list_told(
     verb: &str,
     read: &Result<Tokens, ReadFault>,
     out: &mut String,
 ) -> Result<(), CaseFault> {
     match read {
-        Ok(tokens) => match verb {
-            "first" => put_first(out, tokens.as_slice()),
-            "layout" => Ok(put_layout(out, tokens.as_slice())?),
-            "tokens" => Ok(put_tokens(out, tokens.as_slice())?),
-            _ => Err(CaseFault::Unreadable),
-        },
+        Ok(tokens) => tokens_told(verb, tokens.as_slice(), out),
         Err(fault) => put_fault(out, *fault),
     }
+}
+
+/// What is asked of tokens.
+fn tokens_told(verb: &str, tokens: &[Token], out: &mut String) -> Result<(), CaseFault> {
+    let put = match verb {
+        "fault" => out.push_str("none"),
+        "layout" => put_layout(out, tokens),
+        "tokens" => put_tokens(out, tokens),
+        "first" => return put_first(out, tokens),
+        _ => return Err(CaseFault::Unreadable),
+    };
+    Ok(put?)
 }
 
 fn put_first(out: &mut String, tokens: &[Token]) -> Result<(), CaseFault> {
@@ -92,7 +91,13 @@ fn put_first(out: &mut String, tokens: &[Token]) -> Result<(), CaseFault> {
 
 /// How many tokens are of a kind.
 fn count(tokens: &[Token], kind: TokenKind) -> usize {
-    tokens.iter().filter(|token| token.kind == kind).count()
+    let mut n = 0usize;
+    for token in tokens {
+        if token.kind == kind {
+            n = n.saturating_add(1);
+        }
+    }
+    n
 }
 
 fn put_layout(out: &mut String, tokens: &[Token]) -> Result<(), AllocError> {
@@ -115,13 +120,17 @@ fn put_kind(out: &mut String, kind: TokenKind) -> Result<(), AllocError> {
     }
 }
 
-/// Tokens, each with where its bytes begin and end, and with its place.
+/// A token, with where its bytes begin and end, and with its place.
+fn put_token(out: &mut String, token: &Token) -> Result<(), AllocError> {
+    put_kind(out, token.kind)?;
+    write!(out, " {}..{} ", token.start, token.end)?;
+    put_place(out, token.place)
+}
+
 fn put_tokens(out: &mut String, tokens: &[Token]) -> Result<(), AllocError> {
     for (k, token) in tokens.iter().enumerate() {
         put_between(out, k, "; ")?;
-        put_kind(out, token.kind)?;
-        write!(out, " {}..{} ", token.start, token.end)?;
-        put_place(out, token.place)?;
+        put_token(out, token)?;
     }
     Ok(())
 }
