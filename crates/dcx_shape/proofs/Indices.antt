@@ -164,6 +164,13 @@ takes_no_index_fault from picks rows columns OutOfRange t f = takes_no_first_fau
 takes_no_index_fault from picks rows columns Empty t f = takes_no_first_fault from picks rows columns Empty t f
 takes_no_index_fault from picks rows columns Memory t f = f
 
+-- a result that is the index's fault is no other
+pub same_fault : (from : Sides) (picks : List Pick) {X : Type 0} (r : Result X ShapeFault) (fault other : ShapeFault) → r ≡ Err fault → IsIndexFault from picks fault → (r ≡ Err other) ↔ IsIndexFault from picks other
+same_fault from picks r fault other is f = (
+  (λ e. let same : fault ≡ other = cc in rw (← same) f),
+  (λ g. is ∙ ap Err (index_fault_one from picks fault other f g)),
+)
+
 -- where the picks take something, a result that isn't this fault has it exactly where the index has
 pub never_fault : (from : Sides) (picks : List Pick) (rows columns : List ℕ) {X : Type 0} (r : Result X ShapeFault) (fault : ShapeFault) → TakesBoth from picks rows columns → (r ≡ Err fault → ⊥) → (r ≡ Err fault) ↔ IsIndexFault from picks fault
 never_fault from picks rows columns r fault t never = ((λ e. absurd (never e)), (λ f. absurd (takes_no_index_fault from picks rows columns fault t f)))

@@ -3,6 +3,7 @@ pub mod Broadcasts
 pub mod Entries
 pub mod Reshapes
 pub mod Permutations
+pub mod Pushes
 pub mod Slices
 pub mod Faults
 pub mod Indices

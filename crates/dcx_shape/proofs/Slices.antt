@@ -59,6 +59,22 @@ up_end n default end l h = end_within n (pos 0) (pos n) default end (omega (arit
 down_end : (n : ℕ) (default : ℤ) (end : Option ℤ) → negsuc 0 ≤ℤ default → default ≤ℤ (pos n -ℤ pos 1) → (negsuc 0 ≤ℤ end_of n (negsuc 0) (pos n -ℤ pos 1) default end) × (end_of n (negsuc 0) (pos n -ℤ pos 1) default end ≤ℤ (pos n -ℤ pos 1))
 down_end n default end l h = end_within n (negsuc 0) (pos n -ℤ pos 1) default end (omega (arith, ints)) l h
 
+-- the ends of a slice are no further apart than the side is long, and it starts at most behind the last entry
+pub record AreNear (n : ℕ) (start stop : ℤ) : Type 0 where
+  pub up : (stop -ℤ start) ≤ℤ pos n
+  pub down : (start -ℤ stop) ≤ℤ pos n
+  pub first : start ≤ℤ pos n
+
+pub ends_near : (n : ℕ) (step : ℤ) (start stop : Option ℤ) → AreNear n (start_for n step start) (stop_for n step stop)
+ends_near n (pos s) start stop =
+    let first = up_end n (pos 0) start (omega (arith, ints)) (omega (arith, ints)) in
+    let last = up_end n (pos n) stop (omega (arith, ints)) (omega (arith, ints)) in
+    record { up = omega (arith, ints, first, last); down = omega (arith, ints, first, last); first = first.1 }
+ends_near n (negsuc s) start stop =
+    let first = down_end n (pos n -ℤ pos 1) start (omega (arith, ints)) (omega (arith, ints)) in
+    let last = down_end n (negsuc 0) stop (omega (arith, ints)) (omega (arith, ints)) in
+    record { up = omega (arith, ints, first, last); down = omega (arith, ints, first, last); first = omega (arith, ints, first.1) }
+
 -- what comes before the stop lies on the side
 place_within : (n : ℕ) (step : ℤ) (start stop : Option ℤ) (k : ℕ) → step ≢ pos 0 → IsBefore step (start_for n step start +ℤ pos k *ℤ step) (stop_for n step stop) → (pos 0 ≤ℤ (start_for n step start +ℤ pos k *ℤ step)) × ((start_for n step start +ℤ pos k *ℤ step) <ℤ pos n)
 place_within n (pos s) start stop k ne b =

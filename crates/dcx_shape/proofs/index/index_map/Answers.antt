@@ -1,13 +1,25 @@
 -- What the picks take makes the index, and then there is no fault.
-use Rattle.std.proofs.Common.{◌≡◌, arith}
+use Rattle.std.proofs.Common.{◌≡◌, Err, arith}
 use Rattle.std.proofs.lemmas.Result.{err_from_is_err_and}
-use Rattle.dcx_shape.specs.declared.fault.ShapeFault.TheVariants.{Empty, Memory}
+use Rattle.dcx_shape.specs.declared.fault.ShapeFault.TheVariants.{Range, Empty, Memory}
 use Rattle.dcx_shape.specs.declared.run.Run.{Run}
 use Rattle.dcx_shape.specs.Shape.{sides_of}
 use Rattle.dcx_shape.specs.Run.{places_of}
 use Rattle.dcx_shape.proofs.Slices.{length-places_from}
-use Rattle.dcx_shape.proofs.Indices.{kept_few, rows_below, columns_below, takes_few, index_count, index_within, never_fault}
+use Rattle.dcx_shape.proofs.Indices.{kept_few, rows_below, columns_below, takes_few, index_count, index_within, same_fault, never_fault}
 use Rattle.dcx_shape.proofs.index.index_map.Goals as goal
+
+pub returns-in_err-rows-clause-range : goal.returns-in_err-rows-clause-range
+returns-in_err-rows-clause-range c =
+    let p = err_from_is_err_and c.from_residual.result c.from_residual.ensures.1 in
+    let is : c.from_residual.result ≡ Err c.in_err-rows.field-0.0 = cc (p.1, p.2) in
+    same_fault (sides_of c.args.from) c.args.picks.now c.from_residual.result c.in_err-rows.field-0.0 Range is c.in_err-rows.ensures.fault
+
+pub returns-in_err-rows-clause-empty : goal.returns-in_err-rows-clause-empty
+returns-in_err-rows-clause-empty c =
+    let p = err_from_is_err_and c.from_residual.result c.from_residual.ensures.1 in
+    let is : c.from_residual.result ≡ Err c.in_err-rows.field-0.0 = cc (p.1, p.2) in
+    same_fault (sides_of c.args.from) c.args.picks.now c.from_residual.result c.in_err-rows.field-0.0 Empty is c.in_err-rows.ensures.fault
 
 pub kept_shape-to-requires : goal.kept_shape-to-requires
 kept_shape-to-requires c =
