@@ -19,3 +19,12 @@ returns-then-value-eq0-2-clause-there c =
     let f : SFits w128 c.args.value = search rules in
     let e : c.args.value ≡ pos 0 = sym (to_z-of_z f) ∙ ap (to_z w128) c.if-value-eq0-2.true in
     number_none s.cells.items c.args.row c.args.column empty ∙ sym e
+
+pub is_there-requires-clause-apart : goal.is_there-requires-clause-apart
+is_there-requires-clause-apart c = rw c.deref-3.ensures.value c.requires.sound.one_cell
+
+pub put_in-requires-clause-empty : goal.put_in-requires-clause-empty
+put_in-requires-clause-empty c = search rules
+
+pub change_at-requires-clause-here : goal.change_at-requires-clause-here
+change_at-requires-clause-here c = search rules
