@@ -1,6 +1,6 @@
 -- The steps by which the slopes of the largest and the smallest come from weights.
 use Rattle.std.proofs.Common.{◌≡◌, ℕ, ◌+◌, ◌<◌, arith, List, [], ◌∷◌, ◌++◌, map, length, take, drop, get_or, refl, sym, ap, ap₂, ◌∙◌, Some, None, Result, Ok, pos}
-use Rattle.std.proofs.lemmas.List.{map-append, take-append-drop}
+use Rattle.std.proofs.lemmas.List.{map-append, map_more, take-append-drop}
 use Rattle.dcx_math.specs.Rational.{ℚ, whole, ◌*ℚ◌, rat_le, rat_eq}
 use Rattle.dcx_math.specs.Sums.{rat_sum}
 use Rattle.dcx_frac.specs.declared.fraction.Frac.{Frac}
@@ -91,3 +91,10 @@ largest_stop bend k args cs ws c n e =
     ∙ first_stop-append 0 (map (λ x. test (is_weight x)) (map value ws) ++ map test (level_conditions bend k (value c) (map value ws))) slopes
     ∙ ap (earlier (first_stop 0 (map (λ x. test (is_weight x)) (map value ws) ++ map test (level_conditions bend k (value c) (map value ws))))) (numbers_formed (λ x. outward bend (w 0 x.entry)) (list_below size (λ i. record { argument = 0; entry = i })))
     ∙ earlier-none_right _
+
+-- ---- slopes
+-- one more, where each is formed of the item at its place
+pub mapped_more : {A B C : Type 0} (f : A → C) (g : B → C) (xs : List A) (i : ℕ) (x : A) (ys : List B) (y : B) → i < length xs → x ≡ get_or xs i x → map g ys ≡ map f (take i xs) → g y ≡ f x →
+    map g (ys ++ y ∷ []) ≡ map f (take (i + 1) xs)
+mapped_more f g xs i x ys y h e so_far same =
+    map-append g ys (y ∷ []) ∙ ap₂ (λ zs z. zs ++ z ∷ []) so_far (same ∙ ap f e) ∙ sym (map_more f xs i x h)

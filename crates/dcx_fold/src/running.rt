@@ -1,10 +1,13 @@
 //! The running maximum of a vector.
-ghost use Rattle.std.specs.Prelude.{◌≡◌, ◌<◌, ◌≤◌, ◌+◌, [], ◌∷◌, ◌++◌, length, map, take, drop, IfOk, IfErr, OnOk};
+ghost use Rattle.std.specs.Prelude.{◌≡◌, ◌<◌, ◌≤◌, ◌+◌, [], ◌∷◌, ◌++◌, length, map, take, drop, pos, IfOk, IfErr, OnOk};
 ghost use Rattle.std.specs.Result.{result_err};
+ghost use Rattle.dcx_math.specs.Rational.{whole};
 ghost use Rattle.dcx_math.specs.Sums.{rat_sum};
 ghost use Rattle.dcx_frac.specs.Frac.{value};
 ghost use Rattle.dcx_shape.specs.declared.shape.Sides.TheVariants.{Vector};
+ghost use Rattle.dcx_atom.specs.declared.flags.Bend.TheVariants.{Convex};
 ghost use Rattle.dcx_atom.specs.Arrays.{list_below, number_at};
+ghost use Rattle.dcx_atom.specs.Bounding.{bound_row};
 ghost use Rattle.dcx_atom.specs.Formed.{sum_in_order};
 ghost use Rattle.dcx_atom.specs.Graph.{placed_row, rows_below};
 ghost use Rattle.dcx_atom.specs.Steps.{first_stop, AreSlopesOf, IsSlopeStop};
@@ -31,23 +34,33 @@ pub(crate) fn running_greatest(alloc: Global, numbers: &[Frac]) -> Result<Fracs,
     Ok(Fracs::from_vec(list))
 }
 
+/// Adds the row that puts an entry's unknown at or above the operand.
+fn push_row(
+    alloc: Global,
+    rows: &mut Vec<GraphRow>,
+    entry: u32,
+    operand: Operand,
+) -> Result<(), AllocError>
+    ensures { OnOk result (map placed_row rows.new.items ≡ map placed_row rows.old.items ++ record { entry = entry; row = bound_row Convex entry (record { operand = operand; coefficient = whole (pos 1) }) } ∷ []) }
+{
+    let term = GraphTerm {
+        operand,
+        coefficient: Frac::one(),
+    };
+    rows.push(bounding_row(alloc, Bend::Convex, entry, entry, term)?)?;
+    Ok(())
+}
+
 /// Adds the rows of an entry: its unknown is at least the entry, and at least the unknown before it.
 fn push_entry_rows(alloc: Global, rows: &mut Vec<GraphRow>, entry: u32) -> Result<(), AllocError>
     ensures { OnOk result (map placed_row rows.new.items ≡ map placed_row rows.old.items ++ map (λ row. record { entry = entry; row = row }) (running_rows entry)) }
 {
-    let own = GraphTerm {
-        operand: Operand::Argument { argument: 0, entry },
-        coefficient: Frac::one(),
-    };
-    rows.push(bounding_row(alloc, Bend::Convex, entry, entry, own)?)?;
+    push_row(alloc, rows, entry, Operand::Argument { argument: 0, entry })?;
     if entry > 0 {
-        let before = GraphTerm {
-            operand: Operand::Aux(entry - 1),
-            coefficient: Frac::one(),
-        };
-        rows.push(bounding_row(alloc, Bend::Convex, entry, entry, before)?)?;
+        push_row(alloc, rows, entry, Operand::Aux(entry - 1))
+    } else {
+        Ok(())
     }
-    Ok(())
 }
 
 /// The rows of `size` entries.

@@ -1,5 +1,6 @@
 -- The rows of a group are those of its members, each at its place in the argument.
-use Rattle.std.proofs.Common.{◌≡◌, ℕ, ◌++◌, ap, ◌∙◌, arith, map}
+use Rattle.std.proofs.Common.{◌≡◌, ℕ, ◌++◌, ap, ◌∙◌, arith, map, rules}
+use Rattle.std.proofs.lemmas.Result.{err_from_is_err_and}
 use Rattle.dcx_shape.specs.Shape.{sides_of}
 use Rattle.dcx_atom.specs.declared.axis.Stride.{Stride}
 use Rattle.dcx_atom.specs.Axis.{stride_entry}
@@ -44,3 +45,12 @@ returns c =
     all_of_group (λ (row : Row). record { entry = k; row = row }) (λ (n i : ℕ) (st : Stride). rows_of_member fold (unknown_of fold n k i) (stride_entry st i))
     (map placed_row c.args.rows.now.items) (map placed_row c.loop-i.rows.items) c.args.folding.axis (sides_of c.args.from) k c.loop-i.i c.folded_count-count.result c.stride-stride.result
     c.stride-stride.ensures c.folded_count-count.ensures.count end c.loop-i.invariant
+
+pub loop-i-init : goal.loop-i-init
+loop-i-init c = search rules
+
+pub loop-i-smaller : goal.loop-i-smaller
+loop-i-smaller c = search rules
+
+pub returns-in_err-push_member_rows : goal.returns-in_err-push_member_rows
+returns-in_err-push_member_rows c = let p = err_from_is_err_and c.from_residual.result c.from_residual.ensures.1 in rw p.1 tt

@@ -1,5 +1,5 @@
 -- The group is tested, and then each member's slope is formed from its own weights.
-use Rattle.std.proofs.Common.{◌≡◌, ℕ, ◌*◌, length, ◌∙◌, ◌++◌, sym, ap, ap₂, arith, map, append_assoc, [], ◌∷◌}
+use Rattle.std.proofs.Common.{◌≡◌, ℕ, ◌*◌, length, ◌∙◌, ◌++◌, sym, ap, ap₂, arith, map, append_assoc, [], ◌∷◌, rules}
 use Rattle.std.proofs.lemmas.Result.{err_from_is_err_and}
 use Rattle.std.proofs.lemmas.List.{map-append}
 use Rattle.dcx_frac.specs.Frac.{value}
@@ -61,3 +61,9 @@ pub slope-requires : goal.slope-requires
 slope-requires c =
     let part = is_part c.loop-i.i c.args.members c.rows_of_member-rows.result c.args.weights.now c.loop-i-test.true (c.requires ∙ ap (λ r. c.args.members * r) (sym c.rows_of_member-rows.ensures.value)) in
     ap length c.row_weights.ensures ∙ part.count ∙ c.rows_of_member-rows.ensures.value
+
+pub loop-i-init : goal.loop-i-init
+loop-i-init c = search rules
+
+pub loop-i-smaller : goal.loop-i-smaller
+loop-i-smaller c = search rules

@@ -1,5 +1,5 @@
 -- The next group is tested and its slopes formed, from its own weights.
-use Rattle.std.proofs.Common.{◌≡◌, ℕ, List, length, ◌*◌, ◌<◌, ◌∙◌, ◌++◌, sym, ap, ap₂, subst, arith, take, drop, [], ◌∷◌, below_more}
+use Rattle.std.proofs.Common.{◌≡◌, ℕ, List, length, ◌*◌, ◌<◌, ◌∙◌, ◌++◌, sym, ap, ap₂, subst, arith, take, drop, [], ◌∷◌, below_more, rules}
 use Rattle.std.proofs.lemmas.Result.{err_from_is_err_and}
 use Rattle.dcx_frac.specs.declared.fraction.Frac.{Frac}
 use Rattle.dcx_frac.specs.Frac.{value}
@@ -75,3 +75,9 @@ push_group-requires c =
     let part = own_part c.loop-entry.entry c.args.size c.folded_count-members.result c.rows_of_member.result c.args.folding.fold (folded_count c.args.folding.axis (sides_of c.args.from)) c.args.weights.now
     c.loop-entry-test.true c.folded_count-members.ensures.count c.rows_of_member.ensures.value c.requires.weights in
     ap length c.row_weights-own.ensures ∙ part.count ∙ ap (λ r. c.folded_count-members.result * r) c.rows_of_member.ensures.value
+
+pub loop-entry-init : goal.loop-entry-init
+loop-entry-init c = search rules
+
+pub loop-entry-smaller : goal.loop-entry-smaller
+loop-entry-smaller c = search rules

@@ -1,5 +1,5 @@
 -- The next group is folded, or stops.
-use Rattle.std.proofs.Common.{◌∙◌, ap, map, below_more}
+use Rattle.std.proofs.Common.{◌∙◌, ap, map, below_more, rules}
 use Rattle.std.proofs.lemmas.Result.{err_from_is_err_and}
 use Rattle.dcx_frac.specs.Frac.{value}
 use Rattle.dcx_shape.specs.Shape.{sides_of}
@@ -25,3 +25,9 @@ loop-entry-preserved c =
           c.loop-entry.invariant.entries c.in_ok-number.ensures.ok;
       forms = below_more _ _ c.loop-entry.invariant.forms c.in_ok-number.ensures.forms;
     }
+
+pub loop-entry-init : goal.loop-entry-init
+loop-entry-init c = search rules
+
+pub loop-entry-smaller : goal.loop-entry-smaller
+loop-entry-smaller c = search rules

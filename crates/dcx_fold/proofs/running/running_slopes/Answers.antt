@@ -1,5 +1,5 @@
 -- The next entry is tested, and its first weight is its slope.
-use Rattle.std.proofs.Common.{◌≡◌, ◌+◌, ◌<◌, ◌∙◌, sym, ap, subst, arith, length, map, [], ◌∷◌, below_more}
+use Rattle.std.proofs.Common.{◌≡◌, ◌+◌, ◌<◌, ◌∙◌, sym, ap, subst, arith, length, map, [], ◌∷◌, below_more, rules}
 use Rattle.std.proofs.lemmas.Result.{err_from_is_err_and}
 use Rattle.dcx_frac.specs.Frac.{value}
 use Rattle.dcx_shape.specs.declared.shape.Sides.TheVariants.{Vector}
@@ -46,3 +46,9 @@ returns-clause-ok c =
     let end : c.loop-entry.entry ≡ size = omega (arith, c.loop-entry-test.false, c.loop-entry.auto.entry-end) in
     running_slopes_are size c.args.coefficients.now ws c.from_vec.result (λ k b. c.loop-entry.invariant.stops k (omega (arith, end)))
     (ap (map value) c.from_vec.ensures ∙ c.loop-entry.invariant.slopes ∙ ap (λ n. list_below n (λ e. running_weights ws e 0)) end)
+
+pub loop-entry-init : goal.loop-entry-init
+loop-entry-init c = search rules
+
+pub loop-entry-smaller : goal.loop-entry-smaller
+loop-entry-smaller c = search rules
