@@ -1,5 +1,5 @@
 -- One node of the pass: its call has its sides, its coefficients are the last, and those of the nodes before it are as many as before.
-use Rattle.std.proofs.Common.{◌≡◌, ℕ, suc, ◌+◌, ◌-◌, ◌<◌, ◌≤◌, arith, Bool, true, false, nat_lt, List, [], ◌∷◌, ◌++◌, map, length, take, drop, set, refl, sym, ap, ◌∙◌, subst, Option, Some, None, Result, Ok, Err, OnOk, inl, inr, ap₂, slice_get}
+use Rattle.std.proofs.Common.{◌≡◌, ℕ, suc, ◌+◌, ◌-◌, ◌<◌, ◌≤◌, arith, Bool, true, false, nat_lt, List, [], ◌∷◌, ◌++◌, map, length, take, drop, set, refl, sym, ap, ◌∙◌, subst, Option, Some, None, Result, Ok, Err, OnOk, IfErr, inl, inr, ap₂, slice_get}
 use Rattle.std.specs.Prelude.{option_map, unwrap_or}
 use Rattle.std.specs.Option.{IsSomeAnd}
 use Rattle.std.proofs.lemmas.Bool.{ltb-true, ltb-false}
@@ -57,6 +57,13 @@ same_Ok x y e = ap (unok x) e
 pub ok_fact : {A E P Q : Type 0} (r : Result A E) → (P → Q) → OnOk r P → OnOk r Q
 ok_fact (Ok x) f h = f h
 ok_fact (Err e) f h = h
+
+-- ---- what a call hands on is what its node does
+pub ok_as : (r : Result (Unit {0}) CollectStop) (old new : List Frac) (given asked : Result (List Share) CollectStop) → given ≡ asked → OnOk r (handed old given ≡ Ok new) → OnOk r (handed old asked ≡ Ok new)
+ok_as r old new given asked same h = subst (λ (s : Result (List Share) CollectStop). OnOk r (handed old s ≡ Ok new)) same h
+
+pub stop_as : (r : Result (Unit {0}) CollectStop) (old : List Frac) (given asked : Result (List Share) CollectStop) → given ≡ asked → IfErr r (IsOrMemory (handed old given)) → IfErr r (IsOrMemory (handed old asked))
+stop_as r old given asked same h = subst (λ (s : Result (List Share) CollectStop). IfErr r (IsOrMemory (handed old s))) same h
 
 -- ---- how many coefficients there are
 set_count : (xs : List Frac) (p : ℕ) (x : Frac) → length (set xs p x) ≡ length xs
