@@ -2,6 +2,7 @@
 pub mod Pivoting
 pub mod Installing
 pub mod Ratios
+pub mod Entries
 pub mod Repairing
 pub mod Costs
 pub mod Listed

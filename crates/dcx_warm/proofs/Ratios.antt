@@ -1,5 +1,6 @@
 -- Ratios of magnitudes are in order.
-use Rattle.std.proofs.Common.{ℕ, ◌+◌, ◌*◌, ◌<◌, ◌≤◌, ℤ, pos, negsuc, ◌*ℤ◌, ◌<ℤ◌, ◌≤ℤ◌, neg_ℤ, unsigned_abs, arith, refl, ◌⊎◌, inl, inr}
+use Rattle.std.proofs.Common.{ℕ, ◌+◌, ◌*◌, ◌<◌, ◌≤◌, ℤ, pos, negsuc, ◌*ℤ◌, ◌<ℤ◌, ◌≤ℤ◌, neg_ℤ, unsigned_abs, arith, refl, ◌⊎◌, inl, inr, Option, Some, None}
+use borrow.Author.Count.{below_more}
 use Rattle.std.proofs.lemmas.Int.{ints}
 use Rattle.std.proofs.lemmas.Bool.{cases_lt}
 use Rattle.std.proofs.lemmas.Nat.{mul-le}
@@ -8,7 +9,7 @@ use Rattle.dcx_math.specs.Integers.{*ℤ-neg_ℤ_left}
 use Rattle.dcx_math.proofs.IntegerLaws.{*ℤ-nonpositive, unsigned_abs-*ℤ, unsigned_abs-of_nonnegative}
 use Rattle.dcx_tab.specs.Table.{Table, entry_at}
 use Rattle.dcx_simplex.specs.Whole.{objective_row}
-use Rattle.dcx_warm.specs.Dual.{MayEnter, ComesFirst, magnitude_at}
+use Rattle.dcx_warm.specs.Dual.{MayEnter, ComesFirst, IsBestColumn, magnitude_at}
 
 pub some_negative : (z : ℤ) → z <ℤ pos 0 → 0 < unsigned_abs z
 some_negative (pos n) h = absurd (omega (arith, ints, h))
@@ -50,6 +51,11 @@ first_trans t r c k j l x y h i =
 
 pub first_self : (t : Table) (r c : ℕ) → ComesFirst t r c c
 first_self t r c = inr (refl, omega arith)
+
+-- a column that may not enter leaves the best as it is
+pub best_kept : (t : Table) (r i : ℕ) (best : Option ℕ) → ¬ (MayEnter t r i) → IsBestColumn t r i best → IsBestColumn t r (i + 1) best
+best_kept t r i None none h = below_more (λ k. ¬ (MayEnter t r k)) i h none
+best_kept t r i (Some k) none h = (omega (arith, h.0), h.1, below_more (λ j. MayEnter t r j → ComesFirst t r k j) i h.2 (λ m. absurd (none m)))
 
 -- ---- signed products
 low_low : (a b : ℤ) → a ≤ℤ pos 0 → b ≤ℤ pos 0 → pos 0 ≤ℤ (a *ℤ b)
