@@ -6,7 +6,6 @@ use Rattle.dcx_syntax.specs.declared.tree.Signed.{Signed}
 use Rattle.dcx_syntax.specs.declared.tree.Added as code_added
 use Rattle.dcx_syntax.specs.declared.tree.Compared as code_compared
 use Rattle.dcx_syntax.specs.declared.tree.Expr as code_expr
-use Rattle.dcx_syntax.specs.declared.tree.Expr.{the_lemmas}
 use Rattle.dcx_syntax.specs.declared.tree.Factor as code_factor
 use Rattle.dcx_syntax.specs.declared.tree.Postfix as code_postfix
 use Rattle.dcx_syntax.specs.declared.tree.Primary.TheVariants as primaries
@@ -16,10 +15,11 @@ use Rattle.dcx_syntax.specs.declared.tree.Raised as code_raised
 use Rattle.dcx_syntax.specs.declared.tree.Scaled as code_scaled
 use Rattle.dcx_syntax.specs.declared.tree.Sum as code_sum
 use Rattle.dcx_syntax.specs.declared.tree.Term as code_term
-use Rattle.dcx_syntax.specs.Expressions.{Expr, expr, Compared, no_comparison, compared, Sum, sum, Added, no_addition, added, Term, term, Scaled, no_scaling, scaled, Factor, factor, Power, power_of, Raised, no_power, raised, exponent, Postfix, postfix, Trailers, no_trailer, attribute, call, indexed, Primary, name_at, Arg, Index, Step}
-use Rattle.dcx_syntax.specs.View.{chained, compared_view, added_view, scaled_view, raised_view, expr_view, sum_view, term_view, factor_view, power_view, postfix_view, primary_view, arg_layer, index_layer, primary_layer, step_layer, trailer_layer, added_layer, compared_layer, expr_layer, factor_layer, postfix_layer, power_layer, raised_layer, scaled_layer, sum_layer, term_layer}
+use Rattle.dcx_syntax.specs.Expressions.{Expr, expr, Compared, no_comparison, compared, Sum, sum, Added, no_addition, added, Term, term, Scaled, no_scaling, scaled, Factor, factor, Power, power_of, Raised, no_power, raised, Postfix, postfix, Trailers, no_trailer, attribute, call, indexed, Primary, name_at}
+use Rattle.dcx_syntax.specs.View.{chained, compared_view, added_view, scaled_view, raised_view, expr_view, postfix_view, primary_view}
 use Rattle.dcx_elab.specs.Statements.{only_postfix, is_just_name}
 use Rattle.dcx_elab.specs.View.{trailers_from}
+use Rattle.dcx_elab.proofs.Layers.{expr-seen, compared-seen, sum-seen, added-seen, term-seen, scaled-seen, factor-seen, power-seen, raised-seen}
 use Rattle.dcx_elab.proofs.Seen.{is_none, some-at, postfix-seen, name-seen}
 
 -- ---- what stands beside a postfix
@@ -45,27 +45,19 @@ ends_raised (raised p x rest) = false
 
 compared-ends : (xs : List code_compared.Compared) → ends_compared (chained (map compared_view xs) no_comparison) ≡ has_none xs
 compared-ends [] = refl
-compared-ends (x ∷ xs) =
-    let o = code_compared.out-Compared x in
-    let seen : compared_view x ≡ (λ r. compared o.comparison o.place (sum_view o.sum) r) = search the_lemmas in ap (λ (f : Compared → Compared). ends_compared (f (chained (map compared_view xs) no_comparison))) seen
+compared-ends (x ∷ xs) = ap (λ (f : Compared → Compared). ends_compared (f (chained (map compared_view xs) no_comparison))) (compared-seen x)
 
 added-ends : (xs : List code_added.Added) → ends_added (chained (map added_view xs) no_addition) ≡ has_none xs
 added-ends [] = refl
-added-ends (x ∷ xs) =
-    let o = code_added.out-Added x in
-    let seen : added_view x ≡ (λ r. added o.sign o.place (term_view o.term) r) = search the_lemmas in ap (λ (f : Added → Added). ends_added (f (chained (map added_view xs) no_addition))) seen
+added-ends (x ∷ xs) = ap (λ (f : Added → Added). ends_added (f (chained (map added_view xs) no_addition))) (added-seen x)
 
 scaled-ends : (xs : List code_scaled.Scaled) → ends_scaled (chained (map scaled_view xs) no_scaling) ≡ has_none xs
 scaled-ends [] = refl
-scaled-ends (x ∷ xs) =
-    let o = code_scaled.out-Scaled x in
-    let seen : scaled_view x ≡ (λ r. scaled o.scaling o.place (factor_view o.factor) r) = search the_lemmas in ap (λ (f : Scaled → Scaled). ends_scaled (f (chained (map scaled_view xs) no_scaling))) seen
+scaled-ends (x ∷ xs) = ap (λ (f : Scaled → Scaled). ends_scaled (f (chained (map scaled_view xs) no_scaling))) (scaled-seen x)
 
 raised-ends : (xs : List code_raised.Raised) → ends_raised (chained (map raised_view xs) no_power) ≡ has_none xs
 raised-ends [] = refl
-raised-ends (x ∷ xs) =
-    let o = code_raised.out-Raised x in
-    let seen : raised_view x ≡ (λ r. raised o.place (exponent o.signs.items (postfix_view o.postfix)) r) = search the_lemmas in ap (λ (f : Raised → Raised). ends_raised (f (chained (map raised_view xs) no_power))) seen
+raised-ends (x ∷ xs) = ap (λ (f : Raised → Raised). ends_raised (f (chained (map raised_view xs) no_power))) (raised-seen x)
 
 -- ---- an expression with its first postfix and what stands beside it
 abbrev whole : Postfix → List Signed → Raised → Scaled → Added → Compared → Expr
@@ -119,28 +111,6 @@ added_of e = (code_sum.out-Sum (sum_of e)).rest
 
 abbrev pub compared_of : code_expr.Expr → Vec code_compared.Compared Global
 compared_of e = (code_expr.out-Expr e).rest
-
-expr-seen : (x : code_expr.Expr) → expr_view x ≡ expr (sum_view (code_expr.out-Expr x).first) (chained (map compared_view (code_expr.out-Expr x).rest.items) no_comparison)
-expr-seen x =
-    sym (ap expr_view (code_expr.roll-out-Expr x))
-    ∙ code_expr.fold-roll-Expr Arg Index Primary Step (Trailers → Trailers) (Added → Added) (Compared → Compared) Expr Factor Postfix Power (Raised → Raised) (Scaled → Scaled) Sum Term
-    arg_layer index_layer primary_layer step_layer trailer_layer added_layer compared_layer expr_layer factor_layer postfix_layer power_layer raised_layer scaled_layer sum_layer term_layer (code_expr.out-Expr x)
-
-sum-seen : (x : code_sum.Sum) → sum_view x ≡ sum (term_view (code_sum.out-Sum x).first) (chained (map added_view (code_sum.out-Sum x).rest.items) no_addition)
-sum-seen x =
-    let rolled : sum_view (code_sum.roll-Sum (code_sum.out-Sum x)) ≡ sum (term_view (code_sum.out-Sum x).first) (chained (map added_view (code_sum.out-Sum x).rest.items) no_addition) = search the_lemmas in sym (ap sum_view (code_sum.roll-out-Sum x)) ∙ rolled
-
-term-seen : (x : code_term.Term) → term_view x ≡ term (factor_view (code_term.out-Term x).first) (chained (map scaled_view (code_term.out-Term x).rest.items) no_scaling)
-term-seen x =
-    let rolled : term_view (code_term.roll-Term (code_term.out-Term x)) ≡ term (factor_view (code_term.out-Term x).first) (chained (map scaled_view (code_term.out-Term x).rest.items) no_scaling) = search the_lemmas in sym (ap term_view (code_term.roll-out-Term x)) ∙ rolled
-
-factor-seen : (x : code_factor.Factor) → factor_view x ≡ factor (code_factor.out-Factor x).signs.items (power_view (code_factor.out-Factor x).power)
-factor-seen x =
-    let rolled : factor_view (code_factor.roll-Factor (code_factor.out-Factor x)) ≡ factor (code_factor.out-Factor x).signs.items (power_view (code_factor.out-Factor x).power) = search the_lemmas in sym (ap factor_view (code_factor.roll-out-Factor x)) ∙ rolled
-
-power-seen : (x : code_power.Power) → power_view x ≡ power_of (postfix_view (code_power.out-Power x).first) (chained (map raised_view (code_power.out-Power x).rest.items) no_power)
-power-seen x =
-    let rolled : power_view (code_power.roll-Power (code_power.out-Power x)) ≡ power_of (postfix_view (code_power.out-Power x).first) (chained (map raised_view (code_power.out-Power x).rest.items) no_power) = search the_lemmas in sym (ap power_view (code_power.roll-out-Power x)) ∙ rolled
 
 whole-seen : (e : code_expr.Expr) → expr_view e ≡ whole (postfix_view (postfix_of e)) (signs_of e) (chained (map raised_view (raised_of e).items) no_power) (chained (map scaled_view (scaled_of e).items) no_scaling) (chained (map added_view (added_of e).items) no_addition) (chained (map compared_view (compared_of e).items) no_comparison)
 whole-seen e =

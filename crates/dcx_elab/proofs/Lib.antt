@@ -1,5 +1,6 @@
 -- Worked scripts, laws of the meaning, and what the code carries from turn to turn.
 pub mod Seen
+pub mod Layers
 pub mod Chains
 pub mod Loops
 pub mod Calling

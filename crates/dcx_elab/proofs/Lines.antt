@@ -8,10 +8,10 @@ use Rattle.dcx_point.specs.Pairs.{same_name}
 use Rattle.dcx_syntax.specs.declared.tree.Named.{Named}
 use Rattle.dcx_syntax.specs.declared.tree.Expr as code_expr
 use Rattle.dcx_syntax.specs.declared.tree.Line as code_line
-use Rattle.dcx_syntax.specs.declared.tree.Line.{the_lemmas}
+use Rattle.dcx_syntax.specs.declared.tree.Line.TheOpen.{Line-F}
 use Rattle.dcx_syntax.specs.declared.tree.Line.TheVariants as forms
 use Rattle.dcx_syntax.specs.Expressions.{Expr}
-use Rattle.dcx_syntax.specs.View.{expr_view, line_view, lines_of}
+use Rattle.dcx_syntax.specs.View.{expr_view, line_layer, line_view, lines_of}
 use Rattle.dcx_syntax.specs.Statements.{Line, assign, add_to, set_value, repeats, Lines, lines}
 use Rattle.dcx_kinds.specs.declared.fault.ElabFault.{ElabFault}
 use Rattle.dcx_kinds.specs.Values.{Value, Values, nothing, list as list_value, State, Act, and_then, ◌>>=◌, ◌>>◌, bind, joined, step}
@@ -25,18 +25,17 @@ use Rattle.dcx_elab.proofs.Names.{bound-twice}
 
 -- ---- the forms of a line
 pub line-assign : (l : code_line.Line) (n : Named) (x : code_expr.Expr) → l ≡ forms.Assign n x → line_view l ≡ assign n (expr_view x)
-line-assign l n x e = let seen : line_view (forms.Assign n x) ≡ assign n (expr_view x) = search the_lemmas in ap line_view e ∙ seen
+line-assign l n x e = ap line_view e ∙ ap line_view (sym (forms.rolls-Assign n x)) ∙ code_line.fold-roll-Line Line line_layer (Line-F.Assign n x)
 
 pub line-add_to : (l : code_line.Line) (n : Named) (p : Place) (x : code_expr.Expr) → l ≡ forms.AddTo n p x → line_view l ≡ add_to n p (expr_view x)
-line-add_to l n p x e = let seen : line_view (forms.AddTo n p x) ≡ add_to n p (expr_view x) = search the_lemmas in ap line_view e ∙ seen
+line-add_to l n p x e = ap line_view e ∙ ap line_view (sym (forms.rolls-AddTo n p x)) ∙ code_line.fold-roll-Line Line line_layer (Line-F.AddTo n p x)
 
 pub line-set_value : (l : code_line.Line) (n : Named) (p : Place) (x : code_expr.Expr) → l ≡ forms.SetValue n p x → line_view l ≡ set_value n p (expr_view x)
-line-set_value l n p x e = let seen : line_view (forms.SetValue n p x) ≡ set_value n p (expr_view x) = search the_lemmas in ap line_view e ∙ seen
+line-set_value l n p x e = ap line_view e ∙ ap line_view (sym (forms.rolls-SetValue n p x)) ∙ code_line.fold-roll-Line Line line_layer (Line-F.SetValue n p x)
 
 pub line-repeats : (l : code_line.Line) (p : Place) (n : Named) (x : code_expr.Expr) (first : Box code_line.Line Global) (rest : Vec code_line.Line Global) → l ≡ forms.For p n x first rest
     → line_view l ≡ repeats p n (expr_view x) (line_view first.value) (lines_of (map line_view rest.items))
-line-repeats l p n x first rest e =
-    let seen : line_view (forms.For p n x first rest) ≡ repeats p n (expr_view x) (line_view first.value) (lines_of (map line_view rest.items)) = search the_lemmas in ap line_view e ∙ seen
+line-repeats l p n x first rest e = ap line_view e ∙ ap line_view (sym (forms.rolls-For p n x first rest)) ∙ code_line.fold-roll-Line Line line_layer (Line-F.For p n x first rest)
 
 -- the turns of a `for`, once it is known through what it goes
 pub repeats-is : (p : Place) (n : Named) (x : Expr) (first : Line) (rest : Lines) (v : Value) (vs : List Value) (s t u : State) → step p s ≡ Ok (tt, t) → expr_means x t ≡ Ok (v, u) → items_through p v u ≡ Ok (vs, u)
