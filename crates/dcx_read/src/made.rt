@@ -10,6 +10,15 @@ use dcx_shape::{Bytes, Place};
 use dcx_syntax::*;
 use std::alloc::{AllocError, Global};
 
+/// The value in a box, and what is kept beside it.
+fn boxed<T: Drop, U: Drop>(alloc: Global, value: T, kept: U) -> Result<(Box<T>, U), AllocError>
+    ensures value { IfOk result (λ x. x.0.value ≡ value) }
+    ensures kept { IfOk result (λ x. x.1 ≡ kept) }
+{
+    let boxed = Box::new(alloc, value)?;
+    Ok((boxed, kept))
+}
+
 pub fn expr_of(first: Sum, rest: Vec<Compared>) -> Expr
     ensures { expr_view result ≡ expr (sum_view first) (chained (map compared_view rest.items) no_comparison) }
 {
@@ -242,12 +251,14 @@ pub fn comprehension_of(
 ) -> Result<Primary, AllocError>
     ensures { IfOk result (λ x. primary_view x ≡ comprehension place (expr_view element) for_place name (expr_view source)) }
 {
+    let (element, (name, source)) = boxed(alloc, element, (name, source))?;
+    let (source, (name, element)) = boxed(alloc, source, (name, element))?;
     Ok(Primary::Comprehension {
         place,
-        element: Box::new(alloc, element)?,
+        element,
         for_place,
         name,
-        source: Box::new(alloc, source)?,
+        source,
     })
 }
 
@@ -300,11 +311,12 @@ pub fn for_of(
 ) -> Result<Line, AllocError>
     ensures { IfOk result (λ x. line_view x ≡ repeats place name (expr_view source) (line_view first) (lines_of (map line_view rest.items))) }
 {
+    let (first, (name, source, rest)) = boxed(alloc, first, (name, source, rest))?;
     Ok(Line::For {
         place,
         name,
         source,
-        first: Box::new(alloc, first)?,
+        first,
         rest,
     })
 }
