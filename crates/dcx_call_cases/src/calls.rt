@@ -5,33 +5,29 @@ use dcx_affine::{
 };
 use dcx_atom::Axis;
 use dcx_call::{AtomCall, Attribute, Call, LinearCall, Parameter, Variable, Whole};
-use dcx_case_lines::{CaseFault, array, count, name, shape, words};
+use dcx_case_lines::{CaseFault, array, count, name, shape};
 use dcx_elem::{Abs, Maximum, Minimum, Neg, Pos};
 use dcx_fold::{CumMax, MaxOf, MinOf, Norm1, NormInf, SumLargest, SumSmallest};
 use dcx_shape::{Places, Shape};
 use std::alloc::Global;
 
-/// Along which side; `None` where words don't say.
-fn axis(words: &[&str]) -> Option<Axis> {
-    match *words {
-        [] => Some(Axis::All),
-        ["0"] => Some(Axis::Zero),
-        ["1"] => Some(Axis::One),
+/// A word and what stands behind it, nothing where the word is alone.
+fn word_and_rest(text: &str) -> (&str, &str) {
+    text.split_once(' ').unwrap_or((text, ""))
+}
+
+/// Along which side; `None` where a text doesn't say.
+fn axis(text: &str) -> Option<Axis> {
+    match text {
+        "" => Some(Axis::All),
+        "0" => Some(Axis::Zero),
+        "1" => Some(Axis::One),
         _ => None,
     }
 }
 
-/// The only number of words.
-fn only(words: &[&str]) -> Option<u32> {
-    match *words {
-        [word] => count(word).ok(),
-        _ => None,
-    }
-}
-
-/// The call of so many, or of the so many greatest or least entries; `None` where words don't say one.
-fn counting_atom(word: &str, rest: &[&str]) -> Option<AtomCall> {
-    let count = only(rest)?;
+/// The call of so many, or of the so many greatest or least entries; `None` where there is none.
+fn counting_atom(word: &str, count: u32) -> Option<AtomCall> {
     match word {
         "maximum" => Some(AtomCall::Maximum(Maximum { count })),
         "minimum" => Some(AtomCall::Minimum(Minimum { count })),
@@ -41,9 +37,8 @@ fn counting_atom(word: &str, rest: &[&str]) -> Option<AtomCall> {
     }
 }
 
-/// The call along an axis; `None` where words don't say one.
-fn folding_atom(word: &str, rest: &[&str]) -> Option<AtomCall> {
-    let axis = axis(rest)?;
+/// The call along an axis; `None` where there is none.
+fn folding_atom(word: &str, axis: Axis) -> Option<AtomCall> {
     match word {
         "max" => Some(AtomCall::MaxOf(MaxOf { axis })),
         "min" => Some(AtomCall::MinOf(MinOf { axis })),
@@ -53,95 +48,107 @@ fn folding_atom(word: &str, rest: &[&str]) -> Option<AtomCall> {
     }
 }
 
-/// The nonlinear call of words, as `max 0` along the rows and `max` of all entries; `None` where there is none.
-fn atom_of(words: &[&str]) -> Option<AtomCall> {
-    match *words {
-        ["abs"] => Some(AtomCall::Abs(Abs)),
-        ["pos"] => Some(AtomCall::Pos(Pos)),
-        ["neg"] => Some(AtomCall::Neg(Neg)),
-        ["cummax"] => Some(AtomCall::CumMax(CumMax)),
-        [word, ref rest @ ..] => match folding_atom(word, rest) {
-            Some(atom) => Some(atom),
-            None => counting_atom(word, rest),
-        },
-        [] => None,
+/// The call of a word and an axis or a count, as `max 0` along the rows and `max` of all entries; `None` where there is none.
+fn made_atom(word: &str, rest: &str) -> Option<AtomCall> {
+    if let Some(axis) = axis(rest) {
+        if let Some(atom) = folding_atom(word, axis) {
+            return Some(atom);
+        }
+    }
+    match count(rest) {
+        Ok(count) => counting_atom(word, count),
+        Err(_) => None,
+    }
+}
+
+/// The nonlinear call of a text; `None` where there is none.
+fn atom_of(text: &str) -> Option<AtomCall> {
+    match text {
+        "abs" => Some(AtomCall::Abs(Abs)),
+        "pos" => Some(AtomCall::Pos(Pos)),
+        "neg" => Some(AtomCall::Neg(Neg)),
+        "cummax" => Some(AtomCall::CumMax(CumMax)),
+        _ => {
+            let (word, rest) = word_and_rest(text);
+            made_atom(word, rest)
+        }
     }
 }
 
 /// The nonlinear call of a text.
-pub(crate) fn atom(alloc: Global, text: &str) -> Result<AtomCall, CaseFault> {
-    match atom_of(&words(alloc, text)?) {
-        Some(atom) => Ok(atom),
-        None => Err(CaseFault::Unreadable),
-    }
+pub(crate) fn atom(text: &str) -> Result<AtomCall, CaseFault> {
+    atom_of(text).ok_or(CaseFault::Unreadable)
 }
 
 /// The entry of a scalar, at its only place.
-fn only_entry(alloc: Global) -> Result<Index, CaseFault> {
+fn only_entry(alloc: Global) -> Result<LinearCall, CaseFault> {
     let places = vec![in alloc; 0u32]?;
-    Ok(Index {
+    Ok(LinearCall::Index(Index {
         from: Shape::scalar(),
         to: Shape::scalar(),
         places: Places::from_vec(places),
-    })
+    }))
 }
 
-/// The same entries in another shape, row by row or column by column; `None` where words don't say one.
-fn reshape(words: &[&str]) -> Option<Reshape> {
-    let (to, by_columns) = match *words {
-        [to, "columns"] => (to, true),
-        [to, "rows"] => (to, false),
-        _ => return None,
-    };
-    let to = shape(to).ok()?;
-    Some(Reshape { to, by_columns })
+/// Whether entries are read column by column, or else row by row.
+pub(crate) fn by_columns(order: &str) -> Result<bool, CaseFault> {
+    match order {
+        "columns" => Ok(true),
+        "rows" => Ok(false),
+        _ => Err(CaseFault::Unreadable),
+    }
 }
 
-/// The array broadcast to a shape; `None` where words don't say one.
-fn promote(words: &[&str]) -> Option<Promote> {
-    match *words {
-        [to] => Some(Promote {
-            to: shape(to).ok()?,
-        }),
-        _ => None,
+/// The same entries in another shape, row by row or column by column.
+fn reshape(text: &str) -> Result<LinearCall, CaseFault> {
+    let (to, order) = word_and_rest(text);
+    let (to, by_columns) = (shape(to)?, by_columns(order)?);
+    Ok(LinearCall::Reshape(Reshape { to, by_columns }))
+}
+
+/// The array broadcast to a shape.
+fn promote(text: &str) -> Result<LinearCall, CaseFault> {
+    let to = shape(text)?;
+    Ok(LinearCall::Promote(Promote { to }))
+}
+
+/// The call along an axis.
+fn summing(word: &str, axis: Axis) -> Result<LinearCall, CaseFault> {
+    match word {
+        "sum" => Ok(LinearCall::Sum(Sum { axis })),
+        "mean" => Ok(LinearCall::Mean(Mean { axis })),
+        "cumsum" => Ok(LinearCall::CumSum(CumSum { axis })),
+        _ => Err(CaseFault::Unreadable),
     }
 }
 
 /// The call along an axis, or into another shape.
-fn shaping(word: &str, rest: &[&str]) -> Option<LinearCall> {
+fn shaping(text: &str) -> Result<LinearCall, CaseFault> {
+    let (word, rest) = word_and_rest(text);
     match word {
-        "sum" => Some(LinearCall::Sum(Sum { axis: axis(rest)? })),
-        "mean" => Some(LinearCall::Mean(Mean { axis: axis(rest)? })),
-        "cumsum" => Some(LinearCall::CumSum(CumSum { axis: axis(rest)? })),
-        "reshape" => Some(LinearCall::Reshape(reshape(rest)?)),
-        "promote" => Some(LinearCall::Promote(promote(rest)?)),
-        _ => None,
-    }
-}
-
-/// The linear call of words.
-fn linear_of(alloc: Global, words: &[&str]) -> Result<LinearCall, CaseFault> {
-    match *words {
-        ["+"] => Ok(LinearCall::Plus(Plus)),
-        ["-"] => Ok(LinearCall::Minus(Minus)),
-        ["diff"] => Ok(LinearCall::Diff(Diff)),
-        ["trace"] => Ok(LinearCall::Trace(Trace)),
-        ["diag"] => Ok(LinearCall::Diag(Diag)),
-        ["entry"] => Ok(LinearCall::Index(only_entry(alloc)?)),
-        ["transpose"] => Ok(LinearCall::Transpose(Transpose)),
-        ["hstack"] => Ok(LinearCall::HStack(HStack)),
-        ["vstack"] => Ok(LinearCall::VStack(VStack)),
-        [word, ref rest @ ..] => match shaping(word, rest) {
-            Some(call) => Ok(call),
+        "reshape" => reshape(rest),
+        "promote" => promote(rest),
+        _ => match axis(rest) {
+            Some(axis) => summing(word, axis),
             None => Err(CaseFault::Unreadable),
         },
-        [] => Err(CaseFault::Unreadable),
     }
 }
 
 /// The linear call of a text.
 pub(crate) fn linear(alloc: Global, text: &str) -> Result<LinearCall, CaseFault> {
-    linear_of(alloc, &words(alloc, text)?)
+    match text {
+        "+" => Ok(LinearCall::Plus(Plus)),
+        "-" => Ok(LinearCall::Minus(Minus)),
+        "diff" => Ok(LinearCall::Diff(Diff)),
+        "trace" => Ok(LinearCall::Trace(Trace)),
+        "diag" => Ok(LinearCall::Diag(Diag)),
+        "entry" => only_entry(alloc),
+        "transpose" => Ok(LinearCall::Transpose(Transpose)),
+        "hstack" => Ok(LinearCall::HStack(HStack)),
+        "vstack" => Ok(LinearCall::VStack(VStack)),
+        _ => shaping(text),
+    }
 }
 
 /// The product or the quotient of a word, `None` where there is none.
@@ -155,7 +162,7 @@ pub(crate) fn pairing(word: &str) -> Option<Pairing> {
 }
 
 /// The attribute of a word.
-pub(crate) fn attribute(word: &str) -> Result<Attribute, CaseFault> {
+fn attribute(word: &str) -> Result<Attribute, CaseFault> {
     match word {
         "free" => Ok(Attribute::Free),
         "nonneg" => Ok(Attribute::Nonneg),
@@ -167,7 +174,7 @@ pub(crate) fn attribute(word: &str) -> Result<Attribute, CaseFault> {
 }
 
 /// Which entries are whole, by a word.
-pub(crate) fn whole(word: &str) -> Result<Whole, CaseFault> {
+fn whole(word: &str) -> Result<Whole, CaseFault> {
     match word {
         "real" => Ok(Whole::Not),
         "integer" => Ok(Whole::Integer),
@@ -176,19 +183,32 @@ pub(crate) fn whole(word: &str) -> Result<Whole, CaseFault> {
     }
 }
 
-/// A scalar variable.
-fn variable(alloc: Global, text: &str, kind: &str, entries: &str) -> Result<Call, CaseFault> {
+/// The variable of a name and a shape, of which this is demanded: `nonneg integer`.
+pub(crate) fn variable(
+    alloc: Global,
+    text: &str,
+    demands: &str,
+    shape: Shape,
+) -> Result<Variable, CaseFault> {
+    let (kind, entries) = word_and_rest(demands);
     let (attribute, whole) = (attribute(kind)?, whole(entries)?);
-    Ok(Call::Variable(Variable {
+    Ok(Variable {
         name: name(alloc, text)?,
-        shape: Shape::scalar(),
+        shape,
         attribute,
         whole,
-    }))
+    })
+}
+
+/// A scalar variable.
+fn scalar_variable(alloc: Global, text: &str) -> Result<Call, CaseFault> {
+    let (text, demands) = word_and_rest(text);
+    Ok(Call::Variable(variable(alloc, text, demands, Shape::scalar())?))
 }
 
 /// A scalar parameter.
-fn parameter(alloc: Global, text: &str, kind: &str) -> Result<Call, CaseFault> {
+fn scalar_parameter(alloc: Global, text: &str) -> Result<Call, CaseFault> {
+    let (text, kind) = word_and_rest(text);
     let attribute = attribute(kind)?;
     Ok(Call::Parameter(Parameter {
         name: name(alloc, text)?,
@@ -197,32 +217,23 @@ fn parameter(alloc: Global, text: &str, kind: &str) -> Result<Call, CaseFault> {
     }))
 }
 
-/// The call of words that is no leaf.
-fn inner_of(alloc: Global, words: &[&str]) -> Result<Call, CaseFault> {
-    match *words {
-        ["*"] => Ok(Call::Pairing(Pairing::Times)),
-        ["@"] => Ok(Call::Pairing(Pairing::MatTimes)),
-        ["/"] => Ok(Call::Pairing(Pairing::Over)),
-        _ => match atom_of(words) {
-            Some(atom) => Ok(Call::Atom(atom)),
-            None => Ok(Call::Linear(linear_of(alloc, words)?)),
-        },
+/// The call of a text that is no leaf.
+fn inner(alloc: Global, text: &str) -> Result<Call, CaseFault> {
+    if let Some(pairing) = pairing(text) {
+        return Ok(Call::Pairing(pairing));
     }
-}
-
-/// The call of words.
-fn call_of(alloc: Global, words: &[&str]) -> Result<Call, CaseFault> {
-    match *words {
-        ["variable", text, kind, entries] => variable(alloc, text, kind, entries),
-        ["parameter", text, kind] => parameter(alloc, text, kind),
-        _ => inner_of(alloc, words),
+    match atom_of(text) {
+        Some(atom) => Ok(Call::Atom(atom)),
+        None => Ok(Call::Linear(linear(alloc, text)?)),
     }
 }
 
 /// Any call of a text: a leaf, as `variable x free real`, `parameter p nonneg` or `constant (2) 1 0`, or another.
 pub(crate) fn call(alloc: Global, text: &str) -> Result<Call, CaseFault> {
-    match text.strip_prefix("constant ") {
-        Some(numbers) => Ok(Call::Constant(array(alloc, numbers)?)),
-        None => call_of(alloc, &words(alloc, text)?),
+    match text.split_once(' ') {
+        Some(("constant", rest)) => Ok(Call::Constant(array(alloc, rest)?)),
+        Some(("variable", rest)) => scalar_variable(alloc, rest),
+        Some(("parameter", rest)) => scalar_parameter(alloc, rest),
+        _ => inner(alloc, text),
     }
 }

@@ -1,58 +1,44 @@
 //! Fractions in lowest terms, common divisors, lists, and conditions of slopes on fractions.
+use crate::parts::{put_shown, put_stop, put_truth, put_word};
 use dcx_atom::{SlopeStop, check_equal, check_weights, is_equal};
-use dcx_case_lines::{CaseFault, Cases, Number, Numbers, count, fraction, words};
+use dcx_case_lines::{CaseFault, Numbers, count, fraction, numbers};
 use dcx_frac::{Frac, Fracs, gcd};
-use std::alloc::{AllocError, Global};
+use std::alloc::Global;
 
 /// `lowest 6 -4 => -3 2`; `gcd 12 18`; `is zero 0` and `is 1 == 2`; `list 0 1` as it is read, and then taken apart; `equal 2 1 3` for
 /// entry 2, and `weights 1 1 -1` for entry 1.
-pub(crate) struct Fractions;
-
-impl Cases for Fractions {
-    fn answer(&self, alloc: Global, parts: &[&str], out: &mut String) -> Result<(), CaseFault> {
-        match *parts {
-            [text] => {
-                let words = words(alloc, text)?;
-                told(alloc, &words, out)
-            }
-            _ => Err(CaseFault::Unreadable),
-        }
-    }
-}
-
-/// What is asked of fractions, as many as there are.
-fn told(alloc: Global, words: &[&str], out: &mut String) -> Result<(), CaseFault> {
-    match *words {
-        ["list", ref items @ ..] => put_list(out, fractions_of(alloc, items)?),
-        ["weights", entry, ref weights @ ..] => {
-            put_weighed(out, count(entry)?, &fractions_of(alloc, weights)?)
-        }
-        _ => few_told(words, out),
-    }
-}
-
-/// What is asked of one fraction or two, or of the integers that form one.
-fn few_told(words: &[&str], out: &mut String) -> Result<(), CaseFault> {
-    match *words {
-        ["lowest", num, den] => put_lowest(out, whole(num)?, whole(den)?),
-        ["gcd", a, b] => put_divisor(out, size(a)?, size(b)?),
-        ["is", "zero", word] => put_truth(out, fraction(word)?.is_zero()),
-        ["is", a, "==", b] => put_truth(out, is_equal(&fraction(a)?, &fraction(b)?)),
-        ["equal", entry, a, b] => {
-            let (entry, a, b) = (count(entry)?, fraction(a)?, fraction(b)?);
-            put_checked(out, check_equal(entry, a, b))
-        }
+pub(crate) fn put_fractions(
+    alloc: Global,
+    first: &str,
+    rest: &[&str],
+    out: &mut String,
+) -> Result<(), CaseFault> {
+    match (first.split_once(' '), rest) {
+        (Some(("list", items)), []) => put_list(out, numbers(alloc, items)?),
+        (Some((asked, text)), []) => match text.split_once(' ') {
+            Some((a, b)) => put_asked(alloc, asked, a, b, out),
+            None => Err(CaseFault::Unreadable),
+        },
         _ => Err(CaseFault::Unreadable),
     }
 }
 
-/// The fractions of words.
-fn fractions_of(alloc: Global, words: &[&str]) -> Result<Vec<Frac>, CaseFault> {
-    let mut fractions = Vec::new(alloc);
-    for word in words {
-        fractions.push(fraction(*word)?)?;
+/// Writes what is asked of the number that one word says and the numbers behind it.
+fn put_asked(
+    alloc: Global,
+    asked: &str,
+    a: &str,
+    b: &str,
+    out: &mut String,
+) -> Result<(), CaseFault> {
+    match asked {
+        "lowest" => put_lowest(out, a, b),
+        "gcd" => put_divisor(out, a, b),
+        "is" => put_is(out, a, b),
+        "equal" => put_equal(out, a, b),
+        "weights" => put_weighed(alloc, a, b, out),
+        _ => Err(CaseFault::Unreadable),
     }
-    Ok(fractions)
 }
 
 /// A whole number of 128 bits.
@@ -71,25 +57,37 @@ fn size(word: &str) -> Result<u128, CaseFault> {
     }
 }
 
-fn put_truth(out: &mut String, holds: bool) -> Result<(), CaseFault> {
-    Ok(out.push_str(if holds { "yes" } else { "no" })?)
+/// The fraction of two whole numbers, in lowest terms.
+fn lowest(num: &str, den: &str) -> Result<Option<Frac>, CaseFault> {
+    Ok(Frac::of(whole(num)?, whole(den)?))
 }
 
-fn put_lowest(out: &mut String, num: i128, den: i128) -> Result<(), CaseFault> {
-    match Frac::of(num, den) {
+/// Writes the fraction of two whole numbers, in lowest terms.
+fn put_lowest(out: &mut String, num: &str, den: &str) -> Result<(), CaseFault> {
+    match lowest(num, den)? {
         Some(number) => Ok(write!(out, "{} {}", number.num(), number.den())?),
-        None => Ok(out.push_str("none")?),
+        None => put_word(out, "none"),
     }
 }
 
-fn put_divisor(out: &mut String, a: u128, b: u128) -> Result<(), CaseFault> {
-    Ok(write!(out, "{}", gcd(a, b))?)
+/// Writes the greatest common divisor of two numbers.
+fn put_divisor(out: &mut String, a: &str, b: &str) -> Result<(), CaseFault> {
+    put_shown(out, &gcd(size(a)?, size(b)?))
+}
+
+/// Writes whether a number is zero, as `zero 0`, or is another one, as `1 == 2`.
+fn put_is(out: &mut String, a: &str, b: &str) -> Result<(), CaseFault> {
+    match (a, b.strip_prefix("== ")) {
+        (a, Some(b)) => put_truth(out, is_equal(&fraction(a)?, &fraction(b)?)),
+        ("zero", None) => put_truth(out, fraction(b)?.is_zero()),
+        _ => Err(CaseFault::Unreadable),
+    }
 }
 
 /// Writes a list as it is read, and then taken apart.
 fn put_list(out: &mut String, items: Vec<Frac>) -> Result<(), CaseFault> {
     let list = Fracs::from_vec(items);
-    let read = write!(out, "{}, ", Numbers(list.as_slice()));
+    let read = put_shown(out, &Numbers(list.as_slice()));
     let items = list.into_vec();
     put_items(out, read, &items)
 }
@@ -97,33 +95,36 @@ fn put_list(out: &mut String, items: Vec<Frac>) -> Result<(), CaseFault> {
 /// Writes the items of a list, once it has been written as it is read.
 fn put_items(
     out: &mut String,
-    read: Result<(), AllocError>,
+    read: Result<(), CaseFault>,
     items: &[Frac],
 ) -> Result<(), CaseFault> {
     read?;
-    Ok(write!(out, "{}", Numbers(items))?)
+    Ok(write!(out, ", {}", Numbers(items))?)
 }
 
 /// Writes whether a condition holds, or both of its sides.
 fn put_checked(out: &mut String, checked: Result<(), SlopeStop>) -> Result<(), CaseFault> {
     match checked {
-        Ok(()) => Ok(out.push_str("holds")?),
-        Err(
-            SlopeStop::Refused {
-                entry,
-                stated,
-                found,
-            },
-        ) => Ok(write!(
-            out,
-            "entry {entry}: {} against {}",
-            Number(stated),
-            Number(found)
-        )?),
-        Err(stop) => Ok(write!(out, "{stop}")?),
+        Ok(()) => put_word(out, "holds"),
+        Err(stop) => put_stop(out, stop),
     }
 }
 
-fn put_weighed(out: &mut String, entry: u32, weights: &[Frac]) -> Result<(), CaseFault> {
-    put_checked(out, check_weights(entry, weights))
+/// Writes what comes of the condition that two numbers, as `1 3`, are equal.
+fn put_equal(out: &mut String, entry: &str, text: &str) -> Result<(), CaseFault> {
+    match text.split_once(' ') {
+        Some((a, b)) => put_checked(out, check_equal(count(entry)?, fraction(a)?, fraction(b)?)),
+        None => Err(CaseFault::Unreadable),
+    }
+}
+
+/// Writes what comes of the conditions that weights are at least 0.
+fn put_weighed(
+    alloc: Global,
+    entry: &str,
+    weights: &str,
+    out: &mut String,
+) -> Result<(), CaseFault> {
+    let entry = count(entry)?;
+    put_checked(out, check_weights(entry, &numbers(alloc, weights)?))
 }

@@ -7,6 +7,7 @@ mod demands;
 mod fractions;
 mod given;
 mod maps;
+mod parts;
 mod places;
 mod pushes;
 mod rows;
@@ -14,30 +15,71 @@ mod slopes;
 mod told;
 mod values;
 
-use crate::demands::Demands;
-use crate::fractions::Fractions;
-use crate::given::Given;
-use crate::maps::Maps;
-use crate::places::Taken;
-use crate::pushes::Pushes;
-use crate::rows::Rows;
-use crate::slopes::Slopes;
-use crate::told::Told;
-use crate::values::Values;
-use dcx_case_lines::Tally;
+use dcx_case_lines::{CaseFault, Cases, Tally};
+use std::alloc::Global;
 use std::io;
+
+/// What the cases of a file ask.
+#[derive(Clone, Copy)]
+enum Asked {
+    Told,
+    Values,
+    Rows,
+    Slopes,
+    Maps,
+    Given,
+    Demands,
+    Places,
+    Fractions,
+    Pushes,
+}
+
+impl Cases for Asked {
+    fn answer(&self, alloc: Global, parts: &[&str], out: &mut String) -> Result<(), CaseFault> {
+        match *parts {
+            [first, ref rest @ ..] => put_answer(*self, alloc, first, rest, out),
+            [] => Err(CaseFault::Unreadable),
+        }
+    }
+}
+
+/// Writes what comes of a case, by its first part and the rest.
+fn put_answer(
+    asked: Asked,
+    alloc: Global,
+    first: &str,
+    rest: &[&str],
+    out: &mut String,
+) -> Result<(), CaseFault> {
+    match asked {
+        Asked::Told => told::put_told(alloc, first, rest, out),
+        Asked::Values => values::put_values(alloc, first, rest, out),
+        Asked::Rows => rows::put_asked(alloc, first, rest, out),
+        Asked::Slopes => slopes::put_slopes(alloc, first, rest, out),
+        Asked::Maps => maps::put_maps(alloc, first, rest, out),
+        Asked::Given => given::put_given(alloc, first, rest, out),
+        Asked::Demands => demands::put_demands(alloc, first, rest, out),
+        Asked::Places => places::put_taken(alloc, first, rest, out),
+        Asked::Fractions => fractions::put_fractions(alloc, first, rest, out),
+        Asked::Pushes => pushes::put_pushes(alloc, first, rest, out),
+    }
+}
 
 fn main(rt: HostRuntime) -> io::Result<()> {
     let mut tally = Tally::new();
-    tally.run(&rt, &Told, "told.txt")?;
-    tally.run(&rt, &Values, "values.txt")?;
-    tally.run(&rt, &Rows, "rows.txt")?;
-    tally.run(&rt, &Slopes, "slopes.txt")?;
-    tally.run(&rt, &Maps, "maps.txt")?;
-    tally.run(&rt, &Given, "given.txt")?;
-    tally.run(&rt, &Demands, "demands.txt")?;
-    tally.run(&rt, &Taken, "places.txt")?;
-    tally.run(&rt, &Fractions, "fractions.txt")?;
-    tally.run(&rt, &Pushes, "pushes.txt")?;
+    for (asked, file) in [
+        (Asked::Told, "told.txt"),
+        (Asked::Values, "values.txt"),
+        (Asked::Rows, "rows.txt"),
+        (Asked::Slopes, "slopes.txt"),
+        (Asked::Maps, "maps.txt"),
+        (Asked::Given, "given.txt"),
+        (Asked::Demands, "demands.txt"),
+        (Asked::Places, "places.txt"),
+        (Asked::Fractions, "fractions.txt"),
+        (Asked::Pushes, "pushes.txt"),
+    ] {
+        tally.run(&rt, &asked, file)?;
+    }
     tally.print(&rt)
 }

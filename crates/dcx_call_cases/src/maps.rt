@@ -1,47 +1,61 @@
 //! The entries of which linear calls form theirs, and the pairs of products and quotients.
 use crate::calls::{linear, pairing};
-use crate::rows::put_coefficient;
-use crate::told::shapes;
+use crate::parts::{Written, all, put_all, put_coefficient, put_word};
 use dcx_affine::{EntryPairs, Pair, Pairing};
 use dcx_atom::{EntryTerms, LinearOp, Triple};
-use dcx_case_lines::{CaseFault, Cases, put_between};
+use dcx_case_lines::CaseFault;
 use dcx_shape::Shape;
 use std::alloc::{AllocError, Global};
 
 /// `CALL | SHAPE | .. => FORM; FORM` for a linear call, and `PAIRING | SHAPE | SHAPE => PAIRS; PAIRS` for a product or a
 /// quotient, each with a text for each result entry; `none` where there is no result.
-pub(crate) struct Maps;
-
-impl Cases for Maps {
-    fn answer(&self, alloc: Global, parts: &[&str], out: &mut String) -> Result<(), CaseFault> {
-        match *parts {
-            [first, ref args @ ..] => {
-                let shapes = shapes(alloc, args)?;
-                match pairing(first) {
-                    Some(pairing) => put_pairs(alloc, pairing, &shapes, out),
-                    None => put_map(alloc, &linear(alloc, first)?, &shapes, out),
-                }
-            }
-            [] => Err(CaseFault::Unreadable),
-        }
+pub(crate) fn put_maps(
+    alloc: Global,
+    first: &str,
+    rest: &[&str],
+    out: &mut String,
+) -> Result<(), CaseFault> {
+    let shapes = all(alloc, rest)?;
+    match pairing(first) {
+        Some(pairing) => put_pairs(alloc, pairing, &shapes, out),
+        None => put_linear(alloc, first, &shapes, out),
     }
 }
 
-fn put_form(out: &mut String, terms: &[Triple]) -> Result<(), AllocError> {
-    for (k, term) in terms.iter().enumerate() {
-        put_between(out, k, " ")?;
-        put_coefficient(out, term.coefficient)?;
-        write!(out, "x{}.{}", term.argument, term.entry)?;
+impl Written for Triple {
+    fn put(&self, out: &mut String) -> Result<(), AllocError> {
+        put_coefficient(out, self.coefficient)?;
+        write!(out, "x{}.{}", self.argument, self.entry)
     }
-    Ok(())
 }
 
-fn put_forms(out: &mut String, forms: &[EntryTerms]) -> Result<(), AllocError> {
-    for (k, form) in forms.iter().enumerate() {
-        put_between(out, k, "; ")?;
-        put_form(out, form.as_slice())?;
+impl Written for EntryTerms {
+    fn put(&self, out: &mut String) -> Result<(), AllocError> {
+        put_all(out, self.as_slice(), " ")
     }
-    Ok(())
+}
+
+impl Written for Pair {
+    fn put(&self, out: &mut String) -> Result<(), AllocError> {
+        write!(out, "{}:{}", self.left, self.right)
+    }
+}
+
+impl Written for EntryPairs {
+    fn put(&self, out: &mut String) -> Result<(), AllocError> {
+        put_all(out, self.as_slice(), " ")
+    }
+}
+
+/// Writes the forms of a linear call.
+fn put_linear(
+    alloc: Global,
+    text: &str,
+    args: &[Shape],
+    out: &mut String,
+) -> Result<(), CaseFault> {
+    let op = linear(alloc, text)?;
+    put_map(alloc, &op, args, out)
 }
 
 /// Writes the forms of any linear call.
@@ -51,28 +65,14 @@ fn put_map<L: LinearOp>(
     args: &[Shape],
     out: &mut String,
 ) -> Result<(), CaseFault> {
-    match op.shape(args) {
-        Some(_) => Ok(put_forms(out, op.map(alloc, args)?.as_slice())?),
-        None => Ok(out.push_str("none")?),
+    if op.shape(args).is_none() {
+        return put_word(out, "none");
     }
+    let forms = op.map(alloc, args)?;
+    Ok(put_all(out, forms.as_slice(), "; ")?)
 }
 
-fn put_products(out: &mut String, pairs: &[Pair]) -> Result<(), AllocError> {
-    for (k, pair) in pairs.iter().enumerate() {
-        put_between(out, k, " ")?;
-        write!(out, "{}:{}", pair.left, pair.right)?;
-    }
-    Ok(())
-}
-
-fn put_all_products(out: &mut String, entries: &[EntryPairs]) -> Result<(), AllocError> {
-    for (k, pairs) in entries.iter().enumerate() {
-        put_between(out, k, "; ")?;
-        put_products(out, pairs.as_slice())?;
-    }
-    Ok(())
-}
-
+/// Writes the pairs of a product or a quotient.
 fn put_pairs(
     alloc: Global,
     pairing: Pairing,
@@ -81,8 +81,11 @@ fn put_pairs(
 ) -> Result<(), CaseFault> {
     match *args {
         [a, b] => match pairing.shape(a, b) {
-            Some(_) => Ok(put_all_products(out, pairing.pairs(alloc, a, b)?.as_slice())?),
-            None => Ok(out.push_str("none")?),
+            Some(_) => {
+                let pairs = pairing.pairs(alloc, a, b)?;
+                Ok(put_all(out, pairs.as_slice(), "; ")?)
+            }
+            None => put_word(out, "none"),
         },
         _ => Err(CaseFault::Unreadable),
     }

@@ -1,27 +1,30 @@
 //! The places that slices and reshapes take.
-use dcx_case_lines::{CaseFault, Cases, count, shape, words};
-use dcx_shape::{Places, Shape, ShapeFault, Slice, reshape_map, slice_places};
-use std::alloc::Global;
+use crate::calls::by_columns;
+use crate::parts::put_shown;
+use dcx_case_lines::{CaseFault, count, shape, words};
+use dcx_shape::{Places, ShapeFault, Slice, reshape_map, slice_places};
+use std::alloc::{AllocError, Global};
 
 /// `slice 5 1:4:1` for the places of a slice of so many entries, and `reshape (2,3) (3,2) columns` for those of a reshape.
-pub(crate) struct Taken;
-
-impl Cases for Taken {
-    fn answer(&self, alloc: Global, parts: &[&str], out: &mut String) -> Result<(), CaseFault> {
-        match *parts {
-            [text] => {
-                let words = words(alloc, text)?;
-                told(alloc, &words, out)
-            }
-            _ => Err(CaseFault::Unreadable),
-        }
+pub(crate) fn put_taken(
+    alloc: Global,
+    first: &str,
+    rest: &[&str],
+    out: &mut String,
+) -> Result<(), CaseFault> {
+    let words = words(alloc, first)?;
+    if rest.is_empty() {
+        put_asked(alloc, &words, out)
+    } else {
+        Err(CaseFault::Unreadable)
     }
 }
 
-fn told(alloc: Global, words: &[&str], out: &mut String) -> Result<(), CaseFault> {
+/// Writes the places that words ask for.
+fn put_asked(alloc: Global, words: &[&str], out: &mut String) -> Result<(), CaseFault> {
     match *words {
-        ["slice", size, text] => sliced(alloc, count(size)?, slice(text)?, out),
-        ["reshape", from, to, order] => reshaped(alloc, shape(from)?, shape(to)?, order, out),
+        ["slice", size, text] => put_sliced(alloc, size, text, out),
+        ["reshape", from, to, order] => put_reshaped(alloc, from, to, order, out),
         _ => Err(CaseFault::Unreadable),
     }
 }
@@ -48,37 +51,40 @@ fn slice(text: &str) -> Result<Slice, CaseFault> {
     })
 }
 
+/// Writes places.
+fn put_at(out: &mut String, places: &[u32]) -> Result<(), AllocError> {
+    out.push_str("at")?;
+    for place in places {
+        write!(out, " {place}")?;
+    }
+    Ok(())
+}
+
 /// Writes places, or why there are none.
 fn put_places(out: &mut String, found: &Result<Places, ShapeFault>) -> Result<(), CaseFault> {
     match found {
-        Ok(places) => {
-            out.push_str("at")?;
-            for place in places.as_slice() {
-                write!(out, " {place}")?;
-            }
-            Ok(())
-        }
-        Err(fault) => Ok(write!(out, "{fault}")?),
+        Ok(places) => Ok(put_at(out, places.as_slice())?),
+        Err(fault) => put_shown(out, fault),
     }
 }
 
-fn sliced(alloc: Global, size: u32, slice: Slice, out: &mut String) -> Result<(), CaseFault> {
+/// Writes the places of a slice.
+fn put_sliced(alloc: Global, size: &str, text: &str, out: &mut String) -> Result<(), CaseFault> {
+    let (size, slice) = (count(size)?, slice(text)?);
     if slice.step == 0 {
         return Err(CaseFault::Unreadable);
     }
     put_places(out, &slice_places(alloc, size, slice))
 }
 
-fn reshaped(
+/// Writes the places of a reshape.
+fn put_reshaped(
     alloc: Global,
-    from: Shape,
-    to: Shape,
+    from: &str,
+    to: &str,
     order: &str,
     out: &mut String,
 ) -> Result<(), CaseFault> {
-    match order {
-        "columns" => put_places(out, &reshape_map(alloc, from, to, true)),
-        "rows" => put_places(out, &reshape_map(alloc, from, to, false)),
-        _ => Err(CaseFault::Unreadable),
-    }
+    let (from, to, by_columns) = (shape(from)?, shape(to)?, by_columns(order)?);
+    put_places(out, &reshape_map(alloc, from, to, by_columns))
 }

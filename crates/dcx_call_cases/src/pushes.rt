@@ -1,31 +1,59 @@
 //! What is pushed into a tree, node by node.
 use crate::calls::call;
+use crate::parts::{all, put_shown, put_word};
 use dcx_call::Call;
-use dcx_case_lines::{CaseFault, Cases, count, put_between, words};
+use dcx_case_lines::{CaseFault, words};
 use dcx_shape::Place;
 use dcx_tree::{NodeId, Tree, TreeFault};
 use std::alloc::Global;
 
 /// `CALL | CALL of 0 | CALL of 0 1 | .. => 0; 1; 1`, in which each push gives its node, or why there is none.
-pub(crate) struct Pushes;
-
-impl Cases for Pushes {
-    fn answer(&self, alloc: Global, parts: &[&str], out: &mut String) -> Result<(), CaseFault> {
-        put_all_pushed(alloc, &mut Tree::new(alloc), parts, out)
-    }
-}
-
-fn put_all_pushed(
+pub(crate) fn put_pushes(
     alloc: Global,
-    tree: &mut Tree,
-    parts: &[&str],
+    first: &str,
+    rest: &[&str],
     out: &mut String,
 ) -> Result<(), CaseFault> {
-    for (k, part) in parts.iter().enumerate() {
-        put_between(out, k, "; ")?;
-        put_pushed(out, pushed(alloc, tree, *part)?)?;
+    put_each(alloc, &mut Tree::new(alloc), first, rest, out)
+}
+
+/// Writes what comes of each push, the first one and the rest.
+fn put_each(
+    alloc: Global,
+    tree: &mut Tree,
+    first: &str,
+    rest: &[&str],
+    out: &mut String,
+) -> Result<(), CaseFault> {
+    put_push(alloc, tree, first, out)?;
+    for part in rest {
+        out.push_str("; ")?;
+        put_push(alloc, tree, *part, out)?;
     }
     Ok(())
+}
+
+/// Writes what the push that a text says gives.
+fn put_push(alloc: Global, tree: &mut Tree, text: &str, out: &mut String) -> Result<(), CaseFault> {
+    let (text, args) = text.split_once(" of ").unwrap_or((text, ""));
+    let args = counts(alloc, args)?;
+    put_pushed(out, pushed(alloc, tree, text, &args))
+}
+
+/// The counts of a text.
+fn counts(alloc: Global, text: &str) -> Result<Vec<u32>, CaseFault> {
+    let words = words(alloc, text)?;
+    all(alloc, &words)
+}
+
+/// What the push of a call with these arguments gives.
+fn pushed(
+    alloc: Global,
+    tree: &mut Tree,
+    text: &str,
+    args: &[u32],
+) -> Result<Result<NodeId, TreeFault>, CaseFault> {
+    Ok(push(tree, call(alloc, text)?, args))
 }
 
 /// What the push of a call with these arguments gives; `Memory` too where an argument isn't there, or where there are over two.
@@ -41,31 +69,14 @@ fn push(tree: &mut Tree, call: Call, args: &[u32]) -> Result<NodeId, TreeFault> 
     }
 }
 
-/// What the push that a text says gives.
-fn pushed(
-    alloc: Global,
-    tree: &mut Tree,
-    text: &str,
-) -> Result<Result<NodeId, TreeFault>, CaseFault> {
-    let (text, args) = text.split_once(" of ").unwrap_or((text, ""));
-    let args = counts(alloc, &words(alloc, args)?)?;
-    Ok(push(tree, call(alloc, text)?, &args))
-}
-
-/// The counts of words.
-fn counts(alloc: Global, words: &[&str]) -> Result<Vec<u32>, CaseFault> {
-    let mut counts = Vec::new(alloc);
-    for word in words {
-        counts.push(count(*word)?)?;
-    }
-    Ok(counts)
-}
-
 /// Writes the node, or why there is none.
-fn put_pushed(out: &mut String, pushed: Result<NodeId, TreeFault>) -> Result<(), CaseFault> {
-    match pushed {
-        Ok(node) => Ok(write!(out, "{}", node.0)?),
-        Err(TreeFault::Clash) => Ok(out.push_str("clash")?),
-        Err(fault) => Ok(write!(out, "{fault}")?),
+fn put_pushed(
+    out: &mut String,
+    pushed: Result<Result<NodeId, TreeFault>, CaseFault>,
+) -> Result<(), CaseFault> {
+    match pushed? {
+        Ok(node) => put_shown(out, &node.0),
+        Err(TreeFault::Clash) => put_word(out, "clash"),
+        Err(fault) => put_shown(out, &fault),
     }
 }

@@ -1,26 +1,27 @@
 //! The slopes that coefficients of the results and weights of the rows give.
 use crate::calls::atom;
-use crate::told::shapes;
+use crate::parts::{all, put_shown, put_stop};
 use dcx_atom::{Atom, SlopeStop};
-use dcx_case_lines::{CaseFault, Cases, Number, Numbers, Passing, numbers};
+use dcx_case_lines::{CaseFault, Numbers, numbers};
 use dcx_frac::{Frac, Fracs};
 use dcx_shape::Shape;
 use std::alloc::Global;
 
 /// `CALL | SHAPE | .. | COEFFICIENTS | WEIGHTS => SLOPES`: the slopes by entry of the arguments, the first condition that the
 /// weights break, as `entry 0: 4 against 3`, or the operation that passes.
-pub(crate) struct Slopes;
-
-impl Cases for Slopes {
-    fn answer(&self, alloc: Global, parts: &[&str], out: &mut String) -> Result<(), CaseFault> {
-        match *parts {
-            [text, ref args @ .., coefficients, weights] => {
-                let shapes = shapes(alloc, args)?;
-                let slopes = formed(alloc, text, &shapes, coefficients, weights)?;
-                put_slopes(out, &slopes)
-            }
-            _ => Err(CaseFault::Unreadable),
+pub(crate) fn put_slopes(
+    alloc: Global,
+    first: &str,
+    rest: &[&str],
+    out: &mut String,
+) -> Result<(), CaseFault> {
+    match *rest {
+        [ref args @ .., coefficients, weights] => {
+            let shapes = all(alloc, args)?;
+            let slopes = formed(alloc, first, &shapes, coefficients, weights);
+            put_formed(out, &slopes)
         }
+        _ => Err(CaseFault::Unreadable),
     }
 }
 
@@ -32,9 +33,10 @@ fn formed(
     of_coefficients: &str,
     of_weights: &str,
 ) -> Result<Result<Fracs, SlopeStop>, CaseFault> {
+    let atom = atom(text)?;
     let coefficients = numbers(alloc, of_coefficients)?;
     let weights = numbers(alloc, of_weights)?;
-    slopes_of(alloc, &atom(alloc, text)?, shapes, &coefficients, &weights)
+    slopes_of(alloc, &atom, shapes, &coefficients, &weights)
 }
 
 /// The slopes of any call, where there is a coefficient for each result entry and a weight for each row.
@@ -59,22 +61,14 @@ fn slopes_of<A: Atom>(
     Ok(atom.slopes(alloc, args, coefficients, weights))
 }
 
-fn put_slopes(out: &mut String, slopes: &Result<Fracs, SlopeStop>) -> Result<(), CaseFault> {
+/// Writes slopes, or why there are none.
+fn put_formed(
+    out: &mut String,
+    slopes: &Result<Result<Fracs, SlopeStop>, CaseFault>,
+) -> Result<(), CaseFault> {
     match slopes {
-        Ok(slopes) => Ok(write!(out, "{}", Numbers(slopes.as_slice()))?),
-        Err(
-            SlopeStop::Refused {
-                entry,
-                stated,
-                found,
-            },
-        ) => Ok(write!(
-            out,
-            "entry {entry}: {} against {}",
-            Number(*stated),
-            Number(*found)
-        )?),
-        Err(SlopeStop::Passes(passes)) => Ok(write!(out, "{}", Passing(*passes))?),
-        Err(SlopeStop::Memory) => Err(CaseFault::Memory),
+        Ok(Ok(slopes)) => put_shown(out, &Numbers(slopes.as_slice())),
+        Ok(Err(stop)) => put_stop(out, *stop),
+        Err(fault) => Err(*fault),
     }
 }

@@ -1,64 +1,57 @@
 //! Shapes, signs, trends and bends that calls tell.
 use crate::calls::{atom, call};
+use crate::parts::{Said, all, put_shown, put_word};
 use dcx_atom::{Atom, Bend, Sign, Trend};
-use dcx_call::Call;
-use dcx_case_lines::{CaseFault, Cases, Size, count, shape};
+use dcx_case_lines::{CaseFault, Size, count};
 use dcx_shape::Shape;
 use std::alloc::Global;
 
 /// `sign CALL | SIGN | .. => SIGN`, and the same with `shape`, with `trend K` for an argument, and with `bend`.
-pub(crate) struct Told;
-
-impl Cases for Told {
-    fn answer(&self, alloc: Global, parts: &[&str], out: &mut String) -> Result<(), CaseFault> {
-        match *parts {
-            [first, ref args @ ..] => match first.split_once(' ') {
-                Some(("shape", text)) => put_shape(out, &shapes(alloc, args)?, call(alloc, text)?),
-                Some(("sign", text)) => put_sign(out, &signs(alloc, args)?, call(alloc, text)?),
-                Some(("trend", rest)) => trend_told(alloc, rest, &signs(alloc, args)?, out),
-                Some(("bend", text)) => put_bend(out, &atom(alloc, text)?),
-                _ => Err(CaseFault::Unreadable),
-            },
-            [] => Err(CaseFault::Unreadable),
-        }
+pub(crate) fn put_told(
+    alloc: Global,
+    first: &str,
+    args: &[&str],
+    out: &mut String,
+) -> Result<(), CaseFault> {
+    match first.split_once(' ') {
+        Some(("shape", text)) => put_of_shapes(alloc, text, args, out),
+        Some(("bend", text)) => put_bend(out, text),
+        Some((asked, text)) => put_of_signs(alloc, asked, text, args, out),
+        None => Err(CaseFault::Unreadable),
     }
 }
 
-/// The shapes of words.
-pub(crate) fn shapes(alloc: Global, args: &[&str]) -> Result<Vec<Shape>, CaseFault> {
-    let mut shapes = Vec::new(alloc);
-    for arg in args {
-        shapes.push(shape(*arg)?)?;
-    }
-    Ok(shapes)
+/// Writes the shape of a call, from those of the arguments.
+fn put_of_shapes(
+    alloc: Global,
+    text: &str,
+    args: &[&str],
+    out: &mut String,
+) -> Result<(), CaseFault> {
+    let shapes = all(alloc, args)?;
+    put_shape(alloc, text, &shapes, out)
 }
 
-fn put_shape(out: &mut String, shapes: &[Shape], call: Call) -> Result<(), CaseFault> {
-    match call.shape(shapes) {
-        Some(shape) => Ok(write!(out, "{}", Size(shape.sides()))?),
-        None => Ok(out.push_str("none")?),
+/// Writes the shape of a call, or that there is none.
+fn put_shape(alloc: Global, text: &str, args: &[Shape], out: &mut String) -> Result<(), CaseFault> {
+    let shape = call(alloc, text)?.shape(args);
+    match shape {
+        Some(shape) => put_shown(out, &Size(shape.sides())),
+        None => put_word(out, "none"),
     }
 }
 
-/// The sign of a word.
-fn sign(word: &str) -> Result<Sign, CaseFault> {
-    let (nonneg, nonpos) = match word {
-        "nonneg" => (true, false),
-        "nonpos" => (false, true),
-        "zero" => (true, true),
-        "unknown" => (false, false),
-        _ => return Err(CaseFault::Unreadable),
-    };
-    Ok(Sign { nonneg, nonpos })
-}
-
-/// The signs of words.
-fn signs(alloc: Global, args: &[&str]) -> Result<Vec<Sign>, CaseFault> {
-    let mut signs = Vec::new(alloc);
-    for arg in args {
-        signs.push(sign(*arg)?)?;
+impl Said for Sign {
+    fn said(_alloc: Global, text: &str) -> Result<Sign, CaseFault> {
+        let (nonneg, nonpos) = match text {
+            "nonneg" => (true, false),
+            "nonpos" => (false, true),
+            "zero" => (true, true),
+            "unknown" => (false, false),
+            _ => return Err(CaseFault::Unreadable),
+        };
+        Ok(Sign { nonneg, nonpos })
     }
-    Ok(signs)
 }
 
 fn sign_word(sign: Sign) -> &'static str {
@@ -70,30 +63,6 @@ fn sign_word(sign: Sign) -> &'static str {
     }
 }
 
-fn put_sign(out: &mut String, signs: &[Sign], call: Call) -> Result<(), CaseFault> {
-    Ok(out.push_str(sign_word(call.sign(signs)))?)
-}
-
-fn trend_told(
-    alloc: Global,
-    text: &str,
-    signs: &[Sign],
-    out: &mut String,
-) -> Result<(), CaseFault> {
-    let (argument, text) = text.split_once(' ').ok_or(CaseFault::Unreadable)?;
-    let argument = count(argument)?;
-    put_trend(out, call(alloc, text)?, argument as usize, signs)
-}
-
-fn put_trend(
-    out: &mut String,
-    call: Call,
-    argument: usize,
-    signs: &[Sign],
-) -> Result<(), CaseFault> {
-    Ok(out.push_str(trend_word(call.trend(argument, signs)))?)
-}
-
 fn trend_word(trend: Trend) -> &'static str {
     match (trend.rising, trend.falling) {
         (true, false) => "rising",
@@ -103,10 +72,52 @@ fn trend_word(trend: Trend) -> &'static str {
     }
 }
 
-/// Writes the bend of any nonlinear call.
-fn put_bend<A: Atom>(out: &mut String, atom: &A) -> Result<(), CaseFault> {
-    match atom.bend() {
-        Bend::Convex => Ok(out.push_str("convex")?),
-        Bend::Concave => Ok(out.push_str("concave")?),
+/// Writes the sign of a call or its trend, from the signs of the arguments.
+fn put_of_signs(
+    alloc: Global,
+    asked: &str,
+    text: &str,
+    args: &[&str],
+    out: &mut String,
+) -> Result<(), CaseFault> {
+    let signs = all(alloc, args)?;
+    match asked {
+        "sign" => put_sign(alloc, text, &signs, out),
+        "trend" => put_trend(alloc, text, &signs, out),
+        _ => Err(CaseFault::Unreadable),
+    }
+}
+
+/// Writes the sign of a call.
+fn put_sign(alloc: Global, text: &str, signs: &[Sign], out: &mut String) -> Result<(), CaseFault> {
+    let sign = call(alloc, text)?.sign(signs);
+    put_word(out, sign_word(sign))
+}
+
+/// Writes how a call moves with an argument, of a text with both.
+fn put_trend(alloc: Global, text: &str, signs: &[Sign], out: &mut String) -> Result<(), CaseFault> {
+    match text.split_once(' ') {
+        Some((argument, text)) => put_trend_of(alloc, text, count(argument)?, signs, out),
+        None => Err(CaseFault::Unreadable),
+    }
+}
+
+/// Writes how a call moves with an argument.
+fn put_trend_of(
+    alloc: Global,
+    text: &str,
+    argument: u32,
+    signs: &[Sign],
+    out: &mut String,
+) -> Result<(), CaseFault> {
+    let trend = call(alloc, text)?.trend(argument as usize, signs);
+    put_word(out, trend_word(trend))
+}
+
+/// Writes the bend of a nonlinear call.
+fn put_bend(out: &mut String, text: &str) -> Result<(), CaseFault> {
+    match atom(text)?.bend() {
+        Bend::Convex => put_word(out, "convex"),
+        Bend::Concave => put_word(out, "concave"),
     }
 }

@@ -3,34 +3,23 @@ ghost use Rattle.std.specs.Prelude.{◌≡◌, IfOk, map};
 ghost use Rattle.dcx_atom.specs.Arrays.{sides_list, array_sides};
 
 use crate::calls::call;
-use dcx_atom::{Array, ValueStop};
+use crate::parts::{all, put_word};
+use dcx_atom::Array;
 use dcx_call::Call;
-use dcx_case_lines::{CaseFault, Cases, array, put_value};
+use dcx_case_lines::{CaseFault, put_value};
 use dcx_point::{Point, Setting};
 use dcx_shape::Shape;
 use std::alloc::{AllocError, Global};
 
 /// `CALL | ARRAY | .. => ARRAY`: the value, `none` where the call has none, or why it stops.
-pub(crate) struct Values;
-
-impl Cases for Values {
-    fn answer(&self, alloc: Global, parts: &[&str], out: &mut String) -> Result<(), CaseFault> {
-        match *parts {
-            [first, ref texts @ ..] => {
-                let args = arrays(alloc, texts)?;
-                called(alloc, first, &args, out)
-            }
-            [] => Err(CaseFault::Unreadable),
-        }
-    }
-}
-
-fn arrays(alloc: Global, parts: &[&str]) -> Result<Vec<Array>, CaseFault> {
-    let mut arrays = Vec::new(alloc);
-    for part in parts {
-        arrays.push(array(alloc, *part)?)?;
-    }
-    Ok(arrays)
+pub(crate) fn put_values(
+    alloc: Global,
+    first: &str,
+    rest: &[&str],
+    out: &mut String,
+) -> Result<(), CaseFault> {
+    let args = all(alloc, rest)?;
+    put_of_arrays(alloc, first, &args, out)
 }
 
 /// The shapes of arrays.
@@ -47,14 +36,30 @@ fn shapes_of(alloc: Global, args: &[Array]) -> Result<Vec<Shape>, AllocError>
     shapes(alloc, args)
 }
 
-/// What a call of arrays gives.
-fn called(alloc: Global, text: &str, args: &[Array], out: &mut String) -> Result<(), CaseFault> {
+/// Writes what a call of arrays gives.
+fn put_of_arrays(
+    alloc: Global,
+    text: &str,
+    args: &[Array],
+    out: &mut String,
+) -> Result<(), CaseFault> {
+    let call = call(alloc, text)?;
+    put_of_call(alloc, &call, args, out)
+}
+
+/// Writes what a call of arrays gives.
+fn put_of_call(
+    alloc: Global,
+    call: &Call,
+    args: &[Array],
+    out: &mut String,
+) -> Result<(), CaseFault> {
     let shapes = shapes_of(alloc, args)?;
-    put_called(alloc, &call(alloc, text)?, args, &shapes, out)
+    put_without_names(alloc, call, args, &shapes, out)
 }
 
 /// Writes what a call gives where nothing is under a name.
-fn put_called(
+fn put_without_names(
     alloc: Global,
     call: &Call,
     args: &[Array],
@@ -63,24 +68,25 @@ fn put_called(
 ) -> Result<(), CaseFault>
     requires { sides_list shapes.now ≡ array_sides args.now }
 {
-    match formed(alloc, call, args, shapes) {
-        Some(value) => put_value(out, &value),
-        None => Ok(out.push_str("none")?),
-    }
+    let point = Point::empty(alloc);
+    let setting = Setting::empty(alloc);
+    put_formed(alloc, call, &point, &setting, args, shapes, out)
 }
 
-/// The value of a call, where it has a shape and takes no leaf.
-fn formed(
+/// Writes the value of a call, where it has a shape and each leaf its array.
+fn put_formed(
     alloc: Global,
     call: &Call,
+    point: &Point,
+    setting: &Setting,
     args: &[Array],
     shapes: &[Shape],
-) -> Option<Result<Array, ValueStop>>
+    out: &mut String,
+) -> Result<(), CaseFault>
     requires { sides_list shapes.now ≡ array_sides args.now }
 {
-    let (point, setting) = (Point::empty(alloc), Setting::empty(alloc));
-    if call.shape(shapes).is_none() || !call.is_given(&point, &setting) {
-        return None;
+    if call.shape(shapes).is_none() || !call.is_given(point, setting) {
+        return put_word(out, "none");
     }
-    Some(call.value(alloc, &point, &setting, args))
+    put_value(out, &call.value(alloc, point, setting, args))
 }
