@@ -1,5 +1,6 @@
 //! The lines by which a case gives bytes.
 
+use crate::made::{after, in_io};
 use std::alloc::{AllocError, Global};
 use std::rt::Files;
 use std::{fs, io};
@@ -16,50 +17,81 @@ fn digit(byte: u8) -> Option<u8> {
     }
 }
 
-/// Adds the bytes that stand behind a backslash: what the first letter stands for, and the others as they are.
-/// Answers false where the letter stands for nothing.
-fn push_escape(bytes: &mut Vec<u8>, text: &[u8]) -> Result<bool, AllocError> {
-    let rest = match text {
-        [b'n', rest @ ..] => {
-            bytes.push(b'\n')?;
-            rest
-        }
-        [b'r', rest @ ..] => {
-            bytes.push(b'\r')?;
-            rest
-        }
-        [b't', rest @ ..] => {
-            bytes.push(b'\t')?;
-            rest
-        }
-        [b'x', high, low, rest @ ..] => {
-            let (Some(high), Some(low)) = (digit(*high), digit(*low)) else {
-                return Ok(false);
-            };
-            bytes.push(high.wrapping_mul(16) | low)?;
-            rest
-        }
-        _ => return Ok(false),
-    };
-    bytes.extend_from_slice(rest)?;
-    Ok(true)
+/// Where the reading of a text with escapes stands.
+#[derive(Clone, Copy)]
+enum Escape {
+    /// Behind what is whole.
+    Whole,
+    /// Behind a backslash.
+    Begun,
+    /// Behind a backslash and an `x`.
+    Hex,
+    /// Behind these and the first digit, of this value.
+    Half(u8),
+    /// Behind a backslash that stands for nothing.
+    Wrong,
+}
+
+/// Where the reading stands behind a byte more, and the byte that is whole then.
+fn step(escape: Escape, byte: u8) -> (Escape, Option<u8>) {
+    match escape {
+        Escape::Whole => match byte {
+            b'\\' => (Escape::Begun, None),
+            _ => (Escape::Whole, Some(byte)),
+        },
+        Escape::Begun => match byte {
+            b'n' => (Escape::Whole, Some(b'\n')),
+            b'r' => (Escape::Whole, Some(b'\r')),
+            b't' => (Escape::Whole, Some(b'\t')),
+            b'\\' => (Escape::Whole, Some(b'\\')),
+            b'x' => (Escape::Hex, None),
+            _ => (Escape::Wrong, None),
+        },
+        Escape::Hex => match digit(byte) {
+            Some(high) => (Escape::Half(high), None),
+            None => (Escape::Wrong, None),
+        },
+        Escape::Half(high) => match digit(byte) {
+            Some(low) => (Escape::Whole, Some(high.wrapping_mul(16) | low)),
+            None => (Escape::Wrong, None),
+        },
+        Escape::Wrong => (Escape::Wrong, None),
+    }
 }
 
 /// Adds what a text with `\n`, `\r`, `\t`, `\\` and `\x0f` stands for. Answers false where a backslash stands for nothing.
 pub(crate) fn push_escaped(bytes: &mut Vec<u8>, text: &str) -> Result<bool, AllocError> {
-    let mut is_plain = true;
-    for part in text.split('\\') {
-        if is_plain {
-            bytes.extend_from_slice(part.as_bytes())?;
-            is_plain = false;
-        } else if part.is_empty() {
-            bytes.push(b'\\')?;
-            is_plain = true;
-        } else if !push_escape(bytes, part.as_bytes())? {
-            return Ok(false);
+    let mut escape = Escape::Whole;
+    for byte in text.as_bytes() {
+        let (next, whole) = step(escape, *byte);
+        if let Some(whole) = whole {
+            bytes.push(whole)?;
         }
+        escape = next;
     }
-    Ok(!is_plain) // else the last backslash stands alone
+    Ok(matches!(escape, Escape::Whole))
+}
+
+/// Adds bytes so many times.
+fn push_times(bytes: &mut Vec<u8>, part: &[u8], times: u32) -> Result<bool, AllocError> {
+    for _ in 0..times {
+        bytes.extend_from_slice(part)?;
+    }
+    Ok(true)
+}
+
+/// Adds what a text stands for so many times. Answers false where a backslash in it stands for nothing.
+fn push_escaped_times(
+    alloc: Global,
+    bytes: &mut Vec<u8>,
+    text: &str,
+    times: u32,
+) -> Result<bool, AllocError> {
+    let mut once = Vec::new(alloc);
+    match push_escaped(&mut once, text) {
+        Ok(true) => push_times(bytes, &once, times),
+        not_read => not_read,
+    }
 }
 
 /// Adds a text so many times, as `64 (` says. Answers false where the text says something else.
@@ -67,17 +99,10 @@ fn push_repeated(alloc: Global, bytes: &mut Vec<u8>, text: &str) -> Result<bool,
     let Some((times, part)) = text.split_once(' ') else {
         return Ok(false);
     };
-    let Ok(times) = times.parse::<u32>() else {
-        return Ok(false);
-    };
-    let mut once = Vec::new(alloc);
-    if !push_escaped(&mut once, part)? {
-        return Ok(false);
+    match times.parse::<u32>() {
+        Ok(times) => push_escaped_times(alloc, bytes, part, times),
+        Err(_) => Ok(false),
     }
-    for _ in 0..times {
-        bytes.extend_from_slice(&once)?;
-    }
-    Ok(true)
 }
 
 /// Adds bytes.
@@ -95,23 +120,25 @@ fn push_text(bytes: &mut Vec<u8>, text: &str) -> Result<bool, AllocError> {
 /// Adds the bytes of a file.
 fn push_file(rt: &(impl Files + AllocGlobal), bytes: &mut Vec<u8>, name: &str) -> io::Result<bool> {
     let file = fs::read(rt, name)?;
-    Ok(push_bytes(bytes, &file)?)
+    in_io(push_bytes(bytes, &file))
+}
+
+/// Adds what the text behind a mark gives. Answers false where there is no such mark.
+fn push_marked(alloc: Global, bytes: &mut Vec<u8>, line: &str) -> Result<bool, AllocError> {
+    match line.split_once(' ') {
+        Some(("|", text)) => push_text(bytes, text),
+        Some(("%", text)) => push_escaped(bytes, text),
+        Some(("*", text)) => push_repeated(alloc, bytes, text),
+        _ => Ok(false),
+    }
 }
 
 /// Adds what a line gives that names no file. Answers false where it is no such line.
 fn push_plain(alloc: Global, bytes: &mut Vec<u8>, line: &str) -> Result<bool, AllocError> {
-    if line == "imports" {
-        push_bytes(bytes, IMPORTS)
-    } else if line == "|" {
-        push_text(bytes, "")
-    } else if let Some(text) = line.strip_prefix("| ") {
-        push_text(bytes, text)
-    } else if let Some(text) = line.strip_prefix("% ") {
-        push_escaped(bytes, text)
-    } else if let Some(text) = line.strip_prefix("* ") {
-        push_repeated(alloc, bytes, text)
-    } else {
-        Ok(false)
+    match line {
+        "imports" => push_bytes(bytes, IMPORTS),
+        "|" => push_text(bytes, ""),
+        _ => push_marked(alloc, bytes, line),
     }
 }
 
@@ -126,6 +153,21 @@ pub(crate) fn push_line(
 ) -> io::Result<bool> {
     match line.strip_prefix("< ") {
         Some(name) => push_file(rt, bytes, name),
-        None => Ok(push_plain(rt.alloc(), bytes, line)?),
+        None => in_io(push_plain(rt.alloc(), bytes, line)),
     }
+}
+
+/// Adds texts.
+fn push_texts(bytes: &mut Vec<u8>, texts: &[&str]) -> Result<(), AllocError> {
+    for text in texts {
+        bytes.extend_from_slice(text.as_bytes())?;
+    }
+    Ok(())
+}
+
+/// The bytes of texts, one behind the other.
+pub(crate) fn joined(alloc: Global, texts: &[&str]) -> Result<Vec<u8>, AllocError> {
+    let mut bytes = Vec::new(alloc);
+    let pushed = push_texts(&mut bytes, texts);
+    after(pushed, bytes)
 }

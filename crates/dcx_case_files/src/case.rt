@@ -3,6 +3,7 @@
 use crate::count::Wanted;
 use crate::fronts::{Fronts, fronts_of};
 use crate::given::Given;
+use crate::made::{after, both, set};
 use std::alloc::{AllocError, Global};
 
 /// A case.
@@ -32,18 +33,52 @@ pub enum Entry {
     },
 }
 
-/// A line that says no case.
-pub(crate) fn unreadable(alloc: Global, line: usize, text: &str) -> Result<Entry, AllocError> {
-    Ok(Entry::Unreadable {
-        line,
-        text: String::from_str(alloc, text)?,
-    })
-}
-
 /// Adds what stands next.
-pub(crate) fn put_entry(entries: &mut Vec<Entry>, entry: Entry) -> Result<(), AllocError> {
+fn put_entry(entries: &mut Vec<Entry>, entry: Entry) -> Result<(), AllocError> {
     entries.push(entry)?;
     Ok(())
+}
+
+/// Adds a line that says no case.
+pub(crate) fn put_unreadable(
+    alloc: Global,
+    entries: &mut Vec<Entry>,
+    line: usize,
+    text: &str,
+) -> Result<(), AllocError> {
+    let text = String::from_str(alloc, text)?;
+    put_entry(entries, Entry::Unreadable { line, text })
+}
+
+/// Adds a case of which no fronts are wanted.
+pub(crate) fn put_case(
+    entries: &mut Vec<Entry>,
+    line: usize,
+    given: Result<Given, AllocError>,
+    wanted: Result<Wanted, AllocError>,
+) -> Result<(), AllocError> {
+    let (given, wanted) = both(given, wanted)?;
+    put_entry(
+        entries,
+        Entry::Case(Case {
+            line,
+            given,
+            wanted,
+            fronts: None,
+        }),
+    )
+}
+
+/// What is given, with a file more.
+pub(crate) fn with_file(
+    alloc: Global,
+    given: Result<Given, AllocError>,
+    name: &str,
+    bytes: Result<Vec<u8>, AllocError>,
+) -> Result<Given, AllocError> {
+    let (mut given, bytes) = both(given, bytes)?;
+    let put = given.put(alloc, name, bytes);
+    after(put, given)
 }
 
 /// A case of several parts, as far as it is read.
@@ -56,27 +91,48 @@ pub(crate) struct Parts {
 }
 
 impl Parts {
-    /// A case of these words.
-    pub(crate) fn of(alloc: Global, line: usize, words: &str) -> Result<Parts, AllocError> {
-        Ok(Parts {
+    /// The case of these words, of which no part is read, as the open one.
+    pub(crate) fn of(alloc: Global, line: usize, words: &str) -> Result<Option<Parts>, AllocError> {
+        let given = Given::of(alloc, words)?;
+        Ok(Some(Parts {
             line,
-            given: Given::of(alloc, words)?,
+            given,
             wanted: None,
             fronts: None,
-        })
+        }))
+    }
+
+    /// Takes a file.
+    fn take_file(&mut self, alloc: Global, name: &str, body: &[u8]) -> Result<bool, AllocError> {
+        let bytes = body.to_vec(alloc)?;
+        self.given.put(alloc, name, bytes)?;
+        Ok(true)
     }
 
     /// Takes what is wanted. Answers false where the status is none.
-    fn want(&mut self, status: &str, report: Vec<u8>, goes_on: bool) -> bool {
+    fn want(
+        &mut self,
+        alloc: Global,
+        status: &str,
+        report: &[u8],
+        goes_on: bool,
+    ) -> Result<bool, AllocError> {
         let Ok(status) = status.parse::<u8>() else {
-            return false;
+            return Ok(false);
         };
+        let report = report.to_vec(alloc)?;
         self.wanted = Some(Wanted {
             status: Some(status),
             report,
             goes_on,
         });
-        true
+        Ok(true)
+    }
+
+    /// Takes what is wanted of fronts. Answers false where the text says something else.
+    fn take_fronts(&mut self, alloc: Global, text: &str) -> Result<bool, AllocError> {
+        set(&mut self.fronts, fronts_of(alloc, text))?;
+        Ok(self.fronts.is_some())
     }
 
     /// Takes a call that fails, or how much the sink takes. Answers false where the text is no number.
@@ -98,24 +154,20 @@ impl Parts {
         alloc: Global,
         word: &str,
         text: &str,
-        body: Vec<u8>,
+        body: &[u8],
     ) -> Result<bool, AllocError> {
         match word {
-            "file" => self.given.put(alloc, text, body)?,
-            "gives" => return Ok(self.want(text, body, false)),
-            "begins" => return Ok(self.want(text, body, true)),
-            "fronts" => {
-                self.fronts = fronts_of(alloc, text)?;
-                return Ok(self.fronts.is_some());
-            }
-            "read" | "write" | "most" => return self.take_number(word, text),
-            _ => return Ok(false),
+            "file" => self.take_file(alloc, text, body),
+            "gives" => self.want(alloc, text, body, false),
+            "begins" => self.want(alloc, text, body, true),
+            "fronts" => self.take_fronts(alloc, text),
+            "read" | "write" | "most" => self.take_number(word, text),
+            _ => Ok(false),
         }
-        Ok(true)
     }
 
-    /// The case, once all of it is read.
-    pub(crate) fn whole(self, alloc: Global) -> Result<Entry, AllocError> {
+    /// Adds the case, once all of it is read.
+    pub(crate) fn put(self, alloc: Global, entries: &mut Vec<Entry>) -> Result<(), AllocError> {
         let Parts {
             line,
             given,
@@ -123,13 +175,16 @@ impl Parts {
             fronts,
         } = self;
         match wanted {
-            Some(wanted) => Ok(Entry::Case(Case {
-                line,
-                given,
-                wanted,
-                fronts,
-            })),
-            None => unreadable(alloc, line, "no report"),
+            Some(wanted) => put_entry(
+                entries,
+                Entry::Case(Case {
+                    line,
+                    given,
+                    wanted,
+                    fronts,
+                }),
+            ),
+            None => put_unreadable(alloc, entries, line, "no report"),
         }
     }
 }

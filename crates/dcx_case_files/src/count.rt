@@ -3,7 +3,6 @@ ghost use Rattle.std.specs.Prelude.{◌≡◌, ◌↔◌, ◌⊎◌, IsTrue};
 ghost use Rattle.dcx_case_files.specs.Judging.{IsReport, IsMet, one_more};
 
 use std::io;
-use std::io::Write;
 
 /// How many cases were run, and how many of them differ.
 #[derive(Clone, Copy)]
@@ -127,11 +126,7 @@ impl Count {
             return Ok(());
         }
         self.differs();
-        let At { file, line } = at;
-        let status = came.status;
-        println!(rt; "{file}:{line}: of the first {length} bytes came, with status {status}:")?;
-        io::writer(rt).write_all(&came.report)?;
-        Ok(())
+        tell_front(rt, at, length, came)
     }
 
     /// Counts and tells a line that is no line of a case.
@@ -140,23 +135,41 @@ impl Count {
         ensures differ { self.new.differ ≡ one_more self.old.differ }
     {
         self.differs();
-        let At { file, line: number } = at;
-        println!(rt; "{file}:{number}: no case says: {line}")?;
-        Ok(())
+        tell_line(rt, at, "no case says: ", line)
     }
+}
+
+/// Tells where a case stands, and a text in two parts.
+fn tell_line(rt: &impl Print, at: At, what: &str, text: &str) -> io::Result<()> {
+    let At { file, line } = at;
+    println!(rt; "{file}:{line}: {what}{text}")
+}
+
+/// Tells a status and a report, behind a text that says whose they are.
+fn tell_report(rt: &impl Print, what: &str, status: u8, report: &[u8]) -> io::Result<()> {
+    println!(rt; "{what}, with status {status}:")?;
+    rt.write_all(report)
+}
+
+/// Tells what was wanted.
+fn tell_wanted(rt: &impl Print, wanted: &Wanted) -> io::Result<()> {
+    if let Some(status) = wanted.status {
+        return tell_report(rt, "wanted", status, &wanted.report);
+    }
+    println!(rt; "wanted:")?;
+    rt.write_all(&wanted.report)
 }
 
 /// Tells what was wanted and what came.
 fn tell(rt: &impl Print, at: At, words: &str, wanted: &Wanted, came: &Came) -> io::Result<()> {
+    tell_line(rt, at, "", words)?;
+    tell_wanted(rt, wanted)?;
+    tell_report(rt, "came", came.status, &came.report)
+}
+
+/// Tells what came of a front of this length.
+fn tell_front(rt: &impl Print, at: At, length: usize, came: &Came) -> io::Result<()> {
     let At { file, line } = at;
-    println!(rt; "{file}:{line}: {words}")?;
-    match wanted.status {
-        Some(status) => println!(rt; "wanted, with status {status}:")?,
-        None => println!(rt; "wanted:")?,
-    }
-    io::writer(rt).write_all(&wanted.report)?;
-    let status = came.status;
-    println!(rt; "came, with status {status}:")?;
-    io::writer(rt).write_all(&came.report)?;
-    Ok(())
+    print!(rt; "{file}:{line}: of the first {length} bytes ")?;
+    tell_report(rt, "came", came.status, &came.report)
 }

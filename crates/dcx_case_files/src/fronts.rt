@@ -4,6 +4,7 @@ ghost use Rattle.std.specs.List.{Any};
 ghost use Rattle.dcx_case_files.specs.Judging.{BeginsWith, refusal_front, Fits};
 
 use crate::count::Came;
+use crate::made::if_read;
 use std::alloc::{AllocError, Global};
 
 /// What is wanted of each front of `model.py` but the whole.
@@ -15,16 +16,15 @@ pub struct Fronts {
     pub numbers: Vec<u8>,
 }
 
-/// The numbers that are separated by blanks; `None` where a word is none.
-fn numbers(alloc: Global, text: &str) -> Result<Option<Vec<u8>>, AllocError> {
-    let mut numbers = Vec::new(alloc);
+/// Adds the numbers that are separated by blanks. Answers false where a word is none.
+fn push_numbers(numbers: &mut Vec<u8>, text: &str) -> Result<bool, AllocError> {
     for word in text.split_whitespace() {
         let Ok(number) = word.parse::<u8>() else {
-            return Ok(None);
+            return Ok(false);
         };
         numbers.push(number)?;
     }
-    Ok(Some(numbers))
+    Ok(true)
 }
 
 /// What `STATUS`, or `STATUS of NUMBER NUMBER ..`, says of fronts; `None` where the text says something else.
@@ -33,10 +33,9 @@ pub(crate) fn fronts_of(alloc: Global, text: &str) -> Result<Option<Fronts>, All
     let Ok(status) = status.parse::<u8>() else {
         return Ok(None);
     };
-    match numbers(alloc, rest)? {
-        Some(numbers) => Ok(Some(Fronts { status, numbers })),
-        None => Ok(None),
-    }
+    let mut numbers = Vec::new(alloc);
+    let is_read = push_numbers(&mut numbers, rest);
+    if_read(is_read, Fronts { status, numbers })
 }
 
 /// Whether a report is of the refusal of this number.

@@ -11,8 +11,8 @@ mod file;
 mod fronts;
 mod given;
 mod list;
+mod made;
 mod page;
-mod sections;
 mod short;
 
 pub use case::{Case, Entry};

@@ -1,15 +1,8 @@
 //! Cases of one line: what a check gives of a script, `|`, and the script behind the lines that all begin with.
 
 use crate::bytes::push_escaped;
-use crate::count::Wanted;
+use crate::made::if_read;
 use std::alloc::{AllocError, Global};
-
-/// A script and what is wanted of it.
-#[derive(Drop)]
-pub(crate) struct Short {
-    pub script: Vec<u8>,
-    pub wanted: Wanted,
-}
 
 /// A line and a column, both from 1.
 #[derive(Clone, Copy)]
@@ -20,6 +13,17 @@ struct Mark {
 
 /// The start of a script.
 const START: Mark = Mark { line: 1, column: 1 };
+
+/// A script, and the report that is wanted of it.
+#[derive(Drop)]
+pub(crate) struct Short {
+    pub script: Vec<u8>,
+    /// The place of the mark, or the start where there is none.
+    mark: Mark,
+    pub report: String,
+    /// Whether it must be accepted, where the report may go on.
+    pub is_accepted: bool,
+}
 
 /// The place behind the last of these bytes.
 fn place_behind(bytes: &[u8]) -> Mark {
@@ -35,71 +39,78 @@ fn place_behind(bytes: &[u8]) -> Mark {
     mark
 }
 
-/// The report of `SENSE SIGN CURVATURE`, or of these and dpp, up to the last that is told.
-fn told(alloc: Global, words: &str) -> Result<Option<Wanted>, AllocError> {
-    let mut parts = words.split(' ');
-    let (Some(sense), Some(sign), Some(curvature)) = (parts.next(), parts.next(), parts.next())
-    else {
-        return Ok(None);
-    };
-    let mut report = String::new(alloc);
-    write!(
-        report,
-        "accepted\nobjective {sense} sign {sign} curvature {curvature}\n"
-    )?;
-    if let Some(dpp) = parts.next() {
-        write!(report, "dpp {dpp}\n")?;
+/// Adds a curvature, or a curvature and dpp.
+fn push_curvature(report: &mut String, words: &str) -> Result<bool, AllocError> {
+    match words.split_once(' ') {
+        Some((curvature, dpp)) => write!(report, "{curvature}\ndpp {dpp}\n")?,
+        None => write!(report, "{words}\n")?,
     }
-    Ok(Some(Wanted {
-        status: Some(0),
-        report: report.into_bytes(),
-        goes_on: true,
-    }))
+    Ok(true)
 }
 
-/// The report of `NUMBER NAME`, or of these and what the refusal carries, at this place.
-fn refused(alloc: Global, words: &str, mark: Mark) -> Result<Option<Wanted>, AllocError> {
-    let Some((number, rest)) = words.split_once(' ') else {
-        return Ok(None);
+/// Adds the report of a sense and `SIGN CURVATURE`, or of these and dpp, up to the last that is told. Answers false where a
+/// word is lacking.
+fn push_accepted(report: &mut String, sense: &str, words: &str) -> Result<bool, AllocError> {
+    let Some((sign, rest)) = words.split_once(' ') else {
+        return Ok(false);
     };
-    let (name, carried) = rest.split_once(' ').unwrap_or((rest, ""));
+    write!(report, "accepted\nobjective {sense} sign {sign} curvature ")?;
+    push_curvature(report, rest)
+}
+
+/// Adds the report of a number and `NAME`, or of these and what the refusal carries, at this place.
+fn push_refused(
+    report: &mut String,
+    number: &str,
+    words: &str,
+    mark: Mark,
+) -> Result<bool, AllocError> {
+    let (name, carried) = words.split_once(' ').unwrap_or((words, ""));
     let blank = if carried.is_empty() { "" } else { " " };
     let Mark { line, column } = mark;
-    let mut report = String::new(alloc);
     write!(
         report,
         "refused script {number} {name} at {line}:{column}{blank}{carried}\n"
     )?;
-    Ok(Some(Wanted {
-        status: Some(1),
-        report: report.into_bytes(),
-        goes_on: false,
-    }))
+    Ok(true)
 }
 
-/// What the words of a line want.
-fn wanted(alloc: Global, words: &str, mark: Mark) -> Result<Option<Wanted>, AllocError> {
-    if words.starts_with("minimize ") || words.starts_with("maximize ") {
-        told(alloc, words)
-    } else {
-        refused(alloc, words, mark)
+impl Short {
+    /// Takes what a text stands for, and the place of its mark, which is taken out. Answers false where a backslash stands
+    /// for nothing.
+    fn take(&mut self, text: &str) -> Result<bool, AllocError> {
+        let Some((before, after)) = text.split_once('^') else {
+            return push_escaped(&mut self.script, text);
+        };
+        let is_read = push_escaped(&mut self.script, before)?;
+        self.mark = place_behind(&self.script);
+        Ok(push_escaped(&mut self.script, after)? && is_read)
     }
-}
 
-/// Adds what a text stands for, with its mark taken out. Gives the place of the mark, or the start where there is none;
-/// `None` where a backslash stands for nothing.
-fn push_marked(script: &mut Vec<u8>, text: &str) -> Result<Option<Mark>, AllocError> {
-    let Some((before, after)) = text.split_once('^') else {
-        return Ok(if push_escaped(script, text)? {
-            Some(START)
+    /// Takes the words of a line. Answers false where they want nothing.
+    fn want(&mut self, words: &str) -> Result<bool, AllocError> {
+        let Some((first, rest)) = words.split_once(' ') else {
+            return Ok(false);
+        };
+        self.is_accepted = matches!(first, "minimize" | "maximize");
+        if self.is_accepted {
+            push_accepted(&mut self.report, first, rest)
         } else {
-            None
-        });
-    };
-    let is_read = push_escaped(script, before)?;
-    let mark = place_behind(script);
-    let is_read = push_escaped(script, after)? && is_read;
-    Ok(if is_read { Some(mark) } else { None })
+            push_refused(&mut self.report, first, rest, self.mark)
+        }
+    }
+
+    /// Takes a line. Answers false where it is no case.
+    fn read(&mut self, line: &str) -> Result<bool, AllocError> {
+        let Some((words, text)) = line.split_once('|') else {
+            return Ok(false);
+        };
+        if self.take(text.strip_prefix(' ').unwrap_or(text))? {
+            self.want(words.trim_end())
+        } else {
+            Ok(false)
+        }
+    }
 }
 
 /// The case of a line, behind these bytes; `None` where the line is no case.
@@ -110,16 +121,13 @@ pub(crate) fn short_case(
     start: &[u8],
     line: &str,
 ) -> Result<Option<Short>, AllocError> {
-    let Some((words, text)) = line.split_once('|') else {
-        return Ok(None);
+    let script = start.to_vec(alloc)?;
+    let mut short = Short {
+        script,
+        mark: START,
+        report: String::new(alloc),
+        is_accepted: false,
     };
-    let mut script = start.to_vec(alloc)?;
-    let text = text.strip_prefix(' ').unwrap_or(text);
-    let Some(mark) = push_marked(&mut script, text)? else {
-        return Ok(None);
-    };
-    match wanted(alloc, words.trim_end(), mark)? {
-        Some(wanted) => Ok(Some(Short { script, wanted })),
-        None => Ok(None),
-    }
+    let is_read = short.read(line);
+    if_read(is_read, short)
 }
