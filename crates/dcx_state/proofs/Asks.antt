@@ -1,5 +1,6 @@
 -- What is kept of a problem that is asked.
-use Rattle.std.proofs.Common.{◌≡◌, ℕ, List, Option, Some, sym, ap, ◌∙◌, subst}
+use Rattle.std.proofs.Common.{◌≡◌, ℕ, Bool, List, Option, Some, Result, Ok, Err, sym, ap, ◌∙◌, subst}
+use Rattle.std.specs.Prelude.{IfOk}
 use Rattle.std.specs.List.{list_any, IsDistinct}
 use Rattle.std.specs.HashSet.{contains}
 use Rattle.std.proofs.lemmas.Option.{same_Some}
@@ -15,27 +16,32 @@ use Rattle.dcx_tree.specs.declared.roots.Roots.{Roots}
 use Rattle.dcx_tree.specs.Gather.{AreDeclarations, IsProblemOf}
 use Rattle.dcx_tree.specs.Problems.{IsObjective, AreConstraints, IsListed, declared_names, roots_of as begins_at}
 use Rattle.dcx_kinds.specs.declared.value.Objective.{Objective}
-use Rattle.dcx_kinds.specs.Values.{State}
+use Rattle.dcx_kinds.specs.Values.{Asked, State}
 use Rattle.dcx_state.specs.declared.state.Asked as code_asked
-use Rattle.dcx_state.specs.Declarations.{roots_of}
+use Rattle.dcx_state.specs.Declarations.{roots_of, is_reached}
 use Rattle.dcx_state.specs.Ends.{asked_for, roots_in}
 use Rattle.dcx_state.specs.Kept.{asked_of, IsAsked, IsKept}
+use Rattle.dcx_state.proofs.Grown.{AreListed}
 use Rattle.dcx_state.proofs.Reached.{reached_are}
 
--- the names are those of the parameters of its problem
-pub kept_asked : (s : State) (before : Option code_asked.Asked) (q : code_asked.Asked) (p : Problem) → IsKept s.nodes s.variables s.parameters before → IsObjective s.nodes q.objective.node →
-    AreConstraints s.nodes q.constraints.items → IsProblemOf s.nodes (roots_in s (asked_of q)) p → ((name : List ℕ) → contains same_name q.reached name ≡ list_any (λ x. same_name name x.name) p.parameters) →
-    IsKept s.nodes s.variables s.parameters (Some q)
-kept_asked s before q p k o cs g names = record {
+-- the names of the parameters of a problem are those that it reaches
+pub names_reached : (s : State) (a : Asked) (p : Problem) (has : List ℕ → Bool) → AreListed s.variables s.parameters s.nodes → IsProblemOf s.nodes (roots_in s a) p →
+    ((name : List ℕ) → has name ≡ list_any (λ x. same_name name x.name) p.parameters) → (name : List ℕ) → has name ≡ is_reached s.nodes a name
+names_reached s a p has listed g names name =
+    names name
+    ∙ ap (list_any (λ x. same_name name x.name)) g.parameters
+    ∙ reached_are s.nodes (roots_of a) p.tree (begins_at p.objective p.constraints) g.nodes s.variables s.parameters listed name
+
+-- what is so where there is no error
+pub if_ok : {T E : Type 0} {P Q : T → Type 0} (r : Result T E) → ((x : T) → P x → Q x) → IfOk r P → IfOk r Q
+if_ok (Ok x) f p = f x p
+if_ok (Err e) f p = tt
+
+pub kept_asked : (s : State) (before : Option code_asked.Asked) (q : code_asked.Asked) → IsKept s.nodes s.variables s.parameters before → IsObjective s.nodes q.objective.node →
+    AreConstraints s.nodes q.constraints.items → ((name : List ℕ) → contains same_name q.reached name ≡ is_reached s.nodes (asked_of q) name) → IsKept s.nodes s.variables s.parameters (Some q)
+kept_asked s before q k o cs names = record {
   listed = k.listed;
-  begins = λ r e. subst (IsAsked s.nodes) (same_Some q r e) (record {
-    objective = o;
-    constraints = cs;
-    reached = λ name.
-        names name
-        ∙ ap (list_any (λ x. same_name name x.name)) g.parameters
-        ∙ reached_are s.nodes (roots_of (asked_of q)) p.tree (begins_at p.objective p.constraints) g.nodes s.variables s.parameters k.listed name;
-  });
+  begins = λ r e. subst (IsAsked s.nodes) (same_Some q r e) (record { objective = o; constraints = cs; reached = names });
 }
 
 -- ---- what the problem is gathered from

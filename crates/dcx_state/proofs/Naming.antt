@@ -2,7 +2,7 @@
 use Rattle.std.proofs.Common.{◌≡◌, ℕ, ◌+◌, ◌<◌, Bool, true, false, cond, List, [], ◌∷◌, ◌++◌, map, length, take, get_or, refl, sym, ap, ap₂, ◌∙◌, subst}
 use Rattle.std.proofs.lemmas.List.{take_more}
 use Rattle.std.proofs.lemmas.List.Elements.{All-nil, All-cons, All-append}
-use Rattle.std.specs.Prelude.{◌||◌, Result, Ok, Err, OnOk, is_err}
+use Rattle.std.specs.Prelude.{◌||◌, Result, Ok, Err, OnOk, OnErr}
 use Rattle.std.specs.List.{list_any, AllByRecursion, IsDistinct}
 use Rattle.dcx_point.specs.Pairs.{same_name}
 use Rattle.dcx_point.proofs.Puts.{same_name-refl, same_name-false}
@@ -89,9 +89,18 @@ map_last : {X Y : Type 0} (f : X → Y) (xs : List X) (x : X) → map f (xs ++ x
 map_last f [] x = refl
 map_last f (y ∷ xs) x = ap (λ zs. f y ∷ zs) (map_last f xs x)
 
+-- what follows where there is no error, and where there is one
+pub on_ok : {T E P Q : Type 0} (r : Result T E) → (P → Q) → OnOk r P → OnOk r Q
+on_ok (Ok x) f p = f p
+on_ok (Err e) f p = tt
+
+pub on_err : {T E P Q : Type 0} (r : Result T E) → (P → Q) → OnErr r P → OnErr r Q
+on_err (Ok x) f p = tt
+on_err (Err e) f p = f p
+
 module _ (vs : List Variable) (ps : List Parameter) (has now : List ℕ → Bool) (named : AreNamed vs ps has) where
   -- one variable more
-  pub named_variable : (v : Variable) (name : List ℕ) → name ≡ v.name → is_among v.name vs ps ≡ false → IsSquare v → ((q : List ℕ) → now q ≡ cond (same_name name q) true (has q)) → AreNamed (vs ++ v ∷ []) ps now
+  named_variable : (v : Variable) (name : List ℕ) → name ≡ v.name → is_among v.name vs ps ≡ false → IsSquare v → ((q : List ℕ) → now q ≡ cond (same_name name q) true (has q)) → AreNamed (vs ++ v ∷ []) ps now
   named_variable v name is new square puts =
       let t = either_true (list_any (λ w. same_name v.name w.name) vs) (list_any (λ p. same_name v.name p.name) ps) new in
       record {
@@ -105,7 +114,7 @@ module _ (vs : List Variable) (ps : List Parameter) (has now : List ℕ → Bool
       }
 
   -- one parameter more
-  pub named_parameter : (p : Parameter) (name : List ℕ) → name ≡ p.name → is_among p.name vs ps ≡ false → ((q : List ℕ) → now q ≡ cond (same_name name q) true (has q)) → AreNamed vs (ps ++ p ∷ []) now
+  named_parameter : (p : Parameter) (name : List ℕ) → name ≡ p.name → is_among p.name vs ps ≡ false → ((q : List ℕ) → now q ≡ cond (same_name name q) true (has q)) → AreNamed vs (ps ++ p ∷ []) now
   named_parameter p name is new puts =
       record {
         told = λ q.
@@ -125,12 +134,26 @@ module _ (vs : List Variable) (ps : List Parameter) (has now : List ℕ → Bool
           (distinct_last (map (λ (v : Variable). v.name) vs ++ map (λ (r : Parameter). r.name) ps) p.name
           (none_both (λ (v : Variable). v.name) vs (map (λ (r : Parameter). r.name) ps) p.name t.0 (none_of (λ (r : Parameter). r.name) ps p.name t.1)) named.distinct)
 
+  named_as_before : ((q : List ℕ) → now q ≡ has q) → AreNamed vs ps now
+  named_as_before same = record { told = λ q. same q ∙ named.told q; distinct = named.distinct; squares = named.squares }
+
+  -- one more came with its name, or all is as it was
+  module _ {T E : Type 0} (r : Result T E) (name : List ℕ) (puts : OnOk r ((q : List ℕ) → now q ≡ cond (same_name name q) true (has q))) (same : OnErr r ((q : List ℕ) → now q ≡ has q)) where
+    pub variable_came : (v : Variable) (ws : List Variable) → name ≡ v.name → is_among v.name vs ps ≡ false → IsSquare v → OnOk r (ws ≡ vs ++ v ∷ []) → OnErr r (ws ≡ vs) → AreNamed ws ps now
+    variable_came v ws is new square pushed stays = by r puts same pushed stays
+      where
+        by : (o : Result T E) → OnOk o ((q : List ℕ) → now q ≡ cond (same_name name q) true (has q)) → OnErr o ((q : List ℕ) → now q ≡ has q) → OnOk o (ws ≡ vs ++ v ∷ []) → OnErr o (ws ≡ vs) → AreNamed ws ps now
+        by (Ok x) p u e f = subst (λ us. AreNamed us ps now) (sym e) (named_variable v name is new square p)
+        by (Err d) p u e f = subst (λ us. AreNamed us ps now) (sym f) (named_as_before u)
+
+    pub parameter_came : (p : Parameter) (qs : List Parameter) → name ≡ p.name → is_among p.name vs ps ≡ false → OnOk r (qs ≡ ps ++ p ∷ []) → OnErr r (qs ≡ ps) → AreNamed vs qs now
+    parameter_came p qs is new pushed stays = by r puts same pushed stays
+      where
+        by : (o : Result T E) → OnOk o ((q : List ℕ) → now q ≡ cond (same_name name q) true (has q)) → OnErr o ((q : List ℕ) → now q ≡ has q) → OnOk o (qs ≡ ps ++ p ∷ []) → OnErr o (qs ≡ ps) → AreNamed vs qs now
+        by (Ok x) g u e f = subst (λ rs. AreNamed vs rs now) (sym e) (named_parameter p name is new g)
+        by (Err d) g u e f = subst (λ rs. AreNamed vs rs now) (sym f) (named_as_before u)
+
 -- nothing is declared
 pub named_start : (has : List ℕ → Bool) → ((q : List ℕ) → has q ≡ false) → AreNamed [] [] has
 unfolding IsDistinct
 named_start has none = record { told = none; distinct = tt; squares = All-nil IsSquare }
-
--- what is so where there is no error
-pub on_not_err : {T E P : Type 0} (r : Result T E) → OnOk r P → is_err r ≡ false → P
-on_not_err (Ok x) h e = h
-on_not_err (Err d) h e = absurd (cc)

@@ -1,5 +1,5 @@
 -- Values by name, and those of some names.
-use Rattle.std.proofs.Common.{◌≡◌, ℕ, zero, suc, ◌+◌, Bool, true, false, List, [], ◌∷◌, ◌++◌, take, Some, None, refl, sym, ap, ap₂, ◌∙◌, cond}
+use Rattle.std.proofs.Common.{◌≡◌, ℕ, zero, suc, ◌+◌, Bool, true, false, List, [], ◌∷◌, ◌++◌, take, Some, None, refl, sym, ap, ◌∙◌, cond}
 use Rattle.std.specs.Prelude.{filter}
 use Rattle.std.specs.List.{slice_get, IsDistinct}
 use Rattle.std.proofs.lemmas.Option.{none-some, same_Some, slice_get_within, get_or_from_slice_get}
@@ -33,13 +33,13 @@ module _ (test : List ℕ → Bool) (ps before after : Pairs) (i : ℕ) (distinc
   abbrev Next : Type 0
   Next = after ≡ filter (λ e. test e.0) (take (i + 1) ps)
 
-  pub value_kept : (name key : List ℕ) (a b : Array) → Some name ≡ slice_get (names_of ps) i → Some a ≡ array_of ps name → test name ≡ true → key ≡ name → b ≡ a → after ≡ with_array before key b → Next
-  value_kept name key a b named valued t k e puts =
+  pub value_kept : (name : List ℕ) (a : Array) → Some name ≡ slice_get (names_of ps) i → Some a ≡ array_of ps name → test name ≡ true → after ≡ with_array before name a → Next
+  value_kept name a named valued t puts =
       let (x, at) = pair_at ps i name (sym named) in
       let same : a ≡ x = same_Some a x (valued ∙ array_at ps i (name, x) distinct at) in
       filter_kept (λ (z : List ℕ × Array). test z.0) ps i (name, x) before after (slice_get_within ps i (name, x) at) (sym (get_or_from_slice_get ps i (name, x) (name, x) at)) was (name, x) t refl
       (puts
-      ∙ ap₂ (with_array before) k (e ∙ same)
+      ∙ ap (with_array before name) same
       ∙ ap (λ z. with_array z name x) was
       ∙ put_behind (λ (z : List ℕ × Array). test z.0) ps i (name, x) distinct at
       ∙ ap (λ z. z ++ (name, x) ∷ []) (sym was))

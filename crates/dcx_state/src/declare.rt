@@ -1,15 +1,21 @@
 //! Declarations of variables and parameters, and the values of parameters.
-ghost use Rattle.std.specs.Prelude.{◌≡◌, option_map, IfOk};
+ghost use Rattle.std.specs.Prelude.{◌≡◌, true, false, not, ◌&&◌, ◌||◌, [], ◌∷◌, ◌++◌, option_map, IfOk};
 ghost use Rattle.std.specs.Option.{option_copied};
-ghost use Rattle.dcx_kinds.specs.Values.{State as MeantState};
+ghost use Rattle.dcx_call.specs.declared.call.Call.TheVariants as calls;
+ghost use Rattle.dcx_kinds.specs.declared.fault.ElabFault.TheVariants as faults;
+ghost use Rattle.dcx_kinds.specs.Values.{State as MeantState, and_then, unless};
+ghost use Rattle.dcx_kinds.specs.Kinds.{is_square};
+ghost use Rattle.dcx_kinds.specs.Nodes.{push};
 ghost use Rattle.dcx_kinds.specs.Meant.{meant};
 ghost use Rattle.dcx_kinds.specs.View.{extent_sides, read_as, Gives};
-ghost use Rattle.dcx_state.specs.Declarations.{declared_shape, variable_with, parameter_with, declare_variable, declare_parameter, set_value, first_value, set_first, parameter_of, give};
+ghost use Rattle.dcx_state.specs.Attributes.{may_stand};
+ghost use Rattle.dcx_state.specs.Declarations.{is_declared, declared_shape, variable_with, parameter_with, declare_variable, declare_parameter, set_value, first_value, set_first, parameter_of, give};
 
 use crate::flags::Flags;
+use crate::problem::put_copy;
 use crate::state::State;
-use dcx_arena::Count;
-use dcx_atom::{Array, copy_array};
+use dcx_arena::{Count, NodeId};
+use dcx_atom::Array;
 use dcx_call::{Call, Parameter, Variable};
 use dcx_kinds::{ElabFault, Extent, Reading, Value, numbers_read, too_many};
 use dcx_shape::{Name, Place, Shape, copy_name};
@@ -88,17 +94,47 @@ impl State {
     ) -> Result<Value, ElabFault>
         ensures { Gives meant result self.new (declare_variable place name.now (extent_sides extent) flags self.old) }
     {
+        self.test_variable(place, name, extent, flags)?;
+        let node = self.new_variable(place, name, extent, flags)?;
+        Ok(Value::Expression(node))
+    }
+
+    /// Refuses a variable whose attributes exclude each other, whose name is declared, or which must be square and isn't.
+    fn test_variable(
+        &self,
+        place: Place,
+        name: &Name,
+        extent: Extent,
+        flags: Flags,
+    ) -> Result<(), ElabFault>
+        ensures { Gives (λ _. tt) result self.now (and_then (unless (faults.BadArgument place) (may_stand flags && not (is_declared name.now self.now)) self.now) (λ _. unless (faults.ShapeClash place) (not (flags.symmetric || flags.diag) || is_square (extent_sides extent)))) }
+    {
         if !flags.may_stand() || self.declared.has(name) {
             return Err(ElabFault::BadArgument(place));
         }
         if (flags.symmetric || flags.diag) && !extent.is_square() {
             return Err(ElabFault::ShapeClash(place));
         }
+        Ok(())
+    }
+
+    /// The node of a new variable, which is listed first.
+    fn new_variable(
+        &mut self,
+        place: Place,
+        name: &Name,
+        extent: Extent,
+        flags: Flags,
+    ) -> Result<NodeId, ElabFault>
+        requires new { is_declared name.now self.old ≡ false }
+        requires square { (flags.symmetric || flags.diag) ≡ true → is_square (extent_sides extent) ≡ true }
+        ensures { Gives (λ i. i.0) result self.new (and_then (declared_shape place (extent_sides extent) self.old) (λ shape s. push place (calls.Variable (variable_with name.now shape flags)) [] (record s { variables = s.variables ++ variable_with name.now shape flags ∷ [] }))) }
+    {
         let shape = self.declared_shape(place, extent)?;
-        let call = Call::Variable(variable(self.alloc, name, shape, flags)?);
         let listed = variable(self.alloc, name, shape, flags)?;
         self.declared.add_variable(self.alloc, listed)?;
-        Ok(Value::Expression(self.put(place, call, &[])?))
+        let made = variable(self.alloc, name, shape, flags)?;
+        self.put(place, Call::Variable(made), &[])
     }
 
     /// A parameter of this name, whose node comes to the tree at once, with its first value, where one is given.
@@ -117,20 +153,48 @@ impl State {
     ) -> Result<Value, ElabFault>
         ensures { Gives meant result self.new (declare_parameter place name.now (extent_sides extent) flags.nonneg flags.nonpos unoffered (option_map read_as value) self.old) }
     {
+        self.test_parameter(place, name, flags, unoffered)?;
+        let first = first_value(place, value)?;
+        let node = self.new_parameter(place, name, extent, flags)?;
+        self.set_first(name, first)?;
+        Ok(Value::Expression(node))
+    }
+
+    /// Refuses a parameter whose attributes exclude each other or aren't offered, or whose name is declared.
+    fn test_parameter(
+        &self,
+        place: Place,
+        name: &Name,
+        flags: Flags,
+        unoffered: bool,
+    ) -> Result<(), ElabFault>
+        ensures { Gives (λ _. tt) result self.now (and_then (unless (faults.BadArgument place) (not (flags.nonneg && flags.nonpos) && not (is_declared name.now self.now)) self.now) (λ _. unless (faults.NotOffered place) (not unoffered))) }
+    {
         if (flags.nonneg && flags.nonpos) || self.declared.has(name) {
             return Err(ElabFault::BadArgument(place));
         }
         if unoffered {
             return Err(ElabFault::NotOffered(place));
         }
-        let first = first_value(place, value)?;
+        Ok(())
+    }
+
+    /// The node of a new parameter, which is listed first.
+    fn new_parameter(
+        &mut self,
+        place: Place,
+        name: &Name,
+        extent: Extent,
+        flags: Flags,
+    ) -> Result<NodeId, ElabFault>
+        requires { is_declared name.now self.old ≡ false }
+        ensures { Gives (λ i. i.0) result self.new (and_then (declared_shape place (extent_sides extent) self.old) (λ shape s. push place (calls.Parameter (parameter_with name.now shape flags.nonneg flags.nonpos)) [] (record s { parameters = s.parameters ++ parameter_with name.now shape flags.nonneg flags.nonpos ∷ [] }))) }
+    {
         let shape = self.declared_shape(place, extent)?;
-        let call = Call::Parameter(parameter(self.alloc, name, shape, flags)?);
         let listed = parameter(self.alloc, name, shape, flags)?;
         self.declared.add_parameter(self.alloc, listed)?;
-        let node = self.put(place, call, &[])?;
-        self.set_first(name, first)?;
-        Ok(Value::Expression(node))
+        let made = parameter(self.alloc, name, shape, flags)?;
+        self.put(place, Call::Parameter(made), &[])
     }
 
     /// Gives a parameter its first value, where there is one.
@@ -147,9 +211,7 @@ impl State {
     fn set_value(&mut self, name: &Name, array: &Array) -> Result<(), ElabFault>
         ensures { Gives (λ _. tt) result self.new (set_value name.now array.now self.old) }
     {
-        let name = copy_name(self.alloc, name)?;
-        let array = copy_array(self.alloc, array)?;
-        self.setting.put(name, array)?;
+        put_copy(self.alloc, &mut self.setting, name, array)?;
         Ok(())
     }
 

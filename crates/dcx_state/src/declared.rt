@@ -1,6 +1,7 @@
 //! The variables and parameters that are declared, of which no two have the same name. Symmetric and diagonal variables are square.
-ghost use Rattle.std.specs.Prelude.{◌≡◌, false, [], ◌∷◌, ◌++◌, OnOk, OnErr};
+ghost use Rattle.std.specs.Prelude.{◌≡◌, false, true, [], ◌∷◌, ◌++◌, OnOk, OnErr};
 ghost use Rattle.std.specs.List.{IsDistinct};
+ghost use Rattle.std.specs.HashSet.{Updates, IsUnchanged};
 ghost use Rattle.dcx_point.specs.Pairs.{same_name};
 ghost use Rattle.dcx_call.specs.Attributes.{IsSquare, AreSquare};
 ghost use Rattle.dcx_tree.specs.Problems.{declared_names};
@@ -33,6 +34,24 @@ impl Model for Declared {
     ghost view = { λ d. record { variables = d.variables.items; parameters = d.parameters.items } };
 
     ghost invariant = { λ d. AreNamed d.variables.items d.parameters.items (contains same_name d.names) };
+}
+
+/// One item more, and its name among the names. Where there is no memory, both are as they were.
+fn push_named<T: Drop>(
+    items: &mut Vec<T>,
+    names: &mut HashSet<Name>,
+    item: T,
+    name: Name,
+) -> Result<(), AllocError>
+    ensures pushed { OnOk result (items.new.items ≡ items.old.items ++ item ∷ []) }
+    ensures named { OnOk result (Updates same_name names.old names.new name true) }
+    ensures same_items { OnErr result (items.new.items ≡ items.old.items) }
+    ensures same_names { OnErr result (IsUnchanged names.old names.new) }
+{
+    items.reserve(1)?;
+    names.insert(name)?;
+    items.push_reserved(item);
+    Ok(())
 }
 
 impl Declared {
@@ -82,12 +101,7 @@ impl Declared {
         ensures err { OnErr result (self.new ≡ self.old) }
     {
         let name = copy_name(alloc, &variable.name)?;
-        self.variables.push(variable)?;
-        if self.names.insert(name).is_err() {
-            self.variables.pop();
-            return Err(AllocError);
-        }
-        Ok(())
+        push_named(&mut self.variables, &mut self.names, variable, name)
     }
 
     /// One parameter more, whose name is new. Where there is no memory, all is as it was.
@@ -101,11 +115,6 @@ impl Declared {
         ensures err { OnErr result (self.new ≡ self.old) }
     {
         let name = copy_name(alloc, &parameter.name)?;
-        self.parameters.push(parameter)?;
-        if self.names.insert(name).is_err() {
-            self.parameters.pop();
-            return Err(AllocError);
-        }
-        Ok(())
+        push_named(&mut self.parameters, &mut self.names, parameter, name)
     }
 }

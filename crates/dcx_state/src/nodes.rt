@@ -5,7 +5,8 @@ ghost use Rattle.dcx_shape.specs.Shape.{sides_of};
 ghost use Rattle.dcx_arena.specs.Nodes.{positions, sides_at, call_at, AreNodes};
 ghost use Rattle.dcx_call.specs.Calls.{shape_of};
 ghost use Rattle.dcx_tree.specs.Problems.{IsListed};
-ghost use Rattle.dcx_kinds.specs.Nodes.{are_there, push, pushed, all_pushed, promoted, all_promoted, operand_sides, common_shape, called, broadcast_called, subtracted, constrained};
+ghost use Rattle.dcx_kinds.specs.Values.{and_then};
+ghost use Rattle.dcx_kinds.specs.Nodes.{are_there, given_sides, push, pushed, all_pushed, promoted, all_promoted, operand_sides, common_shape, called, broadcast_called, subtracted, constrained};
 ghost use Rattle.dcx_kinds.specs.View.{meant_operand, Gives};
 ghost use Rattle.dcx_state.specs.Declarations.{is_declaration};
 
@@ -171,12 +172,24 @@ impl State {
         requires { is_declaration call ≡ false }
         ensures { Gives (λ i. i.0) result self.new (called place call (map meant_operand operands.now) self.old) }
     {
+        let args = self.called_args(place, &call, operands)?;
+        self.push(place, call, &args)
+    }
+
+    /// The arguments of a call, whose shape is tested before anything comes to the tree.
+    fn called_args(
+        &mut self,
+        place: Place,
+        call: &Call,
+        operands: &[Operand],
+    ) -> Result<Vec<NodeId>, ElabFault>
+        ensures { Gives (λ v. positions v.items) result self.new (and_then (given_sides place call.now (map (operand_sides self.old.nodes) (map meant_operand operands.now)) self.old) (λ _. all_pushed place (map meant_operand operands.now))) }
+    {
         let shapes = self.shapes(operands)?;
         if call.shape(&shapes).is_none() {
             return Err(ElabFault::ShapeClash(place));
         }
-        let args = self.all_pushed(place, operands)?;
-        self.push(place, call, &args)
+        self.all_pushed(place, operands)
     }
 
     /// The node of a call of operands that broadcast: the constants in order, the promotions in order, and then the call.
@@ -191,13 +204,32 @@ impl State {
         requires { is_declaration call ≡ false }
         ensures { Gives (λ i. i.0) result self.new (broadcast_called place call (map meant_operand operands.now) self.old) }
     {
-        let shapes = self.shapes(operands)?;
-        let Some(shape) = common_shape(&shapes) else {
-            return Err(ElabFault::ShapeClash(place));
-        };
-        let nodes = self.all_pushed(place, operands)?;
-        let args = self.all_promoted(place, shape, &nodes)?;
+        let args = self.broadcast_args(place, operands)?;
         self.push(place, call, &args)
+    }
+
+    /// The arguments of a call of operands that broadcast: their promotions in order.
+    fn broadcast_args(
+        &mut self,
+        place: Place,
+        operands: &[Operand],
+    ) -> Result<Vec<NodeId>, ElabFault>
+        ensures { Gives (λ v. positions v.items) result self.new (and_then (common_shape place (map meant_operand operands.now) self.old) (λ shape s. and_then (all_pushed place (map meant_operand operands.now) s) (all_promoted place shape))) }
+    {
+        let shape = self.shape_of_all(place, operands)?;
+        let nodes = self.all_pushed(place, operands)?;
+        self.all_promoted(place, shape, &nodes)
+    }
+
+    /// The shape that operands broadcast to, where an expression may have so many entries.
+    fn shape_of_all(&self, place: Place, operands: &[Operand]) -> Result<Shape, ElabFault>
+        ensures { Gives (λ s. s) result self.now (common_shape place (map meant_operand operands.now) self.now) }
+    {
+        let shapes = self.shapes(operands)?;
+        match common_shape(&shapes) {
+            Some(shape) => Ok(shape),
+            None => Err(ElabFault::ShapeClash(place)),
+        }
     }
 
     /// The shape that two operands broadcast to, where an expression may have so many entries.

@@ -1,19 +1,20 @@
 //! The problem of a script, its solves and their settings.
-ghost use Rattle.std.specs.Prelude.{◌≡◌, ℕ, ◌<◌, ◌^◌, List, filter, length, map, IfOk};
-ghost use Rattle.std.specs.List.{list_any};
+ghost use Rattle.std.specs.Prelude.{◌≡◌, ℕ, ◌<◌, ◌^◌, List, filter, length, map, Ok, IfOk, OnOk};
+ghost use Rattle.std.specs.List.{list_any, IsDistinct};
 ghost use Rattle.std.specs.HashSet.{contains};
-ghost use Rattle.dcx_point.specs.Pairs.{same_name};
+ghost use Rattle.dcx_point.specs.Pairs.{same_name, with_array};
 ghost use Rattle.dcx_tree.specs.Gather.{IsProblemOf};
-ghost use Rattle.dcx_tree.specs.Problems.{IsObjective, AreConstraints};
+ghost use Rattle.dcx_call.specs.Attributes.{AreSquare};
+ghost use Rattle.dcx_tree.specs.Problems.{IsObjective, AreConstraints, declared_names};
 ghost use Rattle.dcx_kinds.specs.Values.{objective as objective_value};
 ghost use Rattle.dcx_kinds.specs.Meant.{meant};
 ghost use Rattle.dcx_kinds.specs.View.{Gives};
-ghost use Rattle.dcx_state.specs.Declarations.{constraint_list, make_problem, solve, standing_setting, events_or_end};
+ghost use Rattle.dcx_state.specs.Declarations.{constraint_list, is_reached, make_problem, solve, standing_setting, events_or_end};
 ghost use Rattle.dcx_state.specs.Ends.{asked_for, roots_in, Stands, Ends};
 
 use crate::state::{Asked, State};
 use dcx_arena::Count;
-use dcx_atom::copy_array;
+use dcx_atom::{Array, copy_array};
 use dcx_call::{Parameter, Variable, copy_parameter, copy_variable};
 use dcx_kinds::{ElabFault, Objective, Value, too_many};
 use dcx_point::Setting;
@@ -72,6 +73,16 @@ fn copy_parameters(alloc: Global, parameters: &[Parameter]) -> Result<Parameters
     Ok(Parameters::from_vec(copies))
 }
 
+/// What is made, beside what was made before.
+fn beside<T: Drop, U: Drop>(made: T, next: Result<U, AllocError>) -> Result<(T, U), AllocError>
+    ensures { IfOk result (λ r. (r.0 ≡ made) × (next ≡ Ok r.1)) }
+{
+    match next {
+        Ok(next) => Ok((made, next)),
+        Err(stop) => Err(stop),
+    }
+}
+
 /// The names of parameters.
 fn names_of(alloc: Global, parameters: &[Parameter]) -> Result<HashSet<Name>, AllocError>
     ensures { IfOk result (λ s. (name : List ℕ) → contains same_name s name ≡ list_any (λ p. same_name name p.name) parameters.now) }
@@ -81,6 +92,20 @@ fn names_of(alloc: Global, parameters: &[Parameter]) -> Result<HashSet<Name>, Al
         names.insert(copy_name(alloc, &parameter.name)?)?;
     }
     Ok(names)
+}
+
+/// Puts a copy of an array under this name.
+pub(crate) fn put_copy(
+    alloc: Global,
+    setting: &mut Setting,
+    name: &Name,
+    array: &Array,
+) -> Result<(), AllocError>
+    ensures { OnOk result (setting.new ≡ with_array setting.old name.now array.now) }
+{
+    let name = copy_name(alloc, name)?;
+    let array = copy_array(alloc, array)?;
+    setting.put(name, array)
 }
 
 /// Those values of the setting whose names are reached.
@@ -96,7 +121,7 @@ fn reached_values(
         if let Some(name) = setting.name_at(i) {
             if let Some(array) = setting.get(name) {
                 if reached.contains(name) {
-                    values.put(copy_name(alloc, name)?, copy_array(alloc, array)?)?;
+                    put_copy(alloc, &mut values, name, array)?;
                 }
             }
         }
@@ -115,19 +140,56 @@ impl State {
         requires constraints { AreConstraints self.now.nodes constraints.now }
         ensures { IfOk result (IsProblemOf self.now.nodes (roots_in self.now (asked_for objective constraints.now))) }
     {
-        let alloc = self.alloc;
-        let roots = Roots {
-            sense: objective.sense,
-            objective: objective.node,
-            objective_place: objective.place,
-            constraints: Constraints::from_vec(Vec::from_slice(alloc, constraints)?),
-            variables: copy_variables(alloc, self.declared.variables())?,
-            parameters: copy_parameters(alloc, self.declared.parameters())?,
-        };
-        match gather(alloc, &self.tree, &roots) {
+        let roots = self.roots(objective, constraints)?;
+        match gather(self.alloc, &self.tree, &roots) {
             Ok(problem) => Ok(problem),
             Err(_) => Err(AllocError),
         }
+    }
+
+    /// Where the problem of this objective and these constraints begins, over what is declared so far.
+    fn roots(&self, objective: Objective, constraints: &[Constraint]) -> Result<Roots, AllocError>
+        ensures roots { IfOk result (λ r. r ≡ roots_in self.now (asked_for objective constraints.now)) }
+        ensures distinct { OnOk result (IsDistinct same_name (declared_names self.now.variables self.now.parameters)) }
+        ensures squares { OnOk result (AreSquare self.now.variables) }
+    {
+        let constraints = Vec::from_slice(self.alloc, constraints)?;
+        let (variables, parameters) = self.declarations()?;
+        Ok(Roots {
+            sense: objective.sense,
+            objective: objective.node,
+            objective_place: objective.place,
+            constraints: Constraints::from_vec(constraints),
+            variables,
+            parameters,
+        })
+    }
+
+    /// The variables and the parameters that are declared so far, again.
+    fn declarations(&self) -> Result<(Variables, Parameters), AllocError>
+        ensures copies { IfOk result (λ r. (r.0 ≡ self.now.variables) × (r.1 ≡ self.now.parameters)) }
+        ensures distinct { IsDistinct same_name (declared_names self.now.variables self.now.parameters) }
+        ensures squares { AreSquare self.now.variables }
+    {
+        let variables = copy_variables(self.alloc, self.declared.variables())?;
+        beside(
+            variables,
+            copy_parameters(self.alloc, self.declared.parameters()),
+        )
+    }
+
+    /// The names of the parameters that the problem of this objective and these constraints reaches.
+    fn reached_by(
+        &self,
+        objective: Objective,
+        constraints: &[Constraint],
+    ) -> Result<HashSet<Name>, AllocError>
+        requires objective { IsObjective self.now.nodes objective.node }
+        requires constraints { AreConstraints self.now.nodes constraints.now }
+        ensures { IfOk result (λ s. (name : List ℕ) → contains same_name s name ≡ is_reached self.now.nodes (asked_for objective constraints.now) name) }
+    {
+        let problem = self.problem_over(objective, constraints)?;
+        names_of(self.alloc, problem.parameters.as_slice())
     }
 
     /// The problem of an objective under the constraints among these values.
@@ -150,8 +212,7 @@ impl State {
         if self.asked.is_some() {
             return Err(ElabFault::TwoProblems(place));
         }
-        let problem = self.problem_over(objective, &constraints)?;
-        let reached = names_of(self.alloc, problem.parameters.as_slice())?;
+        let reached = self.reached_by(objective, &constraints)?;
         self.asked = Some(Asked {
             objective,
             constraints,
@@ -191,7 +252,8 @@ impl State {
             return Err(ElabFault::NoProblem(Place { line: 1, column: 1 }));
         };
         let last = self.standing_setting()?;
-        let problem = self.problem_over(asked.objective, &asked.constraints)?;
+        let problem = self.problem_over(asked.objective, &asked.constraints);
+        let (last, problem) = beside(last, problem)?;
         Ok((problem, last))
     }
 
@@ -210,8 +272,8 @@ impl State {
     fn take_asking(&mut self) -> Result<Asking, ElabFault>
         ensures { Ends result self.old }
     {
-        let (problem, last) = self.standing()?;
-        let events = self.take_events()?;
+        let standing = self.standing()?;
+        let ((problem, last), events) = beside(standing, self.take_events())?;
         Ok(Asking {
             problem,
             events,
@@ -224,6 +286,8 @@ impl State {
         ensures { Ends result self }
     {
         let mut state = self;
-        state.take_asking()
+        let asking = state.take_asking();
+        drop(state);
+        asking
     }
 }

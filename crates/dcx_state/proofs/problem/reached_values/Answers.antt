@@ -6,14 +6,13 @@ use Rattle.dcx_point.specs.Pairs.{same_name}
 use Rattle.dcx_point.proofs.Copied.{no_array, no_name}
 use Rattle.dcx_state.proofs.Settings.{value_kept, value_dropped}
 use Rattle.dcx_state.proofs.problem.reached_values.Goals as goal
-use Rattle.dcx_state.proofs.problem.reached_values.Goals.{in-Some+in-Some-get+then-contains+in_ok-copy_name+in_ok-copy_array+in_ok-put, in-Some+in-Some-get+else-contains, in-Some+in_default-get, in_default}
+use Rattle.dcx_state.proofs.problem.reached_values.Goals.{in-Some+in-Some-get+then-contains+in_ok-put_copy, in-Some+in-Some-get+else-contains, in-Some+in_default-get, in_default}
 
 pub loop-i-preserved : goal.loop-i-preserved
 loop-i-preserved c = elim c.match-name_at.branch [
-  | in-Some+in-Some-get+then-contains+in_ok-copy_name+in_ok-copy_array+in_ok-put w ↦
+  | in-Some+in-Some-get+then-contains+in_ok-put_copy w ↦
       value_kept (contains same_name c.args.reached.now) c.args.setting.now c.loop-i.values c.match-name_at.values c.loop-i.i c.len-i-end.ensures.distinct c.loop-i.invariant
-      w.in-Some.name.now w.in_ok-copy_name.field-0 w.in-Some-get.array.now w.in_ok-copy_array.field-0 w.in-Some.ensures w.in-Some-get.ensures
-      (sym w.contains.ensures ∙ w.if-contains.true) w.in_ok-copy_name.ensures w.in_ok-copy_array.ensures (w.values-is ∙ w.in_ok-put.ensures.ok)
+      w.in-Some.name.now w.in-Some-get.array.now w.in-Some.ensures w.in-Some-get.ensures (sym w.contains.ensures ∙ w.if-contains.true) (w.values-is ∙ w.in_ok-put_copy.ensures)
   | in-Some+in-Some-get+else-contains w ↦
       value_dropped (contains same_name c.args.reached.now) c.args.setting.now c.loop-i.values c.match-name_at.values c.loop-i.i c.len-i-end.ensures.distinct c.loop-i.invariant
       w.in-Some.name.now w.in-Some.ensures (sym w.contains.ensures ∙ w.if-contains.false) w.values-is

@@ -1,15 +1,14 @@
 -- The tests are those of the definition, and the names are those that the problem reaches.
-use Rattle.std.proofs.Common.{◌≡◌, false, not, ◌&&◌, List, map, sym, ap, ap₂, ◌∙◌, subst}
-use Rattle.std.specs.List.{list_any, list_all}
+use Rattle.std.proofs.Common.{◌≡◌, ℕ, false, not, ◌&&◌, List, map, sym, ap, ap₂, ◌∙◌, subst}
+use Rattle.std.specs.List.{list_all}
+use Rattle.std.specs.HashSet.{contains}
 use Rattle.dcx_point.specs.Pairs.{same_name}
-use Rattle.dcx_call.specs.declared.attribute.Parameter.{Parameter}
 use Rattle.dcx_tree.specs.declared.constraint.Constraint.{Constraint}
-use Rattle.dcx_tree.specs.Gather.{IsProblemOf}
 use Rattle.dcx_tree.specs.Problems.{AreConstraints}
 use Rattle.dcx_kinds.specs.Values.{State}
 use Rattle.dcx_kinds.specs.Meant.{meant}
-use Rattle.dcx_state.specs.Declarations.{is_objective, are_sides}
-use Rattle.dcx_state.specs.Ends.{asked_for, roots_in}
+use Rattle.dcx_state.specs.Declarations.{is_objective, are_sides, is_reached}
+use Rattle.dcx_state.specs.Ends.{asked_for}
 use Rattle.dcx_state.specs.Kept.{state_of, asked_of}
 use Rattle.dcx_state.proofs.Asks.{kept_asked}
 use Rattle.dcx_state.proofs.Bindings.{is_none-seen}
@@ -43,13 +42,13 @@ returns-then-is_some c =
 
 pub invariant_of-self : goal.invariant_of-self
 invariant_of-self c =
-    kept_asked (state_of c.self.inside) c.self.inside.asked (record { objective = c.args.objective; constraints = c.in_ok-constraints.constraints; reached = c.in_ok-reached.reached }) c.in_ok-problem.problem
+    kept_asked (state_of c.self.inside) c.self.inside.asked (record { objective = c.args.objective; constraints = c.in_ok-constraints.constraints; reached = c.in_ok-reached.reached })
     c.self.invariant
     (c.is_objective.ensures.0 c.if-not-is_objective.false)
     (subst (AreConstraints c.self.inside.tree) c.deref.ensures.value (c.are_constraints.ensures.0 c.if-not-are_constraints.false))
-    (subst (λ (s : State). IsProblemOf s.nodes (roots_in s (asked_for c.args.objective c.in_ok-constraints.constraints.items)) c.in_ok-problem.problem) (sym c.self.view_is)
-    (subst (λ (cs : List Constraint). IsProblemOf c.args.self.now.nodes (roots_in c.args.self.now (asked_for c.args.objective cs)) c.in_ok-problem.problem) c.deref-2.ensures.value c.in_ok-problem.ensures))
-    (λ name. c.in_ok-reached.ensures name ∙ ap (list_any (λ (x : Parameter). same_name name x.name)) c.as_slice.ensures)
+    (subst (λ (s : State). (name : List ℕ) → contains same_name c.in_ok-reached.reached name ≡ is_reached s.nodes (asked_for c.args.objective c.in_ok-constraints.constraints.items) name) (sym c.self.view_is)
+    (subst (λ (cs : List Constraint). (name : List ℕ) → contains same_name c.in_ok-reached.reached name ≡ is_reached c.args.self.now.nodes (asked_for c.args.objective cs) name) c.deref-2.ensures.value
+    c.in_ok-reached.ensures))
 
 pub returns : goal.returns
 returns c =
