@@ -1,7 +1,8 @@
 -- Answers of the descent: trees read part by part, where the last part or a stop is at hand.
 use Rattle.std.proofs.lemmas.List.{map_push}
 use Rattle.std.proofs.Common.{◌≡◌, ◌<◌, ◌≤◌, ℕ, Bool, true, false, List, [], ◌∷◌, ◌++◌, Option, Some, None, Result, Ok, Err, arith, map, length, refl, sym, ap, ap₂, subst, ◌∙◌}
-use Rattle.std.specs.Prelude.{IfOk, IfSome}
+use Rattle.std.specs.Prelude.{IfOk, IfSome, MatchOption}
+use Rattle.std.specs.Result.{result_transpose}
 use Rattle.dcx_shape.specs.declared.place.Place.{Place}
 use Rattle.dcx_frac.specs.declared.fraction.Frac.{Frac}
 use Rattle.dcx_tokens.specs.declared.token.Token.{Token}
@@ -10,18 +11,19 @@ use Rattle.dcx_read.specs.declared.role.Role.TheVariants as roles
 use Rattle.dcx_syntax.specs.declared.bracket.Bracket.{Bracket}
 use Rattle.dcx_syntax.specs.declared.bracket.Bracket.TheVariants.{Round, Square, Curly}
 use Rattle.dcx_read.specs.declared.front.Stop.{Stop}
+use Rattle.dcx_syntax.specs.declared.tree.Signed.{Signed}
 use Rattle.dcx_read.specs.Role.{role_of}
 use Rattle.dcx_syntax.specs.Terminal.{Terminal, opens}
 use Rattle.dcx_read.specs.Terminals.{terminal, terminals}
-use Rattle.dcx_syntax.specs.Expressions.{Primary, postfix, Trailers, args, args_end, no_args, Arg, Expr, items, items_end, no_items, Index, Indices, more_indices, indexed, no_trailer}
+use Rattle.dcx_syntax.specs.Expressions.{Primary, Postfix, exponent, Trailers, args, args_end, no_args, Arg, Expr, items, items_end, no_items, Index, Indices, more_indices, indexed, no_trailer}
 use Rattle.dcx_syntax.specs.View.{chained, then_index, args_of, items_of, more_items_of}
-use Rattle.dcx_read.specs.Moves.{Symbol, Tree, move, leaf, expr_s, arg_s, args_s, more_args_s, items_s, more_items_s, index_s, indices_s, closes_s, postfix_s, trailers_s, primary_s, args_behind, args_join, items_behind, items_join}
-use Rattle.dcx_read.specs.Steps.{Gives, Progress, Loop, StopsAt, Stops, Front, Lacks, starts_expr, Reads, ReadsOne, ReadsPair, Closes, IsBeside, Makes, MakesOne}
+use Rattle.dcx_read.specs.Moves.{Symbol, Tree, move, leaf, expr_s, arg_s, args_s, more_args_s, items_s, more_items_s, index_s, indices_s, closes_s, exponent_s, postfix_s, trailers_s, primary_s, args_behind, args_join, items_behind, items_join}
+use Rattle.dcx_read.specs.Steps.{IsSigns, Gives, Progress, Loop, StopsAt, Stops, Front, FrontOf, Refuses, Lacks, starts_expr, Reads, ReadsOne, ReadsPair, Closes, IsBeside, Makes, MakesOne}
 use Rattle.dcx_read.specs.Leaves.{is_leaf}
-use Rattle.dcx_read.proofs.Progress.{front, begun, goes, joins, done, turns, stops}
+use Rattle.dcx_read.proofs.Progress.{Join, front, begun, goes, joins, done, turns, stops}
 use Rattle.dcx_read.proofs.Rules.{indexed-item, closes_square-gives, closes_square-stops, item, begins_primary, primary-stops, primary-none, args-starts, args-comma, args-none, more_args-ends, items-starts, items-comma, items-none, more_items-ends}
 use Rattle.dcx_read.proofs.LineRules.{closes-gives, closes-stops}
-use Rattle.dcx_read.proofs.Loops.{pushed, loop-stops, args_after, args-more, args-last, args-none-behind, items_after, items-more, items-last, items-none-behind}
+use Rattle.dcx_read.proofs.Loops.{exponent-gives, exponent-stops, pushed, loop-stops, args_after, args-more, args-last, args-none-behind, items_after, items-more, items-last, items-none-behind}
 
 -- the last part is read
 pub finish : (s p : Symbol) (us rest mid : List Terminal) (make : Tree p → Tree s) (x : Tree p) (y : Tree s) → Progress s us rest (p ∷ []) (λ ss f. front s ss (make f.0) f.1) → Gives p rest x mid → y ≡ make x → Gives s us y mid
@@ -138,9 +140,86 @@ module _ {C : Type 0} (source : List ℕ) (us : List Terminal) (ts : List Token)
   pub items-close : starts_expr ts ≡ false → Gives items_s us (items_of (map view old) true) (terminals source ts)
   items-close b = finish items_s items_s us (terminals source ts) (terminals source ts) (items_after (map view old)) no_items (items_of (map view old) true) l (items-none source ts b) (items-none-behind (map view old))
 
--- a trailer more is read
-pub trailers-step : {C : Type 0} (us rest mid : List Terminal) (x : Primary) (view : C → Trailers → Trailers) (old new : List C) (y : C) → Loop postfix_s trailers_s us rest (λ a. postfix x (chained (map view old) a)) → Loop trailers_s trailers_s rest mid (view y) → new ≡ old ++ y ∷ [] → Loop postfix_s trailers_s us mid (λ a. postfix x (chained (map view new) a))
-trailers-step us rest mid x view old new y l h e = loop-turn postfix_s trailers_s us rest mid (λ a. postfix x (chained (map view old) a)) (λ a. postfix x (chained (map view new) a)) (view y) l h (λ a. ap (postfix x) (sym (pushed view new old y (view y) e refl a)))
+-- what was read is no longer than what it is made of
+pub made-length : {A X Y : Type 0} (view : X → A × List Token) (seen : Y → A × List Token) (n : ℕ) (made : Result X Stop) (given : Result Y Stop) → IfOk given (λ y. length (seen y).1 < n) → Makes view seen made given → IfOk made (λ x. length (view x).1 < n)
+made-length view seen n (Err e) given h m = tt
+made-length view seen n (Ok x) (Err d) h m = absurd m
+made-length view seen n (Ok x) (Ok y) h m = subst (λ (q : List Token). length q < n) (sym m.1) h
+
+-- an item of a repetition
+module _ {Y : Type 0} (s : Symbol) (seen : Y → (Tree s → Tree s) × List Token) (source : List ℕ) (rest : List Terminal) where
+  abbrev pub ReadsItem : Result Y Stop → Type 0
+  ReadsItem (Ok y) = Loop s s rest (terminals source (seen y).1) (seen y).0
+  ReadsItem (Err d) = Stops s source rest d
+
+  pub item-read : {Z : Type 0} (p : Symbol) (after : List Terminal) (make : Tree p → Tree s → Tree s) (given : Z → Tree p × List Token) → Progress s rest after (p ∷ s ∷ []) (λ ss f. front s ss (make f.0 f.1.0) f.1.1)
+      → (operand : Result Z Stop) (item : Result Y Stop) → Reads p source given operand after → Makes seen (λ z. (make (given z).0, (given z).1)) item operand → ReadsItem item
+  item-read p after make given h (Err b) (Err d) r i = rw i (stops s p rest after (s ∷ []) (λ ss f. front s ss (make f.0 f.1.0) f.1.1) source b h r)
+  item-read p after make given h (Ok z) (Err d) r i = rw i tt
+  item-read p after make given h (Err b) (Ok y) r i = absurd i
+  item-read p after make given h (Ok z) (Ok y) r i =
+      subst (λ (q : List Token). Loop s s rest (terminals source q) (seen y).0) (sym i.1)
+      (loop-is s s rest (terminals source (given z).1) (make (given z).0) (seen y).0 (goes s p rest after (terminals source (given z).1) (s ∷ []) (λ ss f. front s ss (make f.0 f.1.0) f.1.1) (given z).0 h r) i.0)
+
+  pub transposed-reads : (none : Tree s) (read : Result (Option Y) Stop) → ReadsOne s source none seen read rest → MatchOption (result_transpose read) (Gives s rest none rest) (λ i. ReadsItem i)
+  transposed-reads none (Ok None) r = r
+  transposed-reads none (Ok (Some y)) r = r
+  transposed-reads none (Err e) r = r
+
+pub transposed-shorter : {Y : Type 0} (size : Y → ℕ) (n : ℕ) (read : Result (Option Y) Stop) → IfOk read (λ o. IfSome o (λ y. size y < n)) → IfSome (result_transpose read) (λ i. IfOk i (λ y. size y < n))
+transposed-shorter size n (Ok None) h = tt
+transposed-shorter size n (Ok (Some y)) h = h
+transposed-shorter size n (Err e) h = tt
+
+-- what was read so far grows by an item
+module _ {T U X Y : Type 0} (s s' : Symbol) (top : T → Tree s' → Tree s) (view : U → Tree s' → Tree s') (kept : X → (T × List U) × List Token) (seen : Y → U × List Token) (source : List ℕ) (us rest : List Terminal) (so_far : X) (l : Loop s s' us rest (λ a. top (kept so_far).0.0 (chained (map view (kept so_far).0.1) a))) where
+  pub grown-stops : (item : Result Y Stop) (e : Stop) → ReadsItem s' (λ y. (view (seen y).0, (seen y).1)) source rest item → Makes kept (λ y. (((kept so_far).0.0, (kept so_far).0.1 ++ (seen y).0 ∷ []), (seen y).1)) (Err e) item → Stops s source us e
+  grown-stops (Err d) e r g = rw g (loop-stops s s' us rest (λ a. top (kept so_far).0.0 (chained (map view (kept so_far).0.1) a)) source d l r)
+  grown-stops (Ok y) e r g = rw g tt
+
+  pub grown-next : (item : Result Y Stop) (x : X) → ReadsItem s' (λ y. (view (seen y).0, (seen y).1)) source rest item → Makes kept (λ y. (((kept so_far).0.0, (kept so_far).0.1 ++ (seen y).0 ∷ []), (seen y).1)) (Ok x) item → Loop s s' us (terminals source (kept x).1) (λ a. top (kept x).0.0 (chained (map view (kept x).0.1) a))
+  grown-next (Err d) x r g = absurd g
+  grown-next (Ok y) x r g =
+      subst (λ (q : List Token). Loop s s' us (terminals source q) (λ a. top (kept x).0.0 (chained (map view (kept x).0.1) a))) (sym g.1)
+      (subst (λ q. Loop s s' us (terminals source (seen y).1) (λ a. top q.0 (chained (map view q.1) a))) (sym g.0)
+      (loop-turn s s' us rest (terminals source (seen y).1) (λ a. top (kept so_far).0.0 (chained (map view (kept so_far).0.1) a)) (λ a. top (kept so_far).0.0 (chained (map view ((kept so_far).0.1 ++ (seen y).0 ∷ [])) a)) (view (seen y).0) l r
+      (λ a. ap (top (kept so_far).0.0) (sym (pushed view ((kept so_far).0.1 ++ (seen y).0 ∷ []) (kept so_far).0.1 (seen y).0 (view (seen y).0) refl refl a)))))
+
+-- parts of a tree are read one after the other
+module _ (s : Symbol) (source : List ℕ) (us : List Terminal) where
+  abbrev pub ReadsTo : {X : Type 0} (ps : List Symbol) → (X → Join s ps × List Token) → Result X Stop → Type 0
+  ReadsTo ps view (Ok x) = Progress s us (terminals source (view x).1) ps (view x).0
+  ReadsTo ps view (Err e) = Stops s source us e
+
+  pub part-read : {X : Type 0} (p : Symbol) (ps : List Symbol) (mid : List Terminal) (join : Join s (p ∷ ps)) (view : X → Tree p × List Token) → Progress s us mid (p ∷ ps) join → (read : Result X Stop) → Reads p source view read mid → ReadsTo ps (λ x. ((λ ss f. join ss (front p (ps ++ ss) (view x).0 f)), (view x).1)) read
+  part-read p ps mid join view h (Ok x) r = goes s p us mid (terminals source (view x).1) ps join (view x).0 h r
+  part-read p ps mid join view h (Err e) r = stops s p us mid ps join source e h r
+
+  -- where a mark stands behind what was read
+  pub mark-read : {X U : Type 0} (m : Symbol) (x : Tree m) (r : Role) (ps : List Symbol) (join : U → Join s (m ∷ ps)) (view : X → U × List Token) → ((ts rest : List Token) → FrontOf r ts rest → Gives m (terminals source ts) x (terminals source rest)) → ((ts : List Token) (e : Stop) → Refuses r ts e → Stops m source (terminals source ts) e)
+      → (closing given : Result X Stop) → ReadsTo (m ∷ ps) (λ y. (join (view y).0, (view y).1)) given → Closes r view closing given → ReadsTo ps (λ y. ((λ ss f. join (view y).0 ss (front m (ps ++ ss) x f)), (view y).1)) closing
+  mark-read m x r ps join view a b (Err e) (Err d) h c = rw c h
+  mark-read m x r ps join view a b (Ok z) (Err d) h c = absurd c
+  mark-read m x r ps join view a b (Err e) (Ok y) h c = stops s m us (terminals source (view y).1) ps (join (view y).0) source e h (b (view y).1 e c)
+  mark-read m x r ps join view a b (Ok z) (Ok y) h c =
+      subst (λ u. Progress s us (terminals source (view z).1) ps (λ ss f. join u ss (front m (ps ++ ss) x f))) (sym c.0)
+      (goes s m us (terminals source (view y).1) (terminals source (view z).1) ps (join (view y).0) x h (a (view y).1 (view z).1 c.1))
+
+  -- where a part is read beside what was
+  pub beside-read : {F U X Y : Type 0} (p : Symbol) (ps : List Symbol) (mid : List Terminal) (join : F → Join s (p ∷ ps)) (part : U → Tree p) (view : X → (F × U) × List Token) (seen : Y → U × List Token) (f : F) → Progress s us mid (p ∷ ps) (join f)
+      → (parts : Result X Stop) (last : Result Y Stop) → Reads p source (λ y. (part (seen y).0, (seen y).1)) last mid → IsBeside view seen f parts last → ReadsTo ps (λ x. ((λ ss g. join (view x).0.0 ss (front p (ps ++ ss) (part (view x).0.1) g)), (view x).1)) parts
+  beside-read p ps mid join part view seen f h (Err e) (Err d) r i = rw i (stops s p us mid ps (join f) source d h r)
+  beside-read p ps mid join part view seen f h (Ok x) (Err d) r i = absurd i
+  beside-read p ps mid join part view seen f h (Err e) (Ok y) r i = absurd i
+  beside-read p ps mid join part view seen f h (Ok x) (Ok y) r i =
+      subst (λ (q : List Token). Progress s us (terminals source q) ps (λ ss g. join (view x).0.0 ss (front p (ps ++ ss) (part (view x).0.1) g))) (sym i.1.1)
+      (subst (λ a. Progress s us (terminals source (seen y).1) ps (λ ss g. join a ss (front p (ps ++ ss) (part (view x).0.1) g))) (sym i.0)
+      (subst (λ b. Progress s us (terminals source (seen y).1) ps (λ ss g. join f ss (front p (ps ++ ss) (part b) g))) (sym i.1.0)
+      (goes s p us mid (terminals source (seen y).1) ps (join f) (part (seen y).0) h r)))
+
+  pub all-read : {X : Type 0} (tree : X → Tree s) (rest : X → List Token) (read : Result X Stop) → ReadsTo [] (λ x. ((λ ss f. front s ss (tree x) f), rest x)) read → Reads s source (λ x. (tree x, rest x)) read us
+  all-read tree rest (Ok x) h = done s us (terminals source (rest x)) (λ ss f. front s ss (tree x) f) (tree x) (λ ss f. refl) h
+  all-read tree rest (Err e) h = h
 
 -- an index, of which the first part is read
 module _ {F U X Y Z : Type 0} (view : X → (F × U) × List Token) (seen : Y → U × List Token) (kept : Z → (Trailers → Trailers) × List Token) (place : Place) (first : F → Index) (rest : U → Indices) (f : F) where
@@ -239,3 +318,27 @@ module _ {F U X Y Z : Type 0} (s : Symbol) (view : X → (F × U) × List Token)
   made-shorter n most k (Err a) (Ok b) (Ok d) h i m = absurd i
   made-shorter n most k a (Err b) (Ok d) h i m = absurd m
   made-shorter n most k (Ok a) (Ok b) (Ok d) h i m = let o = ap length m.1 in let p = ap length i.1.1 in omega (arith, o, p, h, k)
+
+-- what is read beside a part leaves as many tokens
+module _ {F U X Y : Type 0} (view : X → (F × U) × List Token) (seen : Y → U × List Token) (f : F) where
+  pub beside-shorter : (n most : ℕ) → n ≤ most → (last : Result Y Stop) (parts : Result X Stop) → IfOk last (λ y. length (seen y).1 < n) → IsBeside view seen f parts last → IfOk parts (λ x. length (view x).1 < most)
+  beside-shorter n most k last (Err b) h i = tt
+  beside-shorter n most k (Err a) (Ok b) h i = absurd i
+  beside-shorter n most k (Ok a) (Ok b) h i = let p = ap length i.1.1 in omega (arith, p, h, k)
+
+-- the signs of an exponent and what stands behind them
+pub exponent-reads : {F U X Y : Type 0} (source : List ℕ) (ts : List Token) (f : F) (mid : List Token) (signs : F → List Signed) (operand : U → Postfix) (view : X → (F × U) × List Token) (seen : Y → U × List Token) → IsSigns ts (signs f) mid → (parts : Result X Stop) (last : Result Y Stop) → Reads postfix_s source (λ y. (operand (seen y).0, (seen y).1)) last (terminals source mid) → IsBeside view seen f parts last → Reads exponent_s source (λ x. (exponent (signs (view x).0.0) (operand (view x).0.1), (view x).1)) parts (terminals source ts)
+exponent-reads source ts f mid signs operand view seen s (Err e) (Err d) r i = rw i (exponent-stops source ts (signs f) mid d s r)
+exponent-reads source ts f mid signs operand view seen s (Ok x) (Err d) r i = absurd i
+exponent-reads source ts f mid signs operand view seen s (Err e) (Ok y) r i = absurd i
+exponent-reads source ts f mid signs operand view seen s (Ok x) (Ok y) r i =
+    subst (λ (q : List Token). Gives exponent_s (terminals source ts) (exponent (signs (view x).0.0) (operand (view x).0.1)) (terminals source q)) (sym i.1.1)
+    (subst (λ a. Gives exponent_s (terminals source ts) (exponent (signs a) (operand (view x).0.1)) (terminals source (seen y).1)) (sym i.0)
+    (subst (λ b. Gives exponent_s (terminals source ts) (exponent (signs f) (operand b)) (terminals source (seen y).1)) (sym i.1.0)
+    (exponent-gives source ts (signs f) mid (operand (seen y).0) (terminals source (seen y).1) s r)))
+
+-- a mark leaves fewer tokens
+pub mark-shorter : {X U : Type 0} (r : Role) (view : X → U × List Token) (most : ℕ) (inner closing : Result X Stop) → IfOk inner (λ x. length (view x).1 < most) → Closes r view closing inner → IfOk closing (λ x. length (view x).1 < most)
+mark-shorter r view most inner (Err d) h c = tt
+mark-shorter r view most (Err a) (Ok d) h c = absurd c
+mark-shorter r view most (Ok a) (Ok d) h c = let q = ap length c.1.1.parts in omega (arith, q, h)

@@ -5,9 +5,9 @@ ghost use Rattle.dcx_read.specs.declared.role.Role.TheVariants as roles;
 ghost use Rattle.dcx_syntax.specs.Terminal.{opens, plain};
 ghost use Rattle.dcx_read.specs.Terminals.{terminals};
 ghost use Rattle.dcx_syntax.specs.Terminal as marks_of;
-ghost use Rattle.dcx_syntax.specs.Expressions.{no_trailer, indexed, slice, tuple, list, comprehension};
+ghost use Rattle.dcx_syntax.specs.Expressions.{exponent, no_trailer, indexed, slice, tuple, list, comprehension};
 ghost use Rattle.dcx_syntax.specs.View.{args_of, items_of, more_items_of, indices_of, arg_view, index_view, primary_view, step_view, trailer_view, expr_view, factor_view, postfix_view, power_view, sum_view, term_view, optional_view};
-ghost use Rattle.dcx_read.specs.Moves.{expr_s, sum_s, term_s, factor_s, power_s, postfix_s, trailers_s, args_s, arg_s, indices_s, index_s, optional_s, step_s, primary_s, after_round_s, after_square_s, items_s, round_goes_on, square_for, square_lists};
+ghost use Rattle.dcx_read.specs.Moves.{expr_s, sum_s, term_s, factor_s, power_s, exponent_s, postfix_s, trailers_s, args_s, arg_s, indices_s, index_s, optional_s, step_s, primary_s, after_round_s, after_square_s, items_s, round_goes_on, square_for, square_lists};
 ghost use Rattle.dcx_read.specs.Leaves.{ReadsLeaf, EndsByComma};
 ghost use Rattle.dcx_read.specs.Steps.{Reads, ReadsOne, ReadsPair, Makes, MakesOne, Front, Lacks, IsSigns};
 
@@ -72,14 +72,15 @@ pub fn expr<'a>(
     ensures read { Reads expr_s text.now (λ x. (expr_view x.0, x.1.now)) result (terminals text.now tokens.now) }
     ensures shorter { IfOk result (λ x. length x.1.now < length tokens.now) }
 {
-    let (first, behind) = sum(alloc, text, tokens)?;
-    let mut others = Vec::new(alloc);
-    let mut rest = behind;
-    'more: while let Some((comparison, place, after)) = eat_comparison(rest) {
-        let (operand, next) = sum(alloc, text, after)?;
-        others.push(compared_of(comparison, place, operand))?;
-        rest = next;
+    let (front, behind) = sum(alloc, text, tokens)?;
+    let none = Vec::new(alloc);
+    let mut read = ((front, none), behind);
+    'more: while let Some((comparison, place, after)) = eat_comparison(read.1) {
+        let operand = sum(alloc, text, after);
+        let next = compared_of(comparison, place, operand);
+        read = grown(read, next)?;
     }
+    let ((first, others), rest) = read;
     Ok((expr_of(first, others), rest))
 }
 
@@ -88,14 +89,15 @@ fn sum<'a>(alloc: Global, text: &[u8], tokens: &'a [Token]) -> Result<(Sum, &'a 
     ensures read { Reads sum_s text.now (λ x. (sum_view x.0, x.1.now)) result (terminals text.now tokens.now) }
     ensures shorter { IfOk result (λ x. length x.1.now < length tokens.now) }
 {
-    let (first, behind) = term(alloc, text, tokens)?;
-    let mut others = Vec::new(alloc);
-    let mut rest = behind;
-    'more: while let Some((sign, place, after)) = eat_sign(rest) {
-        let (operand, next) = term(alloc, text, after)?;
-        others.push(added_of(sign, place, operand))?;
-        rest = next;
+    let (front, behind) = term(alloc, text, tokens)?;
+    let none = Vec::new(alloc);
+    let mut read = ((front, none), behind);
+    'more: while let Some((sign, place, after)) = eat_sign(read.1) {
+        let operand = term(alloc, text, after);
+        let next = added_of(sign, place, operand);
+        read = grown(read, next)?;
     }
+    let ((first, others), rest) = read;
     Ok((sum_of(first, others), rest))
 }
 
@@ -108,14 +110,15 @@ fn term<'a>(
     ensures read { Reads term_s text.now (λ x. (term_view x.0, x.1.now)) result (terminals text.now tokens.now) }
     ensures shorter { IfOk result (λ x. length x.1.now < length tokens.now) }
 {
-    let (first, behind) = factor(alloc, text, tokens)?;
-    let mut others = Vec::new(alloc);
-    let mut rest = behind;
-    'more: while let Some((scaling, place, after)) = eat_scaling(rest) {
-        let (operand, next) = factor(alloc, text, after)?;
-        others.push(scaled_of(scaling, place, operand))?;
-        rest = next;
+    let (front, behind) = factor(alloc, text, tokens)?;
+    let none = Vec::new(alloc);
+    let mut read = ((front, none), behind);
+    'more: while let Some((scaling, place, after)) = eat_scaling(read.1) {
+        let operand = factor(alloc, text, after);
+        let next = scaled_of(scaling, place, operand);
+        read = grown(read, next)?;
     }
+    let ((first, others), rest) = read;
     Ok((term_of(first, others), rest))
 }
 
@@ -142,16 +145,30 @@ fn power<'a>(
     ensures read { Reads power_s text.now (λ x. (power_view x.0, x.1.now)) result (terminals text.now tokens.now) }
     ensures shorter { IfOk result (λ x. length x.1.now < length tokens.now) }
 {
-    let (first, behind) = postfix(alloc, text, tokens)?;
-    let mut others = Vec::new(alloc);
-    let mut rest = behind;
-    'more: while let Some((place, after)) = eat(rest, Mark::Power) {
-        let (before, unsigned) = signs(alloc, after)?;
-        let (operand, next) = postfix(alloc, text, unsigned)?;
-        others.push(raised_of(place, before, operand))?;
-        rest = next;
+    let (front, behind) = postfix(alloc, text, tokens)?;
+    let none = Vec::new(alloc);
+    let mut read = ((front, none), behind);
+    'more: while let Some((place, after)) = eat(read.1, Mark::Power) {
+        let operand = exponent(alloc, text, after);
+        let next = raised_of(place, operand);
+        read = grown(read, next)?;
     }
+    let ((first, others), rest) = read;
     Ok((raised_power(first, others), rest))
+}
+
+/// The signs before what a power is raised to, and that.
+#[cycle(expression)]
+fn exponent<'a>(
+    alloc: Global,
+    text: &[u8],
+    tokens: &'a [Token],
+) -> Result<((Signs, Postfix), &'a [Token]), Stop<'a>>
+    ensures read { Reads exponent_s text.now (λ x. (exponent x.0.0.items (postfix_view x.0.1), x.1.now)) result (terminals text.now tokens.now) }
+    ensures shorter { IfOk result (λ x. length x.1.now < length tokens.now) }
+{
+    let (before, behind) = signs(alloc, tokens)?;
+    beside(before, postfix(alloc, text, behind))
 }
 
 #[cycle(expression)]
@@ -163,13 +180,13 @@ fn postfix<'a>(
     ensures read { Reads postfix_s text.now (λ x. (postfix_view x.0, x.1.now)) result (terminals text.now tokens.now) }
     ensures shorter { IfOk result (λ x. length x.1.now < length tokens.now) }
 {
-    let (first, behind) = primary(alloc, text, tokens)?;
-    let mut trailers = Vec::new(alloc);
-    let mut rest = behind;
-    'more: while let Some((next, after)) = trailer(alloc, text, rest)? {
-        trailers.push(next)?;
-        rest = after;
+    let (front, behind) = primary(alloc, text, tokens)?;
+    let none = Vec::new(alloc);
+    let mut read = ((front, none), behind);
+    'more: while let Some(next) = trailer(alloc, text, read.1).transpose() {
+        read = grown(read, next)?;
     }
+    let ((first, trailers), rest) = read;
     Ok((postfix_of(first, trailers), rest))
 }
 
@@ -589,9 +606,7 @@ fn source<'a>(
     ensures read { Reads after_square_s text.now (λ x. (square_for place x.0.0 (expr_view x.0.1), x.1.now)) result (plain (marks_of.for place) ∷ terminals text.now tokens.now) }
     ensures shorter { IfOk result (λ x. length x.1.now < length tokens.now) }
 {
-    let (each, behind) = name(alloc, text, tokens)?;
-    let after = expect(behind, Mark::In)?;
-    let (from, closing) = expr(alloc, text, after)?;
-    let rest = expect(closing, Mark::Closes(Bracket::Square))?;
-    Ok(((each, from), rest))
+    let (each, after) = closed(name(alloc, text, tokens), Mark::In)?;
+    let parts = beside(each, expr(alloc, text, after));
+    closed(parts, Mark::Closes(Bracket::Square))
 }

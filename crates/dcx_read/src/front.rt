@@ -1,5 +1,5 @@
 //! What stands at the front of the tokens.
-ghost use Rattle.std.specs.Prelude.{◌≡◌, ◌<◌, ◌≤◌, Bool, [], ◌∷◌, length, IfOk, IfErr, IfSome, MatchOption};
+ghost use Rattle.std.specs.Prelude.{◌≡◌, ◌<◌, ◌≤◌, Bool, List, [], ◌∷◌, ◌++◌, length, IfOk, IfErr, IfSome, MatchOption};
 ghost use Rattle.dcx_read.specs.declared.front.Stop.TheVariants as stops;
 ghost use Rattle.dcx_read.specs.declared.role.Role.TheVariants as roles;
 ghost use Rattle.dcx_syntax.specs.declared.tree.Comparison.{Comparison};
@@ -13,7 +13,7 @@ ghost use Rattle.dcx_syntax.specs.declared.bracket.Bracket.{Bracket};
 ghost use Rattle.dcx_read.specs.Leaves.{FrontText};
 ghost use Rattle.dcx_read.specs.Words.{module_named, is_value_word};
 ghost use Rattle.dcx_read.specs.Lines.{FrontValue, LacksValue, FrontPlain, LacksPlain, starts_line};
-ghost use Rattle.dcx_read.specs.Steps.{Closes, IsBeside, Front, FrontOf, Lacks, Refuses, Reads, starts_expr, FrontName, FrontPair, LacksPair};
+ghost use Rattle.dcx_read.specs.Steps.{Closes, IsBeside, Makes, Front, FrontOf, Lacks, Refuses, Reads, starts_expr, FrontName, FrontPair, LacksPair};
 
 use crate::role::{Mark, Role, mark_in, role_in};
 use dcx_frac::Frac;
@@ -350,4 +350,17 @@ pub fn beside<'a, T: Drop, U>(
         Ok((found, rest)) => Ok(((front, found), rest)),
         Err(stop) => Err(stop),
     }
+}
+
+/// What was read so far, and the item behind it.
+pub fn grown<'a, T: Drop, U: Drop>(
+    so_far: ((T, Vec<U>), &'a [Token]),
+    item: Result<(U, &'a [Token]), Stop<'a>>,
+) -> Result<((T, Vec<U>), &'a [Token]), Stop<'a>>
+    ensures { Makes {A = T × List U} (λ x. ((x.0.0, x.0.1.items), x.1.now)) (λ y. ((so_far.entry.0.0, so_far.entry.0.1.items ++ y.0 ∷ []), y.1.now)) result item.entry }
+{
+    let ((first, mut others), _) = so_far;
+    let (next, rest) = item?;
+    others.push(next)?;
+    Ok(((first, others), rest))
 }

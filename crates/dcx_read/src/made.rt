@@ -4,10 +4,13 @@ ghost use Rattle.std.specs.Prelude.{◌≡◌, map, IfOk};
 ghost use Rattle.dcx_syntax.specs.Expressions.{expr, no_comparison, compared, sum, no_addition, added, term, no_scaling, scaled, factor, power_of, no_power, raised, exponent, postfix, no_trailer, attribute, call, indexed, by_place, by_name, at, slice, no_step, step, number_at, text_at, name_at, truth_at, none_at, unit, round, tuple, empty_list, list, comprehension};
 ghost use Rattle.dcx_syntax.specs.Statements.{nothing, importing, assign, add_to, set_value, evaluate, prints, repeats};
 ghost use Rattle.dcx_syntax.specs.View.{line_view, lines_of, chained, args_of, items_of, more_items_of, indices_of, arg_view, index_view, primary_view, step_view, trailer_view, added_view, compared_view, expr_view, factor_view, postfix_view, power_view, raised_view, scaled_view, sum_view, term_view, optional_view};
+ghost use Rattle.dcx_read.specs.Steps.{Makes};
 
+use crate::front::Stop;
 use dcx_frac::Frac;
 use dcx_shape::{Bytes, Place};
 use dcx_syntax::*;
+use dcx_tokens::Token;
 use std::alloc::{AllocError, Global};
 
 /// The value in a box, and what is kept beside it.
@@ -25,13 +28,24 @@ pub fn expr_of(first: Sum, rest: Vec<Compared>) -> Expr
     Expr { first, rest }
 }
 
-pub fn compared_of(comparison: Comparison, place: Place, operand: Sum) -> Compared
-    ensures { compared_view result ≡ (λ x. compared comparison place (sum_view operand) x) }
+/// The compared operand, where it was read.
+pub fn compared_of<'a>(
+    comparison: Comparison,
+    place: Place,
+    operand: Result<(Sum, &'a [Token]), Stop<'a>>,
+) -> Result<(Compared, &'a [Token]), Stop<'a>>
+    ensures { Makes (λ x. (compared_view x.0, x.1.now)) (λ y. ((λ x. compared comparison place (sum_view y.0) x), y.1.now)) result operand.entry }
 {
-    Compared {
-        comparison,
-        place,
-        sum: operand,
+    match operand {
+        Ok((sum, rest)) => {
+            let compared = Compared {
+                comparison,
+                place,
+                sum,
+            };
+            Ok((compared, rest))
+        }
+        Err(stop) => Err(stop),
     }
 }
 
@@ -41,13 +55,20 @@ pub fn sum_of(first: Term, rest: Vec<Added>) -> Sum
     Sum { first, rest }
 }
 
-pub fn added_of(sign: Sign, place: Place, operand: Term) -> Added
-    ensures { added_view result ≡ (λ x. added sign place (term_view operand) x) }
+/// The added operand, where it was read.
+pub fn added_of<'a>(
+    sign: Sign,
+    place: Place,
+    operand: Result<(Term, &'a [Token]), Stop<'a>>,
+) -> Result<(Added, &'a [Token]), Stop<'a>>
+    ensures { Makes (λ x. (added_view x.0, x.1.now)) (λ y. ((λ x. added sign place (term_view y.0) x), y.1.now)) result operand.entry }
 {
-    Added {
-        sign,
-        place,
-        term: operand,
+    match operand {
+        Ok((term, rest)) => {
+            let added = Added { sign, place, term };
+            Ok((added, rest))
+        }
+        Err(stop) => Err(stop),
     }
 }
 
@@ -57,13 +78,24 @@ pub fn term_of(first: Factor, rest: Vec<Scaled>) -> Term
     Term { first, rest }
 }
 
-pub fn scaled_of(scaling: Scaling, place: Place, operand: Factor) -> Scaled
-    ensures { scaled_view result ≡ (λ x. scaled scaling place (factor_view operand) x) }
+/// The scaled operand, where it was read.
+pub fn scaled_of<'a>(
+    scaling: Scaling,
+    place: Place,
+    operand: Result<(Factor, &'a [Token]), Stop<'a>>,
+) -> Result<(Scaled, &'a [Token]), Stop<'a>>
+    ensures { Makes (λ x. (scaled_view x.0, x.1.now)) (λ y. ((λ x. scaled scaling place (factor_view y.0) x), y.1.now)) result operand.entry }
 {
-    Scaled {
-        scaling,
-        place,
-        factor: operand,
+    match operand {
+        Ok((factor, rest)) => {
+            let scaled = Scaled {
+                scaling,
+                place,
+                factor,
+            };
+            Ok((scaled, rest))
+        }
+        Err(stop) => Err(stop),
     }
 }
 
@@ -82,13 +114,23 @@ pub fn raised_power(first: Postfix, rest: Vec<Raised>) -> Power
     Power { first, rest }
 }
 
-pub fn raised_of(place: Place, signs: Signs, operand: Postfix) -> Raised
-    ensures { raised_view result ≡ (λ x. raised place (exponent signs.items (postfix_view operand)) x) }
+/// The raised operand, where it was read with its signs.
+pub fn raised_of<'a>(
+    place: Place,
+    operand: Result<((Signs, Postfix), &'a [Token]), Stop<'a>>,
+) -> Result<(Raised, &'a [Token]), Stop<'a>>
+    ensures { Makes (λ x. (raised_view x.0, x.1.now)) (λ y. ((λ x. raised place (exponent y.0.0.items (postfix_view y.0.1)) x), y.1.now)) result operand.entry }
 {
-    Raised {
-        place,
-        signs,
-        postfix: operand,
+    match operand {
+        Ok(((signs, postfix), rest)) => {
+            let raised = Raised {
+                place,
+                signs,
+                postfix,
+            };
+            Ok((raised, rest))
+        }
+        Err(stop) => Err(stop),
     }
 }
 

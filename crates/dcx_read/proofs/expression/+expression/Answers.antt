@@ -1,140 +1,150 @@
 -- What each answer of the descent is read from.
-use Rattle.std.proofs.Common.{arith, Ok, Some, None, IfSome, ◌∙◌, ◌<◌, false, [], ◌∷◌, length, map, refl, sym, ap, subst}
+use Rattle.std.proofs.Common.{arith, Ok, Err, Some, None, IfSome, ◌∙◌, ◌<◌, ◌++◌, false, [], ◌∷◌, length, map, refl, sym, ap, subst}
+use Rattle.std.specs.Prelude.{IfOk, MatchOption}
 use Rattle.std.proofs.lemmas.Result.{err_from_is_err_and}
 use Rattle.dcx_syntax.specs.declared.bracket.Bracket.TheVariants.{Round, Square}
+use Rattle.dcx_read.specs.declared.role.Role.TheVariants as roles
 use Rattle.dcx_syntax.specs.Terminal.{opens, plain}
 use Rattle.dcx_read.specs.Terminals.{terminals, named_by}
 use Rattle.dcx_syntax.specs.Terminal as marks_of
 use Rattle.dcx_syntax.specs.Expressions.{expr, compared, no_comparison, sum, added, no_addition, term, scaled, no_scaling, power_of, raised, no_power, exponent, postfix, no_trailer, attribute, call, no_index, more_indices, by_name, by_place, slice, absent, present, step, tuple, list, comprehension}
 use Rattle.dcx_syntax.specs.View.{args_of, items_of, more_items_of, indices_of, arg_view, index_view, primary_view, step_view, trailer_view, added_view, compared_view, expr_view, factor_view, postfix_view, power_view, raised_view, scaled_view, sum_view, term_view, optional_view}
 use Rattle.dcx_read.specs.Moves.{expr_s, compared_s, sum_s, added_s, term_s, scaled_s, factor_s, power_s, raised_s, exponent_s, postfix_s, trailers_s, args_s, arg_s, indices_s, index_s, after_index_s, optional_s, step_s, primary_s, after_round_s, after_square_s, items_s, name_s, in_s, closes_s, as_index, no_slice, slices, as_round, round_holds, round_closed, round_goes_on, as_square, square_holds, square_lists, square_for, items_behind}
-use Rattle.dcx_read.specs.Steps.{ReadsOne}
+use Rattle.dcx_read.specs.Steps.{ReadsOne, Gives}
 use Rattle.dcx_read.specs.Leaves.{ReadsLeaf, EndsByComma}
-use Rattle.dcx_read.proofs.Progress.{goes, turns, stops, gives-is, loop-done}
+use Rattle.dcx_read.proofs.Progress.{front, goes, turns, stops, gives-is, loop-done}
 use Rattle.dcx_read.proofs.Rules.{expr-rule, sum-rule, term-rule, power-rule, postfix-rule, compared-item, compared-ends, added-item, added-ends, scaled-item, scaled-ends, raised-item, raised-ends, attribute-item, call-item, indexed-item, trailers-end, indices-item, indices-ends, closes_round-gives, closes_round-stops, closes_square-gives, closes_square-stops, in-gives, in-stops, arg-named, arg-place, index-colon, index-rule, after_index-ends, after_index-colon, args-none, optional-none, optional-starts, step-ends, step-colon, round-empty, round-rule, after_round-closes, after_round-stops, after_round-comma, square-empty, square-rule, after_square-closes, after_square-stops, after_square-comma, after_square-for, for-front}
-use Rattle.dcx_read.proofs.Loops.{pushed, none-yet, loop-begin, loop-next, loop-stops, factor-gives, factor-stops, exponent-gives, exponent-stops}
-use Rattle.dcx_read.proofs.Descent.{index-ends, index-shorter, loosely, closed-reads, closed-shorter, pair-reads, pair-shorter, made-last, made-pair, made-shorter, finish, trailer-is, no-primary, front-opens-round, front-opens-square, list-items, trailers-step, indices-begun, indices-pushed, args-begun, args-stop, args-step, args-last-one, args-close, items-begun, items-stop, items-step, items-last-one, items-close}
+use Rattle.dcx_read.proofs.Loops.{pushed, none-yet, loop-begin, loop-next, loop-stops, factor-gives, factor-stops}
+use Rattle.dcx_read.proofs.Descent.{made-length, ReadsItem, item-read, transposed-reads, transposed-shorter, grown-stops, grown-next, exponent-reads, beside-shorter, part-read, mark-read, beside-read, all-read, mark-shorter, index-ends, index-shorter, loosely, closed-reads, closed-shorter, pair-reads, pair-shorter, made-last, made-pair, made-shorter, finish, trailer-is, no-primary, front-opens-round, front-opens-square, list-items, indices-begun, indices-pushed, args-begun, args-stop, args-step, args-last-one, args-close, items-begun, items-stop, items-step, items-last-one, items-close}
 use Rattle.dcx_read.proofs.expression.+expression.Goals as goal
 
-pub expr-returns-in_err-first-clause-read : goal.expr-returns-in_err-first-clause-read
-expr-returns-in_err-first-clause-read t c =
+pub expr-returns-in_err-front-clause-read : goal.expr-returns-in_err-front-clause-read
+expr-returns-in_err-front-clause-read t c =
     let p = err_from_is_err_and c.from_residual.result c.from_residual.ensures.1 in
-    rw (p.1, p.2) (stops expr_s sum_s (terminals c.args.text.now c.args.tokens.now) (terminals c.args.text.now c.args.tokens.now) (compared_s ∷ []) _ c.args.text.now c.in_err-first.field-0.0 (expr-rule (terminals c.args.text.now c.args.tokens.now)) c.in_err-first.ensures.read)
+    rw (p.1, p.2) (stops expr_s sum_s (terminals c.args.text.now c.args.tokens.now) (terminals c.args.text.now c.args.tokens.now) (compared_s ∷ []) _ c.args.text.now c.in_err-front.field-0.0 (expr-rule (terminals c.args.text.now c.args.tokens.now)) c.in_err-front.ensures.read)
 
 pub expr-more-init : goal.expr-more-init
 expr-more-init t c =
-    (loop-begin expr_s compared_s sum_s (terminals c.args.text.now c.args.tokens.now) (terminals c.args.text.now c.in_ok-first.behind.now) expr (sum_view c.in_ok-first.first) _ (expr-rule (terminals c.args.text.now c.args.tokens.now)) c.in_ok-first.ensures.read (λ y. ap (expr (sum_view c.in_ok-first.first)) (sym (none-yet compared_view _ c.new-others.ensures.items y))), c.in_ok-first.ensures.shorter)
+    (loop-begin expr_s compared_s sum_s (terminals c.args.text.now c.args.tokens.now) (terminals c.args.text.now c.in_ok-front.behind.now) expr (sum_view c.in_ok-front.front) _ (expr-rule (terminals c.args.text.now c.args.tokens.now)) c.in_ok-front.ensures.read (λ y. ap (expr (sum_view c.in_ok-front.front)) (sym (none-yet compared_view _ c.new-none.ensures.items y))), c.in_ok-front.ensures.shorter)
 
-pub expr-returns-in_err-operand-clause-read : goal.expr-returns-in_err-operand-clause-read
-expr-returns-in_err-operand-clause-read t c =
-    let p = err_from_is_err_and c.from_residual-in_err-operand.result c.from_residual-in_err-operand.ensures.1 in
-    rw (p.1, p.2) (loop-stops expr_s compared_s (terminals c.args.text.now c.args.tokens.now) (terminals c.args.text.now c.more.rest.now) _ c.args.text.now c.in_err-operand.field-0.0 c.more.invariant.0 (stops compared_s sum_s (terminals c.args.text.now c.more.rest.now) (terminals c.args.text.now c.in-Some.after.now) (compared_s ∷ []) _ c.args.text.now c.in_err-operand.field-0.0 (compared-item c.args.text.now c.more.rest.now c.in-Some.after.now c.in-Some.comparison c.in-Some.place c.in-Some.ensures.front) c.in_err-operand.ensures.read))
+pub expr-returns-in_err-read-clause-read : goal.expr-returns-in_err-read-clause-read
+expr-returns-in_err-read-clause-read t c =
+    let p = err_from_is_err_and c.from_residual-in_err-read.result c.from_residual-in_err-read.ensures.1 in
+    rw (p.1, p.2) (grown-stops expr_s compared_s (λ f. expr (sum_view f)) compared_view (λ x. ((x.0.0, x.0.1.items), x.1.now)) (λ y. (y.0, y.1.now)) c.args.text.now (terminals c.args.text.now c.args.tokens.now) (terminals c.args.text.now c.more.read.1.now) c.more.read c.more.invariant.0 c.compared_of-next.result c.in_err-read.field-0.0 (item-read compared_s (λ y. (compared_view y.0, y.1.now)) c.args.text.now (terminals c.args.text.now c.more.read.1.now) sum_s (terminals c.args.text.now c.in-Some.after.now) (compared c.in-Some.comparison c.in-Some.place) (λ z. (sum_view z.0, z.1.now)) (compared-item c.args.text.now c.more.read.1.now c.in-Some.after.now c.in-Some.comparison c.in-Some.place c.in-Some.ensures.front) c.sum-operand.result c.compared_of-next.result c.sum-operand.ensures.read c.compared_of-next.ensures) c.in_err-read.ensures)
 
 pub expr-more-smaller : goal.expr-more-smaller
 expr-more-smaller t c =
-    let a = c.in-Some.ensures.shorter in let b = c.in_ok-operand.ensures.shorter in let i = c.more.invariant.1 in omega (arith, a, b, i)
+    let a = c.in-Some.ensures.shorter in let b = made-length (λ x. ((x.0.0, x.0.1.items), x.1.now)) (λ y. ((c.more.read.0.0, c.more.read.0.1.items ++ y.0 ∷ []), y.1.now)) (length c.in-Some.after.now) (Ok c.in_ok-read.read) c.compared_of-next.result (made-length (λ y. (compared_view y.0, y.1.now)) (λ z. (compared c.in-Some.comparison c.in-Some.place (sum_view z.0), z.1.now)) (length c.in-Some.after.now) c.compared_of-next.result c.sum-operand.result c.sum-operand.ensures.shorter c.compared_of-next.ensures) c.in_ok-read.ensures in omega (arith, a, b)
 
 pub expr-more-preserved : goal.expr-more-preserved
 expr-more-preserved t c =
-    (loop-next expr_s compared_s sum_s (terminals c.args.text.now c.args.tokens.now) (terminals c.args.text.now c.more.rest.now) (terminals c.args.text.now c.in-Some.after.now) (terminals c.args.text.now c.in_ok-operand.next.now) _ _ (compared c.in-Some.comparison c.in-Some.place) (sum_view c.in_ok-operand.operand) c.more.invariant.0 (compared-item c.args.text.now c.more.rest.now c.in-Some.after.now c.in-Some.comparison c.in-Some.place c.in-Some.ensures.front) c.in_ok-operand.ensures.read (λ y. ap (expr (sum_view c.in_ok-first.first)) (sym (pushed compared_view _ _ _ _ c.in_ok-push.ensures.items c.compared_of.ensures y))), let a = c.in-Some.ensures.shorter in let b = c.in_ok-operand.ensures.shorter in let i = c.more.invariant.1 in omega (arith, a, b, i))
+    (grown-next expr_s compared_s (λ f. expr (sum_view f)) compared_view (λ x. ((x.0.0, x.0.1.items), x.1.now)) (λ y. (y.0, y.1.now)) c.args.text.now (terminals c.args.text.now c.args.tokens.now) (terminals c.args.text.now c.more.read.1.now) c.more.read c.more.invariant.0 c.compared_of-next.result c.in_ok-read.read (item-read compared_s (λ y. (compared_view y.0, y.1.now)) c.args.text.now (terminals c.args.text.now c.more.read.1.now) sum_s (terminals c.args.text.now c.in-Some.after.now) (compared c.in-Some.comparison c.in-Some.place) (λ z. (sum_view z.0, z.1.now)) (compared-item c.args.text.now c.more.read.1.now c.in-Some.after.now c.in-Some.comparison c.in-Some.place c.in-Some.ensures.front) c.sum-operand.result c.compared_of-next.result c.sum-operand.ensures.read c.compared_of-next.ensures) c.in_ok-read.ensures, let a = c.in-Some.ensures.shorter in let b = made-length (λ x. ((x.0.0, x.0.1.items), x.1.now)) (λ y. ((c.more.read.0.0, c.more.read.0.1.items ++ y.0 ∷ []), y.1.now)) (length c.in-Some.after.now) (Ok c.in_ok-read.read) c.compared_of-next.result (made-length (λ y. (compared_view y.0, y.1.now)) (λ z. (compared c.in-Some.comparison c.in-Some.place (sum_view z.0), z.1.now)) (length c.in-Some.after.now) c.compared_of-next.result c.sum-operand.result c.sum-operand.ensures.shorter c.compared_of-next.ensures) c.in_ok-read.ensures in let i = c.more.invariant.1 in omega (arith, a, b, i))
 
 pub expr-returns-clause-read : goal.expr-returns-clause-read
 expr-returns-clause-read t c =
-    loop-done expr_s compared_s (terminals c.args.text.now c.args.tokens.now) (terminals c.args.text.now c.more.rest.now) _ no_comparison _ c.more.invariant.0 (compared-ends c.args.text.now c.more.rest.now c.in_default.ensures.front) c.expr_of.ensures
+    loop-done expr_s compared_s (terminals c.args.text.now c.args.tokens.now) (terminals c.args.text.now c.more.read.1.now) _ no_comparison _ c.more.invariant.0 (compared-ends c.args.text.now c.more.read.1.now c.in_default.ensures.front) c.expr_of.ensures
 
 pub expr-returns-clause-shorter : goal.expr-returns-clause-shorter
 expr-returns-clause-shorter t c =
     c.more.invariant.1
 
-pub sum-returns-in_err-first-clause-read : goal.sum-returns-in_err-first-clause-read
-sum-returns-in_err-first-clause-read t c =
+pub sum-returns-in_err-front-clause-read : goal.sum-returns-in_err-front-clause-read
+sum-returns-in_err-front-clause-read t c =
     let p = err_from_is_err_and c.from_residual.result c.from_residual.ensures.1 in
-    rw (p.1, p.2) (stops sum_s term_s (terminals c.args.text.now c.args.tokens.now) (terminals c.args.text.now c.args.tokens.now) (added_s ∷ []) _ c.args.text.now c.in_err-first.field-0.0 (sum-rule (terminals c.args.text.now c.args.tokens.now)) c.in_err-first.ensures.read)
+    rw (p.1, p.2) (stops sum_s term_s (terminals c.args.text.now c.args.tokens.now) (terminals c.args.text.now c.args.tokens.now) (added_s ∷ []) _ c.args.text.now c.in_err-front.field-0.0 (sum-rule (terminals c.args.text.now c.args.tokens.now)) c.in_err-front.ensures.read)
 
 pub sum-more-init : goal.sum-more-init
 sum-more-init t c =
-    (loop-begin sum_s added_s term_s (terminals c.args.text.now c.args.tokens.now) (terminals c.args.text.now c.in_ok-first.behind.now) sum (term_view c.in_ok-first.first) _ (sum-rule (terminals c.args.text.now c.args.tokens.now)) c.in_ok-first.ensures.read (λ y. ap (sum (term_view c.in_ok-first.first)) (sym (none-yet added_view _ c.new-others.ensures.items y))), c.in_ok-first.ensures.shorter)
+    (loop-begin sum_s added_s term_s (terminals c.args.text.now c.args.tokens.now) (terminals c.args.text.now c.in_ok-front.behind.now) sum (term_view c.in_ok-front.front) _ (sum-rule (terminals c.args.text.now c.args.tokens.now)) c.in_ok-front.ensures.read (λ y. ap (sum (term_view c.in_ok-front.front)) (sym (none-yet added_view _ c.new-none.ensures.items y))), c.in_ok-front.ensures.shorter)
 
-pub sum-returns-in_err-operand-clause-read : goal.sum-returns-in_err-operand-clause-read
-sum-returns-in_err-operand-clause-read t c =
-    let p = err_from_is_err_and c.from_residual-in_err-operand.result c.from_residual-in_err-operand.ensures.1 in
-    rw (p.1, p.2) (loop-stops sum_s added_s (terminals c.args.text.now c.args.tokens.now) (terminals c.args.text.now c.more.rest.now) _ c.args.text.now c.in_err-operand.field-0.0 c.more.invariant.0 (stops added_s term_s (terminals c.args.text.now c.more.rest.now) (terminals c.args.text.now c.in-Some.after.now) (added_s ∷ []) _ c.args.text.now c.in_err-operand.field-0.0 (added-item c.args.text.now c.more.rest.now c.in-Some.after.now c.in-Some.sign c.in-Some.place c.in-Some.ensures.front) c.in_err-operand.ensures.read))
+pub sum-returns-in_err-read-clause-read : goal.sum-returns-in_err-read-clause-read
+sum-returns-in_err-read-clause-read t c =
+    let p = err_from_is_err_and c.from_residual-in_err-read.result c.from_residual-in_err-read.ensures.1 in
+    rw (p.1, p.2) (grown-stops sum_s added_s (λ f. sum (term_view f)) added_view (λ x. ((x.0.0, x.0.1.items), x.1.now)) (λ y. (y.0, y.1.now)) c.args.text.now (terminals c.args.text.now c.args.tokens.now) (terminals c.args.text.now c.more.read.1.now) c.more.read c.more.invariant.0 c.added_of-next.result c.in_err-read.field-0.0 (item-read added_s (λ y. (added_view y.0, y.1.now)) c.args.text.now (terminals c.args.text.now c.more.read.1.now) term_s (terminals c.args.text.now c.in-Some.after.now) (added c.in-Some.sign c.in-Some.place) (λ z. (term_view z.0, z.1.now)) (added-item c.args.text.now c.more.read.1.now c.in-Some.after.now c.in-Some.sign c.in-Some.place c.in-Some.ensures.front) c.term-operand.result c.added_of-next.result c.term-operand.ensures.read c.added_of-next.ensures) c.in_err-read.ensures)
 
 pub sum-more-smaller : goal.sum-more-smaller
 sum-more-smaller t c =
-    let a = c.in-Some.ensures.shorter in let b = c.in_ok-operand.ensures.shorter in let i = c.more.invariant.1 in omega (arith, a, b, i)
+    let a = c.in-Some.ensures.shorter in let b = made-length (λ x. ((x.0.0, x.0.1.items), x.1.now)) (λ y. ((c.more.read.0.0, c.more.read.0.1.items ++ y.0 ∷ []), y.1.now)) (length c.in-Some.after.now) (Ok c.in_ok-read.read) c.added_of-next.result (made-length (λ y. (added_view y.0, y.1.now)) (λ z. (added c.in-Some.sign c.in-Some.place (term_view z.0), z.1.now)) (length c.in-Some.after.now) c.added_of-next.result c.term-operand.result c.term-operand.ensures.shorter c.added_of-next.ensures) c.in_ok-read.ensures in omega (arith, a, b)
 
 pub sum-more-preserved : goal.sum-more-preserved
 sum-more-preserved t c =
-    (loop-next sum_s added_s term_s (terminals c.args.text.now c.args.tokens.now) (terminals c.args.text.now c.more.rest.now) (terminals c.args.text.now c.in-Some.after.now) (terminals c.args.text.now c.in_ok-operand.next.now) _ _ (added c.in-Some.sign c.in-Some.place) (term_view c.in_ok-operand.operand) c.more.invariant.0 (added-item c.args.text.now c.more.rest.now c.in-Some.after.now c.in-Some.sign c.in-Some.place c.in-Some.ensures.front) c.in_ok-operand.ensures.read (λ y. ap (sum (term_view c.in_ok-first.first)) (sym (pushed added_view _ _ _ _ c.in_ok-push.ensures.items c.added_of.ensures y))), let a = c.in-Some.ensures.shorter in let b = c.in_ok-operand.ensures.shorter in let i = c.more.invariant.1 in omega (arith, a, b, i))
+    (grown-next sum_s added_s (λ f. sum (term_view f)) added_view (λ x. ((x.0.0, x.0.1.items), x.1.now)) (λ y. (y.0, y.1.now)) c.args.text.now (terminals c.args.text.now c.args.tokens.now) (terminals c.args.text.now c.more.read.1.now) c.more.read c.more.invariant.0 c.added_of-next.result c.in_ok-read.read (item-read added_s (λ y. (added_view y.0, y.1.now)) c.args.text.now (terminals c.args.text.now c.more.read.1.now) term_s (terminals c.args.text.now c.in-Some.after.now) (added c.in-Some.sign c.in-Some.place) (λ z. (term_view z.0, z.1.now)) (added-item c.args.text.now c.more.read.1.now c.in-Some.after.now c.in-Some.sign c.in-Some.place c.in-Some.ensures.front) c.term-operand.result c.added_of-next.result c.term-operand.ensures.read c.added_of-next.ensures) c.in_ok-read.ensures, let a = c.in-Some.ensures.shorter in let b = made-length (λ x. ((x.0.0, x.0.1.items), x.1.now)) (λ y. ((c.more.read.0.0, c.more.read.0.1.items ++ y.0 ∷ []), y.1.now)) (length c.in-Some.after.now) (Ok c.in_ok-read.read) c.added_of-next.result (made-length (λ y. (added_view y.0, y.1.now)) (λ z. (added c.in-Some.sign c.in-Some.place (term_view z.0), z.1.now)) (length c.in-Some.after.now) c.added_of-next.result c.term-operand.result c.term-operand.ensures.shorter c.added_of-next.ensures) c.in_ok-read.ensures in let i = c.more.invariant.1 in omega (arith, a, b, i))
 
 pub sum-returns-clause-read : goal.sum-returns-clause-read
 sum-returns-clause-read t c =
-    loop-done sum_s added_s (terminals c.args.text.now c.args.tokens.now) (terminals c.args.text.now c.more.rest.now) _ no_addition _ c.more.invariant.0 (added-ends c.args.text.now c.more.rest.now c.in_default.ensures.front) c.sum_of.ensures
+    loop-done sum_s added_s (terminals c.args.text.now c.args.tokens.now) (terminals c.args.text.now c.more.read.1.now) _ no_addition _ c.more.invariant.0 (added-ends c.args.text.now c.more.read.1.now c.in_default.ensures.front) c.sum_of.ensures
 
 pub sum-returns-clause-shorter : goal.sum-returns-clause-shorter
 sum-returns-clause-shorter t c =
     c.more.invariant.1
 
-pub term-returns-in_err-first-clause-read : goal.term-returns-in_err-first-clause-read
-term-returns-in_err-first-clause-read t c =
+pub term-returns-in_err-front-clause-read : goal.term-returns-in_err-front-clause-read
+term-returns-in_err-front-clause-read t c =
     let p = err_from_is_err_and c.from_residual.result c.from_residual.ensures.1 in
-    rw (p.1, p.2) (stops term_s factor_s (terminals c.args.text.now c.args.tokens.now) (terminals c.args.text.now c.args.tokens.now) (scaled_s ∷ []) _ c.args.text.now c.in_err-first.field-0.0 (term-rule (terminals c.args.text.now c.args.tokens.now)) c.in_err-first.ensures.read)
+    rw (p.1, p.2) (stops term_s factor_s (terminals c.args.text.now c.args.tokens.now) (terminals c.args.text.now c.args.tokens.now) (scaled_s ∷ []) _ c.args.text.now c.in_err-front.field-0.0 (term-rule (terminals c.args.text.now c.args.tokens.now)) c.in_err-front.ensures.read)
 
 pub term-more-init : goal.term-more-init
 term-more-init t c =
-    (loop-begin term_s scaled_s factor_s (terminals c.args.text.now c.args.tokens.now) (terminals c.args.text.now c.in_ok-first.behind.now) term (factor_view c.in_ok-first.first) _ (term-rule (terminals c.args.text.now c.args.tokens.now)) c.in_ok-first.ensures.read (λ y. ap (term (factor_view c.in_ok-first.first)) (sym (none-yet scaled_view _ c.new-others.ensures.items y))), c.in_ok-first.ensures.shorter)
+    (loop-begin term_s scaled_s factor_s (terminals c.args.text.now c.args.tokens.now) (terminals c.args.text.now c.in_ok-front.behind.now) term (factor_view c.in_ok-front.front) _ (term-rule (terminals c.args.text.now c.args.tokens.now)) c.in_ok-front.ensures.read (λ y. ap (term (factor_view c.in_ok-front.front)) (sym (none-yet scaled_view _ c.new-none.ensures.items y))), c.in_ok-front.ensures.shorter)
 
-pub term-returns-in_err-operand-clause-read : goal.term-returns-in_err-operand-clause-read
-term-returns-in_err-operand-clause-read t c =
-    let p = err_from_is_err_and c.from_residual-in_err-operand.result c.from_residual-in_err-operand.ensures.1 in
-    rw (p.1, p.2) (loop-stops term_s scaled_s (terminals c.args.text.now c.args.tokens.now) (terminals c.args.text.now c.more.rest.now) _ c.args.text.now c.in_err-operand.field-0.0 c.more.invariant.0 (stops scaled_s factor_s (terminals c.args.text.now c.more.rest.now) (terminals c.args.text.now c.in-Some.after.now) (scaled_s ∷ []) _ c.args.text.now c.in_err-operand.field-0.0 (scaled-item c.args.text.now c.more.rest.now c.in-Some.after.now c.in-Some.scaling c.in-Some.place c.in-Some.ensures.front) c.in_err-operand.ensures.read))
+pub term-returns-in_err-read-clause-read : goal.term-returns-in_err-read-clause-read
+term-returns-in_err-read-clause-read t c =
+    let p = err_from_is_err_and c.from_residual-in_err-read.result c.from_residual-in_err-read.ensures.1 in
+    rw (p.1, p.2) (grown-stops term_s scaled_s (λ f. term (factor_view f)) scaled_view (λ x. ((x.0.0, x.0.1.items), x.1.now)) (λ y. (y.0, y.1.now)) c.args.text.now (terminals c.args.text.now c.args.tokens.now) (terminals c.args.text.now c.more.read.1.now) c.more.read c.more.invariant.0 c.scaled_of-next.result c.in_err-read.field-0.0 (item-read scaled_s (λ y. (scaled_view y.0, y.1.now)) c.args.text.now (terminals c.args.text.now c.more.read.1.now) factor_s (terminals c.args.text.now c.in-Some.after.now) (scaled c.in-Some.scaling c.in-Some.place) (λ z. (factor_view z.0, z.1.now)) (scaled-item c.args.text.now c.more.read.1.now c.in-Some.after.now c.in-Some.scaling c.in-Some.place c.in-Some.ensures.front) c.factor-operand.result c.scaled_of-next.result c.factor-operand.ensures.read c.scaled_of-next.ensures) c.in_err-read.ensures)
 
 pub term-more-smaller : goal.term-more-smaller
 term-more-smaller t c =
-    let a = c.in-Some.ensures.shorter in let b = c.in_ok-operand.ensures.shorter in let i = c.more.invariant.1 in omega (arith, a, b, i)
+    let a = c.in-Some.ensures.shorter in let b = made-length (λ x. ((x.0.0, x.0.1.items), x.1.now)) (λ y. ((c.more.read.0.0, c.more.read.0.1.items ++ y.0 ∷ []), y.1.now)) (length c.in-Some.after.now) (Ok c.in_ok-read.read) c.scaled_of-next.result (made-length (λ y. (scaled_view y.0, y.1.now)) (λ z. (scaled c.in-Some.scaling c.in-Some.place (factor_view z.0), z.1.now)) (length c.in-Some.after.now) c.scaled_of-next.result c.factor-operand.result c.factor-operand.ensures.shorter c.scaled_of-next.ensures) c.in_ok-read.ensures in omega (arith, a, b)
 
 pub term-more-preserved : goal.term-more-preserved
 term-more-preserved t c =
-    (loop-next term_s scaled_s factor_s (terminals c.args.text.now c.args.tokens.now) (terminals c.args.text.now c.more.rest.now) (terminals c.args.text.now c.in-Some.after.now) (terminals c.args.text.now c.in_ok-operand.next.now) _ _ (scaled c.in-Some.scaling c.in-Some.place) (factor_view c.in_ok-operand.operand) c.more.invariant.0 (scaled-item c.args.text.now c.more.rest.now c.in-Some.after.now c.in-Some.scaling c.in-Some.place c.in-Some.ensures.front) c.in_ok-operand.ensures.read (λ y. ap (term (factor_view c.in_ok-first.first)) (sym (pushed scaled_view _ _ _ _ c.in_ok-push.ensures.items c.scaled_of.ensures y))), let a = c.in-Some.ensures.shorter in let b = c.in_ok-operand.ensures.shorter in let i = c.more.invariant.1 in omega (arith, a, b, i))
+    (grown-next term_s scaled_s (λ f. term (factor_view f)) scaled_view (λ x. ((x.0.0, x.0.1.items), x.1.now)) (λ y. (y.0, y.1.now)) c.args.text.now (terminals c.args.text.now c.args.tokens.now) (terminals c.args.text.now c.more.read.1.now) c.more.read c.more.invariant.0 c.scaled_of-next.result c.in_ok-read.read (item-read scaled_s (λ y. (scaled_view y.0, y.1.now)) c.args.text.now (terminals c.args.text.now c.more.read.1.now) factor_s (terminals c.args.text.now c.in-Some.after.now) (scaled c.in-Some.scaling c.in-Some.place) (λ z. (factor_view z.0, z.1.now)) (scaled-item c.args.text.now c.more.read.1.now c.in-Some.after.now c.in-Some.scaling c.in-Some.place c.in-Some.ensures.front) c.factor-operand.result c.scaled_of-next.result c.factor-operand.ensures.read c.scaled_of-next.ensures) c.in_ok-read.ensures, let a = c.in-Some.ensures.shorter in let b = made-length (λ x. ((x.0.0, x.0.1.items), x.1.now)) (λ y. ((c.more.read.0.0, c.more.read.0.1.items ++ y.0 ∷ []), y.1.now)) (length c.in-Some.after.now) (Ok c.in_ok-read.read) c.scaled_of-next.result (made-length (λ y. (scaled_view y.0, y.1.now)) (λ z. (scaled c.in-Some.scaling c.in-Some.place (factor_view z.0), z.1.now)) (length c.in-Some.after.now) c.scaled_of-next.result c.factor-operand.result c.factor-operand.ensures.shorter c.scaled_of-next.ensures) c.in_ok-read.ensures in let i = c.more.invariant.1 in omega (arith, a, b, i))
 
 pub term-returns-clause-read : goal.term-returns-clause-read
 term-returns-clause-read t c =
-    loop-done term_s scaled_s (terminals c.args.text.now c.args.tokens.now) (terminals c.args.text.now c.more.rest.now) _ no_scaling _ c.more.invariant.0 (scaled-ends c.args.text.now c.more.rest.now c.in_default.ensures.front) c.term_of.ensures
+    loop-done term_s scaled_s (terminals c.args.text.now c.args.tokens.now) (terminals c.args.text.now c.more.read.1.now) _ no_scaling _ c.more.invariant.0 (scaled-ends c.args.text.now c.more.read.1.now c.in_default.ensures.front) c.term_of.ensures
 
 pub term-returns-clause-shorter : goal.term-returns-clause-shorter
 term-returns-clause-shorter t c =
     c.more.invariant.1
 
-pub power-returns-in_err-first-clause-read : goal.power-returns-in_err-first-clause-read
-power-returns-in_err-first-clause-read t c =
+pub power-returns-in_err-front-clause-read : goal.power-returns-in_err-front-clause-read
+power-returns-in_err-front-clause-read t c =
     let p = err_from_is_err_and c.from_residual.result c.from_residual.ensures.1 in
-    rw (p.1, p.2) (stops power_s postfix_s (terminals c.args.text.now c.args.tokens.now) (terminals c.args.text.now c.args.tokens.now) (raised_s ∷ []) _ c.args.text.now c.in_err-first.field-0.0 (power-rule (terminals c.args.text.now c.args.tokens.now)) c.in_err-first.ensures.read)
+    rw (p.1, p.2) (stops power_s postfix_s (terminals c.args.text.now c.args.tokens.now) (terminals c.args.text.now c.args.tokens.now) (raised_s ∷ []) _ c.args.text.now c.in_err-front.field-0.0 (power-rule (terminals c.args.text.now c.args.tokens.now)) c.in_err-front.ensures.read)
 
 pub power-more-init : goal.power-more-init
 power-more-init t c =
-    (loop-begin power_s raised_s postfix_s (terminals c.args.text.now c.args.tokens.now) (terminals c.args.text.now c.in_ok-first.behind.now) power_of (postfix_view c.in_ok-first.first) _ (power-rule (terminals c.args.text.now c.args.tokens.now)) c.in_ok-first.ensures.read (λ y. ap (power_of (postfix_view c.in_ok-first.first)) (sym (none-yet raised_view _ c.new-others.ensures.items y))), c.in_ok-first.ensures.shorter)
+    (loop-begin power_s raised_s postfix_s (terminals c.args.text.now c.args.tokens.now) (terminals c.args.text.now c.in_ok-front.behind.now) power_of (postfix_view c.in_ok-front.front) _ (power-rule (terminals c.args.text.now c.args.tokens.now)) c.in_ok-front.ensures.read (λ y. ap (power_of (postfix_view c.in_ok-front.front)) (sym (none-yet raised_view _ c.new-none.ensures.items y))), c.in_ok-front.ensures.shorter)
 
-pub power-returns-in_err-operand-clause-read : goal.power-returns-in_err-operand-clause-read
-power-returns-in_err-operand-clause-read t c =
-    let p = err_from_is_err_and c.from_residual-in_err-operand.result c.from_residual-in_err-operand.ensures.1 in
-    rw (p.1, p.2) (loop-stops power_s raised_s (terminals c.args.text.now c.args.tokens.now) (terminals c.args.text.now c.more.rest.now) _ c.args.text.now c.in_err-operand.field-0.0 c.more.invariant.0 (stops raised_s exponent_s (terminals c.args.text.now c.more.rest.now) (terminals c.args.text.now c.in-Some.after.now) (raised_s ∷ []) _ c.args.text.now c.in_err-operand.field-0.0 (raised-item c.args.text.now c.more.rest.now c.in-Some.after.now c.in-Some.place c.in-Some.ensures.front) (exponent-stops c.args.text.now c.in-Some.after.now c.in_ok-before.before.items c.in_ok-before.unsigned.now c.in_err-operand.field-0.0 c.in_ok-before.ensures.signs c.in_err-operand.ensures.read)))
+pub power-returns-in_err-read-clause-read : goal.power-returns-in_err-read-clause-read
+power-returns-in_err-read-clause-read t c =
+    let p = err_from_is_err_and c.from_residual-in_err-read.result c.from_residual-in_err-read.ensures.1 in
+    rw (p.1, p.2) (grown-stops power_s raised_s (λ f. power_of (postfix_view f)) raised_view (λ x. ((x.0.0, x.0.1.items), x.1.now)) (λ y. (y.0, y.1.now)) c.args.text.now (terminals c.args.text.now c.args.tokens.now) (terminals c.args.text.now c.more.read.1.now) c.more.read c.more.invariant.0 c.raised_of-next.result c.in_err-read.field-0.0 (item-read raised_s (λ y. (raised_view y.0, y.1.now)) c.args.text.now (terminals c.args.text.now c.more.read.1.now) exponent_s (terminals c.args.text.now c.in-Some.after.now) (raised c.in-Some.place) (λ z. (exponent z.0.0.items (postfix_view z.0.1), z.1.now)) (raised-item c.args.text.now c.more.read.1.now c.in-Some.after.now c.in-Some.place c.in-Some.ensures.front) c.exponent-operand.result c.raised_of-next.result c.exponent-operand.ensures.read c.raised_of-next.ensures) c.in_err-read.ensures)
 
 pub power-more-smaller : goal.power-more-smaller
 power-more-smaller t c =
-    let a = c.in-Some.ensures.shorter in let b = c.in_ok-operand.ensures.shorter in let d = c.in_ok-before.ensures.shorter in let i = c.more.invariant.1 in omega (arith, a, b, d, i)
+    let a = c.in-Some.ensures.shorter in let b = made-length (λ x. ((x.0.0, x.0.1.items), x.1.now)) (λ y. ((c.more.read.0.0, c.more.read.0.1.items ++ y.0 ∷ []), y.1.now)) (length c.in-Some.after.now) (Ok c.in_ok-read.read) c.raised_of-next.result (made-length (λ y. (raised_view y.0, y.1.now)) (λ z. (raised c.in-Some.place (exponent z.0.0.items (postfix_view z.0.1)), z.1.now)) (length c.in-Some.after.now) c.raised_of-next.result c.exponent-operand.result c.exponent-operand.ensures.shorter c.raised_of-next.ensures) c.in_ok-read.ensures in omega (arith, a, b)
 
 pub power-more-preserved : goal.power-more-preserved
 power-more-preserved t c =
-    (loop-next power_s raised_s exponent_s (terminals c.args.text.now c.args.tokens.now) (terminals c.args.text.now c.more.rest.now) (terminals c.args.text.now c.in-Some.after.now) (terminals c.args.text.now c.in_ok-operand.next.now) _ _ (raised c.in-Some.place) (exponent c.in_ok-before.before.items (postfix_view c.in_ok-operand.operand)) c.more.invariant.0 (raised-item c.args.text.now c.more.rest.now c.in-Some.after.now c.in-Some.place c.in-Some.ensures.front) (exponent-gives c.args.text.now c.in-Some.after.now c.in_ok-before.before.items c.in_ok-before.unsigned.now (postfix_view c.in_ok-operand.operand) (terminals c.args.text.now c.in_ok-operand.next.now) c.in_ok-before.ensures.signs c.in_ok-operand.ensures.read) (λ y. ap (power_of (postfix_view c.in_ok-first.first)) (sym (pushed raised_view _ _ _ _ c.in_ok-push.ensures.items c.raised_of.ensures y))), let a = c.in-Some.ensures.shorter in let b = c.in_ok-operand.ensures.shorter in let d = c.in_ok-before.ensures.shorter in let i = c.more.invariant.1 in omega (arith, a, b, d, i))
+    (grown-next power_s raised_s (λ f. power_of (postfix_view f)) raised_view (λ x. ((x.0.0, x.0.1.items), x.1.now)) (λ y. (y.0, y.1.now)) c.args.text.now (terminals c.args.text.now c.args.tokens.now) (terminals c.args.text.now c.more.read.1.now) c.more.read c.more.invariant.0 c.raised_of-next.result c.in_ok-read.read (item-read raised_s (λ y. (raised_view y.0, y.1.now)) c.args.text.now (terminals c.args.text.now c.more.read.1.now) exponent_s (terminals c.args.text.now c.in-Some.after.now) (raised c.in-Some.place) (λ z. (exponent z.0.0.items (postfix_view z.0.1), z.1.now)) (raised-item c.args.text.now c.more.read.1.now c.in-Some.after.now c.in-Some.place c.in-Some.ensures.front) c.exponent-operand.result c.raised_of-next.result c.exponent-operand.ensures.read c.raised_of-next.ensures) c.in_ok-read.ensures, let a = c.in-Some.ensures.shorter in let b = made-length (λ x. ((x.0.0, x.0.1.items), x.1.now)) (λ y. ((c.more.read.0.0, c.more.read.0.1.items ++ y.0 ∷ []), y.1.now)) (length c.in-Some.after.now) (Ok c.in_ok-read.read) c.raised_of-next.result (made-length (λ y. (raised_view y.0, y.1.now)) (λ z. (raised c.in-Some.place (exponent z.0.0.items (postfix_view z.0.1)), z.1.now)) (length c.in-Some.after.now) c.raised_of-next.result c.exponent-operand.result c.exponent-operand.ensures.shorter c.raised_of-next.ensures) c.in_ok-read.ensures in let i = c.more.invariant.1 in omega (arith, a, b, i))
 
 pub power-returns-clause-read : goal.power-returns-clause-read
 power-returns-clause-read t c =
-    loop-done power_s raised_s (terminals c.args.text.now c.args.tokens.now) (terminals c.args.text.now c.more.rest.now) _ no_power _ c.more.invariant.0 (raised-ends c.args.text.now c.more.rest.now c.in_default.ensures.front) c.raised_power.ensures
+    loop-done power_s raised_s (terminals c.args.text.now c.args.tokens.now) (terminals c.args.text.now c.more.read.1.now) _ no_power _ c.more.invariant.0 (raised-ends c.args.text.now c.more.read.1.now c.in_default.ensures.front) c.raised_power.ensures
 
 pub power-returns-clause-shorter : goal.power-returns-clause-shorter
 power-returns-clause-shorter t c =
     c.more.invariant.1
+
+pub exponent-returns-clause-read : goal.exponent-returns-clause-read
+exponent-returns-clause-read t c =
+    exponent-reads c.args.text.now c.args.tokens.now c.in_ok-before.before c.in_ok-before.behind.now (λ b. b.items) postfix_view (λ x. ((x.0.0, x.0.1), x.1.now)) (λ x. (x.0, x.1.now)) c.in_ok-before.ensures.signs c.beside.result c.postfix.result c.postfix.ensures.read c.beside.ensures
+
+pub exponent-returns-clause-shorter : goal.exponent-returns-clause-shorter
+exponent-returns-clause-shorter t c =
+    beside-shorter (λ x. ((x.0.0, x.0.1), x.1.now)) (λ x. (x.0, x.1.now)) c.in_ok-before.before (length c.in_ok-before.behind.now) (length c.args.tokens.now) c.in_ok-before.ensures.shorter c.postfix.result c.beside.result c.postfix.ensures.shorter c.beside.ensures
 
 pub factor-returns-in_err-operand-clause-read : goal.factor-returns-in_err-operand-clause-read
 factor-returns-in_err-operand-clause-read t c =
@@ -145,27 +155,35 @@ pub factor-returns-clause-read : goal.factor-returns-clause-read
 factor-returns-clause-read t c =
     gives-is factor_s (terminals c.args.text.now c.args.tokens.now) (terminals c.args.text.now c.in_ok-operand.rest.now) _ _ (sym c.factor_of.ensures) (factor-gives c.args.text.now c.args.tokens.now c.in_ok-before.before.items c.in_ok-before.behind.now (power_view c.in_ok-operand.operand) (terminals c.args.text.now c.in_ok-operand.rest.now) c.in_ok-before.ensures.signs c.in_ok-operand.ensures.read)
 
-pub postfix-returns-in_err-first-clause-read : goal.postfix-returns-in_err-first-clause-read
-postfix-returns-in_err-first-clause-read t c =
+pub postfix-returns-in_err-front-clause-read : goal.postfix-returns-in_err-front-clause-read
+postfix-returns-in_err-front-clause-read t c =
     let p = err_from_is_err_and c.from_residual.result c.from_residual.ensures.1 in
-    rw (p.1, p.2) (stops postfix_s primary_s (terminals c.args.text.now c.args.tokens.now) (terminals c.args.text.now c.args.tokens.now) (trailers_s ∷ []) _ c.args.text.now c.in_err-first.field-0.0 (postfix-rule (terminals c.args.text.now c.args.tokens.now)) c.in_err-first.ensures.read)
+    rw (p.1, p.2) (stops postfix_s primary_s (terminals c.args.text.now c.args.tokens.now) (terminals c.args.text.now c.args.tokens.now) (trailers_s ∷ []) _ c.args.text.now c.in_err-front.field-0.0 (postfix-rule (terminals c.args.text.now c.args.tokens.now)) c.in_err-front.ensures.read)
 
 pub postfix-more-init : goal.postfix-more-init
 postfix-more-init t c =
-    (loop-begin postfix_s trailers_s primary_s (terminals c.args.text.now c.args.tokens.now) (terminals c.args.text.now c.in_ok-first.behind.now) postfix (primary_view c.in_ok-first.first) _ (postfix-rule (terminals c.args.text.now c.args.tokens.now)) c.in_ok-first.ensures.read (λ y. ap (postfix (primary_view c.in_ok-first.first)) (sym (none-yet trailer_view _ c.new-trailers.ensures.items y))), c.in_ok-first.ensures.shorter)
+    (loop-begin postfix_s trailers_s primary_s (terminals c.args.text.now c.args.tokens.now) (terminals c.args.text.now c.in_ok-front.behind.now) postfix (primary_view c.in_ok-front.front) _ (postfix-rule (terminals c.args.text.now c.args.tokens.now)) c.in_ok-front.ensures.read (λ y. ap (postfix (primary_view c.in_ok-front.front)) (sym (none-yet trailer_view _ c.new-none.ensures.items y))), c.in_ok-front.ensures.shorter)
+
+pub postfix-returns-in_err-read-clause-read : goal.postfix-returns-in_err-read-clause-read
+postfix-returns-in_err-read-clause-read t c =
+    let p = err_from_is_err_and c.from_residual-in_err-read.result c.from_residual-in_err-read.ensures.1 in
+    rw (p.1, p.2) (grown-stops postfix_s trailers_s (λ f. postfix (primary_view f)) trailer_view (λ x. ((x.0.0, x.0.1.items), x.1.now)) (λ y. (y.0, y.1.now)) c.args.text.now (terminals c.args.text.now c.args.tokens.now) (terminals c.args.text.now c.more.read.1.now) c.more.read c.more.invariant.0 c.in-Some.next c.in_err-read.field-0.0 (subst (λ o. MatchOption o (Gives trailers_s (terminals c.args.text.now c.more.read.1.now) no_trailer (terminals c.args.text.now c.more.read.1.now)) (λ i. ReadsItem trailers_s (λ y. (trailer_view y.0, y.1.now)) c.args.text.now (terminals c.args.text.now c.more.read.1.now) i)) (sym c.in-Some.ensures) (transposed-reads trailers_s (λ y. (trailer_view y.0, y.1.now)) c.args.text.now (terminals c.args.text.now c.more.read.1.now) no_trailer c.trailer.result c.trailer.ensures.read)) c.in_err-read.ensures)
+
+pub postfix-more-smaller : goal.postfix-more-smaller
+postfix-more-smaller t c =
+    let b = made-length (λ x. ((x.0.0, x.0.1.items), x.1.now)) (λ y. ((c.more.read.0.0, c.more.read.0.1.items ++ y.0 ∷ []), y.1.now)) (length c.more.read.1.now) (Ok c.in_ok-read.read) c.in-Some.next (subst (λ o. IfSome o (λ i. IfOk i (λ y. length y.1.now < length c.more.read.1.now))) (sym c.in-Some.ensures) (transposed-shorter (λ y. length y.1.now) (length c.more.read.1.now) c.trailer.result c.trailer.ensures.shorter)) c.in_ok-read.ensures in omega (arith, b)
+
+pub postfix-more-preserved : goal.postfix-more-preserved
+postfix-more-preserved t c =
+    (grown-next postfix_s trailers_s (λ f. postfix (primary_view f)) trailer_view (λ x. ((x.0.0, x.0.1.items), x.1.now)) (λ y. (y.0, y.1.now)) c.args.text.now (terminals c.args.text.now c.args.tokens.now) (terminals c.args.text.now c.more.read.1.now) c.more.read c.more.invariant.0 c.in-Some.next c.in_ok-read.read (subst (λ o. MatchOption o (Gives trailers_s (terminals c.args.text.now c.more.read.1.now) no_trailer (terminals c.args.text.now c.more.read.1.now)) (λ i. ReadsItem trailers_s (λ y. (trailer_view y.0, y.1.now)) c.args.text.now (terminals c.args.text.now c.more.read.1.now) i)) (sym c.in-Some.ensures) (transposed-reads trailers_s (λ y. (trailer_view y.0, y.1.now)) c.args.text.now (terminals c.args.text.now c.more.read.1.now) no_trailer c.trailer.result c.trailer.ensures.read)) c.in_ok-read.ensures, let b = made-length (λ x. ((x.0.0, x.0.1.items), x.1.now)) (λ y. ((c.more.read.0.0, c.more.read.0.1.items ++ y.0 ∷ []), y.1.now)) (length c.more.read.1.now) (Ok c.in_ok-read.read) c.in-Some.next (subst (λ o. IfSome o (λ i. IfOk i (λ y. length y.1.now < length c.more.read.1.now))) (sym c.in-Some.ensures) (transposed-shorter (λ y. length y.1.now) (length c.more.read.1.now) c.trailer.result c.trailer.ensures.shorter)) c.in_ok-read.ensures in let i = c.more.invariant.1 in omega (arith, b, i))
+
+pub postfix-returns-clause-read : goal.postfix-returns-clause-read
+postfix-returns-clause-read t c =
+    loop-done postfix_s trailers_s (terminals c.args.text.now c.args.tokens.now) (terminals c.args.text.now c.more.read.1.now) _ no_trailer _ c.more.invariant.0 (subst (λ o. MatchOption o (Gives trailers_s (terminals c.args.text.now c.more.read.1.now) no_trailer (terminals c.args.text.now c.more.read.1.now)) (λ i. ReadsItem trailers_s (λ y. (trailer_view y.0, y.1.now)) c.args.text.now (terminals c.args.text.now c.more.read.1.now) i)) (sym c.in_default.ensures) (transposed-reads trailers_s (λ y. (trailer_view y.0, y.1.now)) c.args.text.now (terminals c.args.text.now c.more.read.1.now) no_trailer c.trailer.result c.trailer.ensures.read)) c.postfix_of.ensures
 
 pub postfix-returns-clause-shorter : goal.postfix-returns-clause-shorter
 postfix-returns-clause-shorter t c =
     c.more.invariant.1
-
-pub postfix-returns-in_err-next-clause-read : goal.postfix-returns-in_err-next-clause-read
-postfix-returns-in_err-next-clause-read t c =
-    let p = err_from_is_err_and c.from_residual-in_err-next.result c.from_residual-in_err-next.ensures.1 in
-    rw (p.1, p.2) (loop-stops postfix_s trailers_s (terminals c.args.text.now c.args.tokens.now) (terminals c.args.text.now c.more.rest.now) _ c.args.text.now c.in_err-next.field-0.0 c.more.invariant.0 c.in_err-next.ensures.read)
-
-pub postfix-more-preserved : goal.postfix-more-preserved
-postfix-more-preserved t c =
-    (trailers-step (terminals c.args.text.now c.args.tokens.now) (terminals c.args.text.now c.more.rest.now) (terminals c.args.text.now c.in-Some.after.now) _ trailer_view _ _ c.in-Some.next c.more.invariant.0 (subst (λ o. ReadsOne trailers_s c.args.text.now no_trailer (λ x. (trailer_view x.0, x.1.now)) (Ok o) (terminals c.args.text.now c.more.rest.now)) c.in-Some.is c.in_ok-next.ensures.read) c.in_ok-push.ensures.items, let a = subst (λ o. IfSome o (λ x. length x.1.now < length c.more.rest.now)) c.in-Some.is c.in_ok-next.ensures.shorter in let i = c.more.invariant.1 in omega (arith, a, i))
 
 pub trailer-returns-in_err-word-clause-read : goal.trailer-returns-in_err-word-clause-read
 trailer-returns-in_err-word-clause-read t c =
@@ -475,23 +493,16 @@ list_end-returns-clause-read t c =
 pub source-returns-in_err-each-clause-read : goal.source-returns-in_err-each-clause-read
 source-returns-in_err-each-clause-read t c =
     let p = err_from_is_err_and c.from_residual.result c.from_residual.ensures.1 in
-    rw (p.1, p.2) (stops after_square_s name_s (plain (marks_of.for c.args.place) ∷ (terminals c.args.text.now c.args.tokens.now)) (terminals c.args.text.now c.args.tokens.now) (in_s ∷ expr_s ∷ (closes_s Square) ∷ []) _ c.args.text.now c.in_err-each.field-0.0 (after_square-for c.args.place (terminals c.args.text.now c.args.tokens.now)) c.in_err-each.ensures.read)
-
-pub source-returns-in_err-after-clause-read : goal.source-returns-in_err-after-clause-read
-source-returns-in_err-after-clause-read t c =
-    let p = err_from_is_err_and c.from_residual-in_err-after.result c.from_residual-in_err-after.ensures.1 in
-    rw (p.1, p.2) (stops after_square_s in_s (plain (marks_of.for c.args.place) ∷ (terminals c.args.text.now c.args.tokens.now)) (terminals c.args.text.now c.in_ok-each.behind.now) (expr_s ∷ (closes_s Square) ∷ []) _ c.args.text.now c.in_err-after.field-0.0 (goes after_square_s name_s (plain (marks_of.for c.args.place) ∷ (terminals c.args.text.now c.args.tokens.now)) (terminals c.args.text.now c.args.tokens.now) (terminals c.args.text.now c.in_ok-each.behind.now) (in_s ∷ expr_s ∷ (closes_s Square) ∷ []) _ c.in_ok-each.each (after_square-for c.args.place (terminals c.args.text.now c.args.tokens.now)) c.in_ok-each.ensures.read) (in-stops c.args.text.now c.in_ok-each.behind.now c.in_err-after.field-0.0 c.in_err-after.ensures.refused))
-
-pub source-returns-in_err-from-clause-read : goal.source-returns-in_err-from-clause-read
-source-returns-in_err-from-clause-read t c =
-    let p = err_from_is_err_and c.from_residual-in_err-from.result c.from_residual-in_err-from.ensures.1 in
-    rw (p.1, p.2) (stops after_square_s expr_s (plain (marks_of.for c.args.place) ∷ (terminals c.args.text.now c.args.tokens.now)) (terminals c.args.text.now c.in_ok-after.after.now) ((closes_s Square) ∷ []) _ c.args.text.now c.in_err-from.field-0.0 (goes after_square_s in_s (plain (marks_of.for c.args.place) ∷ (terminals c.args.text.now c.args.tokens.now)) (terminals c.args.text.now c.in_ok-each.behind.now) (terminals c.args.text.now c.in_ok-after.after.now) (expr_s ∷ (closes_s Square) ∷ []) _ tt (goes after_square_s name_s (plain (marks_of.for c.args.place) ∷ (terminals c.args.text.now c.args.tokens.now)) (terminals c.args.text.now c.args.tokens.now) (terminals c.args.text.now c.in_ok-each.behind.now) (in_s ∷ expr_s ∷ (closes_s Square) ∷ []) _ c.in_ok-each.each (after_square-for c.args.place (terminals c.args.text.now c.args.tokens.now)) c.in_ok-each.ensures.read) (in-gives c.args.text.now c.in_ok-each.behind.now c.in_ok-after.after.now c.in_ok-after.ensures.front)) c.in_err-from.ensures.read)
-
-pub source-returns-in_err-rest-clause-read : goal.source-returns-in_err-rest-clause-read
-source-returns-in_err-rest-clause-read t c =
-    let p = err_from_is_err_and c.from_residual-in_err-rest.result c.from_residual-in_err-rest.ensures.1 in
-    rw (p.1, p.2) (stops after_square_s (closes_s Square) (plain (marks_of.for c.args.place) ∷ (terminals c.args.text.now c.args.tokens.now)) (terminals c.args.text.now c.in_ok-from.closing.now) ([]) _ c.args.text.now c.in_err-rest.field-0.0 (goes after_square_s expr_s (plain (marks_of.for c.args.place) ∷ (terminals c.args.text.now c.args.tokens.now)) (terminals c.args.text.now c.in_ok-after.after.now) (terminals c.args.text.now c.in_ok-from.closing.now) ((closes_s Square) ∷ []) _ (expr_view c.in_ok-from.from) (goes after_square_s in_s (plain (marks_of.for c.args.place) ∷ (terminals c.args.text.now c.args.tokens.now)) (terminals c.args.text.now c.in_ok-each.behind.now) (terminals c.args.text.now c.in_ok-after.after.now) (expr_s ∷ (closes_s Square) ∷ []) _ tt (goes after_square_s name_s (plain (marks_of.for c.args.place) ∷ (terminals c.args.text.now c.args.tokens.now)) (terminals c.args.text.now c.args.tokens.now) (terminals c.args.text.now c.in_ok-each.behind.now) (in_s ∷ expr_s ∷ (closes_s Square) ∷ []) _ c.in_ok-each.each (after_square-for c.args.place (terminals c.args.text.now c.args.tokens.now)) c.in_ok-each.ensures.read) (in-gives c.args.text.now c.in_ok-each.behind.now c.in_ok-after.after.now c.in_ok-after.ensures.front)) c.in_ok-from.ensures.read) (closes_square-stops c.args.text.now c.in_ok-from.closing.now c.in_err-rest.field-0.0 c.in_err-rest.ensures.refused))
+    rw (p.1, p.2) (mark-read after_square_s c.args.text.now (plain (marks_of.for c.args.place) ∷ (terminals c.args.text.now c.args.tokens.now)) in_s tt roles.In (expr_s ∷ closes_s Square ∷ []) (λ n ss f. front after_square_s ss (square_for c.args.place n f.1.0) f.1.1.1) (λ x. (x.0, x.1.now)) (in-gives c.args.text.now) (in-stops c.args.text.now) (Err c.in_err-each.field-0.0) c.name.result (part-read after_square_s c.args.text.now (plain (marks_of.for c.args.place) ∷ (terminals c.args.text.now c.args.tokens.now)) name_s (in_s ∷ expr_s ∷ closes_s Square ∷ []) (terminals c.args.text.now c.args.tokens.now) (λ ss f. front after_square_s ss (square_for c.args.place f.0 f.1.1.0) f.1.1.1.1) (λ x. (x.0, x.1.now)) (after_square-for c.args.place (terminals c.args.text.now c.args.tokens.now)) c.name.result c.name.ensures.read) c.in_err-each.ensures)
 
 pub source-returns-clause-read : goal.source-returns-clause-read
 source-returns-clause-read t c =
-    finish after_square_s (closes_s Square) (plain (marks_of.for c.args.place) ∷ (terminals c.args.text.now c.args.tokens.now)) (terminals c.args.text.now c.in_ok-from.closing.now) (terminals c.args.text.now c.in_ok-rest.rest.now) (λ z. square_for c.args.place c.in_ok-each.each (expr_view c.in_ok-from.from)) tt _ (goes after_square_s expr_s (plain (marks_of.for c.args.place) ∷ (terminals c.args.text.now c.args.tokens.now)) (terminals c.args.text.now c.in_ok-after.after.now) (terminals c.args.text.now c.in_ok-from.closing.now) ((closes_s Square) ∷ []) _ (expr_view c.in_ok-from.from) (goes after_square_s in_s (plain (marks_of.for c.args.place) ∷ (terminals c.args.text.now c.args.tokens.now)) (terminals c.args.text.now c.in_ok-each.behind.now) (terminals c.args.text.now c.in_ok-after.after.now) (expr_s ∷ (closes_s Square) ∷ []) _ tt (goes after_square_s name_s (plain (marks_of.for c.args.place) ∷ (terminals c.args.text.now c.args.tokens.now)) (terminals c.args.text.now c.args.tokens.now) (terminals c.args.text.now c.in_ok-each.behind.now) (in_s ∷ expr_s ∷ (closes_s Square) ∷ []) _ c.in_ok-each.each (after_square-for c.args.place (terminals c.args.text.now c.args.tokens.now)) c.in_ok-each.ensures.read) (in-gives c.args.text.now c.in_ok-each.behind.now c.in_ok-after.after.now c.in_ok-after.ensures.front)) c.in_ok-from.ensures.read) (closes_square-gives c.args.text.now c.in_ok-from.closing.now c.in_ok-rest.rest.now c.in_ok-rest.ensures.front) (refl)
+    all-read after_square_s c.args.text.now (plain (marks_of.for c.args.place) ∷ (terminals c.args.text.now c.args.tokens.now)) (λ x. square_for c.args.place x.0.0 (expr_view x.0.1)) (λ x. x.1.now) c.closed-2.result
+    (mark-read after_square_s c.args.text.now (plain (marks_of.for c.args.place) ∷ (terminals c.args.text.now c.args.tokens.now)) (closes_s Square) tt (roles.Closes Square) [] (λ u ss f. front after_square_s ss (square_for c.args.place u.0 (expr_view u.1)) f.1) (λ x. (x.0, x.1.now)) (closes_square-gives c.args.text.now) (closes_square-stops c.args.text.now) c.closed-2.result c.beside-parts.result (beside-read after_square_s c.args.text.now (plain (marks_of.for c.args.place) ∷ (terminals c.args.text.now c.args.tokens.now)) expr_s (closes_s Square ∷ []) (terminals c.args.text.now c.in_ok-each.after.now) (λ n ss f. front after_square_s ss (square_for c.args.place n f.0) f.1.1) expr_view (λ x. ((x.0.0, x.0.1), x.1.now)) (λ x. (x.0, x.1.now)) c.in_ok-each.each (mark-read after_square_s c.args.text.now (plain (marks_of.for c.args.place) ∷ (terminals c.args.text.now c.args.tokens.now)) in_s tt roles.In (expr_s ∷ closes_s Square ∷ []) (λ n ss f. front after_square_s ss (square_for c.args.place n f.1.0) f.1.1.1) (λ x. (x.0, x.1.now)) (in-gives c.args.text.now) (in-stops c.args.text.now) (Ok (c.in_ok-each.each, c.in_ok-each.after)) c.name.result (part-read after_square_s c.args.text.now (plain (marks_of.for c.args.place) ∷ (terminals c.args.text.now c.args.tokens.now)) name_s (in_s ∷ expr_s ∷ closes_s Square ∷ []) (terminals c.args.text.now c.args.tokens.now) (λ ss f. front after_square_s ss (square_for c.args.place f.0 f.1.1.0) f.1.1.1.1) (λ x. (x.0, x.1.now)) (after_square-for c.args.place (terminals c.args.text.now c.args.tokens.now)) c.name.result c.name.ensures.read) c.in_ok-each.ensures) c.beside-parts.result c.expr.result c.expr.ensures.read c.beside-parts.ensures) c.closed-2.ensures)
+
+pub source-returns-clause-shorter : goal.source-returns-clause-shorter
+source-returns-clause-shorter t c =
+    mark-shorter (roles.Closes Square) (λ x. (x.0, x.1.now)) (length c.args.tokens.now) c.beside-parts.result c.closed-2.result
+    (beside-shorter (λ x. ((x.0.0, x.0.1), x.1.now)) (λ x. (x.0, x.1.now)) c.in_ok-each.each (length c.in_ok-each.after.now) (length c.args.tokens.now)
+    (let a = mark-shorter roles.In (λ x. (x.0, x.1.now)) (length c.args.tokens.now) c.name.result (Ok (c.in_ok-each.each, c.in_ok-each.after)) c.name.ensures.shorter c.in_ok-each.ensures in omega (arith, a))
+    c.expr.result c.beside-parts.result c.expr.ensures.shorter c.beside-parts.ensures) c.closed-2.ensures
