@@ -14,13 +14,13 @@ use Rattle.dcx_syntax.specs.Expressions.{Expr}
 use Rattle.dcx_syntax.specs.Statements.{Balanced, nothing, within, Line, Lines, no_lines, lines, repeats, trimmed, trimmed_all}
 use Rattle.dcx_syntax.specs.View.{chained, then_line, lines_of}
 use Rattle.dcx_read.specs.Moves.{Symbol, expr_s, newline_s, balanced_s, closes_s, line_s, lines_s, dedent_s, lines_join, Tree}
-use Rattle.dcx_read.specs.Steps.{Gives, Progress, Loop, Stops, Front, FrontOf, Refuses}
-use Rattle.dcx_read.specs.Lines.{FrontPlain, LacksPlain, BalancedTo, starts_line, ReadsLine, ReadsLines, ReadsBody}
+use Rattle.dcx_read.specs.Steps.{Gives, Progress, Loop, Stops, Front, FrontOf, Refuses, Reads}
+use Rattle.dcx_read.specs.Lines.{FrontPlain, LacksPlain, BalancedTo, starts_line, ReadsLine, ReadsLines, ReadsBody, ReadsEnded, ReadsHead}
 use Rattle.dcx_read.specs.Steps.{Lacks, Closes, IsBeside, Makes}
 use Rattle.dcx_read.proofs.Progress.{Join, front, begun, goes, stops}
 use Rattle.dcx_read.proofs.Loops.{pushed, loop-stops}
-use Rattle.dcx_read.proofs.Descent.{finish, loop-turn}
-use Rattle.dcx_read.proofs.Rules.{dedent-gives, dedent-stops}
+use Rattle.dcx_read.proofs.Descent.{finish, loop-turn, ReadsTo}
+use Rattle.dcx_read.proofs.Rules.{dedent-gives, dedent-stops, newline-gives, newline-stops}
 use Rattle.dcx_read.proofs.LineRules.{balanced-plain, balanced-opens, balanced-ends, closes-gives, closes-stops, lines-starts, lines-none}
 
 -- an expression and the line's end are the last parts
@@ -32,6 +32,17 @@ pub ended-stops : (s : Symbol) (source : List ℕ) (us : List Terminal) (ts : Li
     → Stops expr_s source (terminals source ts) e ⊎ ((x : Expr) × ((mid : List Token) × (Gives expr_s (terminals source ts) x (terminals source mid) × Stops newline_s source (terminals source mid) e))) → Stops s source us e
 ended-stops s source us ts make e h (inl k) = stops s expr_s us (terminals source ts) (newline_s ∷ []) (λ ss f. front s ss (make f.0) f.1.1) source e h k
 ended-stops s source us ts make e h (inr k) = stops s newline_s us (terminals source k.1.0) [] (λ ss f. front s ss (make k.0) f.1) source e (goes s expr_s us (terminals source ts) (terminals source k.1.0) (newline_s ∷ []) (λ ss f. front s ss (make f.0) f.1.1) k.0 h k.1.1.0) k.1.1.1
+
+pub ended-reads : {X U : Type 0} (part : U → Expr) (view : X → U × List Token) (source : List ℕ) (ts : List Token) (inner closing : Result X Stop) → Reads expr_s source (λ x. (part (view x).0, (view x).1)) inner (terminals source ts) → Closes roles.Newline view closing inner → ReadsEnded source (λ x. (part (view x).0, (view x).1)) closing ts
+ended-reads part view source ts (Err a) (Err d) r c = rw c (inl r)
+ended-reads part view source ts (Err a) (Ok d) r c = absurd c
+ended-reads part view source ts (Ok a) (Err d) r c = inr (part (view a).0, ((view a).1, (r, newline-stops source (view a).1 d c)))
+ended-reads part view source ts (Ok a) (Ok d) r c = ((view a).1, (subst (λ u. Gives expr_s (terminals source ts) (part u) (terminals source (view a).1)) (sym c.0) r, newline-gives source (view a).1 (view d).1 c.1))
+
+-- the head of a `for` line
+pub head-reads : {X : Type 0} (place : Place) (view : X → Named × (Expr × List Token)) (source : List ℕ) (us : List Terminal) (read : Result X Stop) → ReadsTo line_s source us (line_s ∷ lines_s ∷ dedent_s ∷ []) (λ x. ((λ ss f. front line_s ss (repeats place (view x).0 (view x).1.0 f.0 f.1.0) f.1.1.1), (view x).1.1)) read → ReadsHead source place view read us
+head-reads place view source us (Ok x) h = h
+head-reads place view source us (Err e) h = h
 
 -- tokens whose brackets match, one piece after the other
 pub balanced-none : (source : List ℕ) (ts : List Token) → BalancedTo source ts ts

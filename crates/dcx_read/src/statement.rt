@@ -127,9 +127,7 @@ fn ended<'a>(
     ensures read { ReadsEnded text.now (λ x. (expr_view x.0, x.1.now)) result tokens.now }
     ensures shorter { IfOk result (λ x. length x.1.now < length tokens.now) }
 {
-    let (value, end) = expr(alloc, text, tokens)?;
-    let rest = expect(end, Mark::Newline)?;
-    Ok((value, rest))
+    closed(expr(alloc, text, tokens), Mark::Newline)
 }
 
 /// A line that sets a name or a value, or that evaluates an expression: the first token is no word that begins another.

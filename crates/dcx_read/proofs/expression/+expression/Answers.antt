@@ -10,11 +10,11 @@ use Rattle.dcx_syntax.specs.Terminal as marks_of
 use Rattle.dcx_syntax.specs.Expressions.{expr, compared, no_comparison, sum, added, no_addition, term, scaled, no_scaling, power_of, raised, no_power, exponent, postfix, no_trailer, attribute, call, no_index, more_indices, by_name, by_place, slice, absent, present, step, tuple, list, comprehension}
 use Rattle.dcx_syntax.specs.View.{args_of, items_of, more_items_of, indices_of, arg_view, index_view, primary_view, step_view, trailer_view, added_view, compared_view, expr_view, factor_view, postfix_view, power_view, raised_view, scaled_view, sum_view, term_view, optional_view}
 use Rattle.dcx_read.specs.Moves.{expr_s, compared_s, sum_s, added_s, term_s, scaled_s, factor_s, power_s, raised_s, exponent_s, postfix_s, trailers_s, args_s, arg_s, indices_s, index_s, after_index_s, optional_s, step_s, primary_s, after_round_s, after_square_s, items_s, name_s, in_s, closes_s, as_index, no_slice, slices, as_round, round_holds, round_closed, round_goes_on, as_square, square_holds, square_lists, square_for, items_behind}
-use Rattle.dcx_read.specs.Steps.{ReadsOne, Gives}
+use Rattle.dcx_read.specs.Steps.{Gives}
 use Rattle.dcx_read.specs.Leaves.{ReadsLeaf, EndsByComma}
 use Rattle.dcx_read.proofs.Progress.{front, goes, turns, stops, gives-is, loop-done}
 use Rattle.dcx_read.proofs.Rules.{expr-rule, sum-rule, term-rule, power-rule, postfix-rule, compared-item, compared-ends, added-item, added-ends, scaled-item, scaled-ends, raised-item, raised-ends, attribute-item, call-item, indexed-item, trailers-end, indices-item, indices-ends, closes_round-gives, closes_round-stops, closes_square-gives, closes_square-stops, in-gives, in-stops, arg-named, arg-place, index-colon, index-rule, after_index-ends, after_index-colon, args-none, optional-none, optional-starts, step-ends, step-colon, round-empty, round-rule, after_round-closes, after_round-stops, after_round-comma, square-empty, square-rule, after_square-closes, after_square-stops, after_square-comma, after_square-for, for-front}
-use Rattle.dcx_read.proofs.Loops.{pushed, none-yet, loop-begin, loop-next, loop-stops, factor-gives, factor-stops}
+use Rattle.dcx_read.proofs.Loops.{none-yet, loop-begin, loop-next, loop-stops, factor-gives, factor-stops}
 use Rattle.dcx_read.proofs.Descent.{made-length, ReadsItem, item-read, transposed-reads, transposed-shorter, grown-stops, grown-next, exponent-reads, beside-shorter, part-read, mark-read, beside-read, all-read, mark-shorter, index-ends, index-shorter, loosely, closed-reads, closed-shorter, pair-reads, pair-shorter, made-last, made-pair, made-shorter, finish, trailer-is, no-primary, front-opens-round, front-opens-square, list-items, indices-begun, indices-pushed, args-begun, args-stop, args-step, args-last-one, args-close, items-begun, items-stop, items-step, items-last-one, items-close}
 use Rattle.dcx_read.proofs.expression.+expression.Goals as goal
 
