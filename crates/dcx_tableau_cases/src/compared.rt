@@ -6,6 +6,7 @@ use anyhow::Result;
 use dcx_chained::Chained;
 use dcx_simplex::{LpEnd, solve};
 use dcx_tab::{Dense, Program, Tableau};
+use std::alloc::AllocError;
 
 /// Whether both tableaus have the same row `i`.
 fn is_same_row<T: Tableau, U: Tableau>(one: &T, other: &U, i: u32) -> bool
@@ -40,6 +41,35 @@ fn is_same<T: Tableau, U: Tableau>(one: &T, other: &U) -> bool {
     true
 }
 
+/// How a run with so many pivots at most ends over both tableaus; `None` where the runs differ.
+fn end_of<T: Tableau, U: Tableau>(one: &mut T, other: &mut U, limit: u64) -> Option<LpEnd> {
+    let end = solve(one, limit);
+    if solve(other, limit) == end && is_same(one, other) {
+        Some(end)
+    } else {
+        None
+    }
+}
+
+/// Runs with so many pivots at most over two tableaus, and tells where the runs differ, or how they end where the limit isn't
+/// met. Answers false where it is met.
+fn is_told<T: Tableau + Drop, U: Tableau + Drop>(
+    rt: &impl Print,
+    name: &str,
+    limit: u64,
+    one: Result<T, AllocError>,
+    other: Result<U, AllocError>,
+) -> Result<bool> {
+    let mut one = one?;
+    let mut other = other?;
+    match end_of(&mut one, &mut other, limit) {
+        Some(LpEnd::PivotLimit { .. }) => return Ok(false),
+        Some(end) => tell(rt, name, &other, end)?,
+        None => println!(rt; "{name}: differs under the limit {limit}")?,
+    }
+    Ok(true)
+}
+
 /// Runs the program over both tableaus under each limit of pivots, and tells the first limit under which the runs differ, or
 /// how the runs end where the limit isn't met.
 pub(crate) fn compare(
@@ -48,17 +78,11 @@ pub(crate) fn compare(
     program: &Program,
 ) -> Result<()> {
     for limit in 0..1000u64 {
-        let mut dense = Dense::build(rt.alloc(), program)?;
-        let mut linked = Chained::build(rt.alloc(), program)?;
-        let end = solve(&mut dense, limit);
-        if solve(&mut linked, limit) != end || !is_same(&dense, &linked) {
-            println!(rt; "{name}: differs under the limit {limit}")?;
+        let dense = Dense::build(rt.alloc(), program);
+        let linked = Chained::build(rt.alloc(), program);
+        if is_told(rt, name, limit, dense, linked)? {
             return Ok(());
         }
-        if !matches!(end, LpEnd::PivotLimit { .. }) {
-            return tell(rt, name, &linked, end);
-        }
     }
-    println!(rt; "{name}: more than 999 pivots")?;
-    Ok(())
+    Ok(println!(rt; "{name}: more than 999 pivots")?)
 }
