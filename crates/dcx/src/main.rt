@@ -13,18 +13,23 @@ use std::rt::{Env, Files};
 use std::sync::ledger::{Blank, Ledger};
 use std::{env, io};
 
+/// Adds the words after the program's name.
+fn put_words(words: &mut Vec<String>, args: env::Args) -> Result<(), AllocError> {
+    for word in args.skip(1) {
+        words.push(word)?;
+    }
+    Ok(())
+}
+
 /// The words after the program's name. Where they aren't text there are none.
 fn words(rt: &(impl Env + AllocGlobal)) -> Result<Vec<String>, AllocError> {
     let mut words = Vec::new(rt.alloc());
-    match env::args(rt) {
-        Ok(args) => {
-            for word in args.skip(1) {
-                words.push(word)?;
-            }
-        }
-        Err(error) if error.kind() == io::ErrorKind::OutOfMemory => return Err(AllocError),
-        Err(_) => {}
-    }
+    let put = match env::args(rt) {
+        Ok(args) => put_words(&mut words, args),
+        Err(error) if error.kind() == io::ErrorKind::OutOfMemory => Err(AllocError),
+        Err(_) => Ok(()),
+    };
+    put?;
     Ok(words)
 }
 
