@@ -1,7 +1,7 @@
 -- What the store keeps when cells and a node are added.
-use Rattle.std.proofs.Common.{◌≡◌, ◌≢◌, ℕ, suc, ◌+◌, ◌<◌, ◌≤◌, List, [], ◌∷◌, ◌++◌, length, get_or, map, Option, Some, None, option_map, refl, sym, ap, ap₂, ◌∙◌, length-append, arith, IfSome, All}
+use Rattle.std.proofs.Common.{◌≡◌, ◌≢◌, ℕ, suc, ◌+◌, ◌<◌, ◌≤◌, List, [], ◌∷◌, ◌++◌, length, get_or, map, Option, Some, None, option_map, refl, sym, ap, ap₂, subst, ◌∙◌, length-append, arith, IfSome, All}
 use Rattle.std.specs.List.{slice_get}
-use Rattle.std.proofs.lemmas.Option.{slice_get_within}
+use Rattle.std.proofs.lemmas.Option.{slice_get_within, slice_get_read, get_or_from_slice_get}
 use Rattle.std.proofs.lemmas.List.{get_or-set_same, get_or-set_other, map-append, length-map}
 use Rattle.std.proofs.Math.ListN.{set}
 use native.Mathlib.Decide.{ℕ_discrete}
@@ -123,3 +123,25 @@ module _ {C : Type 0} where
 
     pub nodes_appended : nodes_of cells (stored ++ s ∷ []) ≡ nodes ++ record { call = s.call; args = names; sides = sides_of s.shape; place = s.place } ∷ []
     nodes_appended = nodes_more cells stored s ∙ rw (same, chained) refl
+
+  -- a store whose heads are the same
+  pub store_headed : (gives : C → List Sides → Option Sides) (hash : C → ℕ) (cells : List Cell) (stored : List (Stored C)) (heads now : List (Option ℕ)) (entries : ℕ)
+      → ((b : ℕ) → get_or now b None ≡ get_or heads b None) → IsStore gives hash cells stored heads entries → IsStore gives hash cells stored now entries
+  store_headed gives hash cells stored heads now entries same h = record {
+    kept = h.kept;
+    led = λ b lt. subst (IsLast stored (length stored) b) (sym (same b)) (h.led b lt);
+    counted = h.counted;
+    nodes = h.nodes;
+  }
+
+  -- a head that was read
+  pub head_read : (stored read : List (Stored C)) (heads now : List (Option ℕ)) (b bucket : ℕ) (at : Option ℕ) → AreHeads stored heads → ((b : ℕ) → get_or now b None ≡ get_or heads b None)
+      → number_of_buckets ≤ length now → b ≡ bucket → b < number_of_buckets → at ≡ get_or now b at → read ≡ stored → IsLast read (length read) bucket at
+  head_read stored read heads now b bucket at led same room is lt e k =
+      let h : at ≡ get_or now b None = sym (get_or_from_slice_get now b at None (slice_get_read now (length now) b at refl (omega (arith, lt, room)) e)) in
+      let there : IsLast stored (length stored) b at = subst (IsLast stored (length stored) b) (sym (h ∙ same b)) (led b lt) in
+      rw (k, ← is) there
+
+  -- nodes that are there are stored
+  pub all_stored : (cells : List Cell) (stored read : List (Stored C)) (ids : List ℕ) → read ≡ stored → All (λ i. i < length (nodes_of cells stored)) ids → All (λ i. i < length read) ids
+  all_stored cells stored read ids e h = rw (e, ← count_nodes cells stored) h

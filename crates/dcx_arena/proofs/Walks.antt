@@ -5,7 +5,7 @@ use Rattle.std.proofs.lemmas.Option.{slice_get-map, slice_get_within}
 use Rattle.dcx_arena.specs.declared.store.Cell.{Cell}
 use Rattle.dcx_arena.specs.declared.store.Stored.{Stored}
 use Rattle.dcx_arena.specs.Nodes.{Node, IsNode, IsOf, Holds}
-use Rattle.dcx_arena.specs.Chains.{cell_at, chain, IsChain, bucket_for, node_of, nodes_of, IsIn, IsUpTo, IsKept}
+use Rattle.dcx_arena.specs.Chains.{cell_at, chain, IsChain, bucket_for, node_of, nodes_of, IsIn, IsUpTo, IsLast, IsKept}
 
 -- the number of nodes that a chain may still visit
 abbrev pub left_of : Option ℕ → ℕ
@@ -90,6 +90,16 @@ module _ {C : Type 0} where
 
   pub bucket_is : (stored : List (Stored C)) (i b : ℕ) (s : Stored C) → slice_get stored i ≡ Some s → IsIn stored b i → s.bucket ≡ b
   bucket_is stored i b s e k = let h = is_in stored i s.bucket s e refl in cc
+
+  -- the node that is looked for isn't above the last one of its bucket
+  pub head_up : (hash : C → ℕ) (cells : List Cell) (stored : List (Stored C)) (call : C) (args : List ℕ) (at : Option ℕ) → IsKept hash cells stored → IsLast stored (length stored) (bucket_for hash call args) at
+      → (j : ℕ) → Holds (nodes_of cells stored) call args j → IsUpTo j at
+  head_up hash cells stored call args at kept h j (n, there, of) =
+      let (t, f) = node_stored cells stored j n there in
+      let same : n ≡ node_of cells t = same_node cells stored j t n f there in
+      let of' : IsOf (node_of cells t) call args = rw same at of in
+      let b : t.bucket ≡ bucket_for hash call args = kept.hashed j t f ∙ ap₂ (bucket_for hash) of'.same_call of'.same_args in
+      h.last j (slice_get_within stored j t f) (is_in stored j (bucket_for hash call args) t f b)
 
   -- node i of the chain isn't the one that is looked for
   module _ (hash : C → ℕ) (cells : List Cell) (stored : List (Stored C)) (call : C) (args : List ℕ) (i : ℕ) (s : Stored C) (kept : IsKept hash cells stored) (e : slice_get stored i ≡ Some s)

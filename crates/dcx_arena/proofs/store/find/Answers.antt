@@ -2,7 +2,7 @@ use Rattle.std.proofs.Common.{length, refl}
 use Rattle.std.proofs.lemmas.Option.{slice_get_read}
 use Rattle.dcx_arena.specs.Nodes.{positions, IsOf}
 use Rattle.dcx_arena.specs.Chains.{node_of, IsIn}
-use Rattle.dcx_arena.proofs.Walks.{stored_node, link_smaller, walk_within, walk_rest}
+use Rattle.dcx_arena.proofs.Walks.{stored_node, head_up, link_smaller, walk_within, walk_rest}
 use Rattle.dcx_arena.proofs.store.find.Goals as goal
 use Rattle.dcx_arena.proofs.store.find.Goals.{else-same-via-then-same+else-is_chain_of, else-same-via-else-same}
 
@@ -39,3 +39,24 @@ loop-at-preserved g c =
 
 pub returns-clause-none : goal.returns-clause-none
 returns-clause-none g c = rw c.in_default.is at c.loop-at.invariant.rest
+
+pub loop-at-init : goal.loop-at-init
+loop-at-init g c = record {
+  within = c.requires.head.within;
+  rest = head_up g.C.Operator.bucket_of c.args.cells.now c.args.stored.now c.args.call.now (positions c.args.args.now) c.args.head c.requires.kept c.requires.head;
+}
+
+pub bounds-stored-i : goal.bounds-stored-i
+bounds-stored-i g c = (rw c.in-Some.is at c.loop-at.invariant.within).0
+
+pub is_chain_of-requires : goal.is_chain_of-requires
+is_chain_of-requires g c =
+    let inside = rw c.in-Some.is at c.loop-at.invariant.within in
+    let e = slice_get_read c.args.stored.now (length c.args.stored.now) c.in-Some.i c.index-stored-i.result refl inside.0 c.index-stored-i.is in
+    c.requires.kept.chained c.in-Some.i c.index-stored-i.result e
+
+pub returns-then-is_chain_of-clause-none : goal.returns-then-is_chain_of-clause-none
+returns-then-is_chain_of-clause-none g c = tt
+
+pub returns-clause-some : goal.returns-clause-some
+returns-clause-some g c = tt
