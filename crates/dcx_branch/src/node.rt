@@ -103,8 +103,16 @@ fn solve_node(
 {
     let bounds = bounds_of(alloc, places, sides)?;
     let rows = node_rows(alloc, reduced.rows(), &bounds)?;
-    let solved = solve_rows(alloc, &rows, limit)?;
-    Ok(Node { bounds, solved })
+    match solve_rows(alloc, &rows, limit) {
+        Ok(solved) => {
+            drop(rows);
+            Ok(Node { bounds, solved })
+        }
+        Err(stop) => {
+            drop((bounds, rows));
+            Err(stop)
+        }
+    }
 }
 
 /// The greatest integer below a number that isn't whole.
@@ -207,12 +215,17 @@ fn best_leaf(
         Ok(leaf) => leaf,
         Err(stop) => return Err(NodeStop::Stop(stop)),
     };
-    let point = point_of_unknowns(alloc, problem, numbers)?;
-    Ok(Taken::Best {
-        leaf,
-        value: node.solved.answer.number,
-        point,
-    })
+    match point_of_unknowns(alloc, problem, numbers) {
+        Ok(point) => Ok(Taken::Best {
+            leaf,
+            value: node.solved.answer.number,
+            point,
+        }),
+        Err(_) => {
+            drop(leaf);
+            Err(NodeStop::Stop(Stop::Memory))
+        }
+    }
 }
 
 /// What a node with a least cost below the best value turns out to be.
@@ -290,7 +303,7 @@ pub(crate) fn take(
     match solve_node(alloc, reduced, places, sides, limit) {
         Ok(node) => {
             let first = rows.rows.as_slice().len() as u32;
-            judge(
+            let taken = judge(
                 alloc,
                 problem,
                 rows.kinds.as_slice(),
@@ -298,7 +311,9 @@ pub(crate) fn take(
                 places,
                 &node,
                 best,
-            )
+            );
+            drop(node);
+            taken
         }
         Err(stop) => Err(NodeStop::Stop(run_stop(stop))),
     }

@@ -90,6 +90,32 @@ fn push_bounds(
     Ok(())
 }
 
+/// Adds copies of rows, and then the rows of bounds.
+fn push_all(
+    alloc: Global,
+    rows: &mut Vec<Row<Frac>>,
+    from: &[Row<Frac>],
+    bounds: &[BoundAt],
+) -> Result<(), AllocError>
+    requires { All (λ b. Fits b.limit) bounds.now }
+    ensures { OnOk result (rows.new.items ≡ (rows.old.items ++ from.now) ++ bound_rows bounds.now) }
+{
+    push_rows(alloc, rows, from)?;
+    push_bounds(alloc, rows, bounds)
+}
+
+/// What is to be small and the kinds of the unknowns, again.
+fn objective_and_kinds(
+    alloc: Global,
+    rows: &Rows<Frac>,
+) -> Result<(Form<Frac>, UnknownKinds), AllocError>
+    ensures { IfOk result (λ r. (r.0 ≡ rows.now.objective) × (r.1 ≡ rows.now.kinds)) }
+{
+    let kinds = Vec::from_slice(alloc, rows.kinds.as_slice())?;
+    let objective = rows.objective.copy(alloc)?;
+    Ok((objective, UnknownKinds::from_vec(kinds)))
+}
+
 /// The rows of a node: those of the program, and after them one for each bound.
 pub(crate) fn node_rows(
     alloc: Global,
@@ -100,14 +126,20 @@ pub(crate) fn node_rows(
     requires known { All (λ b. b.place.unknown < length rows.now.kinds) bounds.now }
     ensures { IfOk result (λ r. given r.kinds r.rows r.objective ≡ given rows.now.kinds (rows.now.rows ++ bound_rows bounds.now) rows.now.objective) }
 {
+    let both = objective_and_kinds(alloc, rows)?;
     let mut all = Vec::new(alloc);
-    push_rows(alloc, &mut all, rows.rows.as_slice())?;
-    push_bounds(alloc, &mut all, bounds)?;
-    let objective = rows.objective.copy(alloc)?;
-    let kinds = Vec::from_slice(alloc, rows.kinds.as_slice())?;
-    Ok(Rows {
-        rows: RowList::from_vec(all),
-        objective,
-        kinds: UnknownKinds::from_vec(kinds),
-    })
+    match push_all(alloc, &mut all, rows.rows.as_slice(), bounds) {
+        Ok(()) => {
+            let (objective, kinds) = both;
+            Ok(Rows {
+                rows: RowList::from_vec(all),
+                objective,
+                kinds,
+            })
+        }
+        Err(stop) => {
+            drop((all, both));
+            Err(stop)
+        }
+    }
 }

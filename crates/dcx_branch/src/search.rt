@@ -151,7 +151,7 @@ impl Search {
         match taken {
             Taken::Leaf(leaf) => self.close(leaf),
             Taken::Best { leaf, value, point } => {
-                self.best = Some(Best { value, point });
+                drop(self.best.replace(Best { value, point }));
                 self.close(leaf)
             }
             Taken::Split { place, limit } => {
@@ -257,6 +257,14 @@ pub fn branch(
 {
     let places = places_of(alloc, problem.variables.as_slice())?;
     let mut search = Search::begin(alloc);
-    search.run(alloc, problem, reduced, &places, limit, nodes)?;
-    Ok(answer(search))
+    match search.run(alloc, problem, reduced, &places, limit, nodes) {
+        Ok(()) => {
+            drop(places);
+            Ok(answer(search))
+        }
+        Err(stop) => {
+            drop((places, search));
+            Err(stop)
+        }
+    }
 }

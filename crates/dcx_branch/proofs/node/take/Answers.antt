@@ -22,8 +22,8 @@ solve_node-requires c =
     let n = length c.args.reduced.now.program.kinds in
     subst (All (λ (a : Place). a.unknown < n)) (sym c.requires.places) (places_below_all p.variables n p.squares c.requires.unknowns)
 
-pub judge-requires-clause-notes : goal.judge-requires-clause-notes
-judge-requires-clause-notes c =
+pub judge-taken-requires-clause-notes : goal.judge-taken-requires-clause-notes
+judge-taken-requires-clause-notes c =
     let p = c.args.problem.now in
     let q = c.args.reduced.now.program in
     let bs = box_bounds c.args.places.now c.args.sides.now in
@@ -33,15 +33,15 @@ judge-requires-clause-notes c =
     let notes = has_notes q c.args.limit bs s is.is.solved p c.requires.rows in
     subst (λ n. HasNotes p s.answer n c.in-Ok.node.bounds.items) (sym first) (subst (λ (xs : List BoundAt). HasNotes p s.answer (length q.rows) xs) (sym is.bounds) notes)
 
-pub judge-requires-clause-tells : goal.judge-requires-clause-tells
-judge-requires-clause-tells c =
+pub judge-taken-requires-clause-tells : goal.judge-taken-requires-clause-tells
+judge-taken-requires-clause-tells c =
     let q = c.args.reduced.now.program in
     let s = c.in-Ok.node.solved in
     subst (λ (kinds : List UnknownKind). TellsUnknowns kinds s.program s.answer) (sym (c.as_slice-in-Ok.ensures ∙ c.rows-rows.ensures.kinds))
     (tells q c.args.limit (box_bounds c.args.places.now c.args.sides.now) s c.in-Ok.ensures.node.is.solved)
 
-pub judge-requires-clause-known : goal.judge-requires-clause-known
-judge-requires-clause-known c =
+pub judge-taken-requires-clause-known : goal.judge-taken-requires-clause-known
+judge-taken-requires-clause-known c =
     let p = c.args.problem.now in
     let n = length c.args.reduced.now.program.kinds in
     let known = subst (All (λ (a : Place). a.unknown < n)) (sym c.requires.places) (places_below_all p.variables n p.squares c.requires.unknowns) in
@@ -56,8 +56,8 @@ returns-in-Ok-clause-taken c =
     let node = c.in-Ok.node in
     let is = c.in-Ok.ensures.node in
     let first : length c.as_slice.result.now ≡ length q.rows = ap length (c.as_slice.ensures ∙ c.rows-rows.ensures.rows) in
-    IfOk-weaker c.judge.result (IsTaken p (length c.as_slice.result.now) node.bounds.items best node.solved) (TakenAs p q c.args.limit bs best)
-    (λ t h. taken_as p q c.args.limit bs best node.solved is.is (length c.as_slice.result.now) node.bounds.items first is.bounds t h) c.judge.ensures.taken
+    IfOk-weaker c.judge-taken.result (IsTaken p (length c.as_slice.result.now) node.bounds.items best node.solved) (TakenAs p q c.args.limit bs best)
+    (λ t h. taken_as p q c.args.limit bs best node.solved is.is (length c.as_slice.result.now) node.bounds.items first is.bounds t h) c.judge-taken.ensures.taken
 
 pub returns-in-Ok-clause-stops : goal.returns-in-Ok-clause-stops
 returns-in-Ok-clause-stops c =
@@ -68,8 +68,8 @@ returns-in-Ok-clause-stops c =
     let node = c.in-Ok.node in
     let is = c.in-Ok.ensures.node in
     let first : length c.as_slice.result.now ≡ length q.rows = ap length (c.as_slice.ensures ∙ c.rows-rows.ensures.rows) in
-    err_weaker c.judge.result (StopsJudging p (length c.as_slice.result.now) node.bounds.items best node.solved) (StopsTaking p q c.args.limit bs best)
-    (λ e h. stops_as p q c.args.limit bs best node.solved is.is (length c.as_slice.result.now) node.bounds.items first is.bounds e h) c.judge.ensures.stops
+    err_weaker c.judge-taken.result (StopsJudging p (length c.as_slice.result.now) node.bounds.items best node.solved) (StopsTaking p q c.args.limit bs best)
+    (λ e h. stops_as p q c.args.limit bs best node.solved is.is (length c.as_slice.result.now) node.bounds.items first is.bounds e h) c.judge-taken.ensures.stops
 
 pub returns-in-Err-clause-stops : goal.returns-in-Err-clause-stops
 returns-in-Err-clause-stops c =

@@ -1,6 +1,5 @@
 -- The run begins at the root, and where no box is open its answer is right.
 use Rattle.std.proofs.Common.{◌<◌, List, length, Ok, sym, subst, arith}
-use Rattle.std.proofs.lemmas.Result.{err_from_is_err_and}
 use Rattle.dcx_call.specs.declared.attribute.Variable.{Variable}
 use Rattle.dcx_tree.specs.Meaning.{setting_of}
 use Rattle.dcx_tree.proofs.Few.{few_variables}
@@ -27,31 +26,30 @@ run-requires-clause-rows c =
     let p = c.args.problem.now in
     rows_there p (setting_of p c.args.setting.now) c.args.reduced.now.program c.requires.program
 
-pub returns-in_err-run-clause-end : goal.returns-in_err-run-clause-end
-returns-in_err-run-clause-end c =
+pub returns-in-Err-clause-end : goal.returns-in-Err-clause-end
+returns-in-Err-clause-end c =
     let p = c.args.problem.now in
     let s = setting_of p c.args.setting.now in
     let q = c.args.reduced.now.program in
     let begin = c.begin-search.ensures in
     let at = begun p s q c.args.limit c.begin-search.result begin.sides begin.nodes begin.best begin.count in
-    let e = err_from_is_err_and c.from_residual-in_err-run.result c.from_residual-in_err-run.ensures.1 in
-    rw (e.1, e.2) (c.in_err-run.ensures.stops s c.requires.program at)
+    c.in-Err.ensures.stops s c.requires.program at
 
-pub returns-clause-end : goal.returns-clause-end
-returns-clause-end c =
+pub returns-in-Ok-clause-end : goal.returns-in-Ok-clause-end
+returns-in-Ok-clause-end c =
     let p = c.args.problem.now in
     let s = setting_of p c.args.setting.now in
     let q = c.args.reduced.now.program in
     let begin = c.begin-search.ensures in
     let at = begun p s q c.args.limit c.begin-search.result begin.sides begin.nodes begin.best begin.count in
     subst (λ (a : WholeAnswer). IsEndOf p q c.args.limit c.args.nodes (Ok a)) (sym c.answer.ensures)
-    (done_ends p s q c.args.limit c.run.new.self c.args.nodes c.in_ok-run.ensures.few (c.in_ok-run.ensures.done s c.requires.program at))
+    (done_ends p s q c.args.limit c.run.new.self c.args.nodes c.in-Ok.ensures.few (c.in-Ok.ensures.done s c.requires.program at))
 
-pub returns-clause-right : goal.returns-clause-right
-returns-clause-right c =
+pub returns-in-Ok-clause-right : goal.returns-in-Ok-clause-right
+returns-in-Ok-clause-right c =
     let p = c.args.problem.now in
     let s = setting_of p c.args.setting.now in
     let q = c.args.reduced.now.program in
     let begin = c.begin-search.ensures in
     let at = begun p s q c.args.limit c.begin-search.result begin.sides begin.nodes begin.best begin.count in
-    subst (IsRightFor p s) (sym c.answer.ensures) (done_right p s q c.args.limit c.run.new.self (c.in_ok-run.ensures.done s c.requires.program at))
+    subst (IsRightFor p s) (sym c.answer.ensures) (done_right p s q c.args.limit c.run.new.self (c.in-Ok.ensures.done s c.requires.program at))
