@@ -1,5 +1,5 @@
 -- The values of parameters, put one after the other.
-use Rattle.std.proofs.Common.{◌≡◌, ℕ, zero, suc, ◌+◌, false, List, [], ◌∷◌, ◌++◌, map, take, Option, Some, None, option_map, refl, sym, ap, ap₂, ◌∙◌, subst}
+use Rattle.std.proofs.Common.{◌≡◌, ℕ, zero, suc, ◌+◌, false, List, [], ◌∷◌, ◌++◌, map, take, Option, Some, None, option_map, refl, sym, ap, ◌∙◌, subst}
 use Rattle.std.specs.Prelude.{slice_get}
 use Rattle.std.specs.List.{AllByRecursion, IsDistinct, flat_map}
 use Rattle.std.proofs.lemmas.List.{take_more, append-nil}
@@ -47,9 +47,9 @@ module _ (setting : Pairs) where
         ∙ ap (λ y. flat_map (value_of setting) (take i qs) ++ y) (append-nil (value_of setting q))
 
     -- one more value
-    pub value_more : (key : List ℕ) (a b : Array) → Some a ≡ array_of setting q.name → key ≡ q.name → b ≡ a → after ≡ with_array before key b → after ≡ flat_map (value_of setting) (take (i + 1) qs)
-    value_more key a b valued k e puts =
-        puts ∙ ap₂ (with_array before) k e ∙ ap (λ z. with_array z q.name a) was
+    pub value_more : (a : Array) → Some a ≡ array_of setting q.name → after ≡ with_array before q.name a → after ≡ flat_map (value_of setting) (take (i + 1) qs)
+    value_more a valued puts =
+        puts ∙ ap (λ z. with_array z q.name a) was
         ∙ absent (flat_map (value_of setting) (take i qs)) q.name a (unvalued qs i q distinct at)
         ∙ ap (λ o. flat_map (value_of setting) (take i qs) ++ value_if q.name o) valued ∙ sym next_is
 

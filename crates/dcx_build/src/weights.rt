@@ -1,5 +1,5 @@
 //! The weights of the atoms of a problem.
-ghost use Rattle.std.specs.Prelude.{◌≡◌, ◌<◌, ◌^◌, length, map, IfOk, IfErr};
+ghost use Rattle.std.specs.Prelude.{◌≡◌, ◌<◌, ◌^◌, ◌++◌, [], ◌∷◌, length, map, IfOk, IfErr, OnOk};
 ghost use Rattle.dcx_lp_answer.specs.declared.answer.LpStatus.TheVariants as status;
 ghost use Rattle.dcx_sections.specs.Outlines.{rows_shown};
 ghost use Rattle.dcx_graph.specs.Answers.{answer_stop};
@@ -42,6 +42,20 @@ fn numbers_of(alloc: Global, rows: &[Option<RowWeight>], node: NodeId) -> Result
     Ok(Fracs::from_vec(numbers))
 }
 
+/// Adds the numbers of the rows of the graph of a node.
+fn push_weights(
+    alloc: Global,
+    weights: &mut Vec<NodeWeights>,
+    rows: &[Option<RowWeight>],
+    node: NodeId,
+) -> Result<(), AllocError>
+    ensures { OnOk result (weights.new.items ≡ weights.old.items ++ record { node = node; numbers = numbers_for rows.now node.0 } ∷ []) }
+{
+    let numbers = numbers_of(alloc, rows, node)?;
+    weights.push(NodeWeights { node, numbers })?;
+    Ok(())
+}
+
 /// For each of these atoms the numbers of the rows of its graph.
 fn atom_weights(
     alloc: Global,
@@ -52,11 +66,7 @@ fn atom_weights(
 {
     let mut weights = Vec::with_capacity(alloc, atoms.len())?;
     'atoms: for atom in atoms {
-        let numbers = numbers_of(alloc, rows, atom.node)?;
-        weights.push(NodeWeights {
-            node: atom.node,
-            numbers,
-        })?;
+        push_weights(alloc, &mut weights, rows, atom.node)?;
     }
     Ok(Weights::from_vec(weights))
 }
@@ -81,7 +91,19 @@ pub(crate) fn weights_of(
     let atoms = outline.atoms();
     let rows = match row_weights(alloc, atoms, reduced, answer) {
         Ok(rows) => rows,
-        Err(stop) => return Err(answer_stop(stop)),
+        Err(stop) => {
+            drop(outline);
+            return Err(answer_stop(stop));
+        }
     };
-    Ok(atom_weights(alloc, atoms, &rows)?)
+    match atom_weights(alloc, atoms, &rows) {
+        Ok(weights) => {
+            drop((outline, rows));
+            Ok(weights)
+        }
+        Err(_) => {
+            drop((outline, rows));
+            Err(AnswerStop::Memory)
+        }
+    }
 }

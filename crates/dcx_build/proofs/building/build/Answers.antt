@@ -1,6 +1,7 @@
 -- The certificate is of the problem.
-use Rattle.std.proofs.Common.{subst}
+use Rattle.std.proofs.Common.{IfOk, sym, subst}
 use Rattle.dcx_tree.specs.Meaning.{setting_of}
+use Rattle.dcx_answer.specs.declared.answer.Answer.{Answer}
 use Rattle.dcx_answer.specs.declared.answer.Answer.TheVariants as answers
 use Rattle.dcx_sections.specs.Shown.{IsCertOf}
 use Rattle.dcx_outline.specs.Drawn.{problem_outline}
@@ -45,3 +46,19 @@ returns-in_ok-unbounded-in-Unbounded-clause-of_problem c =
     let x = answers.Unbounded c.in-Unbounded.point c.in-Unbounded.ray c.in-Unbounded.bound c.in-Unbounded.slope in
     let read = subst (IsRead p q.kinds a) c.in-Unbounded.is c.requires.read in
     cert_of p c.args.setting.now c.requires.given q c.requires.laid_out a noted q.kinds x c.in_ok-unbounded-in-Unbounded.field-0 read c.in_ok-unbounded-in-Unbounded.ensures
+
+pub returns-in-Optimal-clause-built : goal.returns-in-Optimal-clause-built
+returns-in-Optimal-clause-built c =
+    let q = c.args.reduced.now.program in
+    subst (λ (a : Answer). IfOk c.optimal.result (IsBuilt c.args.problem.now c.args.setting.now q.origins c.args.lp.now a)) (sym c.in-Optimal.is) c.optimal.ensures.built
+
+pub returns-in-Optimal-clause-stops : goal.returns-in-Optimal-clause-stops
+returns-in-Optimal-clause-stops c = c.optimal.ensures.stops
+
+pub returns-in-Infeasible-clause-built : goal.returns-in-Infeasible-clause-built
+returns-in-Infeasible-clause-built c =
+    let q = c.args.reduced.now.program in
+    subst (λ (a : Answer). IfOk c.infeasible.result (IsBuilt c.args.problem.now c.args.setting.now q.origins c.args.lp.now a)) (sym c.in-Infeasible.is) c.infeasible.ensures.built
+
+pub returns-in-Infeasible-clause-stops : goal.returns-in-Infeasible-clause-stops
+returns-in-Infeasible-clause-stops c = c.infeasible.ensures.stops

@@ -27,12 +27,12 @@ returns-in-Err-clause-stops c =
     subst (StopsBuilding p from a) (sym c.answer_stop.ensures)
     (stops_building p from a c.requires.formed c.in-Err.stop (subst (λ (l : List (ℕ × ℕ)). StopsAt c.in-Err.stop (passing_from 0 (row_weights l a.status from a.rows))) listed c.in-Err.ensures.stops))
 
-pub returns-clause-made : goal.returns-clause-made
-returns-clause-made c =
+pub returns-in-Ok-atom_weights-clause-made : goal.returns-in-Ok-atom_weights-clause-made
+returns-in-Ok-atom_weights-clause-made c =
     let p = c.args.problem.now in
     let from = c.args.reduced.now.program.origins in
     let a = c.args.answer.now in
     let atoms = c.atoms-atoms.result.now in
     let listed = c.atoms-atoms.ensures ∙ ap (λ o. o.atoms) c.in_ok-outline.ensures in
-    weights_are a.status from a.rows atoms (problem_outline p).atoms c.in-Ok.rows.items c.in_ok-atom_weights.field-0 listed c.in-Ok.ensures.made
-    (c.in_ok-atom_weights.ensures ∙ ap (λ rows. map (atom_numbers rows) atoms) c.deref.ensures.value)
+    weights_are a.status from a.rows atoms (problem_outline p).atoms c.in-Ok.rows.items c.in-Ok-atom_weights.weights listed c.in-Ok.ensures.made
+    (c.in-Ok-atom_weights.ensures ∙ ap (λ rows. map (atom_numbers rows) atoms) c.deref.ensures.value)
