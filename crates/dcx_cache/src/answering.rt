@@ -47,7 +47,8 @@ pub(crate) fn answered(
     match map_back(alloc, problem, setting, &reduced, &solved.answer) {
         Ok(answer) => Ok((answer, Last { reduced, solved })),
         Err(stop) => {
-            drop((reduced, solved));
+            drop(reduced);
+            drop(solved);
             Err(reading_stop(stop))
         }
     }

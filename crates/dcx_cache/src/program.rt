@@ -1,5 +1,5 @@
 //! The program that is kept, and the program at a setting.
-ghost use Rattle.std.specs.Prelude.{◌≡◌, ◌+◌, ◌≤◌, false, length, Ok, Some, is_some, option_copied, IfOk, IfErr, OnOk};
+ghost use Rattle.std.specs.Prelude.{◌≡◌, ◌+◌, ◌≤◌, [], false, length, Ok, Some, is_some, option_copied, IfOk, IfErr, OnOk};
 ghost use Rattle.dcx_fit.specs.Fit.{FitsParameters};
 ghost use Rattle.dcx_rules.specs.Verdicts.{IsVerdictOf};
 ghost use Rattle.dcx_tree.specs.Meaning.{IsAccepted};
@@ -21,20 +21,22 @@ use dcx_tree::Problem;
 use std::alloc::{AllocError, Global};
 use std::sync::ledger::Ledger;
 
-/// The program with affine coefficients, whatever the setting.
+/// The program with affine coefficients, for which no setting is read.
 fn affine<L: Ledger>(
     alloc: Global,
     problem: &Problem,
     verdict: &Verdict,
-    setting: &Setting,
     steps: &mut Steps<L>,
 ) -> Result<Reduced<ParamForm>, ReduceStop>
     requires { IsVerdictOf problem.now verdict.now }
-    ensures program { OrMemory result (λ q. q.program) (ReducesAffine problem.now setting.now) }
+    ensures program { OrMemory result (λ q. q.program) (ReducesAffine problem.now []) }
     ensures counted { OnOk result (steps.new ≡ steps.old + length problem.now.tree) }
     ensures few { steps.new ≤ steps.old + length problem.now.tree }
 {
-    reduce(alloc, problem, verdict, setting, steps)
+    let unread = Setting::empty(alloc);
+    let map = reduce(alloc, problem, verdict, &unread, steps);
+    drop(unread);
+    map
 }
 
 /// The program with fractions, at a setting that fits.
@@ -69,10 +71,9 @@ pub(crate) fn map_of<L: Ledger>(
     if !verdict.dpp() {
         return Ok(None);
     }
-    let unread = Setting::empty(alloc);
-    match affine(alloc, problem, verdict, &unread, steps) {
+    match affine(alloc, problem, verdict, steps) {
         Ok(map) => Ok(Some(map)),
-        Err(stop) if stop == ReduceStop::Memory => Err(AllocError),
+        Err(ReduceStop::Memory) => Err(AllocError),
         Err(_) => Ok(None),
     }
 }

@@ -80,7 +80,11 @@ fn read(alloc: Global, program: Program, tableau: Chained) -> Result<Solved, All
             tableau,
             answer,
         }),
-        Err(_) => Err(AllocError),
+        Err(_) => {
+            drop(program);
+            drop(tableau);
+            Err(AllocError)
+        }
     }
 }
 
@@ -102,7 +106,11 @@ fn run_from(
             Ok(solved) => Ok(Some(solved)),
             Err(_) => Err(AllocError),
         },
-        None => Ok(None),
+        None => {
+            drop(program);
+            drop(tableau);
+            Ok(None)
+        }
     }
 }
 
@@ -117,11 +125,15 @@ fn run(
     ensures { IfOk result (RunsWarm limit columns.now program) }
 {
     if !can_start(columns, &program) {
+        drop(program);
         return Ok(None);
     }
     match Chained::build(alloc, &program) {
         Ok(tableau) => run_from(alloc, program, tableau, columns, limit),
-        Err(_) => Err(AllocError),
+        Err(_) => {
+            drop(program);
+            Err(AllocError)
+        }
     }
 }
 
@@ -155,8 +167,14 @@ fn read_back(
 {
     match map_back(alloc, problem, setting, reduced, &solved.answer) {
         Ok(answer) => Ok(Some((answer, solved))),
-        Err(AnswerStop::Wide(_)) => Ok(None),
-        Err(AnswerStop::Memory) => Err(AllocError),
+        Err(AnswerStop::Wide(_)) => {
+            drop(solved);
+            Ok(None)
+        }
+        Err(AnswerStop::Memory) => {
+            drop(solved);
+            Err(AllocError)
+        }
     }
 }
 
@@ -233,7 +251,10 @@ fn rewarmed(
     match answered_warm(alloc, problem, setting, &reduced, columns, limit) {
         Ok(Some((answer, solved))) => Ok((Warmed { answer, kept: true }, Last { reduced, solved })),
         Ok(None) => fresh(alloc, problem, setting, reduced, limit),
-        Err(_) => Err(Stop::Memory),
+        Err(_) => {
+            drop(reduced);
+            Err(Stop::Memory)
+        }
     }
 }
 
