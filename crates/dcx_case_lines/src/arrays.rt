@@ -27,11 +27,9 @@ fn filling(alloc: Global, shape: Shape, numbers: &[Frac]) -> Result<Vec<Frac>, A
     Ok(entries)
 }
 
-/// The array that a text says; where it has fewer numbers than entries they begin anew. `Unreadable` where it says none.
-pub fn array(alloc: Global, text: &str) -> Result<Array, CaseFault> {
-    let (size, rest) = text.split_once(' ').unwrap_or((text, "0"));
-    let shape = shape(size)?;
-    let entries = filling(alloc, shape, &numbers(alloc, rest)?)?;
+/// The array of these numbers, which begin anew where they end. `Unreadable` where there are none.
+fn array_of(alloc: Global, shape: Shape, numbers: &[Frac]) -> Result<Array, CaseFault> {
+    let entries = filling(alloc, shape, numbers)?;
     if entries.len() != shape.size() as usize {
         return Err(CaseFault::Unreadable);
     }
@@ -39,6 +37,14 @@ pub fn array(alloc: Global, text: &str) -> Result<Array, CaseFault> {
         shape,
         entries: Fracs::from_vec(entries),
     })
+}
+
+/// The array that a text says; where it has fewer numbers than entries they begin anew. `Unreadable` where it says none.
+pub fn array(alloc: Global, text: &str) -> Result<Array, CaseFault> {
+    let (size, rest) = text.split_once(' ').unwrap_or((text, "0"));
+    let shape = shape(size)?;
+    let numbers = numbers(alloc, rest)?;
+    array_of(alloc, shape, &numbers)
 }
 
 /// An array.
@@ -52,14 +58,19 @@ impl Display for Filled<'_> {
     }
 }
 
+/// What is written, with the fault of a case where there is no memory.
+fn written(done: Result<(), AllocError>) -> Result<(), CaseFault> {
+    Ok(done?)
+}
+
 /// Writes a value: the array, or the first entry that stops it.
 pub fn put_value(out: &mut String, value: &Result<Array, ValueStop>) -> Result<(), CaseFault> {
     match value {
-        Ok(array) => Ok(write!(out, "{}", Filled(array))?),
+        Ok(array) => written(write!(out, "{}", Filled(array))),
         Err(ValueStop::Memory) => Err(CaseFault::Memory),
-        Err(ValueStop::ZeroDivisor { entry }) => Ok(write!(out, "divisor {entry} is 0")?),
+        Err(ValueStop::ZeroDivisor { entry }) => written(write!(out, "divisor {entry} is 0")),
         Err(ValueStop::Passes { entry, passes }) => {
-            Ok(write!(out, "entry {entry}: {}", Passing(*passes))?)
+            written(write!(out, "entry {entry}: {}", Passing(*passes)))
         }
     }
 }

@@ -25,16 +25,32 @@ impl Named for Setting {
     }
 }
 
+/// Puts the array that an item says under its name.
+fn put_item<N: Named>(alloc: Global, named: &mut N, item: &str) -> Result<(), CaseFault> {
+    let Some((word, rest)) = item.trim().split_once(' ') else {
+        return Err(CaseFault::Unreadable);
+    };
+    let name = name(alloc, word)?;
+    let array = array(alloc, rest)?;
+    named.put(name, array)?;
+    Ok(())
+}
+
+/// Puts the arrays that a text says under their names.
+fn put_items<N: Named>(alloc: Global, named: &mut N, text: &str) -> Result<(), CaseFault> {
+    if text.is_empty() {
+        return Ok(());
+    }
+    for item in text.split(';') {
+        put_item(alloc, named, item)?;
+    }
+    Ok(())
+}
+
 /// These arrays, and those that a text says.
 fn with_items<N: Named + Drop>(alloc: Global, named: N, text: &str) -> Result<N, CaseFault> {
     let mut named = named;
-    if text.is_empty() {
-        return Ok(named);
-    }
-    for item in text.split(';') {
-        let (word, rest) = item.trim().split_once(' ').ok_or(CaseFault::Unreadable)?;
-        named.put(name(alloc, word)?, array(alloc, rest)?)?;
-    }
+    put_items(alloc, &mut named, text)?;
     Ok(named)
 }
 

@@ -3,6 +3,7 @@ ghost use Rattle.std.specs.Prelude.{◌≡◌};
 
 use crate::fault::CaseFault;
 use std::alloc::{AllocError, Global};
+use std::fmt::Display;
 use std::rt::Files;
 use std::{fs, io};
 
@@ -26,13 +27,12 @@ fn is_between(line: &str) -> bool {
     line.is_empty() || line.starts_with('#')
 }
 
-/// The parts of what a line asks.
-fn parts(alloc: Global, asked: &str) -> Result<Vec<&str>, AllocError> {
-    let mut parts = Vec::new(alloc);
+/// Adds the parts of what a line asks.
+fn push_parts<'a>(parts: &mut Vec<&'a str>, asked: &'a str) -> Result<(), AllocError> {
     for part in asked.split('|') {
         parts.push(part.trim())?;
     }
-    Ok(parts)
+    Ok(())
 }
 
 /// Writes what comes of what a line asks.
@@ -42,26 +42,38 @@ fn answer<C: Cases>(
     line: &str,
     out: &mut String,
 ) -> Result<(), CaseFault> {
-    let parts = parts(alloc, line)?;
+    let mut parts = Vec::new(alloc);
+    push_parts(&mut parts, line)?;
     cases.answer(alloc, &parts, out)
+}
+
+/// Prints a line that gives something else than it wants, and what came. Answers that it does.
+fn tell<T: Display>(rt: &impl Print, asked: &str, wanted: &str, came: &T) -> io::Result<bool> {
+    println!(rt; "{asked}=> {wanted}\n  but: {came}")?;
+    Ok(true)
+}
+
+/// Prints what comes of what a line asks, where that is something else than it wants. Whether it is.
+fn differs_from<C: Cases>(
+    rt: &(impl Print + AllocGlobal),
+    cases: &C,
+    asked: &str,
+    wanted: &str,
+) -> io::Result<bool> {
+    let mut came = String::new(rt.alloc());
+    match answer(rt.alloc(), cases, asked, &mut came) {
+        Ok(()) if came.as_str() == wanted => Ok(false),
+        Ok(()) => tell(rt, asked, wanted, &came),
+        Err(fault) => tell(rt, asked, wanted, &fault),
+    }
 }
 
 /// Prints a line that gives something else than it wants, with what came, or that says no case. Whether it does.
 fn differs<C: Cases>(rt: &(impl Print + AllocGlobal), cases: &C, line: &str) -> io::Result<bool> {
-    let Some((line, wanted)) = line.split_once("=>") else {
-        println!(rt; "no case says: {line}")?;
-        return Ok(true);
-    };
-    let wanted = wanted.trim();
-    let mut came = String::new(rt.alloc());
-    match answer(rt.alloc(), cases, line, &mut came) {
-        Ok(()) if came.as_str() == wanted => Ok(false),
-        Ok(()) => {
-            println!(rt; "{}=> {wanted}\n  but: {came}", line)?;
-            Ok(true)
-        }
-        Err(fault) => {
-            println!(rt; "{}=> {wanted}\n  but: {fault}", line)?;
+    match line.split_once("=>") {
+        Some((asked, wanted)) => differs_from(rt, cases, asked, wanted.trim()),
+        None => {
+            println!(rt; "no case says: {line}")?;
             Ok(true)
         }
     }
