@@ -5,11 +5,30 @@ use dcx_case_files::{At, Came, Case, Count, Entry, Fronts, Given, Wanted};
 use std::alloc::{AllocError, Global};
 use std::io;
 
+/// What comes of what is given, with a file `model.py` of these bytes.
+fn came_with(alloc: Global, given: &mut Given, bytes: &[u8]) -> Result<Came, AllocError> {
+    let bytes = bytes.to_vec(alloc)?;
+    given.put(alloc, "model.py", bytes)?;
+    outcome(alloc, given)
+}
+
 /// What the words give of a file `model.py` with these bytes.
 fn came_of(alloc: Global, words: &str, bytes: &[u8]) -> Result<Came, AllocError> {
     let mut given = Given::of(alloc, words)?;
-    given.put(alloc, "model.py", bytes.to_vec(alloc)?)?;
-    outcome(alloc, given)
+    came_with(alloc, &mut given, bytes)
+}
+
+/// Judges what came of a front of so many bytes.
+fn judge_front(
+    rt: &(impl Print + AllocGlobal),
+    at: At,
+    fronts: &Fronts,
+    length: usize,
+    came: &Came,
+    count: &mut Count,
+) -> io::Result<()> {
+    let fits = fronts.fits(rt.alloc(), came)?;
+    count.judge_front(rt, at, length, fits, came)
 }
 
 /// Runs the words with each front of the bytes as `model.py`.
@@ -21,11 +40,9 @@ fn run_fronts(
     bytes: &[u8],
     count: &mut Count,
 ) -> io::Result<()> {
-    let alloc = rt.alloc();
     for length in 0..bytes.len() {
-        let came = came_of(alloc, words, &bytes[..length])?;
-        let fits = fronts.fits(alloc, &came)?;
-        count.judge_front(rt, at, length, fits, &came)?;
+        let came = came_of(rt.alloc(), words, &bytes[..length])?;
+        judge_front(rt, at, fronts, length, &came, count)?;
     }
     Ok(())
 }
@@ -54,13 +71,23 @@ fn run_fronts_of(
 fn run_given(
     rt: &(impl Print + AllocGlobal),
     at: At,
-    given: Given,
+    given: &mut Given,
     wanted: &Wanted,
     count: &mut Count,
 ) -> io::Result<()> {
-    let words = String::from_str(rt.alloc(), given.words.as_str())?;
     let came = outcome(rt.alloc(), given)?;
-    count.judge(rt, at, words.as_str(), wanted, &came)
+    count.judge(rt, at, given.words.as_str(), wanted, &came)
+}
+
+/// Runs a case: its fronts, and then what it gives.
+fn run_parts(
+    rt: &(impl Print + AllocGlobal),
+    at: At,
+    case: &mut Case,
+    count: &mut Count,
+) -> io::Result<()> {
+    run_fronts_of(rt, at, &case.given, case.fronts.as_ref(), count)?;
+    run_given(rt, at, &mut case.given, &case.wanted, count)
 }
 
 /// Runs a case.
@@ -70,13 +97,12 @@ fn run_case(
     case: Case,
     count: &mut Count,
 ) -> io::Result<()> {
+    let mut case = case;
     let at = At {
         file,
         line: case.line,
     };
-    run_fronts_of(rt, at, &case.given, case.fronts.as_ref(), count)?;
-    let Case { given, wanted, .. } = case;
-    run_given(rt, at, given, &wanted, count)
+    run_parts(rt, at, &mut case, count)
 }
 
 /// Runs what stands in a file of cases.

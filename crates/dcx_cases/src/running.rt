@@ -7,7 +7,9 @@ use dcx_listing::{Asked, problem_lines, program_lines, short_report};
 use dcx_steps::Steps;
 use dcx_top::{Ended, run};
 use std::alloc::{AllocError, Global};
+use std::collections::BTreeMap;
 use std::marker::Brand;
+use std::mem;
 use std::sync::ledger::{Blank, Ledger};
 
 /// The status of the program over a library and a sink of any kind, with a counter of its own.
@@ -38,12 +40,19 @@ fn status_with<L: Library, K: Sink>(
     run_with::<L, K, Brand>(alloc, words, library, sink, Blank::new(1))
 }
 
+/// Adds the words that are separated by blanks.
+fn push_words(alloc: Global, words: &mut Vec<String>, text: &str) -> Result<(), AllocError> {
+    for word in text.split_whitespace() {
+        let word = String::from_str(alloc, word)?;
+        words.push(word)?;
+    }
+    Ok(())
+}
+
 /// The words that are separated by blanks.
 fn words_of(alloc: Global, text: &str) -> Result<Vec<String>, AllocError> {
     let mut words = Vec::new(alloc);
-    for word in text.split_whitespace() {
-        words.push(String::from_str(alloc, word)?)?;
-    }
+    push_words(alloc, &mut words, text)?;
     Ok(words)
 }
 
@@ -62,16 +71,19 @@ fn short(alloc: Global, words: &[String]) -> Result<Option<Came>, AllocError> {
 }
 
 /// Lines with status 0, and status 1 where there are none.
-fn came_of(alloc: Global, lines: Option<String>) -> Came {
-    match lines {
-        Some(text) => Came {
+fn came_of(
+    alloc: Global,
+    lines: Result<Option<String>, AllocError>,
+) -> Result<Option<Came>, AllocError> {
+    match lines? {
+        Some(text) => Ok(Some(Came {
             status: 0,
             report: text.into_bytes(),
-        },
-        None => Came {
+        })),
+        None => Ok(Some(Came {
             status: 1,
             report: Vec::new(alloc),
-        },
+        })),
     }
 }
 
@@ -84,13 +96,12 @@ fn asked(alloc: Global, words: &[String], given: &Given) -> Result<Option<Came>,
         return Ok(None);
     };
     let bytes = bytes.as_slice();
-    let lines = match verb.as_str() {
-        "gather" => problem_lines(alloc, bytes)?,
-        "rows" => program_lines(alloc, Asked::Rows, bytes)?,
-        "map" => program_lines(alloc, Asked::Map, bytes)?,
-        _ => return Ok(None),
-    };
-    Ok(Some(came_of(alloc, lines)))
+    match verb.as_str() {
+        "gather" => came_of(alloc, problem_lines(alloc, bytes)),
+        "rows" => came_of(alloc, program_lines(alloc, Asked::Rows, bytes)),
+        "map" => came_of(alloc, program_lines(alloc, Asked::Map, bytes)),
+        _ => Ok(None),
+    }
 }
 
 /// What no command of the program shows, where the words ask for that.
@@ -101,18 +112,26 @@ fn listed(alloc: Global, words: &[String], given: &Given) -> Result<Option<Came>
     }
 }
 
-/// What the program gives, or, for the verbs `gather`, `rows` and `map`, the lines of the problem or of its reduced program, and for
-/// `short` the report of a run that has no memory.
-pub(crate) fn outcome(alloc: Global, given: Given) -> Result<Came, AllocError> {
-    let words = words_of(alloc, given.words.as_str())?;
-    if let Some(came) = listed(alloc, &words, &given)? {
-        return Ok(came);
-    }
-    let mut library = MemoryLibrary::new(given.files, given.reads);
-    let mut sink = MemorySink::new(alloc, given.most, given.writes);
-    let status = status_with(alloc, &words, &mut library, &mut sink);
-    Ok(Came {
+/// What the program gives over the files, which are taken.
+fn program(alloc: Global, words: &[String], given: &mut Given) -> Came {
+    let files = mem::replace(&mut given.files, BTreeMap::new(alloc));
+    let reads = mem::replace(&mut given.reads, Vec::new(alloc));
+    let writes = mem::replace(&mut given.writes, Vec::new(alloc));
+    let mut library = MemoryLibrary::new(files, reads);
+    let mut sink = MemorySink::new(alloc, given.most, writes);
+    let status = status_with(alloc, words, &mut library, &mut sink);
+    Came {
         status,
         report: sink.bytes,
-    })
+    }
+}
+
+/// What the program gives, or, for the verbs `gather`, `rows` and `map`, the lines of the problem or of its reduced program, and for
+/// `short` the report of a run that has no memory. The files are taken, and the words stay.
+pub(crate) fn outcome(alloc: Global, given: &mut Given) -> Result<Came, AllocError> {
+    let words = words_of(alloc, given.words.as_str())?;
+    match listed(alloc, &words, given)? {
+        Some(came) => Ok(came),
+        None => Ok(program(alloc, &words, given)),
+    }
 }
