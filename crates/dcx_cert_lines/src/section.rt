@@ -59,9 +59,16 @@ fn read_params(
         Format::One => Ok(()),
         Format::Two => {
             let mut values = Setting::empty(alloc);
-            read_setting(cursor, alloc, outline.parameters(), &mut values)?;
-            *params = Some(values);
-            Ok(())
+            match read_setting(cursor, alloc, outline.parameters(), &mut values) {
+                Ok(()) => {
+                    *params = Some(values);
+                    Ok(())
+                }
+                Err(stop) => {
+                    drop(values);
+                    Err(stop)
+                }
+            }
         }
     }
 }
@@ -138,6 +145,27 @@ fn read_unbounded(
     Ok((bound, slope))
 }
 
+/// The optimal section that these parts make.
+fn made_optimal(value: Frac, parts: Parts) -> Section
+    ensures { result ≡ optimal_of value parts }
+{
+    let Parts {
+        params,
+        point,
+        ray,
+        duals,
+        weights,
+    } = parts;
+    drop(ray);
+    Section::Cert(Cert::Optimal {
+        value,
+        point,
+        duals: Duals::from_vec(duals),
+        weights: Weights::from_vec(weights),
+        params,
+    })
+}
+
 /// Reads what stands behind the first line of an optimal section.
 fn optimal_section(
     cursor: &mut Cursor<'_>,
@@ -153,21 +181,34 @@ fn optimal_section(
     ensures misfit { IfErr result (IfMisfit (IsStopped (body_templates format outline.now Kind.Optimal) cursor.old.rest.now cursor.old.line cursor.new.line)) }
 {
     let mut parts = no_parts(alloc);
-    let value = read_optimal(cursor, alloc, outline, format, &mut parts)?;
+    match read_optimal(cursor, alloc, outline, format, &mut parts) {
+        Ok(value) => Ok(made_optimal(value, parts)),
+        Err(stop) => {
+            drop(parts);
+            Err(stop)
+        }
+    }
+}
+
+/// The infeasible section that these parts make.
+fn made_infeasible(gap: Frac, parts: Parts) -> Section
+    ensures { result ≡ infeasible_of gap parts }
+{
     let Parts {
         params,
         point,
+        ray,
         duals,
         weights,
-        ..
     } = parts;
-    Ok(Section::Cert(Cert::Optimal {
-        value,
-        point,
+    drop(point);
+    drop(ray);
+    Section::Cert(Cert::Infeasible {
         duals: Duals::from_vec(duals),
+        gap,
         weights: Weights::from_vec(weights),
         params,
-    }))
+    })
 }
 
 /// Reads what stands behind the first line of an infeasible section.
@@ -185,19 +226,35 @@ fn infeasible_section(
     ensures misfit { IfErr result (IfMisfit (IsStopped (body_templates format outline.now Kind.Infeasible) cursor.old.rest.now cursor.old.line cursor.new.line)) }
 {
     let mut parts = no_parts(alloc);
-    let gap = read_infeasible(cursor, alloc, outline, format, &mut parts)?;
+    match read_infeasible(cursor, alloc, outline, format, &mut parts) {
+        Ok(gap) => Ok(made_infeasible(gap, parts)),
+        Err(stop) => {
+            drop(parts);
+            Err(stop)
+        }
+    }
+}
+
+/// The unbounded section that these parts make.
+fn made_unbounded(bound: Frac, slope: Frac, parts: Parts) -> Section
+    ensures { result ≡ unbounded_of bound slope parts }
+{
     let Parts {
         params,
+        point,
+        ray,
         duals,
         weights,
-        ..
     } = parts;
-    Ok(Section::Cert(Cert::Infeasible {
-        duals: Duals::from_vec(duals),
-        gap,
-        weights: Weights::from_vec(weights),
+    drop(duals);
+    drop(weights);
+    Section::Cert(Cert::Unbounded {
+        point,
+        ray,
+        bound,
+        slope,
         params,
-    }))
+    })
 }
 
 /// Reads what stands behind the first line of an unbounded section.
@@ -216,20 +273,13 @@ fn unbounded_section(
     ensures misfit { IfErr result (IfMisfit (IsStopped (body_templates format outline.now Kind.Unbounded) cursor.old.rest.now cursor.old.line cursor.new.line)) }
 {
     let mut parts = no_parts(alloc);
-    let (bound, slope) = read_unbounded(cursor, alloc, outline, format, &mut parts)?;
-    let Parts {
-        params,
-        point,
-        ray,
-        ..
-    } = parts;
-    Ok(Section::Cert(Cert::Unbounded {
-        point,
-        ray,
-        bound,
-        slope,
-        params,
-    }))
+    match read_unbounded(cursor, alloc, outline, format, &mut parts) {
+        Ok((bound, slope)) => Ok(made_unbounded(bound, slope, parts)),
+        Err(stop) => {
+            drop(parts);
+            Err(stop)
+        }
+    }
 }
 
 /// Reads what stands behind the first line of an empty section.

@@ -1,6 +1,7 @@
 -- The multipliers of one more constraint are read, or reading stops at them.
 use Rattle.std.proofs.Common.{rules, ◌≡◌, ◌+◌, [], ◌∷◌, ◌++◌, length, ap, sym, ◌∙◌, arith, length-take}
 use Rattle.std.proofs.lemmas.List.{length-map}
+use Rattle.std.proofs.lemmas.Result.{err_from_is_err_and}
 use Rattle.std.specs.Prelude.{IfErr}
 use Rattle.dcx_atom.specs.declared.array.Array.{Array}
 use Rattle.dcx_cert_lines.specs.Templates.{IsStopped, IfMisfit, dual_template, duals_from}
@@ -33,3 +34,21 @@ loop-shape-preserved c =
       shown = duals_shown c.args.shapes.now c.loop-shape.shape-index shape ds c.push.new.self.items d (omega arith) c.shape-item.is shown c.in_ok-read_dual.ensures.shape put;
       read = duals_read number c.loop-shape.shape-index ds c.push.new.self.items d c.args.cursor.now.rest.now c.args.cursor.now.line c.loop-shape.cursor.rest.now c.loop-shape.cursor.line c.read_dual.new.cursor.rest.now c.read_dual.new.cursor.line numbered count put c.loop-shape.invariant.read c.in_ok-read_dual.ensures.read;
     }
+
+pub loop-shape-smaller : goal.loop-shape-smaller
+loop-shape-smaller c = search rules
+
+pub returns-in_err-read_dual-clause-shown : goal.returns-in_err-read_dual-clause-shown
+returns-in_err-read_dual-clause-shown c = let p = err_from_is_err_and c.from_residual.result c.from_residual.ensures.1 in rw p.1 tt
+
+pub returns-in_err-read_dual-clause-read : goal.returns-in_err-read_dual-clause-read
+returns-in_err-read_dual-clause-read c = let p = err_from_is_err_and c.from_residual.result c.from_residual.ensures.1 in rw p.1 tt
+
+pub returns-in_err-push-clause-shown : goal.returns-in_err-push-clause-shown
+returns-in_err-push-clause-shown c = let p = err_from_is_err_and c.from_residual-in_err-push.result c.from_residual-in_err-push.ensures.1 in rw p.1 tt
+
+pub returns-in_err-push-clause-read : goal.returns-in_err-push-clause-read
+returns-in_err-push-clause-read c = let p = err_from_is_err_and c.from_residual-in_err-push.result c.from_residual-in_err-push.ensures.1 in rw p.1 tt
+
+pub returns-in_err-push-clause-misfit : goal.returns-in_err-push-clause-misfit
+returns-in_err-push-clause-misfit c = let p = err_from_is_err_and c.from_residual-in_err-push.result c.from_residual-in_err-push.ensures.1 in rw (p.1, p.2) tt

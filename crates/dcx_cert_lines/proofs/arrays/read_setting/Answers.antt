@@ -1,6 +1,7 @@
 -- One more array is read, or reading stops at it.
 use Rattle.std.proofs.Common.{rules, [], ◌∷◌, map, arith}
 use Rattle.std.specs.Prelude.{codes, IfErr}
+use Rattle.std.proofs.lemmas.Result.{err_from_is_err_and}
 use Rattle.dcx_sections.specs.Outlines.{shown}
 use Rattle.dcx_cert_lines.specs.Templates.{IsStopped, IfMisfit, named_template}
 use Rattle.dcx_cert_lines.proofs.Filled.{stop_map}
@@ -33,3 +34,12 @@ loop-named-preserved c =
       shown = more_shown slots c.loop-named.named-index x c.loop-named.setting c.read_parameter.new.setting next.array at.0 at.1 c.loop-named.invariant.shown next.shape next.put;
       read = more_read (codes "param") x c.loop-named.setting c.read_parameter.new.setting c.args.cursor.now.rest.now c.args.cursor.now.line c.loop-named.cursor.rest.now c.loop-named.cursor.line c.read_parameter.new.cursor.rest.now c.read_parameter.new.cursor.line c.loop-named.invariant.read next;
     }
+
+pub loop-named-smaller : goal.loop-named-smaller
+loop-named-smaller c = search rules
+
+pub returns-in_err-read_parameter-clause-shown : goal.returns-in_err-read_parameter-clause-shown
+returns-in_err-read_parameter-clause-shown c = let p = err_from_is_err_and c.from_residual.result c.from_residual.ensures.1 in rw p.1 tt
+
+pub returns-in_err-read_parameter-clause-read : goal.returns-in_err-read_parameter-clause-read
+returns-in_err-read_parameter-clause-read c = let p = err_from_is_err_and c.from_residual.result c.from_residual.ensures.1 in rw p.1 tt

@@ -1,6 +1,7 @@
 -- The weights of one more atom are read, or reading stops at them.
 use Rattle.std.proofs.Common.{rules, ◌≡◌, [], ◌∷◌, ◌++◌, map, get_or, arith}
 use Rattle.std.specs.Prelude.{IfErr}
+use Rattle.std.proofs.lemmas.Result.{err_from_is_err_and}
 use Rattle.dcx_sections.specs.declared.outline.AtomRows.{AtomRows}
 use Rattle.dcx_sections.specs.Outlines.{rows_shown}
 use Rattle.dcx_cert_lines.specs.Templates.{IsStopped, IfMisfit, node_template}
@@ -33,3 +34,21 @@ loop-atom-preserved c =
       shown = weights_shown atoms c.loop-atom.atom-index x c.loop-atom.weights.items c.push.new.self.items w at.0 at.1 c.loop-atom.invariant.shown c.in_ok-read_node.ensures.shown put;
       read = weights_read c.loop-atom.weights.items c.push.new.self.items w c.args.cursor.now.rest.now c.args.cursor.now.line c.loop-atom.cursor.rest.now c.loop-atom.cursor.line c.read_node.new.cursor.rest.now c.read_node.new.cursor.line put c.loop-atom.invariant.read c.in_ok-read_node.ensures.read;
     }
+
+pub loop-atom-smaller : goal.loop-atom-smaller
+loop-atom-smaller c = search rules
+
+pub returns-in_err-read_node-clause-shown : goal.returns-in_err-read_node-clause-shown
+returns-in_err-read_node-clause-shown c = let p = err_from_is_err_and c.from_residual.result c.from_residual.ensures.1 in rw p.1 tt
+
+pub returns-in_err-read_node-clause-read : goal.returns-in_err-read_node-clause-read
+returns-in_err-read_node-clause-read c = let p = err_from_is_err_and c.from_residual.result c.from_residual.ensures.1 in rw p.1 tt
+
+pub returns-in_err-push-clause-shown : goal.returns-in_err-push-clause-shown
+returns-in_err-push-clause-shown c = let p = err_from_is_err_and c.from_residual-in_err-push.result c.from_residual-in_err-push.ensures.1 in rw p.1 tt
+
+pub returns-in_err-push-clause-read : goal.returns-in_err-push-clause-read
+returns-in_err-push-clause-read c = let p = err_from_is_err_and c.from_residual-in_err-push.result c.from_residual-in_err-push.ensures.1 in rw p.1 tt
+
+pub returns-in_err-push-clause-misfit : goal.returns-in_err-push-clause-misfit
+returns-in_err-push-clause-misfit c = let p = err_from_is_err_and c.from_residual-in_err-push.result c.from_residual-in_err-push.ensures.1 in rw (p.1, p.2) tt

@@ -1,6 +1,7 @@
 -- Part after part is read, and reading stops in the first that isn't there.
 use Rattle.std.proofs.Common.{rules, [], ◌∷◌, ◌++◌, map, subst}
 use Rattle.std.specs.Prelude.{codes, IfErr}
+use Rattle.std.proofs.lemmas.Result.{err_from_is_err_and}
 use Rattle.dcx_sections.specs.Outlines.{shown, rows_shown}
 use Rattle.dcx_cert_lines.specs.declared.kind.Kind.TheVariants.{Optimal}
 use Rattle.dcx_cert_lines.specs.Templates.{IsStopped, IfMisfit, body_templates, param_templates, number_template, named_template, node_template, duals_from, end_template}
@@ -63,3 +64,57 @@ returns-clause-read c =
     let p5 = end_done c.in_ok-plain.ensures.read in
     let all = (and_then p0 (and_then p1 (and_then p2 (and_then p3 (and_then p4 p5))))) in
     all.read
+
+pub returns-in_err-read_params-clause-shown : goal.returns-in_err-read_params-clause-shown
+returns-in_err-read_params-clause-shown c = let p = err_from_is_err_and c.from_residual.result c.from_residual.ensures.1 in rw p.1 tt
+
+pub returns-in_err-read_params-clause-format : goal.returns-in_err-read_params-clause-format
+returns-in_err-read_params-clause-format c = let p = err_from_is_err_and c.from_residual.result c.from_residual.ensures.1 in rw p.1 tt
+
+pub returns-in_err-read_params-clause-read : goal.returns-in_err-read_params-clause-read
+returns-in_err-read_params-clause-read c = let p = err_from_is_err_and c.from_residual.result c.from_residual.ensures.1 in rw p.1 tt
+
+pub returns-in_err-value-clause-shown : goal.returns-in_err-value-clause-shown
+returns-in_err-value-clause-shown c = let p = err_from_is_err_and c.from_residual-in_err-value.result c.from_residual-in_err-value.ensures.1 in rw p.1 tt
+
+pub returns-in_err-value-clause-format : goal.returns-in_err-value-clause-format
+returns-in_err-value-clause-format c = let p = err_from_is_err_and c.from_residual-in_err-value.result c.from_residual-in_err-value.ensures.1 in rw p.1 tt
+
+pub returns-in_err-value-clause-read : goal.returns-in_err-value-clause-read
+returns-in_err-value-clause-read c = let p = err_from_is_err_and c.from_residual-in_err-value.result c.from_residual-in_err-value.ensures.1 in rw p.1 tt
+
+pub returns-in_err-read_point-clause-shown : goal.returns-in_err-read_point-clause-shown
+returns-in_err-read_point-clause-shown c = let p = err_from_is_err_and c.from_residual-in_err-read_point.result c.from_residual-in_err-read_point.ensures.1 in rw p.1 tt
+
+pub returns-in_err-read_point-clause-format : goal.returns-in_err-read_point-clause-format
+returns-in_err-read_point-clause-format c = let p = err_from_is_err_and c.from_residual-in_err-read_point.result c.from_residual-in_err-read_point.ensures.1 in rw p.1 tt
+
+pub returns-in_err-read_point-clause-read : goal.returns-in_err-read_point-clause-read
+returns-in_err-read_point-clause-read c = let p = err_from_is_err_and c.from_residual-in_err-read_point.result c.from_residual-in_err-read_point.ensures.1 in rw p.1 tt
+
+pub returns-in_err-read_duals-clause-shown : goal.returns-in_err-read_duals-clause-shown
+returns-in_err-read_duals-clause-shown c = let p = err_from_is_err_and c.from_residual-in_err-read_duals.result c.from_residual-in_err-read_duals.ensures.1 in rw p.1 tt
+
+pub returns-in_err-read_duals-clause-format : goal.returns-in_err-read_duals-clause-format
+returns-in_err-read_duals-clause-format c = let p = err_from_is_err_and c.from_residual-in_err-read_duals.result c.from_residual-in_err-read_duals.ensures.1 in rw p.1 tt
+
+pub returns-in_err-read_duals-clause-read : goal.returns-in_err-read_duals-clause-read
+returns-in_err-read_duals-clause-read c = let p = err_from_is_err_and c.from_residual-in_err-read_duals.result c.from_residual-in_err-read_duals.ensures.1 in rw p.1 tt
+
+pub returns-in_err-read_weights-clause-shown : goal.returns-in_err-read_weights-clause-shown
+returns-in_err-read_weights-clause-shown c = let p = err_from_is_err_and c.from_residual-in_err-read_weights.result c.from_residual-in_err-read_weights.ensures.1 in rw p.1 tt
+
+pub returns-in_err-read_weights-clause-format : goal.returns-in_err-read_weights-clause-format
+returns-in_err-read_weights-clause-format c = let p = err_from_is_err_and c.from_residual-in_err-read_weights.result c.from_residual-in_err-read_weights.ensures.1 in rw p.1 tt
+
+pub returns-in_err-read_weights-clause-read : goal.returns-in_err-read_weights-clause-read
+returns-in_err-read_weights-clause-read c = let p = err_from_is_err_and c.from_residual-in_err-read_weights.result c.from_residual-in_err-read_weights.ensures.1 in rw p.1 tt
+
+pub returns-in_err-plain-clause-shown : goal.returns-in_err-plain-clause-shown
+returns-in_err-plain-clause-shown c = let p = err_from_is_err_and c.from_residual-in_err-plain.result c.from_residual-in_err-plain.ensures.1 in rw p.1 tt
+
+pub returns-in_err-plain-clause-format : goal.returns-in_err-plain-clause-format
+returns-in_err-plain-clause-format c = let p = err_from_is_err_and c.from_residual-in_err-plain.result c.from_residual-in_err-plain.ensures.1 in rw p.1 tt
+
+pub returns-in_err-plain-clause-read : goal.returns-in_err-plain-clause-read
+returns-in_err-plain-clause-read c = let p = err_from_is_err_and c.from_residual-in_err-plain.result c.from_residual-in_err-plain.ensures.1 in rw p.1 tt

@@ -1,6 +1,7 @@
 -- Part after part is read, and reading stops in the first that isn't there.
 use Rattle.std.proofs.Common.{rules, [], ◌∷◌, ◌++◌, map, subst}
 use Rattle.std.specs.Prelude.{codes, IfErr}
+use Rattle.std.proofs.lemmas.Result.{err_from_is_err_and}
 use Rattle.dcx_sections.specs.Outlines.{shown}
 use Rattle.dcx_cert_lines.specs.declared.kind.Kind.TheVariants.{Unbounded}
 use Rattle.dcx_cert_lines.specs.Templates.{IsStopped, IfMisfit, body_templates, param_templates, number_template, named_template, end_template}
@@ -63,3 +64,57 @@ returns-clause-read c =
     let p5 = end_done c.in_ok-plain.ensures.read in
     let all = (and_then p0 (and_then p1 (and_then p2 (and_then p3 (and_then p4 p5))))) in
     all.read
+
+pub returns-in_err-read_params-clause-shown : goal.returns-in_err-read_params-clause-shown
+returns-in_err-read_params-clause-shown c = let p = err_from_is_err_and c.from_residual.result c.from_residual.ensures.1 in rw p.1 tt
+
+pub returns-in_err-read_params-clause-format : goal.returns-in_err-read_params-clause-format
+returns-in_err-read_params-clause-format c = let p = err_from_is_err_and c.from_residual.result c.from_residual.ensures.1 in rw p.1 tt
+
+pub returns-in_err-read_params-clause-read : goal.returns-in_err-read_params-clause-read
+returns-in_err-read_params-clause-read c = let p = err_from_is_err_and c.from_residual.result c.from_residual.ensures.1 in rw p.1 tt
+
+pub returns-in_err-bound-clause-shown : goal.returns-in_err-bound-clause-shown
+returns-in_err-bound-clause-shown c = let p = err_from_is_err_and c.from_residual-in_err-bound.result c.from_residual-in_err-bound.ensures.1 in rw p.1 tt
+
+pub returns-in_err-bound-clause-format : goal.returns-in_err-bound-clause-format
+returns-in_err-bound-clause-format c = let p = err_from_is_err_and c.from_residual-in_err-bound.result c.from_residual-in_err-bound.ensures.1 in rw p.1 tt
+
+pub returns-in_err-bound-clause-read : goal.returns-in_err-bound-clause-read
+returns-in_err-bound-clause-read c = let p = err_from_is_err_and c.from_residual-in_err-bound.result c.from_residual-in_err-bound.ensures.1 in rw p.1 tt
+
+pub returns-in_err-slope-clause-shown : goal.returns-in_err-slope-clause-shown
+returns-in_err-slope-clause-shown c = let p = err_from_is_err_and c.from_residual-in_err-slope.result c.from_residual-in_err-slope.ensures.1 in rw p.1 tt
+
+pub returns-in_err-slope-clause-format : goal.returns-in_err-slope-clause-format
+returns-in_err-slope-clause-format c = let p = err_from_is_err_and c.from_residual-in_err-slope.result c.from_residual-in_err-slope.ensures.1 in rw p.1 tt
+
+pub returns-in_err-slope-clause-read : goal.returns-in_err-slope-clause-read
+returns-in_err-slope-clause-read c = let p = err_from_is_err_and c.from_residual-in_err-slope.result c.from_residual-in_err-slope.ensures.1 in rw p.1 tt
+
+pub returns-in_err-read_point-clause-shown : goal.returns-in_err-read_point-clause-shown
+returns-in_err-read_point-clause-shown c = let p = err_from_is_err_and c.from_residual-in_err-read_point.result c.from_residual-in_err-read_point.ensures.1 in rw p.1 tt
+
+pub returns-in_err-read_point-clause-format : goal.returns-in_err-read_point-clause-format
+returns-in_err-read_point-clause-format c = let p = err_from_is_err_and c.from_residual-in_err-read_point.result c.from_residual-in_err-read_point.ensures.1 in rw p.1 tt
+
+pub returns-in_err-read_point-clause-read : goal.returns-in_err-read_point-clause-read
+returns-in_err-read_point-clause-read c = let p = err_from_is_err_and c.from_residual-in_err-read_point.result c.from_residual-in_err-read_point.ensures.1 in rw p.1 tt
+
+pub returns-in_err-read_point-2-clause-shown : goal.returns-in_err-read_point-2-clause-shown
+returns-in_err-read_point-2-clause-shown c = let p = err_from_is_err_and c.from_residual-in_err-read_point-2.result c.from_residual-in_err-read_point-2.ensures.1 in rw p.1 tt
+
+pub returns-in_err-read_point-2-clause-format : goal.returns-in_err-read_point-2-clause-format
+returns-in_err-read_point-2-clause-format c = let p = err_from_is_err_and c.from_residual-in_err-read_point-2.result c.from_residual-in_err-read_point-2.ensures.1 in rw p.1 tt
+
+pub returns-in_err-read_point-2-clause-read : goal.returns-in_err-read_point-2-clause-read
+returns-in_err-read_point-2-clause-read c = let p = err_from_is_err_and c.from_residual-in_err-read_point-2.result c.from_residual-in_err-read_point-2.ensures.1 in rw p.1 tt
+
+pub returns-in_err-plain-clause-shown : goal.returns-in_err-plain-clause-shown
+returns-in_err-plain-clause-shown c = let p = err_from_is_err_and c.from_residual-in_err-plain.result c.from_residual-in_err-plain.ensures.1 in rw p.1 tt
+
+pub returns-in_err-plain-clause-format : goal.returns-in_err-plain-clause-format
+returns-in_err-plain-clause-format c = let p = err_from_is_err_and c.from_residual-in_err-plain.result c.from_residual-in_err-plain.ensures.1 in rw p.1 tt
+
+pub returns-in_err-plain-clause-read : goal.returns-in_err-plain-clause-read
+returns-in_err-plain-clause-read c = let p = err_from_is_err_and c.from_residual-in_err-plain.result c.from_residual-in_err-plain.ensures.1 in rw p.1 tt
