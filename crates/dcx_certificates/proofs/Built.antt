@@ -148,6 +148,10 @@ module _ (p : Problem) (limit : ℕ) (settings : List Pairs) (i : ℕ) (s : Pair
           let one : w.setting ≡ s = same_Some w.setting s (sym (taken_from settings (i + 1) w.position w.setting w.there) ∙ ap (slice_get settings) same ∙ here_at) in
           inr (k.1 (subst (IsStoppedAt p limit) one w.is))
 
+-- at first there are none
+pub no_sections : (p : Problem) (limit : ℕ) → AreSectionsAt p limit [] []
+no_sections p limit = record { count = refl; each = λ k s x at here. absurd (none-some s at) }
+
 pub none_before : (p : Problem) (limit : ℕ) (settings : List Pairs) → IsTrue false ↔ StopsSomewhere p limit (take 0 settings)
 none_before p limit settings = (λ t. absurd (true≢false (sym t)), λ w. absurd (none-some w.setting w.there))
 

@@ -3,7 +3,7 @@ use Rattle.std.proofs.Common.{◌≡◌, ◌⊎◌, inl, inr, ℕ, zero, suc, �
 use native.Mathlib.Decide.{dec_lt}
 use Rattle.std.specs.List.{slice_get, All}
 use Rattle.std.proofs.Math.Seq.{take-suc}
-use Rattle.std.proofs.lemmas.Option.{none-some, same_Some, slice_get-get_or, get_or_from_slice_get}
+use Rattle.std.proofs.lemmas.Option.{none-some, same_Some, slice_get-get_or, slice_get_within, get_or_from_slice_get}
 use Rattle.std.proofs.lemmas.List.Elements.{All-from_get_or}
 
 -- ---- one item more
@@ -76,6 +76,11 @@ below_next R xs ys i a b ia ib h here k x y lt at there = by (dec_lt k i)
         let e : k ≡ i = omega (arith, n) in
         subst (λ z. R z y) (ia ∙ get_or_from_slice_get xs i x a (subst (λ n. slice_get xs n ≡ Some x) e at))
         (subst (R a) (ib ∙ get_or_from_slice_get ys i y b (subst (λ n. slice_get ys n ≡ Some y) e there)) here)
+
+-- what holds below a place that no item of the second list is behind holds of all
+pub all_below : {X Y : Type 0} (R : X → Y → Type 0) (xs : List X) (ys : List Y) (n : ℕ) → length ys ≤ n → ((k : ℕ) (x : X) (y : Y) → k < n → slice_get xs k ≡ Some x → slice_get ys k ≡ Some y → R x y) →
+    (k : ℕ) (x : X) (y : Y) → slice_get xs k ≡ Some x → slice_get ys k ≡ Some y → R x y
+all_below R xs ys n end h k x y at there = let within = slice_get_within ys k y there in h k x y (omega (arith, within, end)) at there
 
 -- ---- the front of a list
 pub taken_within : {X : Type 0} (xs : List X) (n k : ℕ) (x : X) → slice_get (take n xs) k ≡ Some x → k < n

@@ -1,11 +1,12 @@
 -- Sections pass or a first one is refused, with one number and one fault.
-use Rattle.std.proofs.Common.{◌≡◌, ℕ, ◌+◌, ◌<◌, List, sym, ap, ◌∙◌, subst, arith}
+use Rattle.std.proofs.Common.{◌≡◌, ◌⊎◌, inl, inr, ℕ, ◌+◌, ◌<◌, List, Some, sym, ap, ◌∙◌, subst, arith}
 use Rattle.std.specs.List.{slice_get}
 use Rattle.std.proofs.lemmas.Option.{same_Some}
 use native.Mathlib.Decide.{dec_lt}
 use Rattle.dcx_point.specs.Pairs.{Pairs}
 use Rattle.dcx_tree.specs.declared.problem.Problem.{Problem}
 use Rattle.dcx_sections.specs.declared.fault.CertFault.{CertFault}
+use Rattle.dcx_sections.specs.declared.fault.CertFault.TheVariants.{Memory}
 use Rattle.dcx_sections.specs.declared.section.Section.{Section}
 use Rattle.dcx_sections.specs.declared.section.Section.TheVariants as sections
 use Rattle.dcx_sections.specs.Laws.{IsSettled}
@@ -40,3 +41,11 @@ module _ (p : Problem) (settings : List Pairs) (list : List Section) where
 
 pub refusals_are_one : RefusalsAreOne
 refusals_are_one p settings list = record { apart = apart p settings list; one = one p settings list }
+
+-- a section fails, where those before it pass
+pub refused_at : (p : Problem) (settings : List Pairs) (list : List Section) (i number : ℕ) (s : Pairs) (x : Section) (f : CertFault) → number ≡ i + 1 → slice_get settings i ≡ Some s → slice_get list i ≡ Some x →
+    ((k : ℕ) (t : Pairs) (y : Section) → k < i → slice_get settings k ≡ Some t → slice_get list k ≡ Some y → (section_check p t y).passes) → (f ≡ Memory) ⊎ (section_check p s x).fails f →
+    (f ≡ Memory) ⊎ IsFirstRefused p settings list number f
+refused_at p settings list i number s x f numbered at there before (inl memory) = inl memory
+refused_at p settings list i number s x f numbered at there before (inr fails) =
+    inr (record { position = i; numbered = numbered; setting = s; section = x; at_setting = at; at_section = there; fails = fails; before = before })

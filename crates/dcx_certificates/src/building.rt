@@ -99,7 +99,11 @@ fn section<S: Ledger>(
     ensures few { steps.new ≤ steps.old + length session.old.problem.tree }
 {
     match session.solve(alloc, setting, limit, steps) {
-        Ok(answer) => section_of(alloc, session, setting, &answer, limit),
+        Ok(answer) => {
+            let told = section_of(alloc, session, setting, &answer, limit);
+            drop(answer);
+            told
+        }
         Err(stop) => stopped(stop),
     }
 }
@@ -166,6 +170,10 @@ pub fn certificate<S: Ledger>(
                 stopped,
             })
         }
-        Err(_) => Err(AllocError),
+        Err((problem, verdict)) => {
+            drop(problem);
+            drop(verdict);
+            Err(AllocError)
+        }
     }
 }

@@ -1,5 +1,5 @@
 //! A certificate that was read is written with the settings' values.
-ghost use Rattle.std.specs.Prelude.{◌≡◌, length, IfOk};
+ghost use Rattle.std.specs.Prelude.{◌≡◌, [], length, IfOk, OnOk};
 ghost use Rattle.dcx_certificates.specs.Migrating.{told_or as told_or_of, with_values as with_values_of, IsMigrated};
 
 use dcx_build::values_of;
@@ -41,13 +41,21 @@ fn with_values(
                 weights,
                 params,
             },
-        ) => Ok(Section::Cert(Cert::Optimal {
-            value,
-            point,
-            duals,
-            weights,
-            params: told_or(alloc, problem, setting, params)?,
-        })),
+        ) => match told_or(alloc, problem, setting, params) {
+            Ok(params) => Ok(Section::Cert(Cert::Optimal {
+                value,
+                point,
+                duals,
+                weights,
+                params,
+            })),
+            Err(e) => {
+                drop(point);
+                drop(duals);
+                drop(weights);
+                Err(e)
+            }
+        },
         Section::Cert(
             Cert::Infeasible {
                 duals,
@@ -55,12 +63,19 @@ fn with_values(
                 weights,
                 params,
             },
-        ) => Ok(Section::Cert(Cert::Infeasible {
-            duals,
-            gap,
-            weights,
-            params: told_or(alloc, problem, setting, params)?,
-        })),
+        ) => match told_or(alloc, problem, setting, params) {
+            Ok(params) => Ok(Section::Cert(Cert::Infeasible {
+                duals,
+                gap,
+                weights,
+                params,
+            })),
+            Err(e) => {
+                drop(duals);
+                drop(weights);
+                Err(e)
+            }
+        },
         Section::Cert(
             Cert::Unbounded {
                 point,
@@ -69,15 +84,43 @@ fn with_values(
                 slope,
                 params,
             },
-        ) => Ok(Section::Cert(Cert::Unbounded {
-            point,
-            ray,
-            bound,
-            slope,
-            params: told_or(alloc, problem, setting, params)?,
-        })),
+        ) => match told_or(alloc, problem, setting, params) {
+            Ok(params) => Ok(Section::Cert(Cert::Unbounded {
+                point,
+                ray,
+                bound,
+                slope,
+                params,
+            })),
+            Err(e) => {
+                drop(point);
+                drop(ray);
+                Err(e)
+            }
+        },
         Section::None => Ok(Section::None),
     }
+}
+
+/// Puts the sections into an empty list, each with the values of its setting.
+fn put_all(
+    alloc: Global,
+    problem: &Problem,
+    settings: &[Setting],
+    sections: Sections,
+    list: &mut Vec<Section>,
+) -> Result<(), AllocError>
+    requires empty { list.old.items ≡ [] }
+    requires count { length sections.list ≡ length settings.now }
+    ensures { OnOk result (IsMigrated problem.now settings.now sections (record { format = Format.Two; list = list.new.items })) }
+{
+    for section in sections.list.into_vec() {
+        let i = list.len();
+        let setting = &settings[i];
+        let with = with_values(alloc, problem, setting, section)?;
+        list.push(with)?;
+    }
+    Ok(())
 }
 
 /// The same sections in format 2, each with the values of its setting; those that have them already keep them.
@@ -90,16 +133,15 @@ pub fn migrate(
     requires { length sections.list ≡ length settings.now }
     ensures { IfOk result (IsMigrated problem.now settings.now sections) }
 {
-    let mut list = Vec::with_capacity(alloc, settings.len())?;
-    for section in sections.list.into_vec() {
-        let i = list.len();
-        let setting = &settings[i];
-        let with = with_values(alloc, problem, setting, section)?;
-        list.push(with)?;
+    let mut list = Vec::new(alloc);
+    match put_all(alloc, problem, settings, sections, &mut list) {
+        Ok(()) => Ok(Sections {
+            format: Format::Two,
+            list: SectionList::from_vec(list),
+        }),
+        Err(e) => {
+            drop(list);
+            Err(e)
+        }
     }
-    let list = SectionList::from_vec(list);
-    Ok(Sections {
-        format: Format::Two,
-        list,
-    })
 }

@@ -1,11 +1,13 @@
 -- The section of the next setting is one section more.
-use Rattle.std.proofs.Common.{◌+◌, ◌≤◌, List, length, take, sym, ◌∙◌, subst, arith}
+use Rattle.std.proofs.Common.{◌≡◌, ◌+◌, ◌*◌, ◌≤◌, List, [], length, take, refl, sym, ◌∙◌, subst, arith, rules}
+use Rattle.std.proofs.lemmas.Result.{err_from_is_err_and}
+use Rattle.dcx_point.specs.Pairs.{Pairs}
 use Rattle.dcx_tree.specs.declared.problem.Problem.{Problem}
 use Rattle.dcx_sections.specs.declared.section.Section.{Section}
 use Rattle.dcx_cache.specs.Programs.{HasMap}
 use Rattle.dcx_certificates.specs.Sections.{IsToldAt, AreSectionsAt}
-use Rattle.dcx_certificates.proofs.Lists.{steps_more}
-use Rattle.dcx_certificates.proofs.Built.{sections_step, flag_step}
+use Rattle.dcx_certificates.proofs.Lists.{steps_more, take_all}
+use Rattle.dcx_certificates.proofs.Built.{no_sections, none_before, sections_step, flag_step, all_of}
 use Rattle.dcx_certificates.proofs.building.sections.Goals as goal
 
 pub loop-setting-preserved : goal.loop-setting-preserved
@@ -22,3 +24,70 @@ loop-setting-preserved g c =
       few = steps_more c.loop-setting.setting-index (length p.tree) c.args.steps.now c.loop-setting.steps c.section.new.steps before.few
           (subst (λ (z : Problem). c.section.new.steps ≤ c.loop-setting.steps + length z.tree) before.same c.section.ensures.few);
     }
+
+pub loop-setting-init : goal.loop-setting-init
+loop-setting-init g c =
+    let p = c.args.session.now.problem in
+    record {
+      sections = subst (λ (z : List Section). AreSectionsAt p c.args.limit [] z) (sym c.in_ok-list.ensures.items) (no_sections p c.args.limit);
+      flag = none_before p c.args.limit c.args.settings.now;
+      same = refl;
+      counted = λ h. refl;
+      few = omega arith;
+    }
+
+pub loop-setting-smaller : goal.loop-setting-smaller
+loop-setting-smaller g c = search rules
+
+pub returns-in_err-list-clause-sections : goal.returns-in_err-list-clause-sections
+returns-in_err-list-clause-sections g c = let p = err_from_is_err_and c.from_residual.result c.from_residual.ensures.1 in rw p.1 tt
+
+pub returns-in_err-list-clause-stopped : goal.returns-in_err-list-clause-stopped
+returns-in_err-list-clause-stopped g c = let p = err_from_is_err_and c.from_residual.result c.from_residual.ensures.1 in rw p.1 tt
+
+pub returns-in_err-list-clause-counted : goal.returns-in_err-list-clause-counted
+returns-in_err-list-clause-counted g c = let p = err_from_is_err_and c.from_residual.result c.from_residual.ensures.1 in rw p.1 tt
+
+pub returns-in_err-list-clause-few : goal.returns-in_err-list-clause-few
+returns-in_err-list-clause-few g c = let p = err_from_is_err_and c.from_residual.result c.from_residual.ensures.1 in rw p.1 tt
+
+pub returns-in_err-told-clause-sections : goal.returns-in_err-told-clause-sections
+returns-in_err-told-clause-sections g c = let p = err_from_is_err_and c.from_residual-in_err-told.result c.from_residual-in_err-told.ensures.1 in rw p.1 tt
+
+pub returns-in_err-told-clause-stopped : goal.returns-in_err-told-clause-stopped
+returns-in_err-told-clause-stopped g c = let p = err_from_is_err_and c.from_residual-in_err-told.result c.from_residual-in_err-told.ensures.1 in rw p.1 tt
+
+pub returns-in_err-told-clause-counted : goal.returns-in_err-told-clause-counted
+returns-in_err-told-clause-counted g c = let p = err_from_is_err_and c.from_residual-in_err-told.result c.from_residual-in_err-told.ensures.1 in rw p.1 tt
+
+pub returns-in_err-told-clause-few : goal.returns-in_err-told-clause-few
+returns-in_err-told-clause-few g c = let p = err_from_is_err_and c.from_residual-in_err-told.result c.from_residual-in_err-told.ensures.1 in rw p.1 tt
+
+pub returns-in_err-push-clause-sections : goal.returns-in_err-push-clause-sections
+returns-in_err-push-clause-sections g c = let p = err_from_is_err_and c.from_residual-in_err-push.result c.from_residual-in_err-push.ensures.1 in rw p.1 tt
+
+pub returns-in_err-push-clause-stopped : goal.returns-in_err-push-clause-stopped
+returns-in_err-push-clause-stopped g c = let p = err_from_is_err_and c.from_residual-in_err-push.result c.from_residual-in_err-push.ensures.1 in rw p.1 tt
+
+pub returns-in_err-push-clause-counted : goal.returns-in_err-push-clause-counted
+returns-in_err-push-clause-counted g c = let p = err_from_is_err_and c.from_residual-in_err-push.result c.from_residual-in_err-push.ensures.1 in rw p.1 tt
+
+pub returns-in_err-push-clause-few : goal.returns-in_err-push-clause-few
+returns-in_err-push-clause-few g c = let p = err_from_is_err_and c.from_residual-in_err-push.result c.from_residual-in_err-push.ensures.1 in rw p.1 tt
+
+pub returns-clause-sections : goal.returns-clause-sections
+returns-clause-sections g c =
+    let p = c.args.session.now.problem in
+    subst (λ (z : List Section). AreSectionsAt p c.args.limit c.args.settings.now z) (sym c.from_vec.ensures)
+    (subst (λ (z : List Pairs). AreSectionsAt p c.args.limit z c.loop-setting.list.items) (take_all c.loop-setting.setting-index c.args.settings.now (omega arith)) c.loop-setting.invariant.sections)
+
+pub returns-clause-stopped : goal.returns-clause-stopped
+returns-clause-stopped g c = all_of c.args.session.now.problem c.args.limit c.args.settings.now c.loop-setting.setting-index c.loop-setting.stopped (omega arith) c.loop-setting.invariant.flag
+
+pub returns-clause-counted : goal.returns-clause-counted
+returns-clause-counted g c = c.loop-setting.invariant.counted
+
+pub returns-clause-few : goal.returns-clause-few
+returns-clause-few g c =
+    let all : c.loop-setting.setting-index ≡ length c.args.settings.now = omega (arith, c.loop-setting-test.false, c.loop-setting.auto.setting-index-end) in
+    subst (λ n. c.loop-setting.steps ≤ c.args.steps.now + n * length c.args.session.now.problem.tree) all c.loop-setting.invariant.few
