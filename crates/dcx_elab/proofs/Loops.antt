@@ -7,19 +7,20 @@ use Rattle.dcx_syntax.specs.declared.tree.Named.{Named}
 use Rattle.dcx_syntax.specs.declared.tree.Arg as code_arg
 use Rattle.dcx_syntax.specs.declared.tree.Index as code_index
 use Rattle.dcx_syntax.specs.declared.tree.Expr as code_expr
-use Rattle.dcx_syntax.specs.Expressions.{Expr, Arg, MoreArgs, Indices, MoreItems, tuple, list, comprehension}
+use Rattle.dcx_syntax.specs.Expressions.{Expr, Arg, MoreArgs, more_args, Indices, more_indices, MoreItems, tuple, list, comprehension}
 use Rattle.dcx_syntax.specs.View.{chained, then_arg, args_ending, args_of, indices_of, items_ending, more_items_of, items_of as tree_items, arg_view, index_view, expr_view}
 use Rattle.dcx_kinds.specs.declared.fault.ElabFault.{ElabFault}
 use Rattle.dcx_kinds.specs.Values.{Value, Values, values_of, items_of, State, Act, and_then, ◌>>=◌, ◌>>◌, done, room, with_room, tuple as tuple_value, list as list_value, list_of}
 use Rattle.dcx_kinds.specs.View.{Fails}
 use Rattle.dcx_kinds.proofs.Acts.{Fails-then, Fails-same, then_is}
 use Rattle.dcx_kinds.proofs.Lists.{items_of-values_of, values_of-items_of}
+use Rattle.dcx_operators.specs.Indices.{Evaluated}
 use Rattle.dcx_signature.specs.Arguments.{Given}
-use Rattle.dcx_elab.specs.Expressions.{args_mean, more_args_mean, with_item, more_items_mean, items_mean, expr_means, primary_means}
+use Rattle.dcx_elab.specs.Expressions.{args_mean, more_args_mean, arg_means, index_means, indices_mean, with_item, more_items_mean, items_mean, expr_means, primary_means}
 use Rattle.dcx_signature.specs.Firsts.{expr_place}
 use Rattle.dcx_signature.specs.Turns.{items_through}
 use Rattle.dcx_elab.specs.Turns.{turn, turns}
-use Rattle.dcx_elab.proofs.Chains.{assoc, go_on, go_on-end, done-ok, done-fails, Fails-again}
+use Rattle.dcx_elab.proofs.Chains.{assoc, go_on, go_on-none, go_on-next, go_on-end, done-ok, done-fails, Fails-again}
 
 -- ---- arguments
 -- the arguments from an index on
@@ -38,9 +39,52 @@ args-end solving xs i comma gs s h = at_drop_all (λ ys. go_on gs (more_args_mea
     by true = go_on-end gs s
     by false = go_on-end gs s
 
+args-more : (solving : Bool) (xs : List code_arg.Arg) (i : ℕ) (x : code_arg.Arg) (comma : Bool) (s : State) → i < length xs → x ≡ get_or xs i x
+    → more_args_mean solving (args_from xs i comma) s ≡ and_then (arg_means solving (arg_view x) s) (λ g. more_args_mean solving (args_from xs (i + 1) comma) >>= λ gs. done (g ∷ gs))
+args-more solving xs i x comma s h at =
+    at_drop_more (λ ys. more_args_mean solving (chained (map then_arg (map arg_view ys)) (args_ending comma)) s) xs i x h
+    ∙ ap (λ y. more_args_mean solving (more_args (arg_view y) (args_from xs (i + 1) comma)) s) (sym at)
+
+pub args-begin : (solving : Bool) (xs : List code_arg.Arg) (comma : Bool) (gs : List Given) (s : State) → gs ≡ []
+    → args_mean solving (args_of (map arg_view xs) comma) s ≡ go_on gs (more_args_mean solving (args_from xs 0 comma) s)
+args-begin solving xs comma gs s none =
+    args-all solving (map arg_view xs) comma s ∙ sym (go_on-none (more_args_mean solving (args_from xs 0 comma) s)) ∙ ap (λ hs. go_on hs (more_args_mean solving (args_from xs 0 comma) s)) (sym none)
+
+pub args-next : (solving : Bool) (xs : List code_arg.Arg) (i : ℕ) (x : code_arg.Arg) (comma : Bool) (gs : List Given) (g : Given) (s t : State) → i < length xs → x ≡ get_or xs i x
+    → arg_means solving (arg_view x) s ≡ Ok (g, t) → go_on gs (more_args_mean solving (args_from xs i comma) s) ≡ go_on (gs ++ g ∷ []) (more_args_mean solving (args_from xs (i + 1) comma) t)
+args-next solving xs i x comma gs g s t h at means =
+    ap (go_on gs) (args-more solving xs i x comma s h at ∙ then_is (arg_means solving (arg_view x) s) (λ g. more_args_mean solving (args_from xs (i + 1) comma) >>= λ gs. done (g ∷ gs)) g t means)
+    ∙ go_on-next gs g (more_args_mean solving (args_from xs (i + 1) comma) t)
+
+pub args-fault : (solving : Bool) (xs : List code_arg.Arg) (i : ℕ) (x : code_arg.Arg) (comma : Bool) (gs : List Given) (e : ElabFault) (s : State) → i < length xs → x ≡ get_or xs i x
+    → Fails e (arg_means solving (arg_view x) s) → Fails e (go_on gs (more_args_mean solving (args_from xs i comma) s))
+args-fault solving xs i x comma gs e s h at fails =
+    Fails-then e (more_args_mean solving (args_from xs i comma) s) (λ ys. done (gs ++ ys))
+    (Fails-same e _ (more_args_mean solving (args_from xs i comma) s) (args-more solving xs i x comma s h at) (Fails-then e (arg_means solving (arg_view x) s) _ fails))
+
 -- ---- indices
 abbrev pub indices_from : List code_index.Index → ℕ → Indices
 indices_from xs i = indices_of (map index_view (drop i xs))
+
+indices-more : (xs : List code_index.Index) (i : ℕ) (x : code_index.Index) (s : State) → i < length xs → x ≡ get_or xs i x
+    → indices_mean (indices_from xs i) s ≡ and_then (index_means (index_view x) s) (λ y. indices_mean (indices_from xs (i + 1)) >>= λ ys. done (y ∷ ys))
+indices-more xs i x s h at =
+    at_drop_more (λ ys. indices_mean (indices_of (map index_view ys)) s) xs i x h ∙ ap (λ y. indices_mean (more_indices (index_view y) (indices_from xs (i + 1))) s) (sym at)
+
+pub indices-end : (xs : List code_index.Index) (i : ℕ) (is : List Evaluated) (s : State) → length xs ≤ i → go_on is (indices_mean (indices_from xs i) s) ≡ Ok (is, s)
+indices-end xs i is s h = at_drop_all (λ ys. go_on is (indices_mean (indices_of (map index_view ys)) s)) xs i h ∙ go_on-end is s
+
+pub indices-next : (xs : List code_index.Index) (i : ℕ) (x : code_index.Index) (is : List Evaluated) (y : Evaluated) (s t : State) → i < length xs → x ≡ get_or xs i x
+    → index_means (index_view x) s ≡ Ok (y, t) → go_on is (indices_mean (indices_from xs i) s) ≡ go_on (is ++ y ∷ []) (indices_mean (indices_from xs (i + 1)) t)
+indices-next xs i x is y s t h at means =
+    ap (go_on is) (indices-more xs i x s h at ∙ then_is (index_means (index_view x) s) (λ y. indices_mean (indices_from xs (i + 1)) >>= λ ys. done (y ∷ ys)) y t means)
+    ∙ go_on-next is y (indices_mean (indices_from xs (i + 1)) t)
+
+pub indices-fault : (xs : List code_index.Index) (i : ℕ) (x : code_index.Index) (is : List Evaluated) (e : ElabFault) (s : State) → i < length xs → x ≡ get_or xs i x
+    → Fails e (index_means (index_view x) s) → Fails e (go_on is (indices_mean (indices_from xs i) s))
+indices-fault xs i x is e s h at fails =
+    Fails-then e (indices_mean (indices_from xs i) s) (λ ys. done (is ++ ys))
+    (Fails-same e _ (indices_mean (indices_from xs i) s) (indices-more xs i x s h at) (Fails-then e (index_means (index_view x) s) _ fails))
 
 -- ---- items
 abbrev pub items_from : List code_expr.Expr → ℕ → (comma : Bool) → MoreItems

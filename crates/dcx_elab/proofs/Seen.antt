@@ -12,6 +12,8 @@ use Rattle.dcx_syntax.specs.declared.tree.Trailer as code_trailer
 use Rattle.dcx_syntax.specs.declared.tree.Trailer.TheVariants as trailers
 use Rattle.dcx_syntax.specs.declared.tree.Primary.TheVariants as primaries
 use Rattle.dcx_syntax.specs.declared.tree.Index.TheVariants as indices
+use Rattle.dcx_syntax.specs.declared.tree.Step.TheVariants as steps
+use Rattle.dcx_syntax.specs.declared.tree.Arg.TheVariants as arguments
 use Rattle.dcx_syntax.specs.declared.tree.Added as code_added
 use Rattle.dcx_syntax.specs.declared.tree.Compared as code_compared
 use Rattle.dcx_syntax.specs.declared.tree.Expr as code_expr
@@ -22,8 +24,8 @@ use Rattle.dcx_syntax.specs.declared.tree.Raised as code_raised
 use Rattle.dcx_syntax.specs.declared.tree.Scaled as code_scaled
 use Rattle.dcx_syntax.specs.declared.tree.Sum as code_sum
 use Rattle.dcx_syntax.specs.declared.tree.Term as code_term
-use Rattle.dcx_syntax.specs.declared.tree.Arg.TheOpen.{Index-F, Primary-F, Trailer-F}
-use Rattle.dcx_syntax.specs.Expressions.{Expr, Compared, Sum, Added, Term, Scaled, Factor, Power, Raised, Postfix, Arg, Index, Step, Primary, name_at, number_at, text_at, truth_at, none_at, unit, round, tuple, empty_list, list, comprehension, postfix, slice, Trailers, no_trailer, attribute, call, indexed}
+use Rattle.dcx_syntax.specs.declared.tree.Arg.TheOpen.{Arg-F, Index-F, Primary-F, Step-F, Trailer-F}
+use Rattle.dcx_syntax.specs.Expressions.{Expr, Compared, Sum, Added, Term, Scaled, Factor, Power, Raised, Postfix, Arg, by_place, by_name, Index, at as index_at, Step, no_step, step, Primary, name_at, number_at, text_at, truth_at, none_at, unit, round, tuple, empty_list, list, comprehension, postfix, slice, Trailers, no_trailer, attribute, call, indexed}
 use Rattle.dcx_syntax.specs.View.{chained, args_of, items_of, more_items_of, indices_of, optional_view, arg_view, index_view, trailer_view, primary_view, step_view, expr_view, postfix_view, arg_layer, index_layer, primary_layer, step_layer, trailer_layer, added_layer, compared_layer, expr_layer, factor_layer, postfix_layer, power_layer, raised_layer, scaled_layer, sum_layer, term_layer}
 use Rattle.dcx_elab.specs.View.{trailers_from}
 
@@ -187,6 +189,12 @@ comprehension-seen p x q n from =
     ∙ code_primary.fold-roll-Primary Arg Index Primary Step (Trailers → Trailers) (Added → Added) (Compared → Compared) Expr Factor Postfix Power (Raised → Raised) (Scaled → Scaled) Sum Term
     arg_layer index_layer primary_layer step_layer trailer_layer added_layer compared_layer expr_layer factor_layer postfix_layer power_layer raised_layer scaled_layer sum_layer term_layer (Primary-F.Comprehension p x q n from)
 
+pub at-seen : (x : code_expr.Expr) → index_view (indices.At x) ≡ index_at (expr_view x)
+at-seen x =
+    ap index_view (sym (indices.rolls-At x))
+    ∙ code_index.fold-roll-Index Arg Index Primary Step (Trailers → Trailers) (Added → Added) (Compared → Compared) Expr Factor Postfix Power (Raised → Raised) (Scaled → Scaled) Sum Term
+    arg_layer index_layer primary_layer step_layer trailer_layer added_layer compared_layer expr_layer factor_layer postfix_layer power_layer raised_layer scaled_layer sum_layer term_layer (Index-F.At x)
+
 pub slice-seen : (a b : Option code_expr.Expr) (c : code_step.Step) → index_view (indices.Slice a b c) ≡ slice (optional_view a) (optional_view b) (step_view c)
 slice-seen None None c =
     ap index_view (sym (indices.rolls-Slice None None c))
@@ -204,6 +212,34 @@ slice-seen (Some x) (Some y) c =
     ap index_view (sym (indices.rolls-Slice (Some x) (Some y) c))
     ∙ code_index.fold-roll-Index Arg Index Primary Step (Trailers → Trailers) (Added → Added) (Compared → Compared) Expr Factor Postfix Power (Raised → Raised) (Scaled → Scaled) Sum Term
     arg_layer index_layer primary_layer step_layer trailer_layer added_layer compared_layer expr_layer factor_layer postfix_layer power_layer raised_layer scaled_layer sum_layer term_layer (Index-F.Slice (Some x) (Some y) c)
+
+pub absent-seen : step_view steps.Absent ≡ no_step
+absent-seen =
+    ap step_view (sym steps.rolls-Absent)
+    ∙ code_step.fold-roll-Step Arg Index Primary Step (Trailers → Trailers) (Added → Added) (Compared → Compared) Expr Factor Postfix Power (Raised → Raised) (Scaled → Scaled) Sum Term
+    arg_layer index_layer primary_layer step_layer trailer_layer added_layer compared_layer expr_layer factor_layer postfix_layer power_layer raised_layer scaled_layer sum_layer term_layer (Step-F.Absent)
+
+pub colon-seen : (a : Option code_expr.Expr) → step_view (steps.Colon a) ≡ step (optional_view a)
+colon-seen None =
+    ap step_view (sym (steps.rolls-Colon None))
+    ∙ code_step.fold-roll-Step Arg Index Primary Step (Trailers → Trailers) (Added → Added) (Compared → Compared) Expr Factor Postfix Power (Raised → Raised) (Scaled → Scaled) Sum Term
+    arg_layer index_layer primary_layer step_layer trailer_layer added_layer compared_layer expr_layer factor_layer postfix_layer power_layer raised_layer scaled_layer sum_layer term_layer (Step-F.Colon None)
+colon-seen (Some x) =
+    ap step_view (sym (steps.rolls-Colon (Some x)))
+    ∙ code_step.fold-roll-Step Arg Index Primary Step (Trailers → Trailers) (Added → Added) (Compared → Compared) Expr Factor Postfix Power (Raised → Raised) (Scaled → Scaled) Sum Term
+    arg_layer index_layer primary_layer step_layer trailer_layer added_layer compared_layer expr_layer factor_layer postfix_layer power_layer raised_layer scaled_layer sum_layer term_layer (Step-F.Colon (Some x))
+
+pub by-place-seen : (x : code_expr.Expr) → arg_view (arguments.ByPlace x) ≡ by_place (expr_view x)
+by-place-seen x =
+    ap arg_view (sym (arguments.rolls-ByPlace x))
+    ∙ code_arg.fold-roll-Arg Arg Index Primary Step (Trailers → Trailers) (Added → Added) (Compared → Compared) Expr Factor Postfix Power (Raised → Raised) (Scaled → Scaled) Sum Term
+    arg_layer index_layer primary_layer step_layer trailer_layer added_layer compared_layer expr_layer factor_layer postfix_layer power_layer raised_layer scaled_layer sum_layer term_layer (Arg-F.ByPlace x)
+
+pub by-name-seen : (n : Named) (x : code_expr.Expr) → arg_view (arguments.ByName n x) ≡ by_name n (expr_view x)
+by-name-seen n x =
+    ap arg_view (sym (arguments.rolls-ByName n x))
+    ∙ code_arg.fold-roll-Arg Arg Index Primary Step (Trailers → Trailers) (Added → Added) (Compared → Compared) Expr Factor Postfix Power (Raised → Raised) (Scaled → Scaled) Sum Term
+    arg_layer index_layer primary_layer step_layer trailer_layer added_layer compared_layer expr_layer factor_layer postfix_layer power_layer raised_layer scaled_layer sum_layer term_layer (Arg-F.ByName n x)
 
 -- ---- what is no name
 abbrev pub is_name : Primary → Bool
