@@ -1,4 +1,6 @@
 //! The one door: bytes are read, the script is carried out, and the rules judge its problem.
+ghost use Rattle.std.specs.Prelude.{Err};
+ghost use Rattle.dcx_rules.specs.Sites.{IsFaultOf};
 ghost use Rattle.dcx_front.specs.Accepts.{Judges, GivesOfScript, Gives};
 ghost use Rattle.dcx_front.specs.OneAnswer.{IsOnlyAnswer, IsVerdictOn};
 
@@ -12,18 +14,30 @@ use dcx_rules::{RuleFault, check};
 use dcx_syntax::Script;
 use std::alloc::Global;
 
+/// Why what a script stands for isn't accepted, where the rules have this fault of its problem.
+fn broken(work: &Work, fault: RuleFault) -> FrontFault
+    requires { IsFaultOf work.now.problem fault }
+    ensures { Judges work.now (Err result) }
+{
+    match fault {
+        RuleFault::NotDcp { site, rule } => {
+            FrontFault::Refused(not_dcp(&work.problem, site, rule))
+        }
+        RuleFault::Memory => FrontFault::Memory,
+    }
+}
+
 /// What the rules say of what a script stands for.
 fn judged(alloc: Global, work: Work) -> Result<Accepted, FrontFault>
     ensures { Judges work result }
 {
     match check(alloc, &work.problem) {
         Ok(verdict) => Ok(Accepted { work, verdict }),
-        Err(RuleFault::NotDcp { site, rule }) => Err(FrontFault::Refused(not_dcp(
-            &work.problem,
-            site,
-            rule,
-        ))),
-        Err(RuleFault::Memory) => Err(FrontFault::Memory),
+        Err(fault) => {
+            let end = broken(&work, fault);
+            drop(work);
+            Err(end)
+        }
     }
 }
 
