@@ -117,8 +117,11 @@ pub fn function_called(
     ensures { Gives meant result state.new (meaning.function_called (option_copied target.entry) place function (map given_seen given.entry.items) state.old) }
 {
     if !is_placed(target, function) {
+        drop(given);
         return Err(ElabFault::NotOffered(place));
     }
     let bound = arguments(state.alloc(), state.tree(), place, row_of(function), given)?;
-    perform(state, target, function, place, &bound)
+    let performed = perform(state, target, function, place, &bound);
+    drop(bound);
+    performed
 }

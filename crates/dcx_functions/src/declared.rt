@@ -110,6 +110,7 @@ pub(crate) fn objective(
 {
     let operand = operand_for(state.alloc(), place, "e", bound)?;
     if state.operand_shape(&operand).size() != 1 {
+        drop(operand);
         return Err(ElabFault::ShapeClash(place));
     }
     let node = state.pushed(place, &operand)?;

@@ -1,11 +1,13 @@
 //! The calls that make a node.
-ghost use Rattle.std.specs.Prelude.{◌≡◌, map, IfOk};
+ghost use Rattle.std.specs.Prelude.{◌≡◌, false, [], ◌∷◌, ◌++◌, map, IfOk, OnOk};
 ghost use Rattle.dcx_shape.specs.Shape.{sides_of};
 ghost use Rattle.dcx_kinds.specs.Values.{State as MeantState};
 ghost use Rattle.dcx_kinds.specs.Kinds.{reading};
+ghost use Rattle.dcx_kinds.specs.Nodes.{called};
 ghost use Rattle.dcx_kinds.specs.Operands.{as_expression};
 ghost use Rattle.dcx_kinds.specs.Meant.{meant};
 ghost use Rattle.dcx_kinds.specs.View.{read_as, meant_operand, extent_sides, Gives};
+ghost use Rattle.dcx_state.specs.Declarations.{is_declaration};
 ghost use Rattle.dcx_signature.specs.Arguments.{value_for};
 ghost use Rattle.dcx_signature.specs.Fits as fits;
 ghost use Rattle.dcx_signature.specs.Table.{order_word, list_word, k_word};
@@ -27,6 +29,20 @@ use std::alloc::{AllocError, Global};
 
 // ---- one expression
 
+/// The value of a call of one operand.
+fn called_on(
+    state: &mut State,
+    place: Place,
+    call: Call,
+    operand: Operand,
+) -> Result<Value, ElabFault>
+    requires { is_declaration call ≡ false }
+    ensures { Gives meant result state.new (as_expression (called place call (meant_operand operand ∷ [])) state.old) }
+{
+    let node = state.called(place, call, &[operand])?;
+    Ok(Value::Expression(node))
+}
+
 /// A linear call of the expression that is given under this word.
 pub(crate) fn linear(
     state: &mut State,
@@ -38,8 +54,7 @@ pub(crate) fn linear(
     ensures { Gives meant result state.new (meaning.of_one place (Call.Linear call) word.now bound.now state.old) }
 {
     let operand = operand_for(state.alloc(), place, word, bound)?;
-    let node = state.called(place, Call::Linear(call), &[operand])?;
-    Ok(Value::Expression(node))
+    called_on(state, place, Call::Linear(call), operand)
 }
 
 /// A nonlinear call of x.
@@ -52,8 +67,7 @@ pub(crate) fn atom(
     ensures { Gives meant result state.new (meaning.atom place call bound.now state.old) }
 {
     let operand = operand_for(state.alloc(), place, "x", bound)?;
-    let node = state.called(place, Call::Atom(call), &[operand])?;
-    Ok(Value::Expression(node))
+    called_on(state, place, Call::Atom(call), operand)
 }
 
 /// Numbers as a node.
@@ -80,13 +94,22 @@ pub(crate) fn multiply(state: &mut State, place: Place, bound: &Bound) -> Result
     Ok(Value::Expression(node))
 }
 
+/// Adds what a value is where an expression is wanted.
+fn push_reading(alloc: Global, readings: &mut Vec<Reading>, value: &Value) -> Result<(), AllocError>
+    ensures { OnOk result (map read_as readings.new.items ≡ map read_as readings.old.items ++ reading (meant value.now) ∷ []) }
+{
+    let reading = read_value(alloc, value)?;
+    readings.push(reading)?;
+    Ok(())
+}
+
 /// What arguments are where expressions are wanted.
 fn arguments_read(alloc: Global, arguments: &[Argument]) -> Result<Vec<Reading>, AllocError>
     ensures { IfOk result (λ v. map read_as v.items ≡ map (λ a. reading (meant a.value)) arguments.now) }
 {
     let mut readings = Vec::with_capacity(alloc, arguments.len())?;
     for argument in arguments {
-        readings.push(read_value(alloc, &argument.value)?)?;
+        push_reading(alloc, &mut readings, &argument.value)?;
     }
     Ok(readings)
 }
@@ -113,7 +136,7 @@ fn values_read(alloc: Global, values: &[Value]) -> Result<Vec<Reading>, AllocErr
 {
     let mut readings = Vec::with_capacity(alloc, values.len())?;
     for value in values {
-        readings.push(read_value(alloc, value)?)?;
+        push_reading(alloc, &mut readings, value)?;
     }
     Ok(readings)
 }
@@ -151,11 +174,11 @@ fn reshaped(
     ensures { Gives meant result state.new (meaning.reshaped place (meant_operand operand) (extent_sides extent) by_columns state.old) }
 {
     let Some(to) = extent.shape() else {
+        drop(operand);
         return Err(ElabFault::ShapeClash(place));
     };
     let call = Call::Linear(LinearCall::Reshape(Reshape { to, by_columns }));
-    let node = state.called(place, call, &[operand])?;
-    Ok(Value::Expression(node))
+    called_on(state, place, call, operand)
 }
 
 /// The vector of all entries, by columns.
@@ -183,6 +206,7 @@ pub(crate) fn reshape(state: &mut State, place: Place, bound: &Bound) -> Result<
 {
     let operand = operand_for(state.alloc(), place, "x", bound)?;
     let Some(extent) = extent_for(1, bound) else {
+        drop(operand);
         return Err(ElabFault::BadArgument(place));
     };
     reshaped(state, place, operand, extent, !is_in_rows(bound))
@@ -217,11 +241,11 @@ pub(crate) fn running(state: &mut State, place: Place, bound: &Bound) -> Result<
     let operand = operand_for(state.alloc(), place, "x", bound)?;
     let axis = axis_for(bound);
     if !axis_is_written(axis, state.operand_shape(&operand)) {
+        drop(operand);
         return Err(ElabFault::BadArgument(place));
     }
     let call = Call::Linear(LinearCall::CumSum(CumSum { axis }));
-    let node = state.called(place, call, &[operand])?;
-    Ok(Value::Expression(node))
+    called_on(state, place, call, operand)
 }
 
 // ---- differences
@@ -328,8 +352,8 @@ pub(crate) fn norm(state: &mut State, place: Place, bound: &Bound) -> Result<Val
     };
     let operand = operand_for(state.alloc(), place, "x", bound)?;
     if is_matrix(state.operand_shape(&operand)) {
+        drop(operand);
         return Err(ElabFault::NotOffered(place));
     }
-    let node = state.called(place, Call::Atom(call), &[operand])?;
-    Ok(Value::Expression(node))
+    called_on(state, place, Call::Atom(call), operand)
 }

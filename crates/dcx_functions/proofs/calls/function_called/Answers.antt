@@ -37,6 +37,6 @@ returns c =
     let asked : arguments c.tree.result.now c.args.place (row_seen c.row_of.result) gs s ≡ arguments s.nodes c.args.place (row c.args.function) gs s =
     ap₂ (λ (n : List (Node Call)) (r : Row). arguments n c.args.place r gs s) c.tree.ensures c.row_of.ensures in
     let bound : arguments s.nodes c.args.place (row c.args.function) gs s ≡ Ok (c.in_ok-bound.bound, s) = sym asked ∙ c.in_ok-bound.ensures s in
-    subst (λ (m : Result (Value × State) ElabFault). Gives meant c.perform.result c.perform.new.state m)
+    subst (λ (m : Result (Value × State) ElabFault). Gives meant c.perform-performed.result c.perform-performed.new.state m)
     (sym (bound_is target c.args.place c.args.function gs s placed c.in_ok-bound.bound bound))
-    c.perform.ensures
+    c.perform-performed.ensures
