@@ -49,12 +49,20 @@ fn what_is_asked<C: Coef>(
     let origins = row_origins(alloc, &entries, graph)?;
     let rows = entry_rows(alloc, standing, &entries)?;
     let number = (entries.len() + graph.len()) as u32;
-    let objective = objective(alloc, problem, standing, number)?;
-    Ok(Asked {
-        rows,
-        objective,
-        origins,
-    })
+    match objective(alloc, problem, standing, number) {
+        Ok(objective) => {
+            drop(entries);
+            Ok(Asked {
+                rows,
+                objective,
+                origins,
+            })
+        }
+        Err(stop) => {
+            drop((entries, origins, rows));
+            Err(stop)
+        }
+    }
 }
 
 /// The program of what is asked, with the rows of graphs behind.
@@ -74,13 +82,20 @@ fn finished<C: Coef>(
         objective,
         origins,
     } = asked;
-    push_graph(&mut rows, graph)?;
-    let rows = Rows {
-        rows: RowList::from_vec(rows),
-        objective,
-        kinds,
-    };
-    Ok(Reduced::new(rows, origins, false))
+    match push_graph(&mut rows, graph) {
+        Ok(()) => {
+            let rows = Rows {
+                rows: RowList::from_vec(rows),
+                objective,
+                kinds,
+            };
+            Ok(Reduced::new(rows, origins, false))
+        }
+        Err(_) => {
+            drop((rows, objective, origins, kinds));
+            Err(ReduceStop::Memory)
+        }
+    }
 }
 
 /// The program of a problem whose nodes are formed, over unknowns of these kinds: the rows of the constraints and then those of
@@ -102,6 +117,14 @@ pub(crate) fn program<C: Coef>(
 {
     let Formed { standing, rows } = formed;
     let graph = rows.into_vec();
-    let asked = what_is_asked(alloc, problem, standing.as_slice(), &graph)?;
-    finished(asked, graph, kinds)
+    match what_is_asked(alloc, problem, standing.as_slice(), &graph) {
+        Ok(asked) => {
+            drop(standing);
+            finished(asked, graph, kinds)
+        }
+        Err(stop) => {
+            drop((standing, graph, kinds));
+            Err(stop)
+        }
+    }
 }

@@ -92,12 +92,17 @@ fn optimal(
     ensures stops { IfErr result (StopsReading problem.now answer.now) }
 {
     let duals = duals_read(alloc, problem, answer)?;
-    let point = point_read(alloc, problem, kinds, answer.columns.as_slice())?;
-    Ok(Answer::Optimal {
-        value: answer.number,
-        point,
-        duals,
-    })
+    match point_read(alloc, problem, kinds, answer.columns.as_slice()) {
+        Ok(point) => Ok(Answer::Optimal {
+            value: answer.number,
+            point,
+            duals,
+        }),
+        Err(_) => {
+            drop(duals);
+            Err(AnswerStop::Memory)
+        }
+    }
 }
 
 /// What is read where the rows can't be solved.
@@ -127,13 +132,18 @@ fn unbounded(
     ensures read { IfOk result (IsRead problem.now kinds.now answer.now) }
 {
     let point = point_read(alloc, problem, kinds, answer.columns.as_slice())?;
-    let ray = point_read(alloc, problem, kinds, answer.ray.as_slice())?;
-    Ok(Answer::Unbounded {
-        point,
-        ray,
-        bound: answer.number,
-        slope: answer.slope,
-    })
+    match point_read(alloc, problem, kinds, answer.ray.as_slice()) {
+        Ok(ray) => Ok(Answer::Unbounded {
+            point,
+            ray,
+            bound: answer.number,
+            slope: answer.slope,
+        }),
+        Err(stop) => {
+            drop(point);
+            Err(stop)
+        }
+    }
 }
 
 /// What is read from an answer of rows over unknowns of these kinds.

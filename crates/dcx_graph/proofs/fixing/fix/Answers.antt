@@ -1,7 +1,11 @@
-use Rattle.std.proofs.Common.{◌≡◌, ℕ, length, Err, inl, refl, sym, ap, ◌∙◌, arith}
+use Rattle.std.proofs.Common.{◌≡◌, ℕ, length, Ok, Err, inl, refl, sym, ap, ◌∙◌, subst, arith}
+use Rattle.std.specs.List.{All}
+use Rattle.dcx_frac.specs.declared.fraction.Frac.{Frac}
 use Rattle.dcx_frac.specs.declared.fraction.Passes.{Passes}
 use Rattle.dcx_linear.specs.declared.param_form.ParamForm.{ParamForm}
-use Rattle.dcx_linear.specs.FormsAt.{ProgramOf}
+use Rattle.dcx_linear.specs.FormsAt.{IsListedRow, IsListedForm, ProgramOf}
+use Rattle.dcx_graph.specs.Reduced.{Reduction}
+use Rattle.dcx_graph.specs.Fixing.{FixGives}
 use Rattle.dcx_graph.proofs.Settings.{rows_at-length, program-stop, told-stop, same_parts}
 use Rattle.dcx_graph.proofs.fixing.fix.Goals as goal
 
@@ -36,3 +40,23 @@ returns-in-Err-Passes-clause-program c =
       refl,
       same_parts c.args.setting.now c.rows.result.now.rows before.rows c.rows.result.now.objective before.objective c.rows.result.now.kinds before.kinds c.rows.ensures.rows c.rows.ensures.objective c.rows.ensures.kinds (Err s) stop,
     )
+
+pub at-requires-clause-rows : goal.at-requires-clause-rows
+at-requires-clause-rows c = subst (All (IsListedRow c.args.setting.now)) (sym c.rows.ensures.rows) c.requires.rows
+
+pub at-requires-clause-objective : goal.at-requires-clause-objective
+at-requires-clause-objective c = subst (IsListedForm c.args.setting.now) (sym c.rows.ensures.objective) c.requires.objective
+
+pub returns-in-Ok-clause-program : goal.returns-in-Ok-clause-program
+returns-in-Ok-clause-program c =
+    let s = c.args.setting.now in
+    let q = c.args.reduced.now.program in
+    let lent = c.rows.result.now in
+    let rows = c.in-Ok.rows in
+    subst (λ (z : Reduction Frac). FixGives s q (Ok z.program)) (sym c.new.ensures) (
+      same_parts s lent.rows q.rows lent.objective q.objective lent.kinds q.kinds c.rows.ensures.rows c.rows.ensures.objective c.rows.ensures.kinds (Ok (rows.rows, rows.objective, rows.kinds)) c.in-Ok.ensures,
+      c.in_ok-origins.ensures.items ∙ c.origins.ensures.items,
+    )
+
+pub returns-in-Ok-clause-from_map : goal.returns-in-Ok-clause-from_map
+returns-in-Ok-clause-from_map c = ap (λ (z : Reduction Frac). z.from_map) c.new.ensures

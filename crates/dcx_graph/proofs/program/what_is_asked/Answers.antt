@@ -36,8 +36,8 @@ overflow_cast-number g c =
     let few = c.requires in
     omega (arith, all, count, few)
 
-pub returns-in_err-objective : goal.returns-in_err-objective
-returns-in_err-objective g c = λ kinds.
+pub returns-in-Err : goal.returns-in-Err
+returns-in-Err g c = λ kinds.
     let t = g.C.Coef in
     let q = c.args.problem.now in
     let forms = all_forms t.of_number c.args.standing.now in
@@ -45,14 +45,12 @@ returns-in_err-objective g c = λ kinds.
     let xs = c.deref-2.result.now in
     let all : xs ≡ constraint_entries q = c.deref-2.ensures.value ∙ c.in_ok-entries.ensures ∙ ap (entries_from 0) c.as_slice.ensures in
     let count : c.len.result + length graph ≡ length xs + length graph = ap (λ n. n + length graph) (c.len.ensures ∙ sym c.deref-2.ensures.len) in
-    let p = err_from_is_err_and c.from_residual-in_err-objective.result c.from_residual-in_err-objective.ensures.1 in
-    rw (p.1, p.2)
-    (IsWideAt-weaker (λ row passes. sites.Row row passes) _ (λ s. AtRow (c.len.result + length graph) (Objective t.of_number t.number_of t.sum_gives t.change_gives q forms) (Err s))
+    IsWideAt-weaker (λ row passes. sites.Row row passes) c.in-Err.stop (λ s. AtRow (c.len.result + length graph) (Objective t.of_number t.number_of t.sum_gives t.change_gives q forms) (Err s))
     (λ s. GivesProgramWith t.of_number t.number_of t.sum_gives t.change_gives q forms graph kinds (Err s))
-    (λ s h. objective_stops t.of_number t.number_of t.sum_gives t.change_gives q forms graph xs all c.in_ok-rows.rows.items c.in_ok-rows.ensures (c.len.result + length graph) s count h) c.in_err-objective.ensures)
+    (λ s h. objective_stops t.of_number t.number_of t.sum_gives t.change_gives q forms graph xs all c.in_ok-rows.rows.items c.in_ok-rows.ensures (c.len.result + length graph) s count h) c.in-Err.ensures
 
-pub returns : goal.returns
-returns g c = λ kinds.
+pub returns-in-Ok : goal.returns-in-Ok
+returns-in-Ok g c = λ kinds.
     let t = g.C.Coef in
     let q = c.args.problem.now in
     let forms = all_forms t.of_number c.args.standing.now in
@@ -60,4 +58,4 @@ returns g c = λ kinds.
     let xs = c.deref-2.result.now in
     let all : xs ≡ constraint_entries q = c.deref-2.ensures.value ∙ c.in_ok-entries.ensures ∙ ap (entries_from 0) c.as_slice.ensures in
     let come : c.in_ok-origins.origins.items ≡ origins_of xs graph = c.in_ok-origins.ensures ∙ ap (λ ys. origins_of ys graph) (c.deref.ensures.value ∙ sym c.deref-2.ensures.value) in
-    asked_is t.of_number t.number_of t.sum_gives t.change_gives q forms graph xs all c.in_ok-rows.rows.items c.in_ok-rows.ensures kinds c.in_ok-objective.objective c.in_ok-origins.origins.items c.in_ok-objective.ensures come
+    asked_is t.of_number t.number_of t.sum_gives t.change_gives q forms graph xs all c.in_ok-rows.rows.items c.in_ok-rows.ensures kinds c.in-Ok.objective c.in_ok-origins.origins.items c.in-Ok.ensures come
