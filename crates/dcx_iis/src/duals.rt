@@ -1,5 +1,5 @@
 //! The multipliers of all constraints, where some are left out.
-ghost use Rattle.std.specs.Prelude.{◌≡◌, ◌<◌, ◌≤◌, ◌^◌, List, length, sum_by, IfOk, IfErr};
+ghost use Rattle.std.specs.Prelude.{◌≡◌, ◌<◌, ◌≤◌, ◌^◌, ◌++◌, List, [], ◌∷◌, length, sum_by, IfOk, IfErr, OnOk};
 ghost use Rattle.std.specs.List.{AllZip};
 ghost use Rattle.std.specs.Vec.Iter.{into_iter_items};
 ghost use Rattle.dcx_atom.specs.declared.array.Array.{Array as ArrayOf};
@@ -67,6 +67,21 @@ fn next_dual(
     }
 }
 
+/// Adds the next of the arrays for a constraint that is kept, and zeros for any other.
+fn push_next(
+    alloc: Global,
+    duals: &mut Vec<Array>,
+    constraint: &Constraint,
+    kept: bool,
+    rest: &mut IntoIter<Array>,
+) -> Result<(), AllocError>
+    ensures { OnOk result ((x : ArrayOf) × (duals.new.items ≡ duals.old.items ++ x ∷ []) × TakesNext kept constraint.now (into_iter_items rest.old) (into_iter_items rest.new) x) }
+{
+    let array = next_dual(alloc, constraint, kept, rest)?;
+    duals.push(array)?;
+    Ok(())
+}
+
 /// The arrays of the constraints that are kept, each at its place, and zeros for the others.
 fn spread(
     alloc: Global,
@@ -81,8 +96,7 @@ fn spread(
     let mut rest = arrays.into_vec().into_iter();
     let mut duals = Vec::with_capacity(alloc, constraints.len())?;
     'constraints: for (index, constraint) in constraints.iter().enumerate() {
-        let array = next_dual(alloc, constraint, kept[index], &mut rest)?;
-        duals.push(array)?;
+        push_next(alloc, &mut duals, constraint, kept[index], &mut rest)?;
     }
     Ok(Duals::from_vec(duals))
 }

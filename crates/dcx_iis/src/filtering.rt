@@ -57,6 +57,24 @@ fn duals_left(alloc: Global, problem: &Problem, left: &Left) -> Result<Duals, Fi
     }
 }
 
+/// The numbers of the constraints that are left, and the multipliers of all constraints.
+fn members_and_duals(
+    alloc: Global,
+    problem: &Problem,
+    left: &Left,
+) -> Result<(Members, Duals), FilterStop>
+    requires flags { length left.now.kept.items ≡ length problem.now.constraints }
+    requires rows { sum_by constraint_rows (kept_of (flagged left.now.kept.items) problem.now.constraints) ≤ length left.now.answer.rows }
+    requires few { length left.now.answer.rows < 2 ^ 32 }
+    ensures members { IfOk result (λ r. r.0 ≡ numbers_from 0 left.now.kept.items) }
+    ensures duals { IfOk result (λ r. AreDualsOf problem.now left.now r.1) }
+    ensures stops { (q : Program Frac) (limit : ℕ) → IsLeft problem.now q limit (length problem.now.constraints) left.now → IfErr result (StopsRun problem.now q limit) }
+{
+    let members = members_of(alloc, &left.kept)?;
+    let duals = duals_left(alloc, problem, left)?;
+    Ok((members, duals))
+}
+
 /// What is found once all constraints are tried.
 fn found(alloc: Global, problem: &Problem, left: Left) -> Result<Filtered, FilterStop>
     requires flags { length left.kept.items ≡ length problem.now.constraints }
@@ -65,14 +83,29 @@ fn found(alloc: Global, problem: &Problem, left: Left) -> Result<Filtered, Filte
     ensures end { IfOk result (IsEnd problem.now left) }
     ensures stops { (q : Program Frac) (limit : ℕ) → IsLeft problem.now q limit (length problem.now.constraints) left → IfErr result (StopsRun problem.now q limit) }
 {
-    let duals = duals_left(alloc, problem, &left)?;
-    let members = members_of(alloc, &left.kept)?;
-    Ok(Filtered::Infeasible {
-        members,
-        duals,
-        gap: left.answer.number,
-        points: Points::from_vec(left.points),
-    })
+    match members_and_duals(alloc, problem, &left) {
+        Ok(both) => {
+            let (members, duals) = both;
+            let Left {
+                kept,
+                answer,
+                step: _,
+                points,
+            } = left;
+            let gap = answer.number;
+            drop((kept, answer));
+            Ok(Filtered::Infeasible {
+                members,
+                duals,
+                gap,
+                points: Points::from_vec(points),
+            })
+        }
+        Err(stop) => {
+            drop(left);
+            Err(stop)
+        }
+    }
 }
 
 /// Tries the constraints one after the other.
@@ -124,8 +157,13 @@ pub fn filter(
                 step: 0,
                 points: Vec::new(alloc),
             };
-            try_each(alloc, problem, reduced, limit, &mut left)?;
-            found(alloc, problem, left)
+            match try_each(alloc, problem, reduced, limit, &mut left) {
+                Ok(()) => found(alloc, problem, left),
+                Err(stop) => {
+                    drop(left);
+                    Err(stop)
+                }
+            }
         }
     }
 }

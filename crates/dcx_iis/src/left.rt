@@ -11,6 +11,7 @@ use dcx_lp_answer::LpAnswer;
 use dcx_point::Point;
 use dcx_tree::Problem;
 use std::alloc::Global;
+use std::mem;
 
 /// What is left of the constraints after some steps.
 #[derive(Drop)]
@@ -50,7 +51,7 @@ impl Left {
                 Ok(())
             }
             Tried::Impossible { answer } => {
-                self.answer = answer;
+                drop(mem::replace(&mut self.answer, answer));
                 self.step = step;
                 Ok(())
             }

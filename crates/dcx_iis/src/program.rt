@@ -107,5 +107,7 @@ pub(crate) fn solve_kept(
     ensures stops { IfErr result (Stops limit (program_of_set problem.now reduced.now.program (flagged kept.now))) }
 {
     let program = program_of(alloc, problem, reduced, kept)?;
-    solve_rows(alloc, &program, limit)
+    let solved = solve_rows(alloc, &program, limit);
+    drop(program);
+    solved
 }

@@ -11,7 +11,7 @@ use dcx_frac::Frac;
 use dcx_graph::{Reduced, point_read};
 use dcx_lp_answer::{LpAnswer, LpStatus};
 use dcx_point::Point;
-use dcx_solved::{SolveStop, run_stop};
+use dcx_solved::{SolveStop, Solved, run_stop};
 use dcx_tree::Problem;
 use std::alloc::{AllocError, Global};
 
@@ -44,8 +44,9 @@ fn shown(
         LpStatus::Infeasible => Ok(Tried::Impossible { answer }),
         LpStatus::Optimal | LpStatus::Unbounded => {
             let kinds = reduced.rows().kinds.as_slice();
-            let point = point_read(alloc, problem, kinds, answer.columns.as_slice())?;
-            Ok(Tried::Possible { point })
+            let point = point_read(alloc, problem, kinds, answer.columns.as_slice());
+            drop(answer);
+            Ok(Tried::Possible { point: point? })
         }
     }
 }
@@ -82,7 +83,15 @@ pub(crate) fn try_kept(
     ensures stops { IfErr result (StopsTry problem.now reduced.now.program limit (flagged kept.now) step) }
 {
     match solve_kept(alloc, problem, reduced, kept, limit) {
-        Ok(solved) => Ok(shown(alloc, problem, reduced, solved.answer)?),
+        Ok(solved) => {
+            let Solved {
+                program,
+                tableau,
+                answer,
+            } = solved;
+            drop((program, tableau));
+            Ok(shown(alloc, problem, reduced, answer)?)
+        }
         Err(stop) => Err(step_stop(step, stop)),
     }
 }

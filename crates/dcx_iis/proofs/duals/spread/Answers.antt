@@ -18,10 +18,10 @@ constraints-preserved c =
     let i = c.constraints.index in
     let d = c.index-constraints-index.result in
     let before = into_iter_items c.constraints.rest in
-    let after = into_iter_items c.next_dual.new.rest in
-    let x = c.in_ok-array.array in
-    spread_next set cs i d (omega arith) c.index-constraints-index.is c.args.arrays c.constraints.duals.items before after c.push.new.self.items x c.constraints.invariant
-    (subst (λ b. TakesNext b d before after x) (sym (flag_read c.args.kept.now i false (omega (arith, c.requires.flags)))) c.in_ok-array.ensures) c.in_ok-push.ensures.items
+    let after = into_iter_items c.push_next.new.rest in
+    let (x, added, takes) = c.in_ok-push_next.ensures in
+    spread_next set cs i d (omega arith) c.index-constraints-index.is c.args.arrays c.constraints.duals.items before after c.push_next.new.duals.items x c.constraints.invariant
+    (subst (λ b. TakesNext b d before after x) (sym (flag_read c.args.kept.now i false (omega (arith, c.requires.flags)))) takes) added
 
 pub returns : goal.returns
 returns c =

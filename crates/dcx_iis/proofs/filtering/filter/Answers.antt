@@ -48,21 +48,20 @@ try_each-requires-clause-left c =
     let at = goal.at.try_each-requires-clause-left c in
     first_left p q limit flags c.in-Impossible.answer _ (all_set at.In_ok-kept) (first_tried at.In_ok-point _ c.in-Impossible.is) refl refl refl c.new.ensures.items
 
-pub returns-in_err-try_each-in-Impossible-clause-stops : goal.returns-in_err-try_each-in-Impossible-clause-stops
-returns-in_err-try_each-in-Impossible-clause-stops c =
-    let r = err_from_is_err_and c.from_residual-in_err-try_each-in-Impossible.result c.from_residual-in_err-try_each-in-Impossible.ensures.1 in
+pub returns-in-Err-clause-stops : goal.returns-in-Err-clause-stops
+returns-in-Err-clause-stops c =
     let p = c.args.problem.now in
-    rw (r.1, r.2) (tells_stop p c.args.reduced.now.program c.args.limit (setting_of p c.args.setting.now) c.requires.reduced c.in_err-try_each-in-Impossible.field-0.0 c.in_err-try_each-in-Impossible.ensures.stops)
+    tells_stop p c.args.reduced.now.program c.args.limit (setting_of p c.args.setting.now) c.requires.reduced c.in-Err.stop c.in-Err.ensures.stops
 
 pub found-requires-clause-rows : goal.found-requires-clause-rows
 found-requires-clause-rows c =
     let p = c.args.problem.now in
-    left_noted p c.args.reduced.now.program c.args.limit (setting_of p c.args.setting.now) c.requires.reduced c.try_each.new.left c.in_ok-try_each-in-Impossible.ensures.left
+    left_noted p c.args.reduced.now.program c.args.limit (setting_of p c.args.setting.now) c.requires.reduced c.try_each.new.left c.in-Ok.ensures.left
 
 pub found-requires-clause-few : goal.found-requires-clause-few
 found-requires-clause-few c =
     let p = c.args.problem.now in
-    left_few p c.args.reduced.now.program c.args.limit (setting_of p c.args.setting.now) c.requires.reduced c.try_each.new.left c.in_ok-try_each-in-Impossible.ensures.left
+    left_few p c.args.reduced.now.program c.args.limit (setting_of p c.args.setting.now) c.requires.reduced c.try_each.new.left c.in-Ok.ensures.left
 
 pub returns-in-Possible-clause-right : goal.returns-in-Possible-clause-right
 returns-in-Possible-clause-right c =
@@ -82,24 +81,24 @@ returns-in-Possible-clause-found c =
     let at = goal.at.returns-in-Possible-clause-found c in
     point_found p q limit (setting_of p c.args.setting.now) c.requires.reduced flags c.in-Possible.point (all_set at.In_ok-kept) (first_tried at.In_ok-point _ c.in-Possible.is)
 
-pub returns-in_ok-try_each-in-Impossible-clause-right : goal.returns-in_ok-try_each-in-Impossible-clause-right
-returns-in_ok-try_each-in-Impossible-clause-right c =
+pub returns-in-Ok-clause-right : goal.returns-in-Ok-clause-right
+returns-in-Ok-clause-right c =
     let p = c.args.problem.now in
     let s = setting_of p c.args.setting.now in
     IfOk-weaker c.found.result (IsEnd p c.try_each.new.left) (IsRight p s)
-    (end_right p c.args.reduced.now.program c.args.limit s c.requires.reduced c.try_each.new.left c.in_ok-try_each-in-Impossible.ensures.left) c.found.ensures.end
+    (end_right p c.args.reduced.now.program c.args.limit s c.requires.reduced c.try_each.new.left c.in-Ok.ensures.left) c.found.ensures.end
 
-pub returns-in_ok-try_each-in-Impossible-clause-found : goal.returns-in_ok-try_each-in-Impossible-clause-found
-returns-in_ok-try_each-in-Impossible-clause-found c =
+pub returns-in-Ok-clause-found : goal.returns-in-Ok-clause-found
+returns-in-Ok-clause-found c =
     let p = c.args.problem.now in
     let q = c.args.reduced.now.program in
     IfOk-weaker c.found.result (IsEnd p c.try_each.new.left) (IsFound p q c.args.limit)
-    (end_found p q c.args.limit (setting_of p c.args.setting.now) c.requires.reduced c.try_each.new.left c.in_ok-try_each-in-Impossible.ensures.left) c.found.ensures.end
+    (end_found p q c.args.limit (setting_of p c.args.setting.now) c.requires.reduced c.try_each.new.left c.in-Ok.ensures.left) c.found.ensures.end
 
-pub returns-in_ok-try_each-in-Impossible-clause-stops : goal.returns-in_ok-try_each-in-Impossible-clause-stops
-returns-in_ok-try_each-in-Impossible-clause-stops c =
+pub returns-in-Ok-clause-stops : goal.returns-in-Ok-clause-stops
+returns-in-Ok-clause-stops c =
     let p = c.args.problem.now in
     let q = c.args.reduced.now.program in
     let s = setting_of p c.args.setting.now in
     IfErr-weaker c.found.result (StopsRun p q c.args.limit) (StopsFilter p s q c.args.limit) (tells_stop p q c.args.limit s c.requires.reduced)
-    (c.found.ensures.stops q c.args.limit c.in_ok-try_each-in-Impossible.ensures.left)
+    (c.found.ensures.stops q c.args.limit c.in-Ok.ensures.left)

@@ -39,4 +39,4 @@ returns-in-Impossible-clause-left c =
     let i = c.args.constraint in
     let l = c.args.self.now in
     left_without p q c.args.limit i l c.requires.left c.requires.there c.in-Impossible.answer _
-    (step_tried (goal.at.returns-in-Impossible-clause-left c).In_ok-point _ c.in-Impossible.is) refl refl refl refl
+    (step_tried (goal.at.returns-in-Impossible-clause-left c).In_ok-point _ c.in-Impossible.is) refl c.replace.ensures.after refl refl
