@@ -5,7 +5,7 @@ use dcx_atom::Axis;
 use dcx_call::{AtomCall, Call, LinearCall};
 use dcx_frac::Frac;
 use dcx_shape::{Name, Shape, Sides};
-use dcx_tree::{Attribute, Whole};
+use dcx_tree::{Attribute, Parameter, Variable, Whole};
 use std::alloc::AllocError;
 
 /// Adds ` ()`, ` (n)` or ` (m,n)`.
@@ -17,131 +17,198 @@ pub(crate) fn push_shape(text: &mut String, shape: Shape) -> Result<(), AllocErr
     }
 }
 
+/// The text of a name.
+pub(crate) fn name_text(name: &Name) -> &str {
+    str::from_utf8(name.as_slice()).unwrap_or("?")
+}
+
 /// Adds a blank and the name.
 pub(crate) fn push_name(text: &mut String, name: &Name) -> Result<(), AllocError> {
-    let name = str::from_utf8(name.as_slice()).unwrap_or("?");
+    let name = name_text(name);
     write!(text, " {name}")
 }
 
-/// Adds a blank and the number, for each.
-pub(crate) fn push_numbers(text: &mut String, numbers: &[Frac]) -> Result<(), AllocError> {
+/// Adds a fraction.
+pub(crate) fn push_number(text: &mut String, number: Frac) -> Result<(), AllocError> {
+    let num = number.num();
+    let den = number.den();
+    if den == 1 {
+        write!(text, "{num}")
+    } else {
+        write!(text, "{num}/{den}")
+    }
+}
+
+/// Adds a word, and a blank and the number, for each.
+pub(crate) fn push_numbers(
+    text: &mut String,
+    word: &str,
+    numbers: &[Frac],
+) -> Result<(), AllocError> {
+    text.push_str(word)?;
     for number in numbers {
-        let num = number.num();
-        let den = number.den();
-        write!(text, " {num}")?;
-        if den != 1 {
-            write!(text, "/{den}")?;
-        }
+        text.push_str(" ")?;
+        push_number(text, *number)?;
     }
     Ok(())
 }
 
-/// Adds the word of a call that folds, and along which side it does.
-fn push_along(text: &mut String, word: &str, axis: Axis) -> Result<(), AllocError> {
-    text.push_str(word)?;
-    match axis {
-        Axis::All => Ok(()),
-        Axis::Zero => text.push_str(" axis 0"),
-        Axis::One => text.push_str(" axis 1"),
-    }
+/// Adds along which side a call folds, where it isn't along all.
+fn push_axis(text: &mut String, axis: Axis) -> Result<(), AllocError> {
+    text.push_str(match axis {
+        Axis::All => "",
+        Axis::Zero => " axis 0",
+        Axis::One => " axis 1",
+    })
 }
 
-/// Adds what is known of a variable or a parameter.
-fn push_attribute(text: &mut String, attribute: Attribute) -> Result<(), AllocError> {
+/// What is known of a variable or a parameter.
+fn attribute_text(attribute: Attribute) -> &'static str {
     match attribute {
-        Attribute::Free => Ok(()),
-        Attribute::Nonneg => text.push_str(" nonneg"),
-        Attribute::Nonpos => text.push_str(" nonpos"),
-        Attribute::Symmetric => text.push_str(" symmetric"),
-        Attribute::Diag => text.push_str(" diag"),
+        Attribute::Free => "",
+        Attribute::Nonneg => " nonneg",
+        Attribute::Nonpos => " nonpos",
+        Attribute::Symmetric => " symmetric",
+        Attribute::Diag => " diag",
     }
 }
 
-/// Adds which entries of a variable are whole.
-fn push_whole(text: &mut String, whole: Whole) -> Result<(), AllocError> {
+/// Which entries of a variable are whole.
+fn whole_text(whole: Whole) -> &'static str {
     match whole {
-        Whole::Not => Ok(()),
-        Whole::Integer => text.push_str(" integer"),
-        Whole::Boolean => text.push_str(" boolean"),
+        Whole::Not => "",
+        Whole::Integer => " integer",
+        Whole::Boolean => " boolean",
+    }
+}
+
+/// Adds a variable.
+fn push_variable(text: &mut String, variable: &Variable) -> Result<(), AllocError> {
+    let name = name_text(&variable.name);
+    let attribute = attribute_text(variable.attribute);
+    let whole = whole_text(variable.whole);
+    write!(text, "variable {name}{attribute}{whole}")
+}
+
+/// Adds a parameter.
+fn push_parameter(text: &mut String, parameter: &Parameter) -> Result<(), AllocError> {
+    let name = name_text(&parameter.name);
+    let attribute = attribute_text(parameter.attribute);
+    write!(text, "parameter {name}{attribute}")
+}
+
+/// The word of a nonlinear call.
+fn atom_word(atom: AtomCall) -> &'static str {
+    match atom {
+        AtomCall::Abs(_) => "abs",
+        AtomCall::Maximum(_) => "maximum",
+        AtomCall::Minimum(_) => "minimum",
+        AtomCall::Pos(_) => "pos",
+        AtomCall::Neg(_) => "neg",
+        AtomCall::MaxOf(_) => "max",
+        AtomCall::MinOf(_) => "min",
+        AtomCall::Norm1(_) => "norm1",
+        AtomCall::NormInf(_) => "norm_inf",
+        AtomCall::SumLargest(_) => "sum_largest",
+        AtomCall::SumSmallest(_) => "sum_smallest",
+        AtomCall::CumMax(_) => "cummax",
+    }
+}
+
+/// Along which side a nonlinear call folds.
+fn atom_axis(atom: AtomCall) -> Axis {
+    match atom {
+        AtomCall::MaxOf(call) => call.axis,
+        AtomCall::MinOf(call) => call.axis,
+        AtomCall::Norm1(call) => call.axis,
+        AtomCall::NormInf(call) => call.axis,
+        _ => Axis::All,
+    }
+}
+
+/// How many entries a nonlinear call sums, where it says so.
+fn atom_count(atom: AtomCall) -> Option<u32> {
+    match atom {
+        AtomCall::SumLargest(call) => Some(call.k),
+        AtomCall::SumSmallest(call) => Some(call.k),
+        _ => None,
     }
 }
 
 /// Adds a nonlinear call.
 fn push_atom(text: &mut String, atom: AtomCall) -> Result<(), AllocError> {
-    match atom {
-        AtomCall::Abs(_) => text.push_str("abs"),
-        AtomCall::Maximum(_) => text.push_str("maximum"),
-        AtomCall::Minimum(_) => text.push_str("minimum"),
-        AtomCall::Pos(_) => text.push_str("pos"),
-        AtomCall::Neg(_) => text.push_str("neg"),
-        AtomCall::MaxOf(call) => push_along(text, "max", call.axis),
-        AtomCall::MinOf(call) => push_along(text, "min", call.axis),
-        AtomCall::Norm1(call) => push_along(text, "norm1", call.axis),
-        AtomCall::NormInf(call) => push_along(text, "norm_inf", call.axis),
-        AtomCall::SumLargest(call) => {
-            let k = call.k;
-            write!(text, "sum_largest {k}")
-        }
-        AtomCall::SumSmallest(call) => {
-            let k = call.k;
-            write!(text, "sum_smallest {k}")
-        }
-        AtomCall::CumMax(_) => text.push_str("cummax"),
+    text.push_str(atom_word(atom))?;
+    match atom_count(atom) {
+        Some(k) => write!(text, " {k}"),
+        None => push_axis(text, atom_axis(atom)),
     }
 }
 
-/// Adds the word of an index and the places that it takes.
+/// Adds the places that an index takes.
 fn push_places(text: &mut String, places: &[u32]) -> Result<(), AllocError> {
-    text.push_str("index")?;
     for place in places {
         write!(text, " {place}")?;
     }
     Ok(())
 }
 
+/// The word of a linear call.
+fn linear_word(linear: &LinearCall) -> &'static str {
+    match linear {
+        LinearCall::Plus(_) => "plus",
+        LinearCall::Minus(_) => "minus",
+        LinearCall::Sum(_) => "sum",
+        LinearCall::Mean(_) => "mean",
+        LinearCall::CumSum(_) => "cumsum",
+        LinearCall::Diff(_) => "diff",
+        LinearCall::Trace(_) => "trace",
+        LinearCall::Diag(_) => "diag",
+        LinearCall::Index(_) => "index",
+        LinearCall::Reshape(call) if call.by_columns => "reshape by columns",
+        LinearCall::Reshape(_) => "reshape by rows",
+        LinearCall::Transpose(_) => "transpose",
+        LinearCall::HStack(_) => "hstack",
+        LinearCall::VStack(_) => "vstack",
+        LinearCall::Promote(_) => "promote",
+    }
+}
+
+/// Along which side a linear call folds.
+fn linear_axis(linear: &LinearCall) -> Axis {
+    match linear {
+        LinearCall::Sum(call) => call.axis,
+        LinearCall::Mean(call) => call.axis,
+        LinearCall::CumSum(call) => call.axis,
+        _ => Axis::All,
+    }
+}
+
 /// Adds a linear call.
 fn push_linear(text: &mut String, linear: &LinearCall) -> Result<(), AllocError> {
+    text.push_str(linear_word(linear))?;
     match linear {
-        LinearCall::Plus(_) => text.push_str("plus"),
-        LinearCall::Minus(_) => text.push_str("minus"),
-        LinearCall::Sum(call) => push_along(text, "sum", call.axis),
-        LinearCall::Mean(call) => push_along(text, "mean", call.axis),
-        LinearCall::CumSum(call) => push_along(text, "cumsum", call.axis),
-        LinearCall::Diff(_) => text.push_str("diff"),
-        LinearCall::Trace(_) => text.push_str("trace"),
-        LinearCall::Diag(_) => text.push_str("diag"),
         LinearCall::Index(call) => push_places(text, call.places.as_slice()),
-        LinearCall::Reshape(call) if call.by_columns => text.push_str("reshape by columns"),
-        LinearCall::Reshape(_) => text.push_str("reshape by rows"),
-        LinearCall::Transpose(_) => text.push_str("transpose"),
-        LinearCall::HStack(_) => text.push_str("hstack"),
-        LinearCall::VStack(_) => text.push_str("vstack"),
-        LinearCall::Promote(_) => text.push_str("promote"),
+        _ => push_axis(text, linear_axis(linear)),
+    }
+}
+
+/// The word of a product or a quotient.
+fn pairing_word(pairing: Pairing) -> &'static str {
+    match pairing {
+        Pairing::Times => "times",
+        Pairing::MatTimes => "matmul",
+        Pairing::Over => "over",
     }
 }
 
 /// Adds a call: its word and its own fields.
 pub(crate) fn push_call(text: &mut String, call: &Call) -> Result<(), AllocError> {
     match call {
-        Call::Variable(variable) => {
-            text.push_str("variable")?;
-            push_name(text, &variable.name)?;
-            push_attribute(text, variable.attribute)?;
-            push_whole(text, variable.whole)
-        }
-        Call::Parameter(parameter) => {
-            text.push_str("parameter")?;
-            push_name(text, &parameter.name)?;
-            push_attribute(text, parameter.attribute)
-        }
-        Call::Constant(array) => {
-            text.push_str("constant")?;
-            push_numbers(text, array.entries.as_slice())
-        }
+        Call::Variable(variable) => push_variable(text, variable),
+        Call::Parameter(parameter) => push_parameter(text, parameter),
+        Call::Constant(array) => push_numbers(text, "constant", array.entries.as_slice()),
         Call::Atom(atom) => push_atom(text, *atom),
         Call::Linear(linear) => push_linear(text, linear),
-        Call::Pairing(Pairing::Times) => text.push_str("times"),
-        Call::Pairing(Pairing::MatTimes) => text.push_str("matmul"),
-        Call::Pairing(Pairing::Over) => text.push_str("over"),
+        Call::Pairing(pairing) => text.push_str(pairing_word(*pairing)),
     }
 }

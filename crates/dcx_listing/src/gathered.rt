@@ -14,6 +14,18 @@ fn push_place(text: &mut String, place: Place) -> Result<(), AllocError> {
     write!(text, " at {line}:{column}\n")
 }
 
+/// Adds the arguments of a node, where it has any, and its place.
+fn push_args(text: &mut String, args: &[NodeId], place: Place) -> Result<(), AllocError> {
+    if !args.is_empty() {
+        text.push_str(" of")?;
+    }
+    for arg in args {
+        let arg = arg.0;
+        write!(text, " {arg}")?;
+    }
+    push_place(text, place)
+}
+
 /// Adds a node: its number, its call, its shape, its arguments and its place.
 fn push_node(alloc: Global, text: &mut String, tree: &Tree, number: u32) -> Result<(), AllocError> {
     if number >= tree.nodes() {
@@ -24,14 +36,7 @@ fn push_node(alloc: Global, text: &mut String, tree: &Tree, number: u32) -> Resu
     push_call(text, tree.call(id))?;
     push_shape(text, tree.shape(id))?;
     let args = tree.args(alloc, id)?;
-    if !args.is_empty() {
-        text.push_str(" of")?;
-    }
-    for arg in &args {
-        let arg = arg.0;
-        write!(text, " {arg}")?;
-    }
-    push_place(text, tree.place(id))
+    push_args(text, &args, tree.place(id))
 }
 
 /// Adds a constraint: the nodes of its sides, their shape and its place.
@@ -90,34 +95,47 @@ fn push_problem(alloc: Global, text: &mut String, problem: &Problem) -> Result<(
     Ok(())
 }
 
+/// Adds the name at a position, and its array.
+fn push_value(text: &mut String, setting: &Setting, i: usize) -> Result<(), AllocError> {
+    let Some(name) = setting.name_at(i) else {
+        return Ok(());
+    };
+    push_name(text, name)?;
+    match setting.get(name) {
+        Some(array) => {
+            push_shape(text, array.shape)?;
+            push_numbers(text, " =", array.entries.as_slice())
+        }
+        None => Ok(()),
+    }
+}
+
 /// Adds a word and the values of the parameters.
 fn push_setting(text: &mut String, word: &str, setting: &Setting) -> Result<(), AllocError> {
     text.push_str(word)?;
     for i in 0..setting.len() {
-        if i > 0 {
-            text.push_str(";")?;
-        }
-        if let Some(name) = setting.name_at(i) {
-            push_name(text, name)?;
-            if let Some(array) = setting.get(name) {
-                push_shape(text, array.shape)?;
-                text.push_str(" =")?;
-                push_numbers(text, array.entries.as_slice())?;
-            }
-        }
+        text.push_str(if i > 0 { ";" } else { "" })?;
+        push_value(text, setting, i)?;
     }
     text.push_str("\n")
 }
 
-/// The lines of a work: its problem, the setting of each solve, and the last setting.
-fn lines_of(alloc: Global, work: &Work) -> Result<String, AllocError> {
-    let mut text = String::new(alloc);
-    push_problem(alloc, &mut text, &work.problem)?;
+/// Adds a work: its problem, the setting of each solve, and the last setting.
+fn push_work(alloc: Global, text: &mut String, work: &Work) -> Result<(), AllocError> {
+    push_problem(alloc, text, &work.problem)?;
     for setting in work.events.as_slice() {
-        push_setting(&mut text, "solve", setting)?;
+        push_setting(text, "solve", setting)?;
     }
-    push_setting(&mut text, "end", &work.last)?;
-    Ok(text)
+    push_setting(text, "end", &work.last)
+}
+
+/// The lines of a work, which is no longer needed.
+fn lines_of(alloc: Global, work: Work) -> Result<Option<String>, AllocError> {
+    let mut text = String::new(alloc);
+    let pushed = push_work(alloc, &mut text, &work);
+    drop(work);
+    pushed?;
+    Ok(Some(text))
 }
 
 /// The lines of the problem of the script that the bytes spell, and of the settings of its solves; `None` where the bytes have a
@@ -126,8 +144,10 @@ pub fn problem_lines(alloc: Global, bytes: &[u8]) -> Result<Option<String>, Allo
     let Ok(script) = parse(alloc, bytes) else {
         return Ok(None);
     };
-    match elaborate(alloc, &script) {
-        Ok(work) => Ok(Some(lines_of(alloc, &work)?)),
+    let work = elaborate(alloc, &script);
+    drop(script);
+    match work {
+        Ok(work) => lines_of(alloc, work),
         Err(_) => Ok(None),
     }
 }

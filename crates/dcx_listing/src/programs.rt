@@ -1,4 +1,5 @@
 //! The lines of a reduced program: how many rows and columns it has, the kinds of its unknowns, what is to be small, and its rows.
+use crate::calls::{name_text, push_number};
 use dcx_frac::Frac;
 use dcx_graph::{Origin, Reduced, Reducible};
 use dcx_linear::{Form, ParamForm, ParamTerm, Row, RowKind, UnknownKind, unknown_columns};
@@ -11,17 +12,6 @@ pub(crate) trait Shown: Reducible {
 
     /// Adds ` + ` or ` - ` and the coefficient, with a blank behind it if it isn't 1.
     fn push_factor(&self, text: &mut String) -> Result<(), AllocError>;
-}
-
-/// Adds a fraction.
-pub(crate) fn push_number(text: &mut String, number: Frac) -> Result<(), AllocError> {
-    let num = number.num();
-    let den = number.den();
-    write!(text, "{num}")?;
-    if den != 1 {
-        write!(text, "/{den}")?;
-    }
-    Ok(())
 }
 
 /// Adds ` + ` or ` - ` and the magnitude of a fraction, with a blank behind it if it isn't 1.
@@ -42,7 +32,7 @@ fn push_signed(text: &mut String, number: Frac) -> Result<(), AllocError> {
 /// Adds the coefficient of a parameter's entry, and the entry.
 fn push_entry(text: &mut String, term: &ParamTerm) -> Result<(), AllocError> {
     push_signed(text, term.coefficient)?;
-    let name = str::from_utf8(term.name.as_slice()).unwrap_or("?");
+    let name = name_text(&term.name);
     let entry = term.entry;
     write!(text, "{name}[{entry}]")
 }

@@ -14,6 +14,7 @@ use dcx_frac::Frac;
 use dcx_front::{Accepted, accept};
 use dcx_graph::{ReduceStop, Reduced, fix, reduce};
 use dcx_linear::ParamForm;
+use dcx_point::Setting;
 use dcx_steps::Steps;
 use std::alloc::{AllocError, Global};
 use std::marker::Brand;
@@ -94,6 +95,20 @@ fn push_plain(alloc: Global, text: &mut String, accepted: &Accepted) -> Result<(
     push_answer(text, rows_with::<Brand>(alloc, accepted, Blank::new(1)))
 }
 
+/// Adds a program with affine coefficients, and the program at the setting.
+fn push_both(
+    alloc: Global,
+    text: &mut String,
+    map: &Reduced<ParamForm>,
+    setting: &Setting,
+) -> Result<(), AllocError>
+    requires { IsListedProgram setting.now map.now.program }
+{
+    push_program(text, map)?;
+    text.push_str("at the setting\n")?;
+    push_answer(text, fix(alloc, map, setting))
+}
+
 /// Adds the program with affine coefficients, and the program at the setting.
 fn push_map(alloc: Global, text: &mut String, accepted: &Accepted) -> Result<(), AllocError>
     requires verdict { IsVerdictOf accepted.now.work.problem accepted.now.verdict }
@@ -101,9 +116,9 @@ fn push_map(alloc: Global, text: &mut String, accepted: &Accepted) -> Result<(),
 {
     match map_with::<Brand>(alloc, accepted, Blank::new(1)) {
         Ok(map) => {
-            push_program(text, &map)?;
-            text.push_str("at the setting\n")?;
-            push_answer(text, fix(alloc, &map, &accepted.work.last))
+            let pushed = push_both(alloc, text, &map, &accepted.work.last);
+            drop(map);
+            pushed
         }
         Err(stop) => push_stop(text, stop),
     }
@@ -115,14 +130,18 @@ fn lines_of(alloc: Global, asked: Asked, accepted: &Accepted) -> Result<Option<S
 {
     let problem = &accepted.work.problem;
     let setting = &accepted.work.last;
-    if !are_given(setting, &problem.tree) || !have_arrays(setting, problem.parameters.as_slice()) {
+    if !are_given(setting, &problem.tree) {
+        return Ok(None);
+    }
+    if !have_arrays(setting, problem.parameters.as_slice()) {
         return Ok(None);
     }
     let mut text = String::new(alloc);
-    match asked {
-        Asked::Rows => push_plain(alloc, &mut text, accepted)?,
-        Asked::Map => push_map(alloc, &mut text, accepted)?,
-    }
+    let pushed = match asked {
+        Asked::Rows => push_plain(alloc, &mut text, accepted),
+        Asked::Map => push_map(alloc, &mut text, accepted),
+    };
+    pushed?;
     Ok(Some(text))
 }
 
@@ -134,7 +153,11 @@ pub fn program_lines(
     bytes: &[u8],
 ) -> Result<Option<String>, AllocError> {
     match accept(alloc, bytes) {
-        Ok(accepted) => lines_of(alloc, asked, &accepted),
+        Ok(accepted) => {
+            let lines = lines_of(alloc, asked, &accepted);
+            drop(accepted);
+            lines
+        }
         Err(_) => Ok(None),
     }
 }

@@ -1,6 +1,6 @@
 //! The line of what stops a reduction.
 
-use crate::programs::push_number;
+use crate::calls::push_number;
 use dcx_answer::Site;
 use dcx_frac::{Op, Passes};
 use dcx_graph::ReduceStop;
