@@ -1,7 +1,7 @@
 //! What is formed so far of the nodes of a problem.
 ghost use Rattle.std.specs.Prelude.{◌≡◌, ◌<◌, ◌≤◌, ◌+◌, ◌++◌, [], ◌∷◌, length, IfErr, OnOk};
 ghost use Rattle.std.specs.List.{All};
-ghost use Rattle.dcx_arena.specs.Nodes.{positions};
+ghost use Rattle.dcx_arena.specs.Nodes.{positions, args_at};
 ghost use Rattle.dcx_entries.specs.Forming.{OnStop};
 ghost use Rattle.dcx_nodes.specs.Given.{IsReady};
 ghost use Rattle.dcx_nodes.specs.Uses.{AreLastUses, IsGivenBack};
@@ -78,6 +78,37 @@ fn put_standing<C: Coef>(
     Ok(())
 }
 
+/// Forms a node with these arguments, and gives back what isn't asked for behind it.
+fn add_formed<C: Coef>(
+    alloc: Global,
+    given: &Given,
+    uses: &[u32],
+    forming: &mut Forming<C>,
+    node: NodeId,
+    ids: &[NodeId],
+) -> Result<(), ValueStop>
+    requires ready { IsReady C.can_read given.now.problem.now given.now.reduced.now given.now.fixed.now given.now.setting.now given.now.firsts.now }
+    requires uses { AreLastUses given.now.problem.now uses.now }
+    requires there { node.0 < length given.now.problem.now.tree }
+    requires ids { positions ids.now ≡ args_at given.now.problem.now.tree node.0 }
+    requires so_far { AreFormedTo C.of_number C.number_of C.sum_gives C.change_gives C.parameter_gives given.now.problem.now given.now.setting.now given.now.reduced.now given.now.fixed.now node.0 forming.old }
+    ensures formed { OnOk result (AreFormedTo C.of_number C.number_of C.sum_gives C.change_gives C.parameter_gives given.now.problem.now given.now.setting.now given.now.reduced.now given.now.fixed.now (node.0 + 1) forming.new) }
+    ensures stop { IfErr result (λ e. OnStop e (StopsAt C.of_number C.number_of C.sum_gives C.change_gives C.parameter_gives given.now.problem.now given.now.setting.now given.now.reduced.now given.now.fixed.now node.0)) }
+{
+    let formed = form_node(
+        alloc,
+        given,
+        node,
+        ids,
+        &forming.standing,
+        &mut forming.next,
+    )?;
+    match keep(alloc, &mut forming.rows, node, formed) {
+        Ok(kept) => put_standing(alloc, &mut forming.standing, ids, uses, node, kept),
+        Err(_) => Err(ValueStop::Memory),
+    }
+}
+
 /// Forms one node more, and gives back what isn't asked for behind it.
 ///
 /// `Passes` where an operation passes 128 bits, and `ZeroDivisor` where a divisor is 0: the first of both, entry by entry.
@@ -95,20 +126,8 @@ fn add_node<C: Coef>(
     ensures formed { OnOk result (AreFormedTo C.of_number C.number_of C.sum_gives C.change_gives C.parameter_gives given.now.problem.now given.now.setting.now given.now.reduced.now given.now.fixed.now (node.0 + 1) forming.new) }
     ensures stop { IfErr result (λ e. OnStop e (StopsAt C.of_number C.number_of C.sum_gives C.change_gives C.parameter_gives given.now.problem.now given.now.setting.now given.now.reduced.now given.now.fixed.now node.0)) }
 {
-    let ids = match given.problem.tree.args(alloc, node) {
-        Ok(ids) => ids,
-        Err(_) => return Err(ValueStop::Memory),
-    };
-    let formed = form_node(
-        alloc,
-        given,
-        node,
-        &ids,
-        &forming.standing,
-        &mut forming.next,
-    )?;
-    match keep(alloc, &mut forming.rows, node, formed) {
-        Ok(kept) => put_standing(alloc, &mut forming.standing, &ids, uses, node, kept),
+    match given.problem.tree.args(alloc, node) {
+        Ok(ids) => add_formed(alloc, given, uses, forming, node, &ids),
         Err(_) => Err(ValueStop::Memory),
     }
 }

@@ -89,14 +89,21 @@ fn all_nodes<C: Coef, L: Ledger>(
         rows: Vec::new(alloc),
         next,
     };
-    add_nodes(alloc, given, &uses, &mut forming, steps)?;
-    let Forming {
-        standing,
-        rows,
-        next: _,
-    } = forming;
-    Ok(Formed {
-        standing: StandingList::from_vec(standing),
-        rows: FormedRows::from_vec(rows),
-    })
+    match add_nodes(alloc, given, &uses, &mut forming, steps) {
+        Ok(()) => {
+            let Forming {
+                standing,
+                rows,
+                next: _,
+            } = forming;
+            Ok(Formed {
+                standing: StandingList::from_vec(standing),
+                rows: FormedRows::from_vec(rows),
+            })
+        }
+        Err(stop) => {
+            drop(forming);
+            Err(stop)
+        }
+    }
 }

@@ -106,3 +106,60 @@ pub returns-in-Atom-clause-next : goal.returns-in-Atom-clause-next
 returns-in-Atom-clause-next g c =
     let t = g.C.Coef in
     forms_on t.of_number c.atom_node.result c.as_forms-in-Atom.result c.as_forms-in-Atom.ensures (c.atom_node.new.next ≡ first_marked c.args.given.now.problem.now c.args.given.now.reduced.now (c.args.node.0 + 1)) c.atom_node.ensures.next
+
+pub variable_node-requires-clause-ready : goal.variable_node-requires-clause-ready
+variable_node-requires-clause-ready g c = c.requires.ready
+
+pub variable_node-requires-clause-call : goal.variable_node-requires-clause-call
+variable_node-requires-clause-call g c = c.call.ensures ∙ ap Some c.in-Variable.is
+
+pub parameter_node-requires-clause-ready : goal.parameter_node-requires-clause-ready
+parameter_node-requires-clause-ready g c = c.requires.ready
+
+pub parameter_node-requires-clause-call : goal.parameter_node-requires-clause-call
+parameter_node-requires-clause-call g c = c.call.ensures ∙ ap Some c.in-Parameter.is
+
+pub parameter_node-requires-clause-reduced : goal.parameter_node-requires-clause-reduced
+parameter_node-requires-clause-reduced g c = c.requires.reduced
+
+pub node_value-requires-clause-there : goal.node_value-requires-clause-there
+node_value-requires-clause-there g c = c.requires.there
+
+pub node_value-requires-clause-ids : goal.node_value-requires-clause-ids
+node_value-requires-clause-ids g c = c.requires.ids
+
+pub node_value-requires-clause-before : goal.node_value-requires-clause-before
+node_value-requires-clause-before g c = c.requires.before
+
+pub node_value-requires-clause-sides : goal.node_value-requires-clause-sides
+node_value-requires-clause-sides g c = c.requires.sides
+
+pub atom_node-requires-clause-ready : goal.atom_node-requires-clause-ready
+atom_node-requires-clause-ready g c = c.requires.ready
+
+pub atom_node-requires-clause-ids : goal.atom_node-requires-clause-ids
+atom_node-requires-clause-ids g c = c.requires.ids
+
+pub atom_node-requires-clause-reduced : goal.atom_node-requires-clause-reduced
+atom_node-requires-clause-reduced g c = c.requires.reduced
+
+pub atom_node-requires-clause-next : goal.atom_node-requires-clause-next
+atom_node-requires-clause-next g c = c.requires.next
+
+pub linear_node-requires-clause-call : goal.linear_node-requires-clause-call
+linear_node-requires-clause-call g c = c.call.ensures ∙ ap Some c.in-Linear.is
+
+pub linear_node-requires-clause-ids : goal.linear_node-requires-clause-ids
+linear_node-requires-clause-ids g c = c.requires.ids
+
+pub pairing_node-requires-clause-ready : goal.pairing_node-requires-clause-ready
+pairing_node-requires-clause-ready g c = c.requires.ready
+
+pub pairing_node-requires-clause-call : goal.pairing_node-requires-clause-call
+pairing_node-requires-clause-call g c = c.call.ensures ∙ ap Some c.in-Pairing.is
+
+pub pairing_node-requires-clause-ids : goal.pairing_node-requires-clause-ids
+pairing_node-requires-clause-ids g c = c.requires.ids
+
+pub pairing_node-requires-clause-before : goal.pairing_node-requires-clause-before
+pairing_node-requires-clause-before g c = c.requires.before

@@ -16,8 +16,8 @@ shape-requires g c =
     let below = position_below c.args.args.now.ids.now (length c.args.args.now.standing.now) c.ids.id-index c.requires.before c.ids-test.true in
     omega (arith, below, c.requires.few)
 
-pub numbers_of-requires : goal.numbers_of-requires
-numbers_of-requires g c =
+pub push_numbers-requires : goal.push_numbers-requires
+push_numbers-requires g c =
     let standing = c.args.args.now.standing.now in
     let a = (get_or c.args.args.now.ids.now c.ids.id-index (record { 0 = 0 })).0 in
     let below = position_below c.args.args.now.ids.now (length standing) c.ids.id-index c.requires.before c.ids-test.true in
@@ -32,15 +32,16 @@ ids-preserved g c =
     let ids = c.args.args.now.ids.now in
     let a = (get_or ids c.ids.id-index (record { 0 = 0 })).0 in
     let below = position_below ids (length standing) c.ids.id-index c.requires.before c.ids-test.true in
-    arrays_more t.of_number t.number_of g.met.C.Coef.number_told c.args.tree.now standing ids c.ids.id-index (record { 0 = 0 }) c.ids.arrays.items c.push.new.self.items c.in_ok-numbers_of.field-0
+    let (x, added, shape, numbers) = c.in_ok-push_numbers.ensures in
+    arrays_more t.of_number t.number_of g.met.C.Coef.number_told c.args.tree.now standing ids c.ids.id-index (record { 0 = 0 }) c.ids.arrays.items c.push_numbers.new.arrays.items x
     c.ids-test.true c.ids.invariant
     (record {
       at = c.index-args-id.result;
       there = found_at standing a c.index-args-id.result below c.index-args-id.is;
-      sides = c.in_ok-numbers_of.ensures.shape ∙ c.shape.ensures;
-      numbers = subst (λ s. HasNumbersOf t.of_number t.number_of s c.in_ok-numbers_of.field-0) (sym c.index-args-id.is) c.in_ok-numbers_of.ensures.numbers;
+      sides = shape ∙ c.shape.ensures;
+      numbers = subst (λ s. HasNumbersOf t.of_number t.number_of s x) (sym c.index-args-id.is) numbers;
     })
-    c.in_ok-push.ensures.items
+    added
 
 pub returns : goal.returns
 returns g c =
