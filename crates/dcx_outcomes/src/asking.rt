@@ -108,7 +108,11 @@ fn outcome<Q: Question, S: Ledger>(
     ensures few { steps.new ≤ steps.old + length session.old.problem.tree }
 {
     match session.program(alloc, setting, steps) {
-        Ok(program) => question.answered(answer(alloc, question, session, &program, setting)),
+        Ok(program) => {
+            let found = answer(alloc, question, session, &program, setting);
+            drop(program);
+            question.answered(found)
+        }
         Err(stop) => {
             let place = stop_place(session.problem(), &stop);
             question.stopped(stop, place)

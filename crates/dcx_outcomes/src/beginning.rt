@@ -28,6 +28,10 @@ pub(crate) fn begin<S: Ledger>(
 {
     match Session::begin(alloc, problem, verdict, steps) {
         Ok(session) => Ok(session),
-        Err(_) => Err(AllocError),
+        Err((problem, verdict)) => {
+            drop(problem);
+            drop(verdict);
+            Err(AllocError)
+        }
     }
 }

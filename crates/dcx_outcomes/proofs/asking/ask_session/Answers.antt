@@ -1,8 +1,11 @@
 -- The outcome of the next setting is one outcome more.
-use Rattle.std.proofs.Common.{◌+◌, ◌≤◌, length, sym, ◌∙◌, subst, arith}
+use Rattle.std.proofs.Common.{◌≡◌, ◌+◌, ◌*◌, ◌≤◌, List, [], length, refl, sym, ◌∙◌, subst, arith, rules}
+use Rattle.std.proofs.lemmas.List.{take_all}
+use Rattle.std.proofs.lemmas.Result.{err_from_is_err_and}
+use Rattle.dcx_point.specs.Pairs.{Pairs}
 use Rattle.dcx_tree.specs.declared.problem.Problem.{Problem}
 use Rattle.dcx_cache.specs.Programs.{HasMap}
-use Rattle.dcx_outcomes.specs.Asking.{IsAskedOutcome}
+use Rattle.dcx_outcomes.specs.Asking.{IsAskedOutcome, AreAskedOutcomes}
 use Rattle.dcx_outcomes.proofs.More.{steps_more}
 use Rattle.dcx_outcomes.proofs.Asked.{zip_more}
 use Rattle.dcx_outcomes.proofs.asking.ask_session.Goals as goal
@@ -24,3 +27,48 @@ loop-setting-preserved g c =
       few = steps_more c.loop-setting.setting-index (length p.tree) c.args.steps.now c.loop-setting.steps c.outcome-next.new.steps before.few
           (subst (λ (z : Problem). c.outcome-next.new.steps ≤ c.loop-setting.steps + length z.tree) before.same c.outcome-next.ensures.few);
     }
+
+pub loop-setting-init : goal.loop-setting-init
+loop-setting-init g c =
+    let asked = g.Q.Question in
+    record {
+      outcomes = subst (λ os. AreAskedOutcomes (asked.gives c.args.question.now) asked.told_end asked.told_place c.args.session.now.problem [] os) (sym c.in_ok-outcomes.ensures.items) tt;
+      same = refl;
+      counted = λ h. refl;
+      few = omega arith;
+    }
+
+pub loop-setting-smaller : goal.loop-setting-smaller
+loop-setting-smaller g c = search rules
+
+pub returns-in_err-outcomes-clause-outcomes : goal.returns-in_err-outcomes-clause-outcomes
+returns-in_err-outcomes-clause-outcomes g c = let p = err_from_is_err_and c.from_residual.result c.from_residual.ensures.1 in rw p.1 tt
+
+pub returns-in_err-outcomes-clause-counted : goal.returns-in_err-outcomes-clause-counted
+returns-in_err-outcomes-clause-counted g c = let p = err_from_is_err_and c.from_residual.result c.from_residual.ensures.1 in rw p.1 tt
+
+pub returns-in_err-outcomes-clause-few : goal.returns-in_err-outcomes-clause-few
+returns-in_err-outcomes-clause-few g c = let p = err_from_is_err_and c.from_residual.result c.from_residual.ensures.1 in rw p.1 tt
+
+pub returns-in_err-push-clause-outcomes : goal.returns-in_err-push-clause-outcomes
+returns-in_err-push-clause-outcomes g c = let p = err_from_is_err_and c.from_residual-in_err-push.result c.from_residual-in_err-push.ensures.1 in rw p.1 tt
+
+pub returns-in_err-push-clause-counted : goal.returns-in_err-push-clause-counted
+returns-in_err-push-clause-counted g c = let p = err_from_is_err_and c.from_residual-in_err-push.result c.from_residual-in_err-push.ensures.1 in rw p.1 tt
+
+pub returns-in_err-push-clause-few : goal.returns-in_err-push-clause-few
+returns-in_err-push-clause-few g c = let p = err_from_is_err_and c.from_residual-in_err-push.result c.from_residual-in_err-push.ensures.1 in rw p.1 tt
+
+pub returns-clause-outcomes : goal.returns-clause-outcomes
+returns-clause-outcomes g c =
+    let asked = g.Q.Question in
+    subst (λ (z : List Pairs). AreAskedOutcomes (asked.gives c.args.question.now) asked.told_end asked.told_place c.args.session.now.problem z c.loop-setting.outcomes.items)
+    (take_all c.loop-setting.setting-index c.args.settings.now (omega arith)) c.loop-setting.invariant.outcomes
+
+pub returns-clause-counted : goal.returns-clause-counted
+returns-clause-counted g c = c.loop-setting.invariant.counted
+
+pub returns-clause-few : goal.returns-clause-few
+returns-clause-few g c =
+    let all : c.loop-setting.setting-index ≡ length c.args.settings.now = omega (arith, c.loop-setting-test.false, c.loop-setting.auto.setting-index-end) in
+    subst (λ n. c.loop-setting.steps ≤ c.args.steps.now + n * length c.args.session.now.problem.tree) all c.loop-setting.invariant.few

@@ -1,9 +1,12 @@
 -- The outcome of the next setting is one outcome more.
-use Rattle.std.proofs.Common.{◌+◌, ◌≤◌, length, take, sym, ap, ◌∙◌, subst, arith}
+use Rattle.std.proofs.Common.{◌≡◌, ◌+◌, ◌*◌, ◌≤◌, List, [], length, take, refl, sym, ap, ◌∙◌, subst, arith, rules}
+use Rattle.std.proofs.lemmas.List.{take_all}
+use Rattle.std.proofs.lemmas.Result.{err_from_is_err_and}
+use Rattle.dcx_point.specs.Pairs.{Pairs}
 use Rattle.dcx_tree.specs.declared.problem.Problem.{Problem}
 use Rattle.dcx_cache.specs.Programs.{HasMap}
-use Rattle.dcx_outcomes.specs.Warm.{IsToldFrom}
-use Rattle.dcx_outcomes.proofs.More.{told_step, items_of, flag_added, kept_within, steps_more}
+use Rattle.dcx_outcomes.specs.Warm.{IsToldFrom, AreToldFrom}
+use Rattle.dcx_outcomes.proofs.More.{told_none, told_step, items_of, flag_added, kept_within, steps_more}
 use Rattle.dcx_outcomes.proofs.finding.all.Goals as goal
 
 pub loop-setting-preserved : goal.loop-setting-preserved
@@ -21,3 +24,53 @@ loop-setting-preserved g c =
       few = steps_more c.loop-setting.setting-index (length p.tree) c.args.steps.now c.loop-setting.steps c.outcome-next.new.steps before.few
           (subst (λ (z : Problem). c.outcome-next.new.steps ≤ c.loop-setting.steps + length z.tree) before.same c.outcome-next.ensures.few);
     }
+
+pub loop-setting-init : goal.loop-setting-init
+loop-setting-init g c =
+    let p = c.args.session.now.problem in
+    let columns = c.args.session.now.columns in
+    record {
+      outcomes = subst (λ os. AreToldFrom c.args.warm p c.args.limit [] columns os 0 columns) (sym c.in_ok-outcomes.ensures.items) (told_none c.args.warm p c.args.limit columns);
+      within = omega arith;
+      same = refl;
+      counted = λ h. refl;
+      few = omega arith;
+    }
+
+pub loop-setting-smaller : goal.loop-setting-smaller
+loop-setting-smaller g c = search rules
+
+pub returns-in_err-outcomes-clause-outcomes : goal.returns-in_err-outcomes-clause-outcomes
+returns-in_err-outcomes-clause-outcomes g c = let p = err_from_is_err_and c.from_residual.result c.from_residual.ensures.1 in rw p.1 tt
+
+pub returns-in_err-outcomes-clause-counted : goal.returns-in_err-outcomes-clause-counted
+returns-in_err-outcomes-clause-counted g c = let p = err_from_is_err_and c.from_residual.result c.from_residual.ensures.1 in rw p.1 tt
+
+pub returns-in_err-outcomes-clause-few : goal.returns-in_err-outcomes-clause-few
+returns-in_err-outcomes-clause-few g c = let p = err_from_is_err_and c.from_residual.result c.from_residual.ensures.1 in rw p.1 tt
+
+pub returns-in_err-push-clause-outcomes : goal.returns-in_err-push-clause-outcomes
+returns-in_err-push-clause-outcomes g c = let p = err_from_is_err_and c.from_residual-in_err-push.result c.from_residual-in_err-push.ensures.1 in rw p.1 tt
+
+pub returns-in_err-push-clause-counted : goal.returns-in_err-push-clause-counted
+returns-in_err-push-clause-counted g c = let p = err_from_is_err_and c.from_residual-in_err-push.result c.from_residual-in_err-push.ensures.1 in rw p.1 tt
+
+pub returns-in_err-push-clause-few : goal.returns-in_err-push-clause-few
+returns-in_err-push-clause-few g c = let p = err_from_is_err_and c.from_residual-in_err-push.result c.from_residual-in_err-push.ensures.1 in rw p.1 tt
+
+pub returns-clause-outcomes : goal.returns-clause-outcomes
+returns-clause-outcomes g c =
+    let p = c.args.session.now.problem in
+    let before = c.args.session.now.columns in
+    let after = c.loop-setting.session.columns in
+    items_of c.args.warm p c.args.limit c.args.settings.now before c.loop-setting.outcomes.items c.from_vec.result c.loop-setting.kept c.loop-setting.kept after c.from_vec.ensures refl
+    (subst (λ (z : List Pairs). AreToldFrom c.args.warm p c.args.limit z before c.loop-setting.outcomes.items c.loop-setting.kept after)
+    (take_all c.loop-setting.setting-index c.args.settings.now (omega arith)) c.loop-setting.invariant.outcomes)
+
+pub returns-clause-counted : goal.returns-clause-counted
+returns-clause-counted g c = c.loop-setting.invariant.counted
+
+pub returns-clause-few : goal.returns-clause-few
+returns-clause-few g c =
+    let all : c.loop-setting.setting-index ≡ length c.args.settings.now = omega (arith, c.loop-setting-test.false, c.loop-setting.auto.setting-index-end) in
+    subst (λ n. c.loop-setting.steps ≤ c.args.steps.now + n * length c.args.session.now.problem.tree) all c.loop-setting.invariant.few
