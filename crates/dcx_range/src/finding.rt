@@ -192,8 +192,18 @@ pub fn range(
         Err(stop) => return Err(run_stop(stop)),
     };
     match solved.answer.status {
-        LpStatus::Optimal => span(alloc, map, &solved, &asked(problem, setting, name)),
-        LpStatus::Infeasible => Ok(Ranged::Infeasible),
-        LpStatus::Unbounded => Ok(Ranged::Unbounded),
+        LpStatus::Optimal => {
+            let told = span(alloc, map, &solved, &asked(problem, setting, name));
+            drop(solved);
+            told
+        }
+        LpStatus::Infeasible => {
+            drop(solved);
+            Ok(Ranged::Infeasible)
+        }
+        LpStatus::Unbounded => {
+            drop(solved);
+            Ok(Ranged::Unbounded)
+        }
     }
 }

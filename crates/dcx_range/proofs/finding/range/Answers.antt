@@ -45,8 +45,8 @@ run_stop-requires c =
     let same = given_rows r lent.kinds lent.rows lent.objective c.rows.ensures.kinds c.rows.ensures.rows c.rows.ensures.objective in
     of_run limit (rows_of r) (has_few p s name m c.requires.map c.requires.fits r c.requires.program) c.in-Err.stop (subst (λ g. Stops limit g c.in-Err.stop) same c.in-Err.ensures.stops)
 
-pub span-requires-clause-rows : goal.span-requires-clause-rows
-span-requires-clause-rows c =
+pub span-told-requires-clause-rows : goal.span-told-requires-clause-rows
+span-told-requires-clause-rows c =
     let p = c.args.problem.now in
     let m = c.args.map.now.program in
     let r = c.args.program.now.program in
@@ -59,22 +59,22 @@ span-requires-clause-rows c =
     let known = known_of r lent.kinds lent.rows lent.objective c.rows.ensures.kinds c.rows.ensures.rows c.rows.ensures.objective lent.rows_known lent.objective_known in
     rows_enough p s name m c.requires.map c.requires.fits r c.requires.program limit c.in-Ok.solved is known c.requires.ranged c.in-Optimal.is c.asked.result c.asked.ensures
 
-pub span-requires-clause-count : goal.span-requires-clause-count
-span-requires-clause-count c =
+pub span-told-requires-clause-count : goal.span-told-requires-clause-count
+span-told-requires-clause-count c =
     let lent = c.rows.result.now in
     (end_shown c.args.problem.now c.args.setting.now c.args.name.now c.args.map.now.program c.requires.map c.requires.fits c.args.program.now.program c.requires.program c.requires.ranged
     c.args.limit lent.kinds lent.rows lent.objective c.rows.ensures.kinds c.rows.ensures.rows c.rows.ensures.objective lent.rows_known lent.objective_known
     c.in-Ok.solved c.in-Ok.ensures.solved c.in-Optimal.is c.asked.result c.asked.ensures).rows
 
-pub span-requires-clause-columns : goal.span-requires-clause-columns
-span-requires-clause-columns c =
+pub span-told-requires-clause-columns : goal.span-told-requires-clause-columns
+span-told-requires-clause-columns c =
     let lent = c.rows.result.now in
     (end_shown c.args.problem.now c.args.setting.now c.args.name.now c.args.map.now.program c.requires.map c.requires.fits c.args.program.now.program c.requires.program c.requires.ranged
     c.args.limit lent.kinds lent.rows lent.objective c.rows.ensures.kinds c.rows.ensures.rows c.rows.ensures.objective lent.rows_known lent.objective_known
     c.in-Ok.solved c.in-Ok.ensures.solved c.in-Optimal.is c.asked.result c.asked.ensures).columns
 
-pub span-requires-clause-readable : goal.span-requires-clause-readable
-span-requires-clause-readable c =
+pub span-told-requires-clause-readable : goal.span-told-requires-clause-readable
+span-told-requires-clause-readable c =
     let lent = c.rows.result.now in
     (end_shown c.args.problem.now c.args.setting.now c.args.name.now c.args.map.now.program c.requires.map c.requires.fits c.args.program.now.program c.requires.program c.requires.ranged
     c.args.limit lent.kinds lent.rows lent.objective c.rows.ensures.kinds c.rows.ensures.rows c.rows.ensures.objective lent.rows_known lent.objective_known
@@ -92,7 +92,7 @@ returns-in-Optimal-clause-given c =
     let same = given_rows r lent.kinds lent.rows lent.objective c.rows.ensures.kinds c.rows.ensures.rows c.rows.ensures.objective in
     let is = subst (λ g. IsSolved limit g c.in-Ok.solved) same c.in-Ok.ensures.solved in
     let known = known_of r lent.kinds lent.rows lent.objective c.rows.ensures.kinds c.rows.ensures.rows c.rows.ensures.objective lent.rows_known lent.objective_known in
-    told_result p s name m c.requires.map c.requires.fits r c.requires.program limit c.in-Ok.solved is known c.requires.ranged c.in-Optimal.is c.asked.result c.asked.ensures c.span.result c.span.ensures.formed c.span.ensures.rising c.span.ensures.stops
+    told_result p s name m c.requires.map c.requires.fits r c.requires.program limit c.in-Ok.solved is known c.requires.ranged c.in-Optimal.is c.asked.result c.asked.ensures c.span-told.result c.span-told.ensures.formed c.span-told.ensures.rising c.span-told.ensures.stops
 
 pub returns-in-Optimal-clause-optimal : goal.returns-in-Optimal-clause-optimal
 returns-in-Optimal-clause-optimal c =
@@ -106,7 +106,7 @@ returns-in-Optimal-clause-optimal c =
     let same = given_rows r lent.kinds lent.rows lent.objective c.rows.ensures.kinds c.rows.ensures.rows c.rows.ensures.objective in
     let is = subst (λ g. IsSolved limit g c.in-Ok.solved) same c.in-Ok.ensures.solved in
     let known = known_of r lent.kinds lent.rows lent.objective c.rows.ensures.kinds c.rows.ensures.rows c.rows.ensures.objective lent.rows_known lent.objective_known in
-    holds_result p s name m c.requires.map c.requires.fits r c.requires.program limit c.in-Ok.solved is known c.requires.ranged c.in-Optimal.is c.asked.result c.asked.ensures c.span.result c.span.ensures.formed c.span.ensures.rising
+    holds_result p s name m c.requires.map c.requires.fits r c.requires.program limit c.in-Ok.solved is known c.requires.ranged c.in-Optimal.is c.asked.result c.asked.ensures c.span-told.result c.span-told.ensures.formed c.span-told.ensures.rising
 
 pub returns-in-Infeasible-clause-given : goal.returns-in-Infeasible-clause-given
 returns-in-Infeasible-clause-given c =
@@ -121,8 +121,8 @@ returns-in-Infeasible-clause-given c =
     let is = subst (λ g. IsSolved limit g c.in-Ok.solved) same c.in-Ok.ensures.solved in
     told_infeasible p s name m c.requires.map c.requires.fits r c.requires.program limit c.in-Ok.solved is c.in-Infeasible.is
 
-pub returns-clause-given : goal.returns-clause-given
-returns-clause-given c =
+pub returns-in-Unbounded-clause-given : goal.returns-in-Unbounded-clause-given
+returns-in-Unbounded-clause-given c =
     let p = c.args.problem.now in
     let m = c.args.map.now.program in
     let r = c.args.program.now.program in
@@ -148,8 +148,8 @@ returns-in-Infeasible-clause-optimal c =
     let known = known_of r lent.kinds lent.rows lent.objective c.rows.ensures.kinds c.rows.ensures.rows c.rows.ensures.objective lent.rows_known lent.objective_known in
     has_no_point p s name m c.requires.map c.requires.fits r c.requires.program limit c.in-Ok.solved is known c.in-Infeasible.is
 
-pub returns-clause-optimal : goal.returns-clause-optimal
-returns-clause-optimal c =
+pub returns-in-Unbounded-clause-optimal : goal.returns-in-Unbounded-clause-optimal
+returns-in-Unbounded-clause-optimal c =
     let p = c.args.problem.now in
     let m = c.args.map.now.program in
     let r = c.args.program.now.program in
