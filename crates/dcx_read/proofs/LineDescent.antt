@@ -173,3 +173,55 @@ module _ {F U X Y Z : Type 0} (view : X → (F × U) × List Token) (seen : Y �
   block-shorter n most k (Err a) (Ok b) (Ok d) h i e = absurd i
   block-shorter n most k a (Err b) (Ok d) h i e = absurd e
   block-shorter n most k (Ok a) (Ok b) (Ok d) h i e = let p = ap length e.1 in let q = ap length i.1.1 in omega (arith, p, q, h, k)
+
+pub nearer : {Y : Type 0} (size : Y → ℕ) (n most : ℕ) → n < most → (r : Result Y Stop) → IfOk r (λ y. size y < n) → IfOk r (λ y. size y < most)
+nearer size n most k (Ok y) h = omega (arith, h, k)
+nearer size n most k (Err e) h = tt
+
+-- a line that is made of what was read
+pub line-made : {Y Z : Type 0} (seen : Y → Line × List Token) (kept : Z → Line × List Token) (source : List ℕ) (us : List Terminal) → ((y : Y) → (seen y).0 ≡ trimmed (seen y).0)
+    → (given : Result Y Stop) (whole : Result Z Stop) → Reads line_s source seen given us → Makes kept seen whole given → ReadsLine source kept whole us
+line-made seen kept source us k (Err a) (Err d) r m = rw m r
+line-made seen kept source us k (Ok a) (Err d) r m = rw m tt
+line-made seen kept source us k (Err a) (Ok d) r m = absurd m
+line-made seen kept source us k (Ok a) (Ok d) r m = ((seen a).0, (subst (λ z. Gives line_s us (seen a).0 (terminals source z)) (sym m.1) r, m.0 ∙ k a))
+
+-- a line whose last parts are an expression and the line's end
+pub line-alone : {U Y Z : Type 0} (seen : Y → U × List Token) (kept : Z → Line × List Token) (part : U → Expr) (make : Expr → Line) (source : List ℕ) (us : List Terminal) (ts : List Token) → Progress line_s us (terminals source ts) (expr_s ∷ newline_s ∷ []) (λ ss g. front line_s ss (make g.0) g.1.1) → ((x : Expr) → make x ≡ trimmed (make x))
+    → (end : Result Y Stop) (whole : Result Z Stop) → ReadsEnded source (λ y. (part (seen y).0, (seen y).1)) end ts → Makes kept (λ y. (make (part (seen y).0), (seen y).1)) whole end → ReadsLine source kept whole us
+line-alone seen kept part make source us ts h k (Err a) (Err d) r m = rw m (ended-stops line_s source us ts make a h r)
+line-alone seen kept part make source us ts h k (Ok a) (Err d) r m = rw m tt
+line-alone seen kept part make source us ts h k (Err a) (Ok d) r m = absurd m
+line-alone seen kept part make source us ts h k (Ok a) (Ok d) r m = (
+  make (part (seen a).0),
+  (
+    subst (λ z. Gives line_s us (make (part (seen a).0)) (terminals source z)) (sym m.1) (ended-gives line_s source us ts (seen a).1 make (part (seen a).0) h r),
+    m.0 ∙ k (part (seen a).0),
+  ),
+)
+
+-- the same beside a name that stands before
+module _ {F U X Y Z : Type 0} (view : X → (F × U) × List Token) (seen : Y → U × List Token) (kept : Z → Line × List Token) (part : U → Expr) (make : F → Expr → Line) (f g : F) (e : f ≡ g) where
+  abbrev pub lined : X → Line × List Token
+  lined x = (make (view x).0.0 (part (view x).0.1), (view x).1)
+
+  pub line-ends : (source : List ℕ) (us : List Terminal) (ts : List Token) → Progress line_s us (terminals source ts) (expr_s ∷ newline_s ∷ []) (λ ss h. front line_s ss (make g h.0) h.1.1) → ((x : Expr) → make g x ≡ trimmed (make g x))
+      → (end : Result Y Stop) (parts : Result X Stop) (whole : Result Z Stop) → ReadsEnded source (λ y. (part (seen y).0, (seen y).1)) end ts → IsBeside view seen f parts end → Makes kept lined whole parts → ReadsLine source kept whole us
+  line-ends source us ts h k (Err a) (Err b) (Err d) r i m = rw (m, i) (ended-stops line_s source us ts (make g) a h r)
+  line-ends source us ts h k (Err a) (Ok b) d r i m = absurd i
+  line-ends source us ts h k (Ok a) (Err b) d r i m = absurd i
+  line-ends source us ts h k a (Err b) (Ok d) r i m = absurd m
+  line-ends source us ts h k (Ok a) (Ok b) (Err d) r i m = rw m tt
+  line-ends source us ts h k (Ok a) (Ok b) (Ok d) r i m = (
+    make g (part (seen a).0),
+    (
+      subst (λ z. Gives line_s us (make g (part (seen a).0)) (terminals source z)) (sym (m.1 ∙ i.1.1)) (ended-gives line_s source us ts (seen a).1 (make g) (part (seen a).0) h r),
+      m.0 ∙ ap₂ (λ n u. make n (part u)) (i.0 ∙ e) i.1.0 ∙ k (part (seen a).0),
+    ),
+  )
+
+  pub line-shorter : (n most : ℕ) → n < most → (end : Result Y Stop) (parts : Result X Stop) (whole : Result Z Stop) → IfOk end (λ y. length (seen y).1 < n) → IsBeside view seen f parts end → Makes kept lined whole parts → IfOk whole (λ x. length (kept x).1 < most)
+  line-shorter n most k end parts (Err d) h i m = tt
+  line-shorter n most k (Err a) (Ok b) (Ok d) h i m = absurd i
+  line-shorter n most k a (Err b) (Ok d) h i m = absurd m
+  line-shorter n most k (Ok a) (Ok b) (Ok d) h i m = let p = ap length m.1 in let q = ap length i.1.1 in omega (arith, p, q, h, k)

@@ -304,34 +304,66 @@ pub fn comprehension_of(
     })
 }
 
-pub fn import_of(import: Import) -> Line
-    ensures { line_view result ≡ importing import }
+/// The line that imports a module, where it was read.
+pub fn import_of<'a>(
+    import: Result<(Import, &'a [Token]), Stop<'a>>,
+) -> Result<(Line, &'a [Token]), Stop<'a>>
+    ensures { Makes (λ x. (line_view x.0, x.1.now)) (λ y. (importing y.0, y.1.now)) result import.entry }
 {
-    Line::Import(import)
+    match import {
+        Ok((import, rest)) => Ok((Line::Import(import), rest)),
+        Err(stop) => Err(stop),
+    }
 }
 
-pub fn assign_of(name: Named, value: Expr) -> Line
-    ensures { line_view result ≡ assign name (expr_view value) }
+/// The line that sets a name, where its parts were read.
+pub fn assign_of<'a>(
+    parts: Result<((Named, Expr), &'a [Token]), Stop<'a>>,
+) -> Result<(Line, &'a [Token]), Stop<'a>>
+    ensures { Makes (λ x. (line_view x.0, x.1.now)) (λ y. (assign y.0.0 (expr_view y.0.1), y.1.now)) result parts.entry }
 {
-    Line::Assign { name, value }
+    match parts {
+        Ok(((name, value), rest)) => Ok((Line::Assign { name, value }, rest)),
+        Err(stop) => Err(stop),
+    }
 }
 
-pub fn add_to_of(name: Named, place: Place, value: Expr) -> Line
-    ensures { line_view result ≡ add_to name place (expr_view value) }
+/// The line that adds to what a name stands for, where its parts were read.
+pub fn add_to_of<'a>(
+    place: Place,
+    parts: Result<((Named, Expr), &'a [Token]), Stop<'a>>,
+) -> Result<(Line, &'a [Token]), Stop<'a>>
+    ensures { Makes (λ x. (line_view x.0, x.1.now)) (λ y. (add_to y.0.0 place (expr_view y.0.1), y.1.now)) result parts.entry }
 {
-    Line::AddTo { name, place, value }
+    match parts {
+        Ok(((name, value), rest)) => Ok((Line::AddTo { name, place, value }, rest)),
+        Err(stop) => Err(stop),
+    }
 }
 
-pub fn set_value_of(name: Named, place: Place, value: Expr) -> Line
-    ensures { line_view result ≡ set_value name place (expr_view value) }
+/// The line that sets a value, where its parts were read.
+pub fn set_value_of<'a>(
+    place: Place,
+    parts: Result<((Named, Expr), &'a [Token]), Stop<'a>>,
+) -> Result<(Line, &'a [Token]), Stop<'a>>
+    ensures { Makes (λ x. (line_view x.0, x.1.now)) (λ y. (set_value y.0.0 place (expr_view y.0.1), y.1.now)) result parts.entry }
 {
-    Line::SetValue { name, place, value }
+    match parts {
+        Ok(((name, value), rest)) => Ok((Line::SetValue { name, place, value }, rest)),
+        Err(stop) => Err(stop),
+    }
 }
 
-pub fn evaluate_of(value: Expr) -> Line
-    ensures { line_view result ≡ evaluate (expr_view value) }
+/// The line that is an expression, where it was read.
+pub fn evaluate_of<'a>(
+    value: Result<(Expr, &'a [Token]), Stop<'a>>,
+) -> Result<(Line, &'a [Token]), Stop<'a>>
+    ensures { Makes (λ x. (line_view x.0, x.1.now)) (λ y. (evaluate (expr_view y.0), y.1.now)) result value.entry }
 {
-    Line::Evaluate(value)
+    match value {
+        Ok((value, rest)) => Ok((Line::Evaluate(value), rest)),
+        Err(stop) => Err(stop),
+    }
 }
 
 pub fn print_of(place: Place, opener: Place) -> Line

@@ -144,21 +144,17 @@ fn simple<'a>(
 {
     if let Some((head, _, behind)) = eat_name_and(tokens, Mark::Equal) {
         let word = named(alloc, text, head)?;
-        let (value, rest) = ended(alloc, text, behind)?;
-        return Ok((assign_of(word, value), rest));
+        return assign_of(beside(word, ended(alloc, text, behind)));
     }
     if let Some((head, place, after)) = eat_name_and(tokens, Mark::PlusEqual) {
         let target = named(alloc, text, head)?;
-        let (added, next) = ended(alloc, text, after)?;
-        return Ok((add_to_of(target, place, added), next));
+        return add_to_of(place, beside(target, ended(alloc, text, after)));
     }
     if let Some((head, place, inside)) = eat_value(text, tokens) {
         let parameter = named(alloc, text, head)?;
-        let (given, last) = ended(alloc, text, inside)?;
-        return Ok((set_value_of(parameter, place, given), last));
+        return set_value_of(place, beside(parameter, ended(alloc, text, inside)));
     }
-    let (alone, end) = ended(alloc, text, tokens)?;
-    Ok((evaluate_of(alone), end))
+    evaluate_of(ended(alloc, text, tokens))
 }
 
 /// A line that has no lines inside it.
@@ -172,8 +168,7 @@ fn flat<'a>(
     ensures shorter { IfOk result (λ x. length x.1.now < length tokens.now) }
 {
     if let Some((place, behind)) = eat(tokens, Mark::Import) {
-        let (found, rest) = import(alloc, text, place, behind)?;
-        return Ok((import_of(found), rest));
+        return import_of(import(alloc, text, place, behind));
     }
     if let Some((place, after)) = eat(tokens, Mark::Print) {
         return printed(text, place, after);
@@ -187,24 +182,15 @@ fn head<'a>(
     text: &[u8],
     place: Place,
     tokens: &'a [Token],
-) -> Result<(Named, Expr, &'a [Token]), Stop<'a>>
-    ensures read { ReadsHead text.now place (λ x. (x.0, (expr_view x.1, x.2.now))) result (plain (marks_of.for place) ∷ terminals text.now tokens.now) }
-    ensures shorter { IfOk result (λ x. length x.2.now < length tokens.now) }
+) -> Result<((Named, Expr), &'a [Token]), Stop<'a>>
+    ensures read { ReadsHead text.now place (λ x. (x.0.0, (expr_view x.0.1, x.1.now))) result (plain (marks_of.for place) ∷ terminals text.now tokens.now) }
+    ensures shorter { IfOk result (λ x. length x.1.now < length tokens.now) }
 {
-    let (each, behind) = name(alloc, text, tokens)?;
-    let after = expect(behind, Mark::In)?;
-    let (from, colon) = expr(alloc, text, after)?;
-    let end = expect(colon, Mark::Colon)?;
-    let next = expect(end, Mark::Newline)?;
-    let inside = expect(next, Mark::Indent)?;
-    Ok((each, from, inside))
-}
-
-/// What a `for` line goes over, under which name.
-#[derive(Drop)]
-pub struct Begun {
-    each: Named,
-    from: Expr,
+    let (each, after) = closed(name(alloc, text, tokens), Mark::In)?;
+    let parts = beside(each, expr(alloc, text, after));
+    let headed = closed(parts, Mark::Colon);
+    let ended = closed(headed, Mark::Newline);
+    closed(ended, Mark::Indent)
 }
 
 /// The lines inside a `for` line, and what ends them.
@@ -225,13 +211,13 @@ fn body<'a>(
 fn whole<'a>(
     alloc: Global,
     place: Place,
-    parts: Result<((Begun, (Line, Vec<Line>)), &'a [Token]), Stop<'a>>,
+    parts: Result<(((Named, Expr), (Line, Vec<Line>)), &'a [Token]), Stop<'a>>,
 ) -> Result<(Line, &'a [Token]), Stop<'a>>
-    ensures { Makes (λ x. (line_view x.0, x.1.now)) (λ x. (repeats place x.0.0.each (expr_view x.0.0.from) (line_view x.0.1.0) (lines_of (map line_view x.0.1.1.items)), x.1.now)) result parts.entry }
+    ensures { Makes (λ x. (line_view x.0, x.1.now)) (λ x. (repeats place x.0.0.0 (expr_view x.0.0.1) (line_view x.0.1.0) (lines_of (map line_view x.0.1.1.items)), x.1.now)) result parts.entry }
 {
     match parts {
-        Ok(((begun, (first, others)), rest)) => match for_of(
-            alloc, place, begun.each, begun.from, first, others,
+        Ok((((each, from), (first, others)), rest)) => match for_of(
+            alloc, place, each, from, first, others,
         ) {
             Ok(line) => Ok((line, rest)),
             Err(_) => Err(Stop::Memory),
@@ -251,12 +237,8 @@ fn block<'a>(
     ensures read { ReadsLine text.now (λ x. (line_view x.0, x.1.now)) result (plain (marks_of.for place) ∷ terminals text.now tokens.now) }
     ensures shorter { IfOk result (λ x. length x.1.now < length tokens.now) }
 {
-    let (each, from, inside) = head(alloc, text, place, tokens)?;
-    whole(
-        alloc,
-        place,
-        beside(Begun { each, from }, body(alloc, text, inside)),
-    )
+    let (begun, inside) = head(alloc, text, place, tokens)?;
+    whole(alloc, place, beside(begun, body(alloc, text, inside)))
 }
 
 /// A line, with the lines inside it, and the tokens behind.
