@@ -3,11 +3,11 @@ ghost use Rattle.std.specs.Prelude.{◌≡◌, ◌++◌, OnOk, codes};
 ghost use Rattle.dcx_report.specs.StopText.{stop_name};
 ghost use Rattle.dcx_report.specs.CertifiedText.{index_text, numbers_text, number_at_text, numbers_at_text, fault_name, fault_details, fault_text, certified_text, cert_refused_text};
 
-use crate::pieces::put_passes;
+use crate::pieces::{put_both, put_numbered, put_passes};
 use crate::stop_line::name_of_stop;
 use crate::{CertFault, Stop};
 use dcx_frac::Frac;
-use dcx_lines::{put_bytes, put_entry, put_number};
+use dcx_lines::{put_bytes, put_entry};
 use std::alloc::AllocError;
 
 /// Appends a blank and a count.
@@ -15,8 +15,7 @@ use std::alloc::AllocError;
 fn put_index(out: &mut Vec<u8>, index: u32) -> Result<(), AllocError>
     ensures { OnOk result (out.new.items ≡ out.old.items ++ index_text index) }
 {
-    put_bytes(out, b" ")?;
-    put_number(out, u64::from(index))
+    put_numbered(out, b" ", u64::from(index))
 }
 
 /// Appends two numbers.
@@ -58,8 +57,7 @@ fn put_numbers_at(
 fn put_stop_name(out: &mut Vec<u8>, stop: &Stop) -> Result<(), AllocError>
     ensures { OnOk result (out.new.items ≡ out.old.items ++ (codes " " ++ stop_name stop.now)) }
 {
-    put_bytes(out, b" ")?;
-    put_bytes(out, name_of_stop(stop))
+    put_both(out, b" ", name_of_stop(stop))
 }
 
 /// The name of a fault.
@@ -163,8 +161,7 @@ fn put_fault(out: &mut Vec<u8>, fault: &CertFault) -> Result<(), AllocError>
 pub(crate) fn put_certified(out: &mut Vec<u8>, sections: u32) -> Result<(), AllocError>
     ensures { OnOk result (out.new.items ≡ out.old.items ++ certified_text sections) }
 {
-    put_bytes(out, b"certified ")?;
-    put_number(out, u64::from(sections))?;
+    put_numbered(out, b"certified ", u64::from(sections))?;
     put_bytes(out, b"\n")
 }
 
@@ -177,8 +174,7 @@ pub(crate) fn put_cert_refused(
 ) -> Result<(), AllocError>
     ensures { OnOk result (out.new.items ≡ out.old.items ++ cert_refused_text section fault.now) }
 {
-    put_bytes(out, b"certificate refused section ")?;
-    put_number(out, u64::from(section))?;
+    put_numbered(out, b"certificate refused section ", u64::from(section))?;
     put_bytes(out, b" ")?;
     put_fault(out, fault)?;
     put_bytes(out, b"\n")

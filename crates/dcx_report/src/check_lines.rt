@@ -2,8 +2,9 @@
 ghost use Rattle.std.specs.Prelude.{◌≡◌, ◌++◌, OnOk};
 ghost use Rattle.dcx_report.specs.CheckText.{sense_text, sign_text, curvature_text, objective_line, dpp_line, size_line, checked_text};
 
+use crate::pieces::{put_both, put_numbered};
 use dcx_atom::Sign;
-use dcx_lines::{put_bytes, put_number};
+use dcx_lines::put_bytes;
 use dcx_refusal::Checked;
 use dcx_rules::Curvature;
 use dcx_tree::Sense;
@@ -51,12 +52,9 @@ fn word_of_curvature(curvature: Curvature) -> &'static [u8]
 fn put_objective(out: &mut Vec<u8>, checked: &Checked) -> Result<(), AllocError>
     ensures { OnOk result (out.new.items ≡ out.old.items ++ objective_line checked.now) }
 {
-    put_bytes(out, b"objective ")?;
-    put_bytes(out, word_of_sense(checked.sense))?;
-    put_bytes(out, b" sign ")?;
-    put_bytes(out, word_of_sign(checked.sign))?;
-    put_bytes(out, b" curvature ")?;
-    put_bytes(out, word_of_curvature(checked.curvature))?;
+    put_both(out, b"objective ", word_of_sense(checked.sense))?;
+    put_both(out, b" sign ", word_of_sign(checked.sign))?;
+    put_both(out, b" curvature ", word_of_curvature(checked.curvature))?;
     put_bytes(out, b"\n")
 }
 
@@ -78,10 +76,8 @@ fn put_size(out: &mut Vec<u8>, word: &[u8], count: u64, entries: u64) -> Result<
     ensures { OnOk result (out.new.items ≡ out.old.items ++ size_line word.now count entries) }
 {
     put_bytes(out, word)?;
-    put_bytes(out, b" ")?;
-    put_number(out, count)?;
-    put_bytes(out, b" entries ")?;
-    put_number(out, entries)?;
+    put_numbered(out, b" ", count)?;
+    put_numbered(out, b" entries ", entries)?;
     put_bytes(out, b"\n")
 }
 

@@ -1,13 +1,14 @@
 //! Appends the lines of settings at which constraints are filtered.
-ghost use Rattle.std.specs.Prelude.{◌≡◌, ◌++◌, not, count_by, IfSome, OnOk, slice_get, length};
+ghost use Rattle.std.specs.Prelude.{◌≡◌, ◌++◌, IfSome, OnOk, slice_get, length};
 ghost use Rattle.std.specs.List.{flat_map, zip};
-ghost use Rattle.dcx_report.specs.FilterText.{member_text, without_lines, points_lines, filtered_text, step_text, filter_stop_text, filter_end_text, filter_text, filter_lines, is_filtered as is_filtered_end, filter_count_line};
+ghost use Rattle.dcx_report.specs.FilterText.{member_text, without_lines, points_lines, filtered_text, step_text, filter_stop_text, filter_end_text, filter_text, filter_lines, is_filtered, filter_count_line};
 
 use crate::answer_lines::put_var_lines;
-use crate::report::put_count_line;
-use crate::stop_line::{name_of_stop, put_details, put_stopped};
+use crate::counts::{SettingEnd, put_setting_counts};
+use crate::pieces::put_numbered;
+use crate::stop_line::{name_of_stop, put_details, put_stop, put_stopped};
 use crate::{FilterEnd, FilterOutcome, FilterStop, Filtered, Stop};
-use dcx_lines::{put_bytes, put_number};
+use dcx_lines::put_bytes;
 use dcx_point::Point;
 use dcx_shape::Place;
 use std::alloc::AllocError;
@@ -17,8 +18,7 @@ use std::alloc::AllocError;
 fn put_member(out: &mut Vec<u8>, member: u32) -> Result<(), AllocError>
     ensures { OnOk result (out.new.items ≡ out.old.items ++ member_text member) }
 {
-    put_bytes(out, b" ")?;
-    put_number(out, u64::from(member) + 1)
+    put_numbered(out, b" ", u64::from(member) + 1)
 }
 
 /// Appends the numbers of constraints.
@@ -97,10 +97,11 @@ fn put_filtered(out: &mut Vec<u8>, found: &Filtered) -> Result<(), AllocError>
             points,
             ..
         } => {
+            let members = members.as_slice();
             put_bytes(out, b" infeasible constraints")?;
-            put_members(out, members.as_slice())?;
+            put_members(out, members)?;
             put_bytes(out, b"\n")?;
-            put_points(out, members.as_slice(), points.as_slice())
+            put_points(out, members, points.as_slice())
         }
     }
 }
@@ -110,8 +111,7 @@ fn put_filtered(out: &mut Vec<u8>, found: &Filtered) -> Result<(), AllocError>
 fn put_step(out: &mut Vec<u8>, step: u32) -> Result<(), AllocError>
     ensures { OnOk result (out.new.items ≡ out.old.items ++ step_text step) }
 {
-    put_bytes(out, b" stopped 37 Filter step ")?;
-    put_number(out, u64::from(step))?;
+    put_numbered(out, b" stopped 37 Filter step ", u64::from(step))?;
     put_bytes(out, b" ")
 }
 
@@ -127,7 +127,7 @@ fn put_filter_stop(out: &mut Vec<u8>, stop: &FilterStop) -> Result<(), AllocErro
             put_details(out, None, stop)?;
             put_bytes(out, b"\n")
         }
-        FilterStop::Memory => put_stopped(out, None, &Stop::Memory),
+        FilterStop::Memory => put_stop(out, Stop::Memory),
     }
 }
 
@@ -152,8 +152,7 @@ fn put_filter_end(
 fn put_filter(out: &mut Vec<u8>, number: u64, outcome: &FilterOutcome) -> Result<(), AllocError>
     ensures { OnOk result (out.new.items ≡ out.old.items ++ filter_text (number, outcome.now)) }
 {
-    put_bytes(out, b"setting ")?;
-    put_number(out, number)?;
+    put_numbered(out, b"setting ", number)?;
     put_filter_end(out, outcome.place, &outcome.end)
 }
 
@@ -170,28 +169,12 @@ pub(crate) fn put_filters(out: &mut Vec<u8>, outcomes: &[FilterOutcome]) -> Resu
     Ok(())
 }
 
-/// Whether something is found at a setting.
-fn is_filtered(outcome: &FilterOutcome) -> bool
-    ensures { result ≡ is_filtered_end outcome.now.end }
-{
-    match outcome.end {
-        FilterEnd::Filtered(_) => true,
-        FilterEnd::Filter(_) | FilterEnd::Stop(_) => false,
+impl SettingEnd for FilterOutcome {
+    ghost answered = { λ o. is_filtered o.end };
+
+    fn is_answered(&self) -> bool {
+        matches!(&self.end, FilterEnd::Filtered(_))
     }
-}
-
-/// At how many settings something is found.
-fn found(outcomes: &[FilterOutcome]) -> usize
-    ensures { result ≡ count_by (λ o. is_filtered_end o.end) outcomes.now }
-{
-    outcomes.iter().filter(|o| is_filtered(o)).count()
-}
-
-/// How many settings are stopped.
-fn stopped(outcomes: &[FilterOutcome]) -> usize
-    ensures { result ≡ count_by (λ o. not (is_filtered_end o.end)) outcomes.now }
-{
-    outcomes.iter().filter(|o| !is_filtered(o)).count()
 }
 
 /// Appends the line that counts the settings.
@@ -202,5 +185,5 @@ pub(crate) fn put_filter_counts(
 ) -> Result<(), AllocError>
     ensures { OnOk result (out.new.items ≡ out.old.items ++ filter_count_line outcomes.now) }
 {
-    put_count_line(out, found(outcomes), stopped(outcomes))
+    put_setting_counts(out, outcomes)
 }

@@ -17,6 +17,7 @@
 mod answer_lines;
 mod certified_lines;
 mod check_lines;
+mod counts;
 mod filter_lines;
 pub mod laws;
 mod pieces;

@@ -1,5 +1,5 @@
-//! Appends what only a line of the report is made of: places, and operations that pass 128 bits.
-ghost use Rattle.std.specs.Prelude.{◌≡◌, ◌++◌, OnOk};
+//! Appends what only a line of the report is made of: places, operations that pass 128 bits, and texts with what stands behind them.
+ghost use Rattle.std.specs.Prelude.{◌≡◌, ◌++◌, OnOk, decimal};
 ghost use Rattle.dcx_report.specs.Pieces.{place_text, op_text, passes_text};
 
 use dcx_frac::{Op, Passes};
@@ -7,14 +7,29 @@ use dcx_lines::{put_bytes, put_entry, put_number};
 use dcx_shape::Place;
 use std::alloc::AllocError;
 
+/// Appends two texts.
+pub(crate) fn put_both(out: &mut Vec<u8>, first: &[u8], second: &[u8]) -> Result<(), AllocError>
+    ensures { OnOk result (out.new.items ≡ out.old.items ++ (first.now ++ second.now)) }
+{
+    put_bytes(out, first)?;
+    put_bytes(out, second)
+}
+
+/// Appends a text and a number.
+pub(crate) fn put_numbered(out: &mut Vec<u8>, text: &[u8], number: u64) -> Result<(), AllocError>
+    ensures { OnOk result (out.new.items ≡ out.old.items ++ (text.now ++ decimal number)) }
+{
+    put_bytes(out, text)?;
+    put_number(out, number)
+}
+
 /// Appends a place.
 #[tactic(auto, unfolding(crate::specs::Pieces::place_text))]
 pub(crate) fn put_place(out: &mut Vec<u8>, place: Place) -> Result<(), AllocError>
     ensures { OnOk result (out.new.items ≡ out.old.items ++ place_text place) }
 {
     put_number(out, u64::from(place.line))?;
-    put_bytes(out, b":")?;
-    put_number(out, u64::from(place.column))
+    put_numbered(out, b":", u64::from(place.column))
 }
 
 /// Appends the name of an operation.

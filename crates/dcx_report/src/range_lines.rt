@@ -1,14 +1,14 @@
 //! Appends the lines of settings at which a parameter's range is told.
-ghost use Rattle.std.specs.Prelude.{◌≡◌, ◌++◌, not, count_by, OnOk};
-ghost use Rattle.dcx_report.specs.RangeText.{bound_text, span_text, course_text, ranged_text, range_stop_text, range_end_text, range_text, range_lines, is_ranged as is_ranged_end, range_count_line};
+ghost use Rattle.std.specs.Prelude.{◌≡◌, ◌++◌, OnOk};
+ghost use Rattle.dcx_report.specs.RangeText.{bound_text, span_text, course_text, ranged_text, range_stop_text, range_end_text, range_text, range_lines, is_ranged, range_count_line};
 
 use crate::answer_lines::user_number;
-use crate::pieces::put_passes;
-use crate::report::put_count_line;
-use crate::stop_line::put_stopped;
+use crate::counts::{SettingEnd, put_setting_counts};
+use crate::pieces::{put_both, put_numbered, put_passes};
+use crate::stop_line::{put_stop, put_stopped};
 use crate::{RangeEnd, RangeOutcome, RangeStop, Ranged, Sense, Stop};
 use dcx_frac::{Frac, Passes};
-use dcx_lines::{put_bytes, put_frac, put_number};
+use dcx_lines::{put_bytes, put_frac};
 use dcx_shape::{Name, Place};
 use std::alloc::AllocError;
 
@@ -67,8 +67,7 @@ fn put_ranged(
             constant,
             slope,
         } => {
-            put_bytes(out, b" range ")?;
-            put_bytes(out, parameter.as_slice())?;
+            put_both(out, b" range ", parameter.as_slice())?;
             put_span(out, *low, *high)?;
             put_course(out, sense, *constant, *slope)?;
             put_bytes(out, b"\n")
@@ -94,12 +93,10 @@ fn put_range_stop(out: &mut Vec<u8>, stop: &RangeStop) -> Result<(), AllocError>
     ensures { OnOk result (out.new.items ≡ out.old.items ++ range_stop_text stop.now) }
 {
     match stop {
-        RangeStop::Wide(site) => put_stopped(out, None, &Stop::Wide(*site)),
-        RangeStop::PivotLimit { count } => {
-            put_stopped(out, None, &Stop::PivotLimit { count: *count })
-        }
+        RangeStop::Wide(site) => put_stop(out, Stop::Wide(*site)),
+        RangeStop::PivotLimit { count } => put_stop(out, Stop::PivotLimit { count: *count }),
         RangeStop::RangeWide(passes) => put_range_wide(out, passes),
-        RangeStop::Memory => put_stopped(out, None, &Stop::Memory),
+        RangeStop::Memory => put_stop(out, Stop::Memory),
     }
 }
 
@@ -132,8 +129,7 @@ fn put_range(
 ) -> Result<(), AllocError>
     ensures { OnOk result (out.new.items ≡ out.old.items ++ range_text parameter.now sense (number, outcome.now)) }
 {
-    put_bytes(out, b"setting ")?;
-    put_number(out, number)?;
+    put_numbered(out, b"setting ", number)?;
     put_range_end(out, parameter, sense, outcome.place, &outcome.end)
 }
 
@@ -155,28 +151,12 @@ pub(crate) fn put_ranges(
     Ok(())
 }
 
-/// Whether something is told of the parameter at a setting.
-fn is_ranged(outcome: &RangeOutcome) -> bool
-    ensures { result ≡ is_ranged_end outcome.now.end }
-{
-    match outcome.end {
-        RangeEnd::Ranged(_) => true,
-        RangeEnd::Range(_) | RangeEnd::Stop(_) => false,
+impl SettingEnd for RangeOutcome {
+    ghost answered = { λ o. is_ranged o.end };
+
+    fn is_answered(&self) -> bool {
+        matches!(&self.end, RangeEnd::Ranged(_))
     }
-}
-
-/// At how many settings something is told.
-fn told(outcomes: &[RangeOutcome]) -> usize
-    ensures { result ≡ count_by (λ o. is_ranged_end o.end) outcomes.now }
-{
-    outcomes.iter().filter(|o| is_ranged(o)).count()
-}
-
-/// How many settings are stopped.
-fn stopped(outcomes: &[RangeOutcome]) -> usize
-    ensures { result ≡ count_by (λ o. not (is_ranged_end o.end)) outcomes.now }
-{
-    outcomes.iter().filter(|o| !is_ranged(o)).count()
 }
 
 /// Appends the line that counts the settings.
@@ -187,5 +167,5 @@ pub(crate) fn put_range_counts(
 ) -> Result<(), AllocError>
     ensures { OnOk result (out.new.items ≡ out.old.items ++ range_count_line outcomes.now) }
 {
-    put_count_line(out, told(outcomes), stopped(outcomes))
+    put_setting_counts(out, outcomes)
 }

@@ -3,9 +3,9 @@ ghost use Rattle.std.specs.Prelude.{◌≡◌, ◌++◌, OnOk};
 ghost use Rattle.dcx_report.specs.RefusalText.{source_text, count_text, rule_text, not_ranged_text, carried_text, refusal_text};
 
 use crate::Refusal;
-use crate::pieces::{put_passes, put_place};
+use crate::pieces::{put_both, put_numbered, put_passes, put_place};
 use dcx_arena::Count;
-use dcx_lines::{put_bytes, put_number};
+use dcx_lines::put_bytes;
 use dcx_ranged::NotRanged;
 use dcx_refusal::{Carried, RefusalSource};
 use dcx_rules::Rule;
@@ -72,20 +72,12 @@ fn put_carried(out: &mut Vec<u8>, carried: &Carried) -> Result<(), AllocError>
     match carried {
         Carried::Nothing => Ok(()),
         Carried::Count { what, count } => {
-            put_bytes(out, b" ")?;
-            put_bytes(out, word_of_count(*what))?;
-            put_bytes(out, b" ")?;
-            put_number(out, u64::from(*count))
+            put_both(out, b" ", word_of_count(*what))?;
+            put_numbered(out, b" ", u64::from(*count))
         }
-        Carried::Rule(rule) => {
-            put_bytes(out, b" rule ")?;
-            put_bytes(out, word_of_rule(*rule))
-        }
+        Carried::Rule(rule) => put_both(out, b" rule ", word_of_rule(*rule)),
         Carried::Passes(passes) => put_passes(out, passes),
-        Carried::NotRanged(fault) => {
-            put_bytes(out, b" ")?;
-            put_bytes(out, word_of_fault(*fault))
-        }
+        Carried::NotRanged(fault) => put_both(out, b" ", word_of_fault(*fault)),
     }
 }
 
@@ -94,12 +86,9 @@ fn put_carried(out: &mut Vec<u8>, carried: &Carried) -> Result<(), AllocError>
 pub(crate) fn put_refusal(out: &mut Vec<u8>, refusal: &Refusal) -> Result<(), AllocError>
     ensures { OnOk result (out.new.items ≡ out.old.items ++ refusal_text refusal.now) }
 {
-    put_bytes(out, b"refused ")?;
-    put_bytes(out, word_of_source(refusal.source))?;
-    put_bytes(out, b" ")?;
-    put_number(out, u64::from(refusal.number))?;
-    put_bytes(out, b" ")?;
-    put_bytes(out, refusal.name())?;
+    put_both(out, b"refused ", word_of_source(refusal.source))?;
+    put_numbered(out, b" ", u64::from(refusal.number))?;
+    put_both(out, b" ", refusal.name())?;
     put_bytes(out, b" at ")?;
     put_place(out, refusal.place)?;
     put_carried(out, &refusal.carried)?;

@@ -1,19 +1,21 @@
 //! The bytes of the report of a run.
 ghost use Rattle.std.specs.Prelude.{◌≡◌, ◌++◌, IfOk, OnOk};
-ghost use Rattle.dcx_report.specs.OutcomeText.{word_text, end_text, outcome_text, outcome_lines, is_answer, count_of_answers, count_of_stops, counts_line, count_line, warm_line};
+ghost use Rattle.dcx_report.specs.OutcomeText.{word_text, end_text, outcome_text, outcome_lines, is_answer, count_line, warm_line};
 ghost use Rattle.dcx_report.specs.ReportText.{text_of};
 
 use crate::answer_lines::put_answer;
 use crate::certified_lines::{put_cert_refused, put_certified};
 use crate::check_lines::put_checked;
+use crate::counts::{SettingEnd, put_setting_counts};
 use crate::filter_lines::{put_filter_counts, put_filters};
+use crate::pieces::put_numbered;
 use crate::range_lines::{put_range_counts, put_ranges};
 use crate::refusal_line::put_refusal;
 use crate::stop_line::put_stopped;
 use crate::trial_lines::put_trial;
 use crate::whole_lines::{put_whole_counts, put_wholes};
 use crate::{Outcome, OutcomeEnd, Run, Sense, Word};
-use dcx_lines::{put_bytes, put_number};
+use dcx_lines::put_bytes;
 use dcx_shape::{Bytes, Place};
 use std::alloc::{AllocError, Global};
 
@@ -56,8 +58,7 @@ fn put_outcome(
     ensures { OnOk result (out.new.items ≡ out.old.items ++ outcome_text word sense (number, outcome.now)) }
 {
     put_bytes(out, word_of_outcomes(word))?;
-    put_bytes(out, b" ")?;
-    put_number(out, number)?;
+    put_numbered(out, b" ", number)?;
     put_end(out, sense, outcome.place, &outcome.end)
 }
 
@@ -79,43 +80,12 @@ fn put_outcomes(
     Ok(())
 }
 
-/// Whether a setting is answered, and not stopped.
-fn is_answered(outcome: &Outcome) -> bool
-    ensures { result ≡ is_answer outcome.now.end }
-{
-    match outcome.end {
-        OutcomeEnd::Answer(_) => true,
-        OutcomeEnd::Stop(_) => false,
+impl SettingEnd for Outcome {
+    ghost answered = { λ o. is_answer o.end };
+
+    fn is_answered(&self) -> bool {
+        matches!(&self.end, OutcomeEnd::Answer(_))
     }
-}
-
-/// How many settings are answered.
-fn answers(outcomes: &[Outcome]) -> usize
-    ensures { result ≡ count_of_answers outcomes.now }
-{
-    outcomes.iter().filter(|o| is_answered(o)).count()
-}
-
-/// How many settings are stopped.
-fn stops(outcomes: &[Outcome]) -> usize
-    ensures { result ≡ count_of_stops outcomes.now }
-{
-    outcomes.iter().filter(|o| !is_answered(o)).count()
-}
-
-/// Appends the line that counts settings: so many are answered, and so many are stopped.
-pub(crate) fn put_count_line(
-    out: &mut Vec<u8>,
-    answers: usize,
-    stops: usize,
-) -> Result<(), AllocError>
-    ensures { OnOk result (out.new.items ≡ out.old.items ++ counts_line answers stops) }
-{
-    put_bytes(out, b"answered ")?;
-    put_number(out, answers as u64)?;
-    put_bytes(out, b" stopped ")?;
-    put_number(out, stops as u64)?;
-    put_bytes(out, b"\n")
 }
 
 /// Appends the line that counts the outcomes.
@@ -123,7 +93,7 @@ pub(crate) fn put_count_line(
 fn put_counts(out: &mut Vec<u8>, outcomes: &[Outcome]) -> Result<(), AllocError>
     ensures { OnOk result (out.new.items ≡ out.old.items ++ count_line outcomes.now) }
 {
-    put_count_line(out, answers(outcomes), stops(outcomes))
+    put_setting_counts(out, outcomes)
 }
 
 /// Appends the line that counts the warm outcomes, where they are counted.
@@ -133,8 +103,7 @@ fn put_warm(out: &mut Vec<u8>, warm: Option<u32>) -> Result<(), AllocError>
 {
     match warm {
         Some(count) => {
-            put_bytes(out, b"warm ")?;
-            put_number(out, u64::from(count))?;
+            put_numbered(out, b"warm ", u64::from(count))?;
             put_bytes(out, b"\n")
         }
         None => Ok(()),
@@ -160,8 +129,9 @@ fn put_run(out: &mut Vec<u8>, run: &Run) -> Result<(), AllocError>
             outcomes,
             warm,
         } => {
-            put_outcomes(out, *word, *sense, outcomes.as_slice())?;
-            put_counts(out, outcomes.as_slice())?;
+            let outcomes = outcomes.as_slice();
+            put_outcomes(out, *word, *sense, outcomes)?;
+            put_counts(out, outcomes)?;
             put_warm(out, *warm)
         }
         Run::Branched {
@@ -169,27 +139,31 @@ fn put_run(out: &mut Vec<u8>, run: &Run) -> Result<(), AllocError>
             sense,
             outcomes,
         } => {
-            put_wholes(out, *word, *sense, outcomes.as_slice())?;
-            put_whole_counts(out, outcomes.as_slice())
+            let outcomes = outcomes.as_slice();
+            put_wholes(out, *word, *sense, outcomes)?;
+            put_whole_counts(out, outcomes)
         }
         Run::Certificates { text, .. } => put_bytes(out, text.as_slice()),
         Run::Certified { sections } => put_certified(out, *sections),
         Run::CertRefused { section, fault } => put_cert_refused(out, *section, fault),
         Run::Trial { size, outcomes } => {
-            put_trial(out, *size, outcomes.as_slice())?;
-            put_counts(out, outcomes.as_slice())
+            let outcomes = outcomes.as_slice();
+            put_trial(out, *size, outcomes)?;
+            put_counts(out, outcomes)
         }
         Run::Filtered { outcomes } => {
-            put_filters(out, outcomes.as_slice())?;
-            put_filter_counts(out, outcomes.as_slice())
+            let outcomes = outcomes.as_slice();
+            put_filters(out, outcomes)?;
+            put_filter_counts(out, outcomes)
         }
         Run::Ranged {
             parameter,
             sense,
             outcomes,
         } => {
-            put_ranges(out, parameter, *sense, outcomes.as_slice())?;
-            put_range_counts(out, outcomes.as_slice())
+            let outcomes = outcomes.as_slice();
+            put_ranges(out, parameter, *sense, outcomes)?;
+            put_range_counts(out, outcomes)
         }
         Run::ReadFault => put_bytes(out, b"fault read\n"),
         Run::Memory => put_bytes(out, b"want of memory\n"),

@@ -3,10 +3,11 @@ ghost use Rattle.std.specs.Prelude.{◌≡◌, ◌++◌, OnOk, codes};
 ghost use Rattle.dcx_frac.specs.Text.{frac_text};
 ghost use Rattle.dcx_report.specs.TrialText.{answer_kind, trial_end, trial_line, setting_lines, trial_lines};
 
+use crate::pieces::put_numbered;
 use crate::stop_line::put_stopped;
 use crate::{Answer, Outcome, OutcomeEnd};
 use dcx_frac::Frac;
-use dcx_lines::{put_bytes, put_frac, put_number};
+use dcx_lines::{put_bytes, put_frac};
 use dcx_shape::Place;
 use std::alloc::AllocError;
 
@@ -53,8 +54,7 @@ fn put_trial_end(
 fn put_trial_line(out: &mut Vec<u8>, number: u64, outcome: &Outcome) -> Result<(), AllocError>
     ensures { OnOk result (out.new.items ≡ out.old.items ++ trial_line (number, outcome.now)) }
 {
-    put_bytes(out, b"setting ")?;
-    put_number(out, number)?;
+    put_numbered(out, b"setting ", number)?;
     put_trial_end(out, outcome.place, &outcome.end)
 }
 
@@ -80,8 +80,7 @@ pub(crate) fn put_trial(
 ) -> Result<(), AllocError>
     ensures { OnOk result (out.new.items ≡ out.old.items ++ trial_lines size outcomes.now) }
 {
-    put_bytes(out, b"trial ")?;
-    put_number(out, u64::from(size))?;
+    put_numbered(out, b"trial ", u64::from(size))?;
     put_bytes(out, b"\n")?;
     put_setting_lines(out, outcomes)
 }

@@ -1,12 +1,14 @@
 //! Appends the lines of settings at which a problem with marked variables is solved.
-ghost use Rattle.std.specs.Prelude.{◌≡◌, ◌++◌, not, count_by, OnOk};
-ghost use Rattle.dcx_report.specs.WholeText.{nodes_line, whole_text, node_text, limit_text, branch_stop_text, whole_end_text, whole_outcome_text, whole_lines, is_whole as is_whole_end, whole_count_line};
+ghost use Rattle.std.specs.Prelude.{◌≡◌, ◌++◌, OnOk};
+ghost use Rattle.dcx_report.specs.WholeText.{nodes_line, whole_text, node_text, limit_text, branch_stop_text, whole_end_text, whole_outcome_text, whole_lines, is_whole, whole_count_line};
 
 use crate::answer_lines::{put_user_line, put_var_lines};
-use crate::report::{put_count_line, word_of_outcomes};
-use crate::stop_line::{name_of_stop, put_details, put_stopped};
+use crate::counts::{SettingEnd, put_setting_counts};
+use crate::pieces::put_numbered;
+use crate::report::word_of_outcomes;
+use crate::stop_line::{name_of_stop, put_details, put_stop, put_stopped};
 use crate::{BranchStop, Sense, Stop, WholeAnswer, WholeEnd, WholeOutcome, Word};
-use dcx_lines::{put_bytes, put_number};
+use dcx_lines::put_bytes;
 use dcx_shape::Place;
 use std::alloc::AllocError;
 
@@ -15,8 +17,7 @@ use std::alloc::AllocError;
 fn put_nodes(out: &mut Vec<u8>, nodes: u32) -> Result<(), AllocError>
     ensures { OnOk result (out.new.items ≡ out.old.items ++ nodes_line nodes) }
 {
-    put_bytes(out, b"nodes ")?;
-    put_number(out, u64::from(nodes))?;
+    put_numbered(out, b"nodes ", u64::from(nodes))?;
     put_bytes(out, b"\n")
 }
 
@@ -49,8 +50,7 @@ fn put_whole(out: &mut Vec<u8>, sense: Sense, answer: &WholeAnswer) -> Result<()
 fn put_node(out: &mut Vec<u8>, node: u32) -> Result<(), AllocError>
     ensures { OnOk result (out.new.items ≡ out.old.items ++ node_text node) }
 {
-    put_bytes(out, b" stopped 33 Branch node ")?;
-    put_number(out, u64::from(node))?;
+    put_numbered(out, b" stopped 33 Branch node ", u64::from(node))?;
     put_bytes(out, b" ")
 }
 
@@ -59,8 +59,7 @@ fn put_node(out: &mut Vec<u8>, node: u32) -> Result<(), AllocError>
 fn put_limit(out: &mut Vec<u8>, limit: u32) -> Result<(), AllocError>
     ensures { OnOk result (out.new.items ≡ out.old.items ++ limit_text limit) }
 {
-    put_bytes(out, b" stopped 32 NodeLimit ")?;
-    put_number(out, u64::from(limit))?;
+    put_numbered(out, b" stopped 32 NodeLimit ", u64::from(limit))?;
     put_bytes(out, b"\n")
 }
 
@@ -78,7 +77,7 @@ fn put_branch_stop(out: &mut Vec<u8>, stop: &BranchStop) -> Result<(), AllocErro
             put_details(out, None, stop)?;
             put_bytes(out, b"\n")
         }
-        BranchStop::Memory => put_stopped(out, None, &Stop::Memory),
+        BranchStop::Memory => put_stop(out, Stop::Memory),
     }
 }
 
@@ -111,8 +110,7 @@ fn put_whole_outcome(
     ensures { OnOk result (out.new.items ≡ out.old.items ++ whole_outcome_text word sense (number, outcome.now)) }
 {
     put_bytes(out, word_of_outcomes(word))?;
-    put_bytes(out, b" ")?;
-    put_number(out, number)?;
+    put_numbered(out, b" ", number)?;
     put_whole_end(out, sense, outcome.place, &outcome.end)
 }
 
@@ -134,28 +132,12 @@ pub(crate) fn put_wholes(
     Ok(())
 }
 
-/// Whether a setting is answered.
-fn is_whole(outcome: &WholeOutcome) -> bool
-    ensures { result ≡ is_whole_end outcome.now.end }
-{
-    match outcome.end {
-        WholeEnd::Whole(_) => true,
-        WholeEnd::Branch(_) | WholeEnd::Stop(_) => false,
+impl SettingEnd for WholeOutcome {
+    ghost answered = { λ o. is_whole o.end };
+
+    fn is_answered(&self) -> bool {
+        matches!(&self.end, WholeEnd::Whole(_))
     }
-}
-
-/// How many settings are answered.
-fn answered(outcomes: &[WholeOutcome]) -> usize
-    ensures { result ≡ count_by (λ o. is_whole_end o.end) outcomes.now }
-{
-    outcomes.iter().filter(|o| is_whole(o)).count()
-}
-
-/// How many settings are stopped.
-fn stopped(outcomes: &[WholeOutcome]) -> usize
-    ensures { result ≡ count_by (λ o. not (is_whole_end o.end)) outcomes.now }
-{
-    outcomes.iter().filter(|o| !is_whole(o)).count()
 }
 
 /// Appends the line that counts the settings.
@@ -166,5 +148,5 @@ pub(crate) fn put_whole_counts(
 ) -> Result<(), AllocError>
     ensures { OnOk result (out.new.items ≡ out.old.items ++ whole_count_line outcomes.now) }
 {
-    put_count_line(out, answered(outcomes), stopped(outcomes))
+    put_setting_counts(out, outcomes)
 }

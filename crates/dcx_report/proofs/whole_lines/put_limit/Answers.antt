@@ -6,4 +6,4 @@ use Rattle.dcx_report.proofs.whole_lines.put_limit.Goals as goal
 
 pub returns : goal.returns
 unfolding limit_text
-returns c = IfOk-equal _ _ _ _ c.put_bytes-2.ensures (rw (c.in_ok-put_number.ensures, c.from.ensures, c.in_ok-put_bytes.ensures) (simp append_assoc))
+returns c = IfOk-equal _ _ _ _ c.put_bytes.ensures (rw (c.in_ok-put_numbered.ensures, c.from.ensures) (simp append_assoc))

@@ -1,6 +1,6 @@
 use Rattle.std.proofs.Common.{rules}
 use Rattle.std.proofs.iter.runs.Made.{chains}
-use Rattle.dcx_report.proofs.report.answers.Goals as goal
+use Rattle.dcx_report.proofs.counts.answers.Goals as goal
 
 pub returns : goal.returns
-returns c = search (rules, chains)
+returns g c = search (rules, chains)
