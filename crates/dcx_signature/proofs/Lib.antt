@@ -1,3 +1,4 @@
 -- The lemmas.
 pub mod Ranges
 pub mod ItemsSeen
+pub mod BoundSeen

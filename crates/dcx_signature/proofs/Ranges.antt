@@ -1,5 +1,5 @@
 -- The numbers of a range are whole numbers of 128 bits, and as such they are fractions.
-use Rattle.std.specs.Prelude.{◌≡◌, ℕ, suc, ◌*◌, ◌<◌, pos, negsuc, ℤ, ◌+ℤ◌, ◌-ℤ◌, ◌*ℤ◌, ◌<ℤ◌, int_le, unsigned_abs, Bool, true, false, if◌then◌else◌, length, slice_get, Some, None}
+use Rattle.std.specs.Prelude.{◌≡◌, ℕ, suc, ◌*◌, ◌<◌, pos, negsuc, ℤ, ◌+ℤ◌, ◌-ℤ◌, ◌*ℤ◌, ◌<ℤ◌, ◌≤ℤ◌, int_le, unsigned_abs, Bool, true, false, if◌then◌else◌, length, slice_get, Some, None}
 use Rattle.std.proofs.Common.{ap, ◌∙◌, subst, arith, lit<}
 use Rattle.std.specs.Int.{saturate_signed}
 use Rattle.std.proofs.lemmas.Int.{ints}
@@ -38,6 +38,12 @@ pub reached_down : (first step r : ℤ) (n k way : ℕ) → AreInside first step
 reached_down first (pos m) r n k way inside h down e is = absurd (omega (arith, ints, down))
 reached_down first (negsuc m) r n k way inside h down e is =
     is ∙ (rw (e, way_down first k m) (saturated (first +ℤ pos k *ℤ negsuc m) (inside k h)))
+
+-- and upwards
+pub reached_up : (first step r : ℤ) (n k way : ℕ) → AreInside first step n → k < n → pos 0 ≤ℤ step → way ≡ k * unsigned_abs step → r ≡ saturate_signed w128 (first +ℤ pos way)
+    → r ≡ first +ℤ pos k *ℤ step
+reached_up first (pos m) r n k way inside h up e is = is ∙ (rw e (saturated (first +ℤ pos k *ℤ pos m) (inside k h)))
+reached_up first (negsuc m) r n k way inside h up e is = absurd (omega (arith, ints, up))
 
 -- ---- whole numbers as fractions
 pub whole_is : (n : ℤ) → whole n /ℚ whole (pos 1) ≡ whole n

@@ -1,5 +1,5 @@
 //! How arguments are given, by position and by name, and the order of the faults that they cause.
-ghost use Rattle.std.specs.Prelude.{◌≡◌, ◌++◌, IfOk, OnOk, filter, find, map, option_copied, option_map, slice_get};
+ghost use Rattle.std.specs.Prelude.{◌≡◌, [], ◌∷◌, ◌++◌, IfOk, OnOk, filter, find, map, option_copied, option_map, slice_get};
 ghost use Rattle.std.specs.List.{list_any, list_all};
 ghost use Rattle.dcx_point.specs.Pairs.{same_name};
 ghost use Rattle.dcx_shape.specs.Shape.{sides_of};
@@ -211,6 +211,21 @@ fn push_word(before: &mut Vec<&'static str>, param: &Option<Param>) -> Result<()
     Ok(())
 }
 
+/// Adds an argument with what it is given for, and that it was given.
+fn push_match<'a>(
+    matches: &mut Vec<Assignment<'a>>,
+    before: &mut Vec<&'static str>,
+    given: Given<'a>,
+    param: Option<Param>,
+) -> Result<(), AllocError>
+    ensures matches { OnOk result (matches.new.items ≡ matches.old.items ++ (record { given = given.entry; param = param }) ∷ []) }
+    ensures before { OnOk result (words before.new.items ≡ words before.old.items ++ meaning.word_of (option_map param_seen param)) }
+{
+    matches.push(Assignment { given, param })?;
+    push_word(before, &param)?;
+    Ok(())
+}
+
 /// What each argument is given for, as they are written.
 fn matches_of<'a>(
     alloc: Global,
@@ -219,17 +234,13 @@ fn matches_of<'a>(
 ) -> Result<Vec<Assignment<'a>>, AllocError>
     ensures { IfOk result (λ v. map assignment_seen v.items ≡ meaning.matched (row_seen row.now) (map given_seen given.entry.items)) }
 {
-    let mut matches = Vec::with_capacity(alloc, given.len())?;
+    let mut matches = Vec::new(alloc);
     let mut before: Vec<&'static str> = Vec::new(alloc);
     let mut named = false;
     for argument in given {
         let param = param_for(row, matches.len(), named, &before, argument.word);
-        push_word(&mut before, &param)?;
         named = named || argument.word.is_some();
-        matches.push(Assignment {
-            given: argument,
-            param,
-        })?;
+        push_match(&mut matches, &mut before, argument, param)?;
     }
     Ok(matches)
 }
@@ -301,18 +312,28 @@ fn all_right(x: Option<Shape>, matches: &[Assignment]) -> Result<(), ElabFault>
     Ok(())
 }
 
+/// Adds an argument under the word for which it is given, where it is given for something.
+fn push_bound(arguments: &mut Vec<Argument>, argument: Assignment) -> Result<(), AllocError>
+    ensures { OnOk result (map argument_seen arguments.new.items ≡ map argument_seen arguments.old.items ++ meaning.bound_of (assignment_seen argument.entry ∷ [])) }
+{
+    let Some(param) = argument.param else {
+        drop(argument);
+        return Ok(());
+    };
+    arguments.push(Argument {
+        word: param.word,
+        value: argument.given.value,
+    })?;
+    Ok(())
+}
+
 /// What was given, under the words for which it was given.
 fn bound_of(alloc: Global, matches: Vec<Assignment>) -> Result<Bound, AllocError>
     ensures { IfOk result (λ b. b ≡ meaning.bound_of (map assignment_seen matches.entry.items)) }
 {
-    let mut arguments = Vec::with_capacity(alloc, matches.len())?;
+    let mut arguments = Vec::new(alloc);
     for argument in matches {
-        if let Some(param) = argument.param {
-            arguments.push(Argument {
-                word: param.word,
-                value: argument.given.value,
-            })?;
-        }
+        push_bound(&mut arguments, argument)?;
     }
     Ok(Bound { arguments })
 }
@@ -351,9 +372,13 @@ pub fn arguments(
 {
     let matches = matches_of(alloc, &row, given)?;
     let x = shape_of_x(tree, &matches);
-    all_right(x, &matches)?;
+    if let Err(fault) = all_right(x, &matches) {
+        drop(matches);
+        return Err(fault);
+    }
     let bound = bound_of(alloc, matches)?;
     if !are_given(&row, &bound) {
+        drop(bound);
         return Err(ElabFault::BadArgument(place));
     }
     Ok(bound)

@@ -1,5 +1,5 @@
 //! The calls of the language as a table: their names, and their arguments in order.
-ghost use Rattle.std.specs.Prelude.{◌≡◌, map};
+ghost use Rattle.std.specs.Prelude.{◌≡◌, map, MatchOption};
 ghost use Rattle.std.specs.List.{list_any};
 ghost use Rattle.std.specs.Map.{lookup};
 ghost use Rattle.dcx_point.specs.Pairs.{same_name};
@@ -491,47 +491,57 @@ fn several() -> Row
     }
 }
 
+/// The arguments of a call that takes no more than these; none of one that takes any number of expressions.
+fn params_of(function: Function) -> Option<&'static [Param]>
+    ensures { MatchOption result (table.row function ≡ table.at_least 2 Takes.Expression) (λ ps. table.row function ≡ table.these (map param_seen ps.now)) }
+{
+    match function {
+        Function::Range => Some(RANGE),
+        Function::Variable => Some(VARIABLE),
+        Function::Parameter => Some(PARAMETER),
+        Function::Constant => Some(CONSTANT),
+        Function::Minimize => Some(OBJECTIVE),
+        Function::Maximize => Some(OBJECTIVE),
+        Function::Problem => Some(PROBLEM),
+        Function::Array => Some(ARRAY),
+        Function::Ones => Some(FILLED),
+        Function::Zeros => Some(FILLED),
+        Function::Eye => Some(EYE),
+        Function::Multiply => Some(MULTIPLY),
+        Function::Vectorize => Some(ONE),
+        Function::Reshape => Some(RESHAPE),
+        Function::Sum => Some(ALONG),
+        Function::Mean => Some(ALONG),
+        Function::CumSum => Some(ALONG),
+        Function::Diff => Some(DIFF),
+        Function::Trace => Some(MATRIX),
+        Function::Diag => Some(ONE),
+        Function::HStack => Some(STACK),
+        Function::VStack => Some(STACK),
+        Function::Abs => Some(ONE),
+        Function::Pos => Some(ONE),
+        Function::Neg => Some(ONE),
+        Function::Maximum => None,
+        Function::Minimum => None,
+        Function::MaxOf => Some(ALONG),
+        Function::MinOf => Some(ALONG),
+        Function::Norm1 => Some(ALONG),
+        Function::NormInf => Some(ALONG),
+        Function::SumLargest => Some(SHARE),
+        Function::SumSmallest => Some(SHARE),
+        Function::CumMax => Some(ONE),
+        Function::Norm => Some(NORM),
+        Function::TotalVariation => Some(ONE),
+    }
+}
+
 /// The arguments that a call takes.
 pub fn row_of(function: Function) -> Row
     ensures { row_seen result ≡ table.row function }
 {
-    match function {
-        Function::Range => these(RANGE),
-        Function::Variable => these(VARIABLE),
-        Function::Parameter => these(PARAMETER),
-        Function::Constant => these(CONSTANT),
-        Function::Minimize => these(OBJECTIVE),
-        Function::Maximize => these(OBJECTIVE),
-        Function::Problem => these(PROBLEM),
-        Function::Array => these(ARRAY),
-        Function::Ones => these(FILLED),
-        Function::Zeros => these(FILLED),
-        Function::Eye => these(EYE),
-        Function::Multiply => these(MULTIPLY),
-        Function::Vectorize => these(ONE),
-        Function::Reshape => these(RESHAPE),
-        Function::Sum => these(ALONG),
-        Function::Mean => these(ALONG),
-        Function::CumSum => these(ALONG),
-        Function::Diff => these(DIFF),
-        Function::Trace => these(MATRIX),
-        Function::Diag => these(ONE),
-        Function::HStack => these(STACK),
-        Function::VStack => these(STACK),
-        Function::Abs => these(ONE),
-        Function::Pos => these(ONE),
-        Function::Neg => these(ONE),
-        Function::Maximum => several(),
-        Function::Minimum => several(),
-        Function::MaxOf => these(ALONG),
-        Function::MinOf => these(ALONG),
-        Function::Norm1 => these(ALONG),
-        Function::NormInf => these(ALONG),
-        Function::SumLargest => these(SHARE),
-        Function::SumSmallest => these(SHARE),
-        Function::CumMax => these(ONE),
-        Function::Norm => these(NORM),
-        Function::TotalVariation => these(ONE),
+    match params_of(function) {
+        Some(params) => these(params),
+        None => several(),
     }
 }
 
