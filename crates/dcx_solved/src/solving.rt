@@ -44,7 +44,10 @@ fn read(alloc: Global, program: Program, tableau: Chained, end: &LpEnd) -> Resul
             tableau,
             answer,
         }),
-        Err(_) => Err(SolveStop::Memory),
+        Err(_) => {
+            drop((program, tableau));
+            Err(SolveStop::Memory)
+        }
     }
 }
 
@@ -55,7 +58,10 @@ fn run(alloc: Global, program: Program, limit: u64) -> Result<Solved, SolveStop>
 {
     let mut tableau = match Chained::build(alloc, &program) {
         Ok(tableau) => tableau,
-        Err(_) => return Err(SolveStop::Memory),
+        Err(_) => {
+            drop(program);
+            return Err(SolveStop::Memory);
+        }
     };
     let end = solve(&mut tableau, limit);
     match end {
@@ -66,12 +72,18 @@ fn run(alloc: Global, program: Program, limit: u64) -> Result<Solved, SolveStop>
             pivots,
             row,
             column,
-        } => Err(SolveStop::Wide(Site::Pivot {
-            pivots,
-            row,
-            column,
-        })),
-        LpEnd::PivotLimit { count } => Err(SolveStop::PivotLimit { count }),
+        } => {
+            drop((program, tableau));
+            Err(SolveStop::Wide(Site::Pivot {
+                pivots,
+                row,
+                column,
+            }))
+        }
+        LpEnd::PivotLimit { count } => {
+            drop((program, tableau));
+            Err(SolveStop::PivotLimit { count })
+        }
     }
 }
 
