@@ -1,6 +1,7 @@
 -- The program that whole rows make up.
-use Rattle.std.proofs.Common.{◌≡◌, ℕ, suc, ◌≤◌, List, [], ◌∷◌, ◌++◌, length, map, Result, Ok, Err, Some, refl, sym, ap, ap₂, ◌∙◌, subst}
+use Rattle.std.proofs.Common.{◌≡◌, ℕ, suc, ◌≤◌, arith, List, [], ◌∷◌, ◌++◌, length, map, Result, Ok, Err, Some, refl, sym, ap, ap₂, ◌∙◌, subst}
 use Rattle.std.specs.Prelude.{slice_get}
+use Rattle.std.proofs.lemmas.List.{length-map}
 use Rattle.std.specs.List.{All, Contains}
 use Rattle.dcx_linear.specs.declared.row.RowKind.TheVariants.{Equal}
 use Rattle.dcx_linear.specs.declared.row.UnknownKind.{UnknownKind}
@@ -25,6 +26,18 @@ use Rattle.dcx_std.proofs.ColumnLaws.{plain_length}
 use Rattle.dcx_std.proofs.ProgramForm.{program_form, wholes_count}
 use Rattle.dcx_std.proofs.Making.{wholes_small, wholes_there, columns_few, made_widths, made_smalls, gives_so, passing_none}
 use Rattle.dcx_std.proofs.Stopping.{phase_stop}
+
+-- ---- the rows are few
+pub rows_few : (rows : GivenRows) (w : WholeProgram) (vs : List WholeRow) → IsFitting rows → AreWhole rows w → vs ≡ w.rows.items → length vs ≤ 600
+rows_few rows w vs fits whole v =
+    let count = wholes_count (length rows.kinds) rows.rows w.rows.items whole.are in
+    let same = ap length v in
+    omega (arith, count, same, fits.0)
+
+pub starts_few : (n : ℕ) (vs : List WholeRow) (starts read : List Start) → length vs ≤ 600 → starts ≡ map (start_of n) vs → read ≡ starts → length read ≤ 600
+starts_few n vs starts read few s e =
+    let same = ap length (e ∙ s) ∙ length-map vs (start_of n) in
+    omega (arith, same, few)
 
 -- ---- the columns, put one after the other
 module _ (kinds ks : List UnknownKind) (ws vs : List WholeRow) (starts first second : List Start) (plain : List ColumnKind)
