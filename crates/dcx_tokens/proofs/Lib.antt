@@ -11,3 +11,4 @@ pub mod OneReading
 pub mod Readings
 pub mod Spans
 pub mod Texts
+mod Words

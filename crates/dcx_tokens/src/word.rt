@@ -2,6 +2,7 @@
 ghost use Rattle.std.specs.Prelude.{◌≡◌, ◌≤◌, ◌<◌, ◌+◌, length};
 ghost use Rattle.std.specs.Cmp.Lexicographic.{pointwise};
 ghost use Rattle.std.specs.Prelude.{nat_eq, codes};
+ghost use Rattle.std.specs.List.{list_any};
 ghost use Rattle.dcx_tokens.specs.Word.{keyword_of, is_other_word};
 
 use crate::token::{Keyword, TokenKind};
@@ -25,38 +26,31 @@ fn is_word(chars: &[char], text: &str) -> bool
     rest.is_empty()
 }
 
+/// The keywords of Python that no rule of the grammar takes.
+const OTHERS: [&str; 28] = [
+    "and", "assert", "async", "await", "break", "class", "continue", "def", "del", "elif", "else",
+    "except", "finally", "from", "global", "if", "is", "lambda", "nonlocal", "not", "or", "pass",
+    "raise", "return", "try", "while", "with", "yield",
+];
+
+/// Whether these are the characters of one of the texts of ASCII.
+fn is_any_word(chars: &[char], texts: &[&str]) -> bool
+    ensures { result ≡ list_any (λ text. pointwise nat_eq chars.now text.now) texts.now }
+{
+    for text in texts {
+        if is_word(chars, text) {
+            return true;
+        }
+    }
+    false
+}
+
 /// Whether this is a keyword of Python that no rule of the grammar takes.
 fn is_other(word: &[char]) -> bool
     ensures { result ≡ is_other_word word.now }
 {
-    is_word(word, "and")
-        || is_word(word, "assert")
-        || is_word(word, "async")
-        || is_word(word, "await")
-        || is_word(word, "break")
-        || is_word(word, "class")
-        || is_word(word, "continue")
-        || is_word(word, "def")
-        || is_word(word, "del")
-        || is_word(word, "elif")
-        || is_word(word, "else")
-        || is_word(word, "except")
-        || is_word(word, "finally")
-        || is_word(word, "from")
-        || is_word(word, "global")
-        || is_word(word, "if")
-        || is_word(word, "is")
-        || is_word(word, "lambda")
-        || is_word(word, "nonlocal")
-        || is_word(word, "not")
-        || is_word(word, "or")
-        || is_word(word, "pass")
-        || is_word(word, "raise")
-        || is_word(word, "return")
-        || is_word(word, "try")
-        || is_word(word, "while")
-        || is_word(word, "with")
-        || is_word(word, "yield")
+    let others: [&str; 28] = OTHERS;
+    is_any_word(word, others.as_slice())
 }
 
 /// The keyword that a word is.
