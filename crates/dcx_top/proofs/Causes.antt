@@ -44,7 +44,7 @@ use Rattle.dcx_top.proofs.Named.{unasked, allowed, allowed_reading}
 use Rattle.dcx_top.specs.Whole.{HasNoWhole, HasWhole, IsRefusedForWhole, RefusesWhole, Takes}
 use Rattle.dcx_top.specs.declared.solving.Task.{Task}
 use Rattle.dcx_top.specs.declared.solving.Task.TheVariants as tasks
-use Rattle.dcx_top.specs.Runs.{GivesProblem, IsSolvedRun, IsBranchedRun, OrWhole, SolvesAt, BranchesAt, AnswersAt, TriesAt, CertifiesAt, FiltersAt, DoesAt, DoesFrom, task_refuses, command_for, GivesSettings, GivesSections, EndsFiles, at_script, at_whole, at_settings, at_certificate, at_memory, HasCertificate, ReadsSections, HasPassed, misread, failed, long_script, bad_script, for_whole, for_range, bad_settings, long_certificate, no_script, no_settings, no_certificate, CountsAtMostBeginning, RangesFrom, lacking, ending, ranging, wanting, Causes}
+use Rattle.dcx_top.specs.Runs.{GivesProblem, IsSolvedRun, IsBranchedRun, OrWhole, SolvesAt, BranchesAt, AnswersAt, TriesAt, CertifiesAt, DoesAt, DoesFrom, task_refuses, command_for, GivesSettings, GivesSections, EndsFiles, at_script, at_whole, at_settings, at_certificate, at_memory, HasCertificate, ReadsSections, HasPassed, misread, failed, long_script, bad_script, for_whole, for_range, bad_settings, long_certificate, no_script, no_settings, no_certificate, CountsAtMostBeginning, RangesFrom, lacking, ending, ranging, wanting, Causes}
 
 pub judged_of : (bytes : List ℕ) (a : Accepted) → Gives bytes (Ok a) → IsJudged a.work.problem a.verdict
 judged_of bytes a g = (acceptance bytes a g).judged
@@ -229,19 +229,8 @@ pub certificate_at : (p : Problem) (limit : ℕ) (settings : List Pairs) (c : Se
 certificate_at p limit settings c stopped old new r is flag mapped anew h = told_at p limit settings c stopped old new r is flag (record { mapped = mapped; anew = anew }) h
 
 -- ---- what is asked is done
--- at the settings that the slice holds
-pub task_resolved : (work : Work) (limit : ℕ) (settings slice : List Pairs) (task : Task) (warm : Bool) (old new : ℕ) (r : Run) → task ≡ tasks.Resolve warm → slice ≡ settings → DoesAt (tasks.Resolve warm) work limit slice old new r →
-    DoesAt task work limit settings old new r
-task_resolved work limit settings slice task warm old new r is same h =
-    subst (λ (t : Task). DoesAt t work limit settings old new r) (sym is) (subst (λ (s : List Pairs). DoesAt (tasks.Resolve warm) work limit s old new r) same h)
-
-pub task_certified : (work : Work) (limit : ℕ) (settings slice : List Pairs) (task : Task) (old new : ℕ) (r : Run) → task ≡ tasks.Certificate → slice ≡ settings → CertifiesAt work.problem limit slice old new r → DoesAt task work limit settings old new r
-task_certified work limit settings slice task old new r is same h =
-    subst (λ (t : Task). DoesAt t work limit settings old new r) (sym is) (subst (λ (s : List Pairs). DoesAt tasks.Certificate work limit s old new r) same h)
-
-pub task_filtered : (work : Work) (limit : ℕ) (settings slice : List Pairs) (task : Task) (old new : ℕ) (r : Run) → task ≡ tasks.Filter → slice ≡ settings → FiltersAt work.problem limit slice old new r → DoesAt task work limit settings old new r
-task_filtered work limit settings slice task old new r is same h =
-    subst (λ (t : Task). DoesAt t work limit settings old new r) (sym is) (subst (λ (s : List Pairs). DoesAt tasks.Filter work limit s old new r) same h)
+pub task_done : (work : Work) (limit : ℕ) (settings : List Pairs) (asked task : Task) (old new : ℕ) (r : Run) → asked ≡ task → DoesAt task work limit settings old new r → DoesAt asked work limit settings old new r
+task_done work limit settings asked task old new r is h = subst (λ (t : Task). DoesAt t work limit settings old new r) (sym is) h
 
 -- ---- command by command
 -- what is asked at the settings of a file

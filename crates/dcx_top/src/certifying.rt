@@ -16,6 +16,7 @@ use crate::files::{read_certificate, read_script, read_settings, refused_at};
 use crate::whole::refuse_whole;
 use dcx_cert_text::write_cert;
 use dcx_certificates::{check_sections, migrate as with_values};
+use dcx_elab::Work;
 use dcx_front::Accepted;
 use dcx_host::Library;
 use dcx_overlay::all_laid_over;
@@ -61,6 +62,7 @@ fn read_at<L: Library>(
     ensures never_falls { L.faults library.old ≤ L.faults library.new }
 {
     let Ok(count) = u32::try_from(settings.len()) else {
+        drop((problem, settings));
         return Err(Run::Memory);
     };
     match read_certificate(alloc, certificate, &problem, count, library) {
@@ -69,7 +71,10 @@ fn read_at<L: Library>(
             settings,
             sections,
         }),
-        Err(run) => Err(run),
+        Err(run) => {
+            drop((problem, settings));
+            Err(run)
+        }
     }
 }
 
@@ -87,9 +92,19 @@ fn read_sections<L: Library>(
     ensures same { L.told library.new ≡ L.told library.old }
     ensures never_falls { L.faults library.old ≤ L.faults library.new }
 {
-    match all_laid_over(alloc, &accepted.work.last, lines.as_slice()) {
-        Ok(settings) => read_at(alloc, accepted.work.problem, settings, certificate, library),
-        Err(_) => Err(Run::Memory),
+    let Accepted { work, verdict } = accepted;
+    let Work {
+        problem,
+        events,
+        last,
+    } = work;
+    drop((verdict, events));
+    match all_laid_over(alloc, &last, lines.as_slice()) {
+        Ok(settings) => read_at(alloc, problem, settings, certificate, library),
+        Err(_) => {
+            drop(problem);
+            Err(Run::Memory)
+        }
     }
 }
 
@@ -107,11 +122,15 @@ fn read_all<L: Library>(
 {
     let accepted = read_script(alloc, script, library)?;
     if let Some(refusal) = refuse_whole(&accepted.work.problem) {
+        drop(accepted);
         return Err(Run::Refused(refusal));
     }
     match read_settings(alloc, settings, library) {
         Ok(lines) => read_sections(alloc, accepted, &lines, certificate, library),
-        Err(run) => Err(run),
+        Err(run) => {
+            drop(accepted);
+            Err(run)
+        }
     }
 }
 
@@ -136,8 +155,14 @@ pub(crate) fn certify<L: Library>(
         &files.settings,
         files.sections.list.as_slice(),
     ) {
-        Ok(sections) => Run::Certified { sections },
-        Err(refused) => refused_at(refused.section, refused.fault),
+        Ok(sections) => {
+            drop(files);
+            Run::Certified { sections }
+        }
+        Err(refused) => {
+            drop(files);
+            refused_at(refused.section, refused.fault)
+        }
     }
 }
 
@@ -152,8 +177,14 @@ fn migrated(alloc: Global, files: Certified) -> Run
         sections,
     } = files;
     match with_values(alloc, &problem, &settings, sections) {
-        Ok(sections) => written(alloc, &sections, false),
-        Err(_) => Run::Memory,
+        Ok(sections) => {
+            drop((problem, settings));
+            written(alloc, &sections, false)
+        }
+        Err(_) => {
+            drop((problem, settings));
+            Run::Memory
+        }
     }
 }
 
@@ -179,6 +210,9 @@ pub(crate) fn migrate<L: Library>(
         files.sections.list.as_slice(),
     ) {
         Ok(_) => migrated(alloc, files),
-        Err(refused) => refused_at(refused.section, refused.fault),
+        Err(refused) => {
+            drop(files);
+            refused_at(refused.section, refused.fault)
+        }
     }
 }

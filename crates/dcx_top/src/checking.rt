@@ -15,7 +15,11 @@ pub(crate) fn check<L: Library>(alloc: Global, script: &str, library: &mut L) ->
     ensures same { L.told library.new ≡ L.told library.old }
 {
     match read_script(alloc, script, library) {
-        Ok(accepted) => Run::Checked(accepted.checked()),
+        Ok(accepted) => {
+            let run = Run::Checked(accepted.checked());
+            drop(accepted);
+            run
+        }
         Err(run) => run,
     }
 }

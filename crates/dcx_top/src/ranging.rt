@@ -131,7 +131,10 @@ fn range_work<L: Library, S: Ledger>(
             drop(session);
             run
         }
-        Err(_) => Run::Memory,
+        Err(given_back) => {
+            drop(given_back);
+            Run::Memory
+        }
     }
 }
 
@@ -151,6 +154,7 @@ fn range_file<L: Library, S: Ledger>(
     ensures never_falls { L.faults library.old ≤ L.faults library.new }
 {
     if let Some(refusal) = refuse_whole(&accepted.work.problem) {
+        drop(accepted);
         return Run::Refused(refusal);
     }
     match name_of(alloc, parameter) {
@@ -164,7 +168,10 @@ fn range_file<L: Library, S: Ledger>(
             library,
             steps,
         ),
-        Err(_) => Run::Memory,
+        Err(_) => {
+            drop(accepted);
+            Run::Memory
+        }
     }
 }
 

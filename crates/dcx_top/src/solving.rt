@@ -209,16 +209,49 @@ fn solve_events<S: Ledger>(
     ensures { AnswersAt Word.Solve accepted.work.problem limit accepted.work.events steps.old steps.new result }
 {
     let Accepted { work, verdict } = accepted;
-    let events = work.events;
+    let Work {
+        problem,
+        events,
+        last,
+    } = work;
+    drop(last);
     answered_at(
         alloc,
-        work.problem,
+        problem,
         verdict,
         events.as_slice(),
         Word::Solve,
         limit,
         steps,
     )
+}
+
+/// What is asked of an accepted problem at settings.
+fn do_at<S: Ledger>(
+    alloc: Global,
+    accepted: Accepted,
+    settings: &[Setting],
+    task: Task,
+    limit: u64,
+    steps: &mut Steps<S>,
+) -> Run
+    requires { IsJudged accepted.work.problem accepted.verdict }
+    ensures { DoesAt task accepted.work limit settings.now steps.old steps.new result }
+{
+    let Accepted { work, verdict } = accepted;
+    let Work {
+        problem,
+        events,
+        last,
+    } = work;
+    drop((events, last));
+    match task {
+        Task::Resolve { warm } => {
+            resolved_at(alloc, problem, verdict, settings, limit, warm, steps)
+        }
+        Task::Certificate => certified_at(alloc, problem, verdict, settings, limit, steps),
+        Task::Filter => filtered_at(alloc, problem, verdict, settings, limit, steps),
+    }
 }
 
 /// What is asked of an accepted problem at the lines of a settings file, each laid over the setting that its script ends with.
@@ -234,17 +267,12 @@ fn do_lines<S: Ledger>(
     requires full { Every (Every IsFull) lines.now }
     ensures { ((result ≡ Run.Memory) × (steps.new ≡ steps.old)) ⊎ ((settings : List Pairs) × AreLaidOver accepted.work.last lines.now settings × DoesAt task accepted.work limit settings steps.old steps.new result) }
 {
-    let Accepted { work, verdict } = accepted;
-    let Ok(settings) = all_laid_over(alloc, &work.last, lines.as_slice()) else {
-        return Run::Memory;
-    };
-    let problem = work.problem;
-    match task {
-        Task::Resolve { warm } => resolved_at(
-            alloc, problem, verdict, &settings, limit, warm, steps,
-        ),
-        Task::Certificate => certified_at(alloc, problem, verdict, &settings, limit, steps),
-        Task::Filter => filtered_at(alloc, problem, verdict, &settings, limit, steps),
+    match all_laid_over(alloc, &accepted.work.last, lines.as_slice()) {
+        Ok(settings) => do_at(alloc, accepted, &settings, task, limit, steps),
+        Err(_) => {
+            drop(accepted);
+            Run::Memory
+        }
     }
 }
 
@@ -261,9 +289,16 @@ fn tried_at<S: Ledger>(
     ensures { TriesAt work size limit steps.old steps.new result }
 {
     let Ok(settings) = trial_settings(alloc, &work.last) else {
+        drop((work, verdict));
         return Run::Memory;
     };
-    match outcomes(alloc, work.problem, verdict, &settings, limit, false, steps) {
+    let Work {
+        problem,
+        events,
+        last,
+    } = work;
+    drop((events, last));
+    match outcomes(alloc, problem, verdict, &settings, limit, false, steps) {
         Ok(found) => Run::Trial {
             size,
             outcomes: found.outcomes,
@@ -284,7 +319,10 @@ fn solve_trial<S: Ledger>(
     ensures { OrWhole ⊤ accepted.work.problem (TriesAt accepted.work size limit steps.old steps.new) steps.old steps.new result }
 {
     match refuse_whole(&accepted.work.problem) {
-        Some(refusal) => Run::Refused(refusal),
+        Some(refusal) => {
+            drop(accepted);
+            Run::Refused(refusal)
+        }
         None => tried_at(alloc, accepted.work, accepted.verdict, size, limit, steps),
     }
 }
@@ -343,11 +381,15 @@ fn do_file<L: Library, S: Ledger>(
     ensures never_falls { L.faults library.old ≤ L.faults library.new }
 {
     if let Some(refusal) = whole_refusal(&accepted.work.problem, task) {
+        drop(accepted);
         return Run::Refused(refusal);
     }
     match read_settings(alloc, settings, library) {
         Ok(lines) => do_lines(alloc, accepted, &lines, task, limit, steps),
-        Err(run) => run,
+        Err(run) => {
+            drop(accepted);
+            run
+        }
     }
 }
 

@@ -1,10 +1,15 @@
 -- The variable that is read is the first one that is to be whole.
-use Rattle.std.proofs.Common.{◌≡◌, inl, refl, sym, subst, ◌∙◌}
+use Rattle.std.proofs.Common.{◌≡◌, length, inl, refl, sym, ap, subst, ◌∙◌, arith}
 use Rattle.std.proofs.lemmas.Option.{same_Some}
 use Rattle.dcx_call.specs.declared.attribute.Variable.{Variable}
 use Rattle.dcx_top.specs.Stands.{StandsAt}
 use Rattle.dcx_top.proofs.Marked.{read_at, whole_within}
 use Rattle.dcx_top.proofs.whole.refused.Goals as goal
+
+pub bounds-as_slice-k : goal.bounds-as_slice-k
+bounds-as_slice-k c =
+    let size = ap length c.as_slice.ensures in
+    omega (arith, whole_within c.args.problem.now c.args.k c.requires.is, size)
 
 pub place_of-requires : goal.place_of-requires
 place_of-requires c =
