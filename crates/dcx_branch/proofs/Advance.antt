@@ -23,15 +23,15 @@ use Rattle.dcx_lp_answer.specs.declared.answer.LpStatus.{LpStatus}
 use Rattle.dcx_lp_answer.specs.declared.answer.LpStatus.TheVariants as status
 use Rattle.dcx_lp_answer.specs.Right.{multiplier_at}
 use Rattle.dcx_std.specs.Solutions.{linear_program}
-use Rattle.dcx_solved.specs.declared.solving.Solved.{Solved}
-use Rattle.dcx_solved.specs.declared.stop.SolveStop.{SolveStop}
-use Rattle.dcx_solved.specs.declared.stop.SolveStop.TheVariants as solves
+use Rattle.dcx_lp_solve.specs.declared.solving.Solved.{Solved}
+use Rattle.dcx_lp_solve.specs.declared.stop.SolveStop.{SolveStop}
+use Rattle.dcx_lp_solve.specs.declared.stop.SolveStop.TheVariants as solves
 use Rattle.dcx_graph.specs.Program.{Program}
 use Rattle.dcx_graph.specs.Answers.{rows_of, IsReducedAt}
-use Rattle.dcx_whole.specs.Boxes.{Box, root_box, IsWithin, at_most, at_least}
-use Rattle.dcx_whole.specs.Trees as trees
-use Rattle.dcx_whole.specs.Trees.{Shown, Tree, IsTreeOf, BoundsBelow, BoundsBy, ShowsEmpty}
-use Rattle.dcx_whole.proofs.Trees.{trees_bound, trees_show_optima, trees_show_none, root_has_all}
+use Rattle.dcx_right.specs.Boxes.{Box, root_box, IsWithin, at_most, at_least}
+use Rattle.dcx_right.specs.Trees as trees
+use Rattle.dcx_right.specs.Trees.{Shown, Tree, IsTreeOf, BoundsBelow, BoundsBy, ShowsEmpty}
+use Rattle.dcx_right.proofs.Trees.{trees_bound, trees_show_optima, trees_show_none, root_has_all}
 use Rattle.dcx_branch.specs.declared.place.Place.{Place}
 use Rattle.dcx_branch.specs.declared.bound.BoundAt.{BoundAt}
 use Rattle.dcx_branch.specs.declared.side.Side.{Side}
@@ -51,7 +51,7 @@ use Rattle.dcx_branch.specs.Places.{places}
 use Rattle.dcx_branch.specs.Sides.{box_of, open_sides, box_bounds, IsNextSide}
 use Rattle.dcx_branch.specs.Nodes.{node_program}
 use Rattle.dcx_branch.specs.Leaves.{IsLeaf}
-use Rattle.dcx_solved.specs.Stops.{run_stop}
+use Rattle.dcx_lp_solve.specs.Stops.{run_stop}
 use Rattle.dcx_branch.specs.Run.{Best, State, start, best_value, IsPruned, IsBetter, AreWhole, IsFirstSplit, unknowns_in, Turn, Cut, Found, Divided, TurnsOut, after, FormsLeaf, bounds_in, IsNode, Steps, Reaches, next, FallsAtRoot, NodeStops, at_rows, at_leaf}
 use Rattle.dcx_branch.specs.Trees.{shown_by, Lists, bound, empty, Shows}
 use Rattle.dcx_branch.specs.Answers.{IsPointAt, IsRightFor, IsEndOf}

@@ -7,7 +7,7 @@ use Rattle.dcx_call.specs.declared.attribute.Variable.{Variable}
 use Rattle.dcx_call.specs.declared.attribute.Whole.{Whole}
 use Rattle.dcx_linear.proofs.Formed.{drop_at}
 use Rattle.dcx_unknowns.specs.Unknowns.{first_unknown}
-use Rattle.dcx_whole.specs.Boxes.{Bounds, Box, mark_bounds}
+use Rattle.dcx_right.specs.Boxes.{Bounds, Box, mark_bounds}
 use Rattle.dcx_branch.specs.declared.place.Place.{Place}
 use Rattle.dcx_branch.specs.declared.bound.BoundAt.{BoundAt}
 use Rattle.dcx_branch.specs.declared.side.Side.{Side}

@@ -32,8 +32,8 @@ use Rattle.dcx_std.proofs.Solutions.{facts_of, inequality_there, unmapped_at, at
 use Rattle.dcx_std.proofs.RightAnswers.{shown_of}
 use Rattle.dcx_unknowns.specs.Layout.{constraint_rows}
 use Rattle.dcx_unknowns.specs.Unknowns.{point_at}
-use Rattle.dcx_mapping.specs.Programs as mapping
-use Rattle.dcx_mapping.specs.Programs.{gap_rows, multipliers_of}
+use Rattle.dcx_postsolve.specs.Programs as mapping
+use Rattle.dcx_postsolve.specs.Programs.{gap_rows, multipliers_of}
 use Rattle.dcx_postsolve.specs.Duals.{AreDuals, multipliers_in, first_row}
 use Rattle.dcx_postsolve.specs.Laws.{AreSameMultipliers, HaveSlacks}
 use Rattle.dcx_postsolve.proofs.Carrying.{multipliers_same, penalty_same}
@@ -42,8 +42,8 @@ use Rattle.dcx_postsolve.proofs.Lists.{in_front, behind}
 use Rattle.dcx_graph.specs.Program.{Program}
 use Rattle.dcx_graph.specs.Answers.{rows_of, IsReducedAt}
 use Rattle.dcx_graph.proofs.Slacks.{rows_enough, have_slacks, multiplier_is}
-use Rattle.dcx_whole.specs.Boxes.{Box}
-use Rattle.dcx_whole.specs.Trees.{Weight, all_exceeded, BoundsBelow, ShowsEmpty}
+use Rattle.dcx_right.specs.Boxes.{Box}
+use Rattle.dcx_right.specs.Trees.{Weight, all_exceeded, BoundsBelow, ShowsEmpty}
 use Rattle.dcx_branch.specs.declared.bound.BoundAt.{BoundAt}
 use Rattle.dcx_branch.specs.declared.tree.BoundDual.{BoundDual}
 use Rattle.dcx_branch.specs.Rows.{bound_form, bound_row, bound_rows, node_rows}

@@ -10,7 +10,7 @@ use Rattle.dcx_linear.specs.FormTerms.{Unknowns}
 use Rattle.dcx_postsolve.specs.Points.{numbered, IsPointOf}
 use Rattle.dcx_graph.specs.Program.{Program}
 use Rattle.dcx_graph.specs.Answers.{IsSamePoint}
-use Rattle.dcx_whole.specs.Points.{IsWholeOptimum, HasNoWholePoint}
+use Rattle.dcx_right.specs.Points.{IsWholeOptimum, HasNoWholePoint}
 use Rattle.dcx_branch.specs.declared.answer.WholeAnswer.{WholeAnswer}
 use Rattle.dcx_branch.specs.declared.answer.WholeAnswer.TheVariants.{Optimal, Infeasible}
 use Rattle.dcx_branch.specs.declared.answer.BranchStop.{BranchStop}

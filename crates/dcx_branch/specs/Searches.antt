@@ -14,9 +14,9 @@ use Rattle.dcx_linear.specs.Rows.{IsSolution}
 use Rattle.dcx_std.specs.Solutions.{linear_program}
 use Rattle.dcx_graph.specs.Program.{Program}
 use Rattle.dcx_graph.specs.Answers.{rows_of}
-use Rattle.dcx_whole.specs.Points.{IsWholePoint}
-use Rattle.dcx_whole.specs.Boxes.{Box, root_box}
-use Rattle.dcx_whole.specs.Trees.{Tree, IsTreeOf}
+use Rattle.dcx_right.specs.Points.{IsWholePoint}
+use Rattle.dcx_right.specs.Boxes.{Box, root_box}
+use Rattle.dcx_right.specs.Trees.{Tree, IsTreeOf}
 use Rattle.dcx_branch.specs.declared.place.Place.{Place}
 use Rattle.dcx_branch.specs.declared.side.Side.{Side}
 use Rattle.dcx_branch.specs.declared.tree.BranchNode.{BranchNode}

@@ -7,8 +7,8 @@ use Rattle.dcx_atom.specs.declared.array.Array.{Array}
 use Rattle.dcx_convex.specs.Nodes.{Setting}
 use Rattle.dcx_tree.specs.declared.problem.Problem.{Problem}
 use Rattle.dcx_postsolve.specs.Duals.{multipliers_in}
-use Rattle.dcx_whole.specs.Trees as trees
-use Rattle.dcx_whole.specs.Trees.{Weight, Shown, Tree, IsTree}
+use Rattle.dcx_right.specs.Trees as trees
+use Rattle.dcx_right.specs.Trees.{Weight, Shown, Tree, IsTree}
 use Rattle.dcx_branch.specs.declared.tree.BoundDual.{BoundDual}
 use Rattle.dcx_branch.specs.declared.tree.BranchNode.{BranchNode}
 use Rattle.dcx_branch.specs.declared.tree.BranchNode.TheVariants.{Bound, Empty, Split}

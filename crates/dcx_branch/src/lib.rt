@@ -3,7 +3,7 @@
 //! A node has a box. Its program is the reduced program of the problem at the setting, with one row for each bound of the box after
 //! all other rows. Nodes are taken one after another, the root first. Where the rows can't be solved, where their least cost isn't
 //! below the best value so far, or where all marked entries are whole, the node is a leaf; what its answer shows of the problem is
-//! a leaf of a tree as `dcx_whole` has it, in words of points. Any other node has two sides at the first marked entry that isn't
+//! a leaf of a tree as `dcx_right` has it, in words of points. Any other node has two sides at the first marked entry that isn't
 //! whole, and the lower side comes first with all that follows from it.
 //!
 //! | what must hold | where |

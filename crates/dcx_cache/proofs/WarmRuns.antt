@@ -27,10 +27,10 @@ use Rattle.dcx_std.specs.GivenRows.{GivenRows}
 use Rattle.dcx_std.specs.IntegerRows.{IsMade, IsStopOf}
 use Rattle.dcx_std.specs.Solutions.{HasKinds}
 use Rattle.dcx_std.proofs.OneProgram as programs
-use Rattle.dcx_solved.specs.declared.solving.Solved.{Solved}
-use Rattle.dcx_solved.specs.OneSolution.{IsSameSolution}
-use Rattle.dcx_solved.proofs.OneReading.{one_reading}
-use Rattle.dcx_solved.proofs.OneSolution.{answers_are_one}
+use Rattle.dcx_lp_solve.specs.declared.solving.Solved.{Solved}
+use Rattle.dcx_lp_solve.specs.OneSolution.{IsSameSolution}
+use Rattle.dcx_lp_solve.proofs.OneReading.{one_reading}
+use Rattle.dcx_lp_solve.proofs.OneSolution.{answers_are_one}
 use Rattle.dcx_graph.specs.declared.stop.ReduceStop.{ReduceStop}
 use Rattle.dcx_graph.specs.declared.stop.ReduceStop.TheVariants as reduces
 use Rattle.dcx_graph.specs.Program.{Program}

@@ -6,7 +6,7 @@ ghost use Rattle.dcx_cert_lines.specs.Templates.{IfMisfit, HasDistinctNames, Are
 use crate::cursor::{Cursor, ReadStop};
 use crate::heads::read_format;
 use crate::section::read_section;
-use dcx_sections::{CertFault, Format, Outline, Section, SectionList, Sections};
+use dcx_cert_sections::{CertFault, Format, Outline, Section, SectionList, Sections};
 use std::alloc::Global;
 
 /// Reads so many sections into an empty list.

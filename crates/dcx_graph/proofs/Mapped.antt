@@ -29,7 +29,7 @@ use Rattle.dcx_std.proofs.RightAnswers.{one_sided, shown_of}
 use Rattle.dcx_unknowns.specs.Layout.{constraint_rows}
 use Rattle.dcx_unknowns.specs.Unknowns.{point_at}
 use Rattle.dcx_unknowns.specs.Laws.{AreAlike}
-use Rattle.dcx_mapping.specs.Programs.{multipliers_of, bound_row}
+use Rattle.dcx_postsolve.specs.Programs.{multipliers_of, bound_row}
 use Rattle.dcx_postsolve.specs.Points.{numbered}
 use Rattle.dcx_postsolve.specs.Duals.{AreDuals, multipliers_in}
 use Rattle.dcx_postsolve.specs.Laws.{ColumnsTellUnknowns, AreSameMultipliers}

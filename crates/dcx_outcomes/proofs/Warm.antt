@@ -11,7 +11,7 @@ use Rattle.dcx_tree.specs.Meaning.{IsAccepted}
 use Rattle.dcx_answer.specs.declared.answer.Answer.{Answer}
 use Rattle.dcx_answer.specs.declared.stop.Stop.{Stop}
 use Rattle.dcx_answer.specs.declared.stop.Stop.TheVariants as why
-use Rattle.dcx_solved.specs.declared.solving.Solved.{Solved}
+use Rattle.dcx_lp_solve.specs.declared.solving.Solved.{Solved}
 use Rattle.dcx_graph.specs.Program.{Program}
 use Rattle.dcx_frac.specs.declared.fraction.Frac.{Frac}
 use Rattle.dcx_outcomes.specs.declared.outcome.Outcome.{Outcome}

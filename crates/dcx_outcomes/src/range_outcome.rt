@@ -2,9 +2,8 @@
 ghost use Rattle.std.specs.Prelude.{◌≡◌, is_some};
 ghost use Rattle.dcx_outcomes.specs.NodeStops.{range_names_node};
 
-use dcx_answer::Stop;
+use dcx_answer::{RangeStop, Ranged, Stop};
 use dcx_math::List;
-use dcx_ranged::{RangeStop, Ranged};
 use dcx_shape::Place;
 
 /// A parameter's range is told at a setting, or it is stopped.

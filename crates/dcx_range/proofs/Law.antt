@@ -36,7 +36,7 @@ use Rattle.dcx_std.specs.Solutions as solutions
 use Rattle.dcx_std.specs.Solutions.{linear_program}
 use Rattle.dcx_std.proofs.Solutions.{unmapped_at}
 use Rattle.dcx_unknowns.specs.Unknowns.{point_at}
-use Rattle.dcx_mapping.specs.Programs.{multipliers_of}
+use Rattle.dcx_postsolve.specs.Programs.{multipliers_of}
 use Rattle.dcx_graph.specs.Program.{Program}
 use Rattle.dcx_graph.specs.Answers.{rows_of}
 use Rattle.dcx_graph.specs.AsLinear.{row_at, linear_at}

@@ -17,7 +17,7 @@ use Rattle.dcx_linear.specs.Parameters.{array_entry}
 use Rattle.dcx_graph.specs.Program.{Program}
 use Rattle.dcx_graph.specs.Fixed.{HaveArrays}
 use Rattle.dcx_graph.proofs.Entries.{all_at}
-use Rattle.dcx_ranged.specs.declared.not_ranged.NotRanged.TheVariants as faults
+use Rattle.dcx_answer.specs.declared.not_ranged.NotRanged.TheVariants as faults
 use Rattle.dcx_range.specs.declared.asked.Asked.{Asked}
 use Rattle.dcx_range.specs.Range.{IsAsked}
 use Rattle.dcx_range.specs.Parameters.{place_of, HasParameter, scales, IsNumber, HasSides, IsRanged, IsScaling, TellsOnce}

@@ -9,8 +9,8 @@ use Rattle.dcx_linear.specs.declared.param_form.ParamForm.{ParamForm}
 use Rattle.dcx_graph.specs.Program.{Program}
 use Rattle.dcx_graph.specs.Reduced.{Reduction}
 use Rattle.dcx_range.specs.Standing.{scales_row, scales_unknown}
-use Rattle.dcx_ranged.specs.declared.not_ranged.NotRanged.{NotRanged}
-use Rattle.dcx_ranged.specs.declared.not_ranged.NotRanged.TheVariants as faults
+use Rattle.dcx_answer.specs.declared.not_ranged.NotRanged.{NotRanged}
+use Rattle.dcx_answer.specs.declared.not_ranged.NotRanged.TheVariants as faults
 
 -- ---- where a parameter stands
 -- the position of the parameter with this name, in order of declaration; None where the problem reaches none

@@ -5,9 +5,9 @@ ghost use Rattle.dcx_graph.specs.Program.{Program};
 ghost use Rattle.dcx_range.specs.Parameters.{place_of, scales, IsNumber, IsFaultOf, program_in, IsTold};
 
 use crate::standing::{scales_row, scales_unknown};
+use dcx_answer::NotRanged;
 use dcx_graph::Reduced;
 use dcx_linear::ParamForm;
-use dcx_ranged::NotRanged;
 use dcx_shape::{Name, Sides};
 use dcx_tree::{Parameter, Problem};
 

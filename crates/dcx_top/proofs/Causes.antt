@@ -5,18 +5,18 @@ use Rattle.std.proofs.lemmas.Option.{none-some}
 use Rattle.dcx_point.specs.Pairs.{Pairs}
 use Rattle.dcx_tree.specs.declared.problem.Problem.{Problem}
 use Rattle.dcx_elab.specs.declared.work.Work.{Work}
-use Rattle.dcx_sections.specs.declared.fault.CertFault.{CertFault}
-use Rattle.dcx_sections.specs.declared.section.Sections.{Sections}
-use Rattle.dcx_sections.specs.declared.fault.CertFault.TheVariants as faults
-use Rattle.dcx_sections.specs.declared.section.Section.{Section}
+use Rattle.dcx_cert_sections.specs.declared.fault.CertFault.{CertFault}
+use Rattle.dcx_cert_sections.specs.declared.section.Sections.{Sections}
+use Rattle.dcx_cert_sections.specs.declared.fault.CertFault.TheVariants as faults
+use Rattle.dcx_cert_sections.specs.declared.section.Section.{Section}
 use Rattle.dcx_cert_lines.specs.CertText.{cert_text}
 use Rattle.dcx_cache.specs.Programs.{HasMap}
 use Rattle.dcx_outcomes.specs.Outcomes.{Counts}
 use Rattle.dcx_outcomes.specs.Warm.{AreFound}
 use Rattle.dcx_outcomes.specs.Wholes.{AreWholeOutcomes}
-use Rattle.dcx_certificates.specs.Sections.{StopsSomewhere, IsCertificateAt}
-use Rattle.dcx_certificates.specs.Checking.{is_cert, ArePassed, IsFirstRefused}
-use Rattle.dcx_certificates.specs.Migrating.{IsMigrated}
+use Rattle.dcx_cert_runs.specs.Sections.{StopsSomewhere, IsCertificateAt}
+use Rattle.dcx_cert_runs.specs.Checking.{is_cert, ArePassed, IsFirstRefused}
+use Rattle.dcx_cert_runs.specs.Migrating.{IsMigrated}
 use Rattle.dcx_host.specs.Files.{Files, IsTold}
 use Rattle.dcx_front.specs.declared.accepted.Accepted.{Accepted}
 use Rattle.dcx_refusal.specs.declared.checked.Checked.{Checked}

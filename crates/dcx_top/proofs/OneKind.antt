@@ -4,7 +4,7 @@ use Rattle.std.proofs.lemmas.Option.{none-some}
 use Rattle.dcx_tree.specs.declared.constraint.Sense.{Sense}
 use Rattle.dcx_host.specs.Files.{Files}
 use Rattle.dcx_refusal.specs.declared.checked.Checked.{Checked}
-use Rattle.dcx_sections.specs.declared.fault.CertFault.{CertFault}
+use Rattle.dcx_cert_sections.specs.declared.fault.CertFault.{CertFault}
 use Rattle.dcx_outcomes.specs.declared.outcome.Outcome.{Outcome}
 use Rattle.dcx_outcomes.specs.declared.filter_outcome.FilterOutcome.{FilterOutcome}
 use Rattle.dcx_outcomes.specs.declared.whole_outcome.WholeOutcome.{WholeOutcome}

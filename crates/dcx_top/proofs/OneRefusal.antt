@@ -6,8 +6,8 @@ use Rattle.dcx_host.specs.Files.{Files}
 use Rattle.dcx_refusal.specs.declared.checked.Checked.{Checked}
 use Rattle.dcx_refusal.specs.declared.refusal.Refusal.{Refusal}
 use Rattle.dcx_refusal.specs.declared.refusal.RefusalSource.TheVariants.{Certificate}
-use Rattle.dcx_sections.specs.declared.fault.CertFault.{CertFault}
-use Rattle.dcx_sections.specs.declared.section.Sections.{Sections}
+use Rattle.dcx_cert_sections.specs.declared.fault.CertFault.{CertFault}
+use Rattle.dcx_cert_sections.specs.declared.section.Sections.{Sections}
 use Rattle.dcx_outcomes.specs.declared.outcome.Outcome.{Outcome}
 use Rattle.dcx_outcomes.specs.declared.filter_outcome.FilterOutcome.{FilterOutcome}
 use Rattle.dcx_outcomes.specs.declared.whole_outcome.WholeOutcome.{WholeOutcome}

@@ -15,7 +15,7 @@ use Rattle.dcx_outcomes.specs.declared.filter_outcome.FilterEnd.TheVariants as f
 use Rattle.dcx_branch.specs.declared.answer.BranchStop.TheVariants.{Memory as BranchMemory}
 use Rattle.dcx_outcomes.specs.declared.whole_outcome.WholeEnd.{WholeEnd}
 use Rattle.dcx_outcomes.specs.declared.whole_outcome.WholeEnd.TheVariants as whole
-use Rattle.dcx_ranged.specs.declared.stop.RangeStop.TheVariants.{Memory as RangeMemory}
+use Rattle.dcx_answer.specs.declared.range_stop.RangeStop.TheVariants.{Memory as RangeMemory}
 use Rattle.dcx_outcomes.specs.declared.range_outcome.RangeEnd.{RangeEnd}
 use Rattle.dcx_outcomes.specs.declared.range_outcome.RangeEnd.TheVariants as range
 use Rattle.dcx_top.specs.declared.ended.Ended.{Ended}

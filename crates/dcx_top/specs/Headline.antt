@@ -22,10 +22,10 @@ use Rattle.dcx_outcomes.specs.Right.{AreRight}
 use Rattle.dcx_outcomes.specs.FilterLaws.{AreRightFilters}
 use Rattle.dcx_outcomes.specs.WholeLaws.{AreRightWholes}
 use Rattle.dcx_outcomes.specs.RangeLaws.{AreRightRanges}
-use Rattle.dcx_sections.specs.declared.section.Section.{Section}
-use Rattle.dcx_sections.specs.declared.section.Sections.{Sections}
+use Rattle.dcx_cert_sections.specs.declared.section.Section.{Section}
+use Rattle.dcx_cert_sections.specs.declared.section.Sections.{Sections}
 use Rattle.dcx_cert_lines.specs.CertText.{cert_text}
-use Rattle.dcx_certificates.specs.Checking.{is_cert, AreShown}
+use Rattle.dcx_cert_runs.specs.Checking.{is_cert, AreShown}
 use Rattle.dcx_top.specs.Commands.{IsScriptOf, parameter_name, AreSettingsOf, TellsOutcomes, TellsWholes}
 use Rattle.dcx_top.specs.Whole.{HasNoWhole}
 

@@ -13,9 +13,9 @@ use Rattle.dcx_outcomes.specs.Laws.{AreOneFound}
 use Rattle.dcx_outcomes.specs.FilterLaws.{AreAlikeFilters}
 use Rattle.dcx_outcomes.specs.WholeLaws.{AreAlikeWholes}
 use Rattle.dcx_outcomes.specs.RangeLaws.{AreAlikeRanges}
-use Rattle.dcx_sections.specs.declared.section.Sections.{Sections}
+use Rattle.dcx_cert_sections.specs.declared.section.Sections.{Sections}
 use Rattle.dcx_cert_lines.specs.CertText.{cert_text}
-use Rattle.dcx_certificates.specs.Laws.{AreAlike as AreAlikeSections}
+use Rattle.dcx_cert_runs.specs.Laws.{AreAlike as AreAlikeSections}
 use Rattle.dcx_top.specs.Runs.{GivesProblem, Causes}
 
 -- neither the library nor memory failed

@@ -27,12 +27,12 @@ use Rattle.dcx_outcomes.specs.Warm.{AreFound}
 use Rattle.dcx_outcomes.specs.Filters.{AreFilterOutcomes}
 use Rattle.dcx_outcomes.specs.Wholes.{AreWholeOutcomes}
 use Rattle.dcx_outcomes.specs.Ranges.{HasRange, AreRangeOutcomes}
-use Rattle.dcx_sections.specs.declared.fault.CertFault.{CertFault}
-use Rattle.dcx_sections.specs.declared.section.Sections.{Sections}
+use Rattle.dcx_cert_sections.specs.declared.fault.CertFault.{CertFault}
+use Rattle.dcx_cert_sections.specs.declared.section.Sections.{Sections}
 use Rattle.dcx_cert_lines.specs.CertText.{cert_text}
-use Rattle.dcx_certificates.specs.Sections.{StopsSomewhere, IsCertificateAt}
-use Rattle.dcx_certificates.specs.Checking.{is_cert, ArePassed, IsFirstRefused}
-use Rattle.dcx_certificates.specs.Migrating.{IsMigrated}
+use Rattle.dcx_cert_runs.specs.Sections.{StopsSomewhere, IsCertificateAt}
+use Rattle.dcx_cert_runs.specs.Checking.{is_cert, ArePassed, IsFirstRefused}
+use Rattle.dcx_cert_runs.specs.Migrating.{IsMigrated}
 use Rattle.dcx_top.specs.Commands.{IsScriptOf, script_name, settings_name, certificate_name, parameter_name, AreOfFile, AreSettingsOf, limit_of, TellsOutcomes, TellsWholes}
 use Rattle.dcx_top.specs.declared.solving.Task.{Task}
 use Rattle.dcx_top.specs.declared.solving.Task.TheVariants as tasks
