@@ -35,15 +35,15 @@ use Rattle.dcx_right.proofs.Trees.{trees_bound, trees_show_optima, trees_show_no
 use Rattle.dcx_branch.specs.declared.place.Place.{Place}
 use Rattle.dcx_branch.specs.declared.bound.BoundAt.{BoundAt}
 use Rattle.dcx_branch.specs.declared.side.Side.{Side}
-use Rattle.dcx_branch.specs.declared.tree.BoundDual.{BoundDual}
-use Rattle.dcx_branch.specs.declared.tree.BranchNode.{BranchNode}
-use Rattle.dcx_branch.specs.declared.tree.BranchNode.TheVariants.{Bound, Empty, Split}
+use Rattle.dcx_answer.specs.declared.branch_tree.BoundWeight.{BoundWeight}
+use Rattle.dcx_answer.specs.declared.branch_tree.BranchNode.{BranchNode}
+use Rattle.dcx_answer.specs.declared.branch_tree.BranchNode.TheVariants.{Bound, Empty, Split}
 use Rattle.dcx_branch.specs.declared.node.Taken.{Taken}
 use Rattle.dcx_branch.specs.declared.node.Taken.TheVariants as taken
 use Rattle.dcx_branch.specs.declared.node.NodeStop.{NodeStop}
 use Rattle.dcx_branch.specs.declared.node.NodeStop.TheVariants as stops
-use Rattle.dcx_branch.specs.declared.answer.BranchStop.{BranchStop}
-use Rattle.dcx_branch.specs.declared.answer.BranchStop.TheVariants.{RelaxationUnbounded, NodeLimit, Node, Memory}
+use Rattle.dcx_answer.specs.declared.whole_answer.BranchStop.{BranchStop}
+use Rattle.dcx_answer.specs.declared.whole_answer.BranchStop.TheVariants.{RelaxationUnbounded, NodeLimit, Node, Memory}
 use Rattle.dcx_branch.specs.declared.search.Best as code
 use Rattle.dcx_branch.specs.Run as run
 use Rattle.dcx_branch.specs.declared.search.Search.{Search}
@@ -147,10 +147,10 @@ module _ (p : Problem) (s : Setting) (q : Program Frac) (limit : ℕ) (given : I
     optimal : a.status ≡ status.Optimal → IsOptimal (node_program (linear_program (rows_of q)) bs) (value a.number) x (multiplier_at solved.program.columns a)
     optimal e = shown.optimal p s q given box bs (each_bound p box) fit node.known solved.program a node.solved.made node.solved.solved.right e
 
-    leaf_bounds : (duals : List Array) (bounds : List BoundDual) → a.status ≡ status.Optimal → IsLeaf p a (length q.rows) bs duals bounds → BoundsBelow p s box (value a.number) (shown_by duals bounds)
+    leaf_bounds : (duals : List Array) (bounds : List BoundWeight) → a.status ≡ status.Optimal → IsLeaf p a (length q.rows) bs duals bounds → BoundsBelow p s box (value a.number) (shown_by duals bounds)
     leaf_bounds duals bounds e is = shown.leaf_bounds p s q given box bs (each_bound p box) fit node.known solved.program a node.solved.made node.solved.solved.right e enough duals bounds is
 
-    leaf_empty : (duals : List Array) (bounds : List BoundDual) → a.status ≡ status.Infeasible → IsLeaf p a (length q.rows) bs duals bounds → ShowsEmpty p s box (shown_by duals bounds) (value a.number)
+    leaf_empty : (duals : List Array) (bounds : List BoundWeight) → a.status ≡ status.Infeasible → IsLeaf p a (length q.rows) bs duals bounds → ShowsEmpty p s box (shown_by duals bounds) (value a.number)
     leaf_empty duals bounds e is = shown.leaf_empty p s q given box bs (each_bound p box) fit node.known solved.program a node.solved.made node.solved.solved.right e enough duals bounds is
 
     within : a.status ≡ status.Optimal → Each (λ (k : Place). IsWithin (box k.variable k.entry) (x k.unknown)) (places p.variables)

@@ -10,8 +10,8 @@ use Rattle.dcx_right.specs.Points.{IsMarked}
 use Rattle.dcx_right.specs.Boxes.{Box, root_box, at_most, at_least}
 use Rattle.dcx_right.specs.Trees as trees
 use Rattle.dcx_right.specs.Trees.{Tree, IsTreeOf}
-use Rattle.dcx_branch.specs.declared.tree.BranchNode.{BranchNode}
-use Rattle.dcx_branch.specs.declared.tree.BranchNode.TheVariants.{Split}
+use Rattle.dcx_answer.specs.declared.branch_tree.BranchNode.{BranchNode}
+use Rattle.dcx_answer.specs.declared.branch_tree.BranchNode.TheVariants.{Split}
 use Rattle.dcx_branch.specs.Trees.{Lists, split, Shows}
 use Rattle.dcx_branch.specs.Searches.{IsBelow, Fills, no_boxes, one_box, Completes}
 

@@ -45,7 +45,7 @@ use Rattle.dcx_graph.proofs.Slacks.{rows_enough, have_slacks, multiplier_is}
 use Rattle.dcx_right.specs.Boxes.{Box}
 use Rattle.dcx_right.specs.Trees.{Weight, all_exceeded, BoundsBelow, ShowsEmpty}
 use Rattle.dcx_branch.specs.declared.bound.BoundAt.{BoundAt}
-use Rattle.dcx_branch.specs.declared.tree.BoundDual.{BoundDual}
+use Rattle.dcx_answer.specs.declared.branch_tree.BoundWeight.{BoundWeight}
 use Rattle.dcx_branch.specs.Rows.{bound_form, bound_row, bound_rows, node_rows}
 use Rattle.dcx_branch.specs.Nodes.{excess, bound_number, node_program, IsBoundOf, weights_from, NodesShow}
 use Rattle.dcx_branch.specs.Leaves.{bound_duals, AreBoundDuals, IsLeaf}
@@ -145,7 +145,7 @@ module _ (p : Problem) (s : Setting) (q : Program Frac) (given : IsReducedAt p s
       let scaled = scaled_program (node_rows q bs) program made in
       inequality_there (node_rows q bs) program known scaled i (facts_of (node_rows q bs) program known scaled i (bound_row b) row) (kind_of_bound b.upper b.place.unknown b.limit)
 
-  bounds_same : (ds : List BoundDual) → length q.rows + length bs ≤ length a.rows → AreBoundDuals a (length q.rows) bs ds → map weight_of ds ≡ weights_from m (length q.rows) bs
+  bounds_same : (ds : List BoundWeight) → length q.rows + length bs ≤ length a.rows → AreBoundDuals a (length q.rows) bs ds → map weight_of ds ≡ weights_from m (length q.rows) bs
   bounds_same ds enough are =
       let first = length q.rows in
       let to = first + length bs in
@@ -182,15 +182,15 @@ module _ (p : Problem) (s : Setting) (q : Program Frac) (given : IsReducedAt p s
   pub unbounded : a.status ≡ status.Unbounded → IsUnbounded (node_program l bs) x (unknowns_at program.columns (map value a.ray)) (value a.number) (value a.slope)
   unbounded e = subst (λ (k : LinearProgram). IsUnbounded k x (unknowns_at program.columns (map value a.ray)) (value a.number) (value a.slope)) linear (right_as status.Unbounded e)
 
-  weights_there : (ds : List BoundDual) → length q.rows + length bs ≤ length a.rows → AreBoundDuals a (length q.rows) bs ds → weights_from m (length l.rows) bs ≡ map weight_of ds
+  weights_there : (ds : List BoundWeight) → length q.rows + length bs ≤ length a.rows → AreBoundDuals a (length q.rows) bs ds → weights_from m (length l.rows) bs ≡ map weight_of ds
   weights_there ds enough are = ap (λ n. weights_from m n bs) (length-map q.rows row_at) ∙ sym (bounds_same ds enough are)
 
-  pub leaf_bounds : a.status ≡ status.Optimal → length q.rows + length bs ≤ length a.rows → (duals : List Array) (bounds : List BoundDual) → IsLeaf p a (length q.rows) bs duals bounds → BoundsBelow p s box (value a.number) (shown_by duals bounds)
+  pub leaf_bounds : a.status ≡ status.Optimal → length q.rows + length bs ≤ length a.rows → (duals : List Array) (bounds : List BoundWeight) → IsLeaf p a (length q.rows) bs duals bounds → BoundsBelow p s box (value a.number) (shown_by duals bounds)
   leaf_bounds e enough duals bounds leaf =
       subst (λ ws. BoundsBelow p s box (value a.number) (record { duals = multipliers_in duals; bounds = ws })) (weights_there bounds enough leaf.bounds_are)
       (below_same p s (multipliers_of (convex_problem p) m) (multipliers_in duals) (duals_same duals leaf.constraints) box (value a.number) (weights_from m (length l.rows) bs) (nodes.bound (value a.number) x m (optimal e)))
 
-  pub leaf_empty : a.status ≡ status.Infeasible → length q.rows + length bs ≤ length a.rows → (duals : List Array) (bounds : List BoundDual) → IsLeaf p a (length q.rows) bs duals bounds → ShowsEmpty p s box (shown_by duals bounds) (value a.number)
+  pub leaf_empty : a.status ≡ status.Infeasible → length q.rows + length bs ≤ length a.rows → (duals : List Array) (bounds : List BoundWeight) → IsLeaf p a (length q.rows) bs duals bounds → ShowsEmpty p s box (shown_by duals bounds) (value a.number)
   leaf_empty e enough duals bounds leaf =
       subst (λ ws. ShowsEmpty p s box (record { duals = multipliers_in duals; bounds = ws }) (value a.number)) (weights_there bounds enough leaf.bounds_are)
       (empty_same p s (multipliers_of (convex_problem p) m) (multipliers_in duals) (duals_same duals leaf.constraints) box (value a.number) (weights_from m (length l.rows) bs) (nodes.empty (value a.number) m (infeasible e)))

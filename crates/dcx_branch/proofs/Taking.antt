@@ -27,7 +27,7 @@ use Rattle.dcx_graph.specs.Program.{Program}
 use Rattle.dcx_right.specs.Points.{IsWhole}
 use Rattle.dcx_branch.specs.declared.place.Place.{Place}
 use Rattle.dcx_branch.specs.declared.bound.BoundAt.{BoundAt}
-use Rattle.dcx_branch.specs.declared.tree.BranchNode.{BranchNode}
+use Rattle.dcx_answer.specs.declared.branch_tree.BranchNode.{BranchNode}
 use Rattle.dcx_branch.specs.declared.node.Taken.{Taken}
 use Rattle.dcx_branch.specs.declared.node.NodeStop.{NodeStop}
 use Rattle.dcx_branch.specs.declared.node.NodeStop.TheVariants as stops

@@ -19,14 +19,14 @@ use Rattle.dcx_right.specs.Boxes.{Box, root_box}
 use Rattle.dcx_right.specs.Trees.{Tree, IsTreeOf}
 use Rattle.dcx_branch.specs.declared.place.Place.{Place}
 use Rattle.dcx_branch.specs.declared.side.Side.{Side}
-use Rattle.dcx_branch.specs.declared.tree.BranchNode.{BranchNode}
-use Rattle.dcx_branch.specs.declared.tree.BranchNode.TheVariants.{Split}
+use Rattle.dcx_answer.specs.declared.branch_tree.BranchNode.{BranchNode}
+use Rattle.dcx_answer.specs.declared.branch_tree.BranchNode.TheVariants.{Split}
 use Rattle.dcx_branch.specs.declared.node.Taken.{Taken}
 use Rattle.dcx_branch.specs.declared.node.Taken.TheVariants as taken
-use Rattle.dcx_branch.specs.declared.answer.WholeAnswer.{WholeAnswer}
-use Rattle.dcx_branch.specs.declared.answer.WholeAnswer.TheVariants.{Optimal, Infeasible}
-use Rattle.dcx_branch.specs.declared.answer.BranchStop.{BranchStop}
-use Rattle.dcx_branch.specs.declared.answer.BranchStop.TheVariants.{RelaxationUnbounded, NodeLimit, Node, Memory}
+use Rattle.dcx_answer.specs.declared.whole_answer.WholeAnswer.{WholeAnswer}
+use Rattle.dcx_answer.specs.declared.whole_answer.WholeAnswer.TheVariants.{Optimal, Infeasible}
+use Rattle.dcx_answer.specs.declared.whole_answer.BranchStop.{BranchStop}
+use Rattle.dcx_answer.specs.declared.whole_answer.BranchStop.TheVariants.{RelaxationUnbounded, NodeLimit, Node, Memory}
 use Rattle.dcx_branch.specs.declared.search.Best.{Best}
 use Rattle.dcx_branch.specs.declared.search.Search.{Search}
 use Rattle.dcx_branch.specs.Places.{places}

@@ -21,8 +21,8 @@ use Rattle.dcx_postsolve.specs.Numbers.{unknown_numbers}
 use Rattle.dcx_graph.specs.Program.{Program}
 use Rattle.dcx_graph.specs.Answers.{TellUnknowns}
 use Rattle.dcx_branch.specs.declared.bound.BoundAt.{BoundAt}
-use Rattle.dcx_branch.specs.declared.tree.BranchNode.{BranchNode}
-use Rattle.dcx_branch.specs.declared.tree.BranchNode.TheVariants.{Bound, Empty, Split}
+use Rattle.dcx_answer.specs.declared.branch_tree.BranchNode.{BranchNode}
+use Rattle.dcx_answer.specs.declared.branch_tree.BranchNode.TheVariants.{Bound, Empty, Split}
 use Rattle.dcx_branch.specs.declared.node.Node.{Node}
 use Rattle.dcx_branch.specs.declared.node.Taken.{Taken}
 use Rattle.dcx_branch.specs.declared.node.Taken.TheVariants as taken

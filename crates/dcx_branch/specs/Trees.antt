@@ -9,21 +9,21 @@ use Rattle.dcx_tree.specs.declared.problem.Problem.{Problem}
 use Rattle.dcx_postsolve.specs.Duals.{multipliers_in}
 use Rattle.dcx_right.specs.Trees as trees
 use Rattle.dcx_right.specs.Trees.{Weight, Shown, Tree, IsTree}
-use Rattle.dcx_branch.specs.declared.tree.BoundDual.{BoundDual}
-use Rattle.dcx_branch.specs.declared.tree.BranchNode.{BranchNode}
-use Rattle.dcx_branch.specs.declared.tree.BranchNode.TheVariants.{Bound, Empty, Split}
+use Rattle.dcx_answer.specs.declared.branch_tree.BoundWeight.{BoundWeight}
+use Rattle.dcx_answer.specs.declared.branch_tree.BranchNode.{BranchNode}
+use Rattle.dcx_answer.specs.declared.branch_tree.BranchNode.TheVariants.{Bound, Empty, Split}
 
-abbrev pub weight_of : BoundDual → Weight
+abbrev pub weight_of : BoundWeight → Weight
 weight_of d = record { variable = d.variable; entry = d.entry; upper = d.upper; weight = value d.weight }
 
 -- the multipliers that arrays and a list of bounds' multipliers are
-abbrev pub shown_by : List Array → List BoundDual → Shown
+abbrev pub shown_by : List Array → List BoundWeight → Shown
 shown_by duals bounds = record { duals = multipliers_in duals; bounds = map weight_of bounds }
 
 -- the nodes are those of a tree: first its root, then those of its lower side, and then those of its upper side
 pub data Lists : List BranchNode → Tree → Type 0 where
-  bound : (duals : List Array) (bounds : List BoundDual) → Lists (Bound duals bounds ∷ []) (trees.Bound (shown_by duals bounds))
-  empty : (duals : List Array) (bounds : List BoundDual) (gap : Frac) → Lists (Empty duals bounds gap ∷ []) (trees.Empty (shown_by duals bounds) (value gap))
+  bound : (duals : List Array) (bounds : List BoundWeight) → Lists (Bound duals bounds ∷ []) (trees.Bound (shown_by duals bounds))
+  empty : (duals : List Array) (bounds : List BoundWeight) (gap : Frac) → Lists (Empty duals bounds gap ∷ []) (trees.Empty (shown_by duals bounds) (value gap))
   split : (k j : ℕ) (n : ℤ) (lower upper : List BranchNode) (below above : Tree) → Lists lower below → Lists upper above → Lists (Split k j n ∷ (lower ++ upper)) (trees.Split k j n below above)
 
 -- they are those of a tree that shows of the box of all whole points what it shows with this value

@@ -16,7 +16,6 @@
 //! | answers of a node's linear program are leaves of its box, and an optimal one has a feasible point that keeps the bounds | `laws::answers_are_leaves` |
 #![tactic(auto)]
 
-mod answer;
 mod bound;
 pub mod laws;
 mod leaf;
@@ -27,10 +26,7 @@ mod place;
 mod rows;
 mod search;
 mod side;
-mod tree;
 
-pub use answer::{BranchStop, WholeAnswer};
 pub use bound::BoundAt;
 pub use place::Place;
 pub use search::branch;
-pub use tree::{BoundDual, BoundDuals, BranchNode, BranchTree};

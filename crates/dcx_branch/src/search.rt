@@ -13,13 +13,11 @@ ghost use Rattle.dcx_branch.specs.Taken.{TakenAs};
 ghost use Rattle.dcx_branch.specs.Answers.{IsEndOf, IsRightFor};
 ghost use Rattle.dcx_branch.specs.Searches.{IsAt, IsDone, IsAtOrDone, AddsSide, Enters, HasRoomIn, answer_of, found_value, StopsNext, node_stop as stop_by};
 
-use crate::answer::{BranchStop, WholeAnswer};
 use crate::next::next_side;
 use crate::node::{NodeStop, Taken, take};
 use crate::place::{Place, places_of};
 use crate::side::Side;
-use crate::tree::{BranchNode, BranchTree};
-use dcx_answer::Stop;
+use dcx_answer::{BranchNode, BranchStop, BranchTree, Stop, WholeAnswer};
 use dcx_frac::Frac;
 use dcx_graph::Reduced;
 use dcx_point::{Point, Setting};

@@ -12,7 +12,7 @@ use Rattle.dcx_cert_outline.specs.Drawn.{AreFixed}
 use Rattle.dcx_cert_collect.specs.declared.stop.CollectStop.{CollectStop}
 use Rattle.dcx_cert_collect.specs.Pass.{Kept, HaveFractions}
 use Rattle.dcx_cert_sections.specs.declared.weights.NodeWeights.{NodeWeights}
-use Rattle.dcx_cert_sections.specs.declared.fault.CertFault.{CertFault}
+use Rattle.dcx_answer.specs.declared.cert_fault.CertFault.{CertFault}
 use Rattle.dcx_cert_sections.specs.Checks.{Checked, in_turn}
 use Rattle.dcx_cert_values.specs.Forming.{forming_fixed}
 use Rattle.dcx_cert_bound.specs.Fixed.{HasValue, AreFixedValues, kept_if, AreMarkedOf}

@@ -9,7 +9,7 @@ use Rattle.dcx_cert_collect.specs.declared.stop.CollectStop.{CollectStop}
 use Rattle.dcx_cert_collect.specs.Starts.{start_of}
 use Rattle.dcx_cert_collect.specs.Multipliers.{start_table}
 use Rattle.dcx_cert_collect.specs.Pass.{Kept, IsOrMemory, handed, with_below, node_reached, node_shares, passed, step, then_on, pass_down}
-use Rattle.dcx_cert_sections.specs.declared.fault.CertFault.{CertFault}
+use Rattle.dcx_answer.specs.declared.cert_fault.CertFault.{CertFault}
 use Rattle.dcx_cert_bound.specs.Collecting.{begun, collected, fault_of, IsFaultOrMemory}
 
 module _ (nodes : List Node) (values : List (Option Array)) (ws vs : ℕ → List Frac) (same : (i : ℕ) → i < length nodes → ws i ≡ vs i) where

@@ -20,8 +20,8 @@ use Rattle.dcx_unknowns.specs.Unknowns.{demanded, sides_in}
 use Rattle.dcx_cert_collect.specs.declared.collected.Reached.{Reached}
 use Rattle.dcx_cert_collect.specs.declared.stop.CollectStop.{CollectStop}
 use Rattle.dcx_cert_collect.specs.Pass.{Kept}
-use Rattle.dcx_cert_sections.specs.declared.fault.CertFault.{CertFault}
-use Rattle.dcx_cert_sections.specs.declared.fault.CertFault.TheVariants as faults
+use Rattle.dcx_answer.specs.declared.cert_fault.CertFault.{CertFault}
+use Rattle.dcx_answer.specs.declared.cert_fault.CertFault.TheVariants as faults
 use Rattle.dcx_cert_sections.specs.Checks.{Check}
 use Rattle.dcx_cert_sections.specs.Laws.{IsSettled}
 use Rattle.dcx_cert_sections.proofs.Settled.{settled_together, two, many}

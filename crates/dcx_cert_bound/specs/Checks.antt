@@ -9,7 +9,7 @@ use Rattle.dcx_tree.specs.declared.problem.Problem.{Problem}
 use Rattle.dcx_cert_collect.specs.declared.stop.CollectStop.{CollectStop}
 use Rattle.dcx_cert_collect.specs.Pass.{Kept, HaveFractions}
 use Rattle.dcx_cert_sections.specs.declared.weights.NodeWeights.{NodeWeights}
-use Rattle.dcx_cert_sections.specs.declared.fault.CertFault.TheVariants as faults
+use Rattle.dcx_answer.specs.declared.cert_fault.CertFault.TheVariants as faults
 use Rattle.dcx_cert_sections.specs.Checks.{Check, in_turn}
 use Rattle.dcx_cert_values.specs.Forming.{forming_fixed}
 use Rattle.dcx_cert_bound.specs.Refusal.{refused}

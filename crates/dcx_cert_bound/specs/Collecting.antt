@@ -8,8 +8,8 @@ use Rattle.dcx_cert_collect.specs.declared.stop.CollectStop.{CollectStop}
 use Rattle.dcx_cert_collect.specs.declared.stop.CollectStop.TheVariants as stops
 use Rattle.dcx_cert_collect.specs.Multipliers.{start_table}
 use Rattle.dcx_cert_collect.specs.Pass.{Kept, begin, then_on, pass_down}
-use Rattle.dcx_cert_sections.specs.declared.fault.CertFault.{CertFault}
-use Rattle.dcx_cert_sections.specs.declared.fault.CertFault.TheVariants as faults
+use Rattle.dcx_answer.specs.declared.cert_fault.CertFault.{CertFault}
+use Rattle.dcx_answer.specs.declared.cert_fault.CertFault.TheVariants as faults
 
 -- the coefficients at the start are all that is collected at first, where no addition passes
 abbrev pub begun : Result (List Frac) Passes → Result Kept CollectStop

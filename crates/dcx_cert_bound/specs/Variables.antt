@@ -22,7 +22,7 @@ use Rattle.dcx_unknowns.specs.Own.{row_in, column_in, is_own, mirror_of}
 use Rattle.dcx_unknowns.specs.Unknowns.{demanded, sides_in}
 use Rattle.dcx_cert_collect.specs.declared.collected.Reached.{Reached}
 use Rattle.dcx_cert_collect.specs.Shares.{frac_in}
-use Rattle.dcx_cert_sections.specs.declared.fault.CertFault.TheVariants as faults
+use Rattle.dcx_answer.specs.declared.cert_fault.CertFault.TheVariants as faults
 use Rattle.dcx_cert_sections.specs.Checks.{Check, nothing, each_below}
 use Rattle.dcx_cert_bound.specs.Refusal.{refused}
 

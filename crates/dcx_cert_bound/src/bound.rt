@@ -10,9 +10,9 @@ ghost use Rattle.dcx_cert_bound.specs.Fixed.{kept_if, AreMarkedOf, AreFixedValue
 ghost use Rattle.dcx_cert_bound.specs.Checks.{bound_checks};
 
 use crate::checking::check_with;
-use dcx_answer::Duals;
+use dcx_answer::{CertFault, Duals};
 use dcx_atom::{Array, copy_array};
-use dcx_cert_sections::{CertFault, Weights};
+use dcx_cert_sections::Weights;
 use dcx_cert_values::Values;
 use dcx_frac::Frac;
 use dcx_point::Setting;

@@ -9,10 +9,10 @@ ghost use Rattle.dcx_cert_bound.specs.Checks.{total_check, shown_with};
 
 use crate::collecting::collect_all;
 use crate::variables::check_variables;
-use dcx_answer::Duals;
+use dcx_answer::{CertFault, Duals};
 use dcx_atom::{Array, is_at_most};
 use dcx_cert_collect::Collected;
-use dcx_cert_sections::{CertFault, Weights};
+use dcx_cert_sections::Weights;
 use dcx_frac::Frac;
 use dcx_tree::Problem;
 use std::alloc::Global;

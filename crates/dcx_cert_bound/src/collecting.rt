@@ -6,9 +6,10 @@ ghost use Rattle.dcx_cert_bound.specs.Weights.{indexed_at, weights_at};
 ghost use Rattle.dcx_cert_bound.specs.Collecting.{collected, fault_of, IsFaultOrMemory};
 
 use crate::weights::{Indexed, index_of};
+use dcx_answer::CertFault;
 use dcx_atom::Array;
 use dcx_cert_collect::{CollectStop, Collected, Given, collect, start_table, starts_of};
-use dcx_cert_sections::{CertFault, NodeWeights};
+use dcx_cert_sections::NodeWeights;
 use dcx_tree::Problem;
 use std::alloc::Global;
 

@@ -8,8 +8,8 @@ ghost use Rattle.dcx_unknowns.specs.Unknowns.{demanded, sides_in};
 ghost use Rattle.dcx_cert_sections.specs.Checks.{Checked, each_below};
 ghost use Rattle.dcx_cert_bound.specs.Variables.{mirrored, reaching_entry, MayReachEntry, MayNotReachEntry, number_check, entry_check};
 
+use dcx_answer::CertFault;
 use dcx_atom::{is_at_most, is_equal, number_at};
-use dcx_cert_sections::CertFault;
 use dcx_frac::{Frac, Passes};
 use dcx_shape::Shape;
 use dcx_tree::{Attribute, Variable};

@@ -6,8 +6,8 @@ ghost use Rattle.dcx_cert_sections.specs.Checks.{Checked};
 ghost use Rattle.dcx_cert_bound.specs.Variables.{reaching, coefficients_in, variables_check};
 
 use crate::entries::check_entries;
+use dcx_answer::CertFault;
 use dcx_cert_collect::Reached;
-use dcx_cert_sections::CertFault;
 use dcx_frac::Frac;
 use dcx_shape::{Name, copy_name};
 use dcx_tree::{Call, Problem, Tree};

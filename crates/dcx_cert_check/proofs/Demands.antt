@@ -23,8 +23,8 @@ use Rattle.dcx_domain.specs.declared.point.Outside.{Outside}
 use Rattle.dcx_domain.specs.Points.{IsFirstOutside}
 use Rattle.dcx_domain.proofs.Comparisons.{at_most}
 use Rattle.dcx_domain.proofs.Entries.{entries_hold, not_both}
-use Rattle.dcx_cert_sections.specs.declared.fault.CertFault.{CertFault}
-use Rattle.dcx_cert_sections.specs.declared.fault.CertFault.TheVariants as faults
+use Rattle.dcx_answer.specs.declared.cert_fault.CertFault.{CertFault}
+use Rattle.dcx_answer.specs.declared.cert_fault.CertFault.TheVariants as faults
 use Rattle.dcx_cert_sections.specs.Checks.{Checked}
 use Rattle.dcx_cert_check.specs.Demands.{check_if, each_in}
 use Rattle.dcx_cert_check.specs.Numbers.{number_if}

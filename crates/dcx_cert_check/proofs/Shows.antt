@@ -6,7 +6,7 @@ use Rattle.dcx_tree.specs.declared.problem.Problem.{Problem}
 use Rattle.dcx_tree.specs.Meaning.{IsAccepted, IsDomainPoint, point_of}
 use Rattle.dcx_cert_sections.specs.declared.cert.Cert.{Cert}
 use Rattle.dcx_cert_sections.specs.declared.cert.Cert.TheVariants.{Optimal, Infeasible, Unbounded}
-use Rattle.dcx_cert_sections.specs.declared.fault.CertFault.{CertFault}
+use Rattle.dcx_answer.specs.declared.cert_fault.CertFault.{CertFault}
 use Rattle.dcx_cert_sections.specs.Shown.{IsCertOf}
 use Rattle.dcx_cert_sections.specs.Checks.{Checked}
 use Rattle.dcx_cert_outline.specs.Drawn.{problem_outline}

@@ -30,8 +30,8 @@ use Rattle.dcx_tree.specs.Problems.{IsListed, AreDeclared}
 use Rattle.dcx_tree.specs.Meaning.{names_in, sense_of, value_at, objective_at, setting_of, point_of}
 use Rattle.dcx_tree.specs.Values.{IsNamed, AreNamed, IsValueOf}
 use Rattle.dcx_tree.proofs.Sublists.{contains_at}
-use Rattle.dcx_cert_sections.specs.declared.fault.CertFault.{CertFault}
-use Rattle.dcx_cert_sections.specs.declared.fault.CertFault.TheVariants as faults
+use Rattle.dcx_answer.specs.declared.cert_fault.CertFault.{CertFault}
+use Rattle.dcx_answer.specs.declared.cert_fault.CertFault.TheVariants as faults
 use Rattle.dcx_cert_sections.specs.Checks.{Checked}
 use Rattle.dcx_cert_values.specs.Broken.{IsFirstBroken}
 use Rattle.dcx_cert_check.specs.SingleChecks.{numbers_hold, entries_hold}

@@ -21,8 +21,8 @@ use Rattle.dcx_domain.specs.Points.{IsInside}
 use Rattle.dcx_domain.proofs.Entries.{entries_hold}
 use Rattle.dcx_domain.proofs.Points.{points_hold}
 use Rattle.dcx_fit.proofs.Misfits.{holds_at}
-use Rattle.dcx_cert_sections.specs.declared.fault.CertFault.{CertFault}
-use Rattle.dcx_cert_sections.specs.declared.fault.CertFault.TheVariants as faults
+use Rattle.dcx_answer.specs.declared.cert_fault.CertFault.{CertFault}
+use Rattle.dcx_answer.specs.declared.cert_fault.CertFault.TheVariants as faults
 use Rattle.dcx_cert_values.proofs.Nonzero.{divisors_hold}
 use Rattle.dcx_cert_check.specs.Demands.{each_in}
 use Rattle.dcx_cert_check.specs.SingleChecks as checks

@@ -1,6 +1,6 @@
 -- Single demands, and checks of each item of a list.
 use Rattle.std.specs.Prelude.{◌≡◌, ℕ, List, length, Option, Some, None, slice_get}
-use Rattle.dcx_cert_sections.specs.declared.fault.CertFault.{CertFault}
+use Rattle.dcx_answer.specs.declared.cert_fault.CertFault.{CertFault}
 use Rattle.dcx_cert_sections.specs.Checks.{Check, nothing, each_below}
 
 -- a demand, and the fault that tells that it isn't met

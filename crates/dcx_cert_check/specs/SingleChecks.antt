@@ -26,8 +26,8 @@ use Rattle.dcx_domain.specs.Entries.{KeepsDomainAt}
 use Rattle.dcx_answer.specs.declared.stop.Stop.{Stop}
 use Rattle.dcx_answer.specs.declared.stop.Stop.TheVariants as stops
 use Rattle.dcx_fit.specs.Fit.{FitsParameters, IsFirstMisfit}
-use Rattle.dcx_cert_sections.specs.declared.fault.CertFault.{CertFault}
-use Rattle.dcx_cert_sections.specs.declared.fault.CertFault.TheVariants as faults
+use Rattle.dcx_answer.specs.declared.cert_fault.CertFault.{CertFault}
+use Rattle.dcx_answer.specs.declared.cert_fault.CertFault.TheVariants as faults
 use Rattle.dcx_cert_sections.specs.Checks.{Check, nothing, in_turn, each_below}
 use Rattle.dcx_cert_values.specs.Forming.{forming, divisors}
 use Rattle.dcx_cert_check.specs.Demands.{demand, each_in}

@@ -9,8 +9,8 @@ ghost use Rattle.dcx_tree.specs.declared.constraint.Constraint.{Constraint as Ro
 ghost use Rattle.dcx_cert_check.specs.SingleChecks.{numbers_hold, constraint_holds, constraints_hold};
 
 use crate::kept::kept;
+use dcx_answer::CertFault;
 use dcx_atom::Array;
-use dcx_cert_sections::CertFault;
 use dcx_cert_values::{Values, first_broken};
 use dcx_point::{Point, Setting};
 use dcx_tree::{Constraint, Kind, Problem};

@@ -7,7 +7,7 @@ ghost use Rattle.dcx_call.specs.declared.attribute.Variable.{Variable};
 ghost use Rattle.dcx_call.specs.Values.{given_by};
 
 use crate::numbers::number_in;
-use dcx_cert_sections::CertFault;
+use dcx_answer::CertFault;
 use dcx_domain::{Outside, point_outside};
 use dcx_frac::Frac;
 use dcx_point::Point;

@@ -8,9 +8,8 @@ ghost use Rattle.dcx_cert_check.specs.Numbers.{number_if};
 ghost use Rattle.dcx_cert_check.specs.SingleChecks.{multiplier_signed, entries_signed, multipliers_signed, duals_signed};
 
 use crate::numbers::number_in;
-use dcx_answer::Duals;
+use dcx_answer::{CertFault, Duals};
 use dcx_atom::{Array, is_at_most};
-use dcx_cert_sections::CertFault;
 use dcx_frac::Frac;
 use dcx_tree::{Constraint, Kind, Problem};
 

@@ -1,15 +1,14 @@
 //! Whether the setting fits the problem.
 ghost use Rattle.std.specs.Prelude.{◌≡◌, ◌≢◌, ◌⊎◌, [], OnOk};
 ghost use Rattle.dcx_answer.specs.declared.stop.Stop.TheVariants as stops;
-ghost use Rattle.dcx_cert_sections.specs.declared.fault.CertFault.TheVariants as faults;
+ghost use Rattle.dcx_answer.specs.declared.cert_fault.CertFault.TheVariants as faults;
 ghost use Rattle.dcx_cert_sections.specs.Checks.{Checked};
 ghost use Rattle.dcx_tree.specs.Meaning.{IsAccepted};
 ghost use Rattle.dcx_cert_values.specs.Forming.{GivesParameters};
 ghost use Rattle.dcx_cert_values.specs.Tables.{AreKeptValues};
 ghost use Rattle.dcx_cert_check.specs.SingleChecks.{parameters_fit, setting_fits};
 
-use dcx_answer::Stop;
-use dcx_cert_sections::CertFault;
+use dcx_answer::{CertFault, Stop};
 use dcx_cert_values::{Values, divisors};
 use dcx_fit::fit;
 use dcx_point::Setting;

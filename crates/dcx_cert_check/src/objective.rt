@@ -11,8 +11,8 @@ ghost use Rattle.dcx_cert_check.specs.SingleChecks.{value_is, start_bounded};
 
 use crate::kept::kept;
 use crate::numbers::entry_of;
+use dcx_answer::CertFault;
 use dcx_atom::{Array, is_at_most, is_equal};
-use dcx_cert_sections::CertFault;
 use dcx_cert_values::Values;
 use dcx_frac::Frac;
 use dcx_point::{Point, Setting};

@@ -8,8 +8,8 @@ ghost use Rattle.dcx_cert_check.specs.Numbers.{number_if};
 ghost use Rattle.dcx_cert_check.specs.SingleChecks.{entry_is, entries_are, parameter_is, setting_is};
 
 use crate::numbers::number_in;
+use dcx_answer::CertFault;
 use dcx_atom::{Array, is_equal};
-use dcx_cert_sections::CertFault;
 use dcx_frac::Frac;
 use dcx_point::Setting;
 use dcx_shape::Shape;

@@ -2,8 +2,8 @@
 ghost use Rattle.dcx_cert_sections.specs.Checks.{Checked};
 ghost use Rattle.dcx_cert_check.specs.SingleChecks.{gap_positive, slope_positive};
 
+use dcx_answer::CertFault;
 use dcx_atom::is_at_most;
-use dcx_cert_sections::CertFault;
 use dcx_frac::Frac;
 
 /// Whether the gap of an infeasible section is above 0.

@@ -45,7 +45,7 @@ use Rattle.dcx_cert_collect.specs.Pass.{Kept, then_on, pass_down}
 use Rattle.dcx_cert_collect.specs.Laws.{table_times, reached_times}
 use Rattle.dcx_cert_collect.proofs.Multiplied.{start_count, starts_are_lagrangians}
 use Rattle.dcx_cert_sections.specs.declared.weights.NodeWeights.{NodeWeights}
-use Rattle.dcx_cert_sections.specs.declared.fault.CertFault.{CertFault}
+use Rattle.dcx_answer.specs.declared.cert_fault.CertFault.{CertFault}
 use Rattle.dcx_cert_sections.specs.Checks.{Check}
 use Rattle.dcx_cert_values.specs.Forming as forming
 use Rattle.dcx_cert_bound.specs.Fixed.{AreFixedValues}

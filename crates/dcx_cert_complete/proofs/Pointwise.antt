@@ -12,8 +12,8 @@ use Rattle.dcx_convex.specs.Answers.{AreMultipliers}
 use Rattle.dcx_tree.specs.declared.constraint.Constraint.{Constraint}
 use Rattle.dcx_tree.specs.declared.problem.Problem.{Problem}
 use Rattle.dcx_tree.specs.Meaning.{convex_constraint, convex_problem, setting_of, point_of, objective_at, Fits, IsFeasible, IsInDomain}
-use Rattle.dcx_cert_sections.specs.declared.fault.CertFault.{CertFault}
-use Rattle.dcx_cert_sections.specs.declared.fault.CertFault.TheVariants as faults
+use Rattle.dcx_answer.specs.declared.cert_fault.CertFault.{CertFault}
+use Rattle.dcx_answer.specs.declared.cert_fault.CertFault.TheVariants as faults
 use Rattle.dcx_cert_check.specs.Demands.{check_if}
 use Rattle.dcx_cert_check.specs.SingleChecks.{constraint_holds, constraints_hold, objective_is, value_is, start_bounded, ray_inside, duals_signed, gap_positive, slope_positive}
 use Rattle.dcx_cert_check.proofs.SingleSettled.{checks_settled}

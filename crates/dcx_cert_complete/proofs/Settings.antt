@@ -18,7 +18,7 @@ use Rattle.dcx_tree.specs.Nodes.{Node, source_value}
 use Rattle.dcx_tree.specs.Meaning.{names_in, setting_of, Fits}
 use Rattle.dcx_fit.specs.Fit.{FitsParameters}
 use Rattle.dcx_fit.proofs.Misfits.{misfit_unfit}
-use Rattle.dcx_cert_sections.specs.declared.fault.CertFault.{CertFault}
+use Rattle.dcx_answer.specs.declared.cert_fault.CertFault.{CertFault}
 use Rattle.dcx_cert_values.specs.Forming.{divisor_in, dividing_if}
 use Rattle.dcx_cert_values.proofs.Fixed.{divisor_found}
 use Rattle.dcx_cert_check.specs.SingleChecks.{setting_fits, setting_is}

@@ -10,8 +10,8 @@ use Rattle.dcx_convex.specs.Nodes.{Numbers, Point, Setting}
 use Rattle.dcx_convex.specs.Answers.{lagrangian_of, penalty_of}
 use Rattle.dcx_tree.specs.declared.problem.Problem.{Problem}
 use Rattle.dcx_tree.specs.Meaning.{names_in, convex_problem, IsInDomain}
-use Rattle.dcx_cert_sections.specs.declared.fault.CertFault.{CertFault}
-use Rattle.dcx_cert_sections.specs.declared.fault.CertFault.TheVariants as faults
+use Rattle.dcx_answer.specs.declared.cert_fault.CertFault.{CertFault}
+use Rattle.dcx_answer.specs.declared.cert_fault.CertFault.TheVariants as faults
 use Rattle.dcx_cert_complete.specs.Families.{IsFamily, AreFilled, AreWeighed, rows_below}
 
 -- the fault tells an operation that passes 128 bits

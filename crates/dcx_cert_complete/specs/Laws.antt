@@ -11,7 +11,7 @@ use Rattle.dcx_tree.specs.declared.problem.Problem.{Problem}
 use Rattle.dcx_tree.specs.Meaning.{convex_problem, setting_of, IsAccepted, Fits, IsUnbounded}
 use Rattle.dcx_cert_collect.specs.Multipliers.{AreDuals}
 use Rattle.dcx_cert_sections.specs.declared.weights.NodeWeights.{NodeWeights}
-use Rattle.dcx_cert_sections.specs.declared.fault.CertFault.{CertFault}
+use Rattle.dcx_answer.specs.declared.cert_fault.CertFault.{CertFault}
 use Rattle.dcx_cert_bound.specs.Fixed.{AreFixedValues}
 use Rattle.dcx_cert_bound.specs.Weights.{weights_at}
 use Rattle.dcx_cert_bound.specs.Checks.{bound_checks}

@@ -25,7 +25,7 @@ use Rattle.dcx_tree.specs.Nodes.{Node}
 use Rattle.dcx_tree.specs.Meaning.{convex_problem, IsAccepted, IsFitting}
 use Rattle.dcx_tree.proofs.Names.{found_in}
 use Rattle.dcx_tree.proofs.NodeValues.{args_are, sides_are}
-use Rattle.dcx_cert_sections.specs.declared.fault.CertFault.TheVariants.{Wide}
+use Rattle.dcx_answer.specs.declared.cert_fault.CertFault.TheVariants.{Wide}
 use Rattle.dcx_cert_rays.specs.Steepness.{is_fixed, value_side, is_first_fixed, IsSteepness, IsUnformed, IsKnown, AreReady, AreArguments, TakesArguments, is_side, fixed_value, steepness_at, IsArgument}
 use Rattle.dcx_cert_rays.proofs.Known.{node_given, only_moves}
 use Rattle.dcx_cert_rays.proofs.Steep.{shape_is, steepness_is, passes_is, divides_first}

@@ -10,8 +10,8 @@ use Rattle.dcx_arena.proofs.Orders.{has_from, arg_below}
 use Rattle.dcx_call.specs.Calls.{shape_of}
 use Rattle.dcx_tree.specs.declared.problem.Problem.{Problem}
 use Rattle.dcx_tree.proofs.Forming.{All-from_has}
-use Rattle.dcx_cert_sections.specs.declared.fault.CertFault.{CertFault}
-use Rattle.dcx_cert_sections.specs.declared.fault.CertFault.TheVariants.{Memory}
+use Rattle.dcx_answer.specs.declared.cert_fault.CertFault.{CertFault}
+use Rattle.dcx_answer.specs.declared.cert_fault.CertFault.TheVariants.{Memory}
 use Rattle.dcx_cert_rays.specs.Steepness.{IsUnformed, forming, AreKept, IsKnown, StaysKnown}
 use Rattle.dcx_tree.proofs.Marking.{reached_more, reached_root}
 use Rattle.dcx_cert_rays.proofs.Tables.{known_formed}

@@ -11,8 +11,8 @@ use Rattle.dcx_call.specs.Forming.{IsFirst}
 use Rattle.dcx_tree.specs.declared.constraint.Constraint.{Constraint}
 use Rattle.dcx_tree.specs.declared.problem.Problem.{Problem}
 use Rattle.dcx_tree.specs.Nodes.{Node}
-use Rattle.dcx_cert_sections.specs.declared.fault.CertFault.{CertFault}
-use Rattle.dcx_cert_sections.specs.declared.fault.CertFault.TheVariants.{Wide}
+use Rattle.dcx_answer.specs.declared.cert_fault.CertFault.{CertFault}
+use Rattle.dcx_answer.specs.declared.cert_fault.CertFault.TheVariants.{Wide}
 use Rattle.dcx_cert_sections.specs.Laws.{IsSettled}
 use Rattle.dcx_cert_sections.proofs.Settled.{settled_together}
 use Rattle.dcx_cert_rays.specs.Steepness.{steepness_formed, IsFormed, IsUnformed, forming_at, forming}

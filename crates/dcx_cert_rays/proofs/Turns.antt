@@ -13,8 +13,8 @@ use Rattle.dcx_convex.specs.Problems.{Holds}
 use Rattle.dcx_tree.specs.declared.constraint.Constraint.{Constraint}
 use Rattle.dcx_tree.specs.declared.problem.Problem.{Problem}
 use Rattle.dcx_tree.specs.Meaning.{relation_of}
-use Rattle.dcx_cert_sections.specs.declared.fault.CertFault.{CertFault}
-use Rattle.dcx_cert_sections.specs.declared.fault.CertFault.TheVariants.{Memory, RayConstraint, RayValue}
+use Rattle.dcx_answer.specs.declared.cert_fault.CertFault.{CertFault}
+use Rattle.dcx_answer.specs.declared.cert_fault.CertFault.TheVariants.{Memory, RayConstraint, RayValue}
 use Rattle.dcx_cert_sections.specs.Checks.{Check, in_turn, each_below, Checked}
 use Rattle.dcx_cert_rays.specs.Steepness.{steepness_at, forming}
 use Rattle.dcx_cert_rays.specs.Rays.{HoldsAt, IsFirstBroken, sides_hold, constraint_check, objective_steepness, falls}

@@ -11,8 +11,8 @@ use Rattle.dcx_convex.specs.Problems.{Holds, gap_of, objective_of}
 use Rattle.dcx_tree.specs.declared.constraint.Constraint.{Constraint}
 use Rattle.dcx_tree.specs.declared.problem.Problem.{Problem}
 use Rattle.dcx_tree.specs.Meaning.{relation_of, convex_constraint, convex_problem}
-use Rattle.dcx_cert_sections.specs.declared.fault.CertFault.{CertFault}
-use Rattle.dcx_cert_sections.specs.declared.fault.CertFault.TheVariants.{RayConstraint, RayValue}
+use Rattle.dcx_answer.specs.declared.cert_fault.CertFault.{CertFault}
+use Rattle.dcx_answer.specs.declared.cert_fault.CertFault.TheVariants.{RayConstraint, RayValue}
 use Rattle.dcx_cert_sections.specs.Checks.{Check, nothing, in_turn, each_below}
 use Rattle.dcx_cert_rays.specs.Steepness.{steepness_at, forming}
 

@@ -27,8 +27,8 @@ use Rattle.dcx_tree.specs.Values.{AreValues, array_at}
 use Rattle.dcx_tree.specs.Meaning.{convex_problem, setting_of, point_of, IsAccepted, IsFitting}
 use Rattle.dcx_cert_outline.specs.Drawn.{AreFixed}
 use Rattle.dcx_right.specs.Steepness.{steep_at}
-use Rattle.dcx_cert_sections.specs.declared.fault.CertFault.{CertFault}
-use Rattle.dcx_cert_sections.specs.declared.fault.CertFault.TheVariants.{Wide}
+use Rattle.dcx_answer.specs.declared.cert_fault.CertFault.{CertFault}
+use Rattle.dcx_answer.specs.declared.cert_fault.CertFault.TheVariants.{Wide}
 use Rattle.dcx_cert_sections.specs.Checks.{Check, each_below}
 
 -- node i has no variable below it

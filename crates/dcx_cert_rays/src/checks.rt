@@ -11,8 +11,8 @@ ghost use Rattle.dcx_cert_rays.specs.Rays.{sides_hold, constraint_check, constra
 
 use crate::along::Along;
 use crate::table::{form_below, no_arrays, steepness};
+use dcx_answer::CertFault;
 use dcx_atom::{Array, is_at_most};
-use dcx_cert_sections::CertFault;
 use dcx_frac::Frac;
 use dcx_point::{Point, Setting};
 use dcx_tree::{Constraint, NodeId, Problem, Sense};

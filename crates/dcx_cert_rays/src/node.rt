@@ -11,9 +11,9 @@ ghost use Rattle.dcx_cert_rays.specs.Steepness.{is_fixed, value_side, is_side, I
 
 use crate::along::Along;
 use dcx_affine::Pairing;
+use dcx_answer::CertFault;
 use dcx_atom::{Array, ValueStop, copy_array};
 use dcx_call::Call;
-use dcx_cert_sections::CertFault;
 use dcx_frac::{Frac, Fracs};
 use dcx_shape::Shape;
 use dcx_tree::NodeId;

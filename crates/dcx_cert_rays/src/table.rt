@@ -8,8 +8,8 @@ ghost use Rattle.dcx_cert_rays.specs.Steepness.{steepness_at, forming, IsGiven, 
 
 use crate::along::Along;
 use crate::node::form;
+use dcx_answer::CertFault;
 use dcx_atom::{Array, number_at};
-use dcx_cert_sections::CertFault;
 use dcx_frac::Frac;
 use dcx_tree::{NodeId, reached_from};
 use std::alloc::{AllocError, Global};

@@ -6,8 +6,9 @@ ghost use Rattle.dcx_cert_sections.specs.Shown.{IsSectionOf, AreSectionsOf};
 ghost use Rattle.dcx_cert_sections.specs.Checks.{Checked};
 ghost use Rattle.dcx_cert_runs.specs.Checking.{is_cert as is_filled, section_check, IsSectionShown, ArePassed, AreShown, IsFirstRefused};
 
+use dcx_answer::CertFault;
 use dcx_cert_check::certify;
-use dcx_cert_sections::{CertFault, Section};
+use dcx_cert_sections::Section;
 use dcx_point::Setting;
 use dcx_tree::Problem;
 use std::alloc::Global;

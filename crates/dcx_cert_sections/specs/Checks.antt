@@ -1,7 +1,7 @@
 -- Checks of a certificate: what each demands, the faults that tell where it fails, and checks one after the other.
 use Rattle.std.specs.Prelude.{◌≡◌, ◌⊎◌, ⊤, ℕ, ◌<◌, Result, Ok, Err}
-use Rattle.dcx_cert_sections.specs.declared.fault.CertFault.{CertFault}
-use Rattle.dcx_cert_sections.specs.declared.fault.CertFault.TheVariants.{Memory}
+use Rattle.dcx_answer.specs.declared.cert_fault.CertFault.{CertFault}
+use Rattle.dcx_answer.specs.declared.cert_fault.CertFault.TheVariants.{Memory}
 
 -- a check: when it passes, and which fault tells where it fails
 pub record Check : Type 1 where

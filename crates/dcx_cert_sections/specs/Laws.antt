@@ -1,6 +1,6 @@
 -- Checks that tell one thing: they pass or fail and not both, with one fault.
 use Rattle.std.specs.Prelude.{◌≡◌, ℕ}
-use Rattle.dcx_cert_sections.specs.declared.fault.CertFault.{CertFault}
+use Rattle.dcx_answer.specs.declared.cert_fault.CertFault.{CertFault}
 use Rattle.dcx_cert_sections.specs.Checks.{Check, nothing, in_turn, each_below}
 
 -- a check that passes doesn't fail, and one that fails has one fault

@@ -5,8 +5,8 @@ use Rattle.std.proofs.lemmas.List.Folds.{concat-append}
 use Rattle.std.specs.List.{concat}
 use Rattle.dcx_cert_sections.specs.Shown.{Outline}
 use Rattle.dcx_cert_sections.specs.declared.section.Sections.{Sections}
-use Rattle.dcx_cert_sections.specs.declared.fault.CertFault.{CertFault}
-use Rattle.dcx_cert_sections.specs.declared.fault.CertFault.TheVariants as the
+use Rattle.dcx_answer.specs.declared.cert_fault.CertFault.{CertFault}
+use Rattle.dcx_answer.specs.declared.cert_fault.CertFault.TheVariants as the
 use Rattle.dcx_cert_lines.specs.CertText.{Line, all_lines}
 use Rattle.dcx_cert_lines.specs.Forms.{IsTextOf, Agrees, IsMisfit, IsReadFault}
 

@@ -10,8 +10,8 @@ use Rattle.dcx_cert_sections.specs.declared.section.Section.{Section}
 use Rattle.dcx_cert_sections.specs.declared.section.Sections.{Sections}
 use Rattle.dcx_cert_sections.specs.declared.section.Format.{Format}
 use Rattle.dcx_cert_sections.specs.declared.section.Format.TheVariants.{One, Two}
-use Rattle.dcx_cert_sections.specs.declared.fault.CertFault.{CertFault}
-use Rattle.dcx_cert_sections.specs.declared.fault.CertFault.TheVariants as faults
+use Rattle.dcx_answer.specs.declared.cert_fault.CertFault.{CertFault}
+use Rattle.dcx_answer.specs.declared.cert_fault.CertFault.TheVariants as faults
 use Rattle.dcx_cert_sections.specs.Shown.{Outline, IsSectionOf, AreSectionsOf}
 use Rattle.dcx_cert_sections.specs.Formats.{IsSectionOfFormat, AreOfFormat}
 use Rattle.dcx_cert_lines.specs.CertText.{first_line, head_line, section_word, section_lines, cert_text}

@@ -3,8 +3,8 @@ use Rattle.std.specs.Prelude.{◌≡◌, ℕ, ◌<◌, ◌≤◌, ◌⊎◌, Lis
 use Rattle.dcx_cert_sections.specs.Shown.{Outline, AreSectionsOf}
 use Rattle.dcx_cert_sections.specs.Formats.{AreOfFormat}
 use Rattle.dcx_cert_sections.specs.declared.section.Sections.{Sections}
-use Rattle.dcx_cert_sections.specs.declared.fault.CertFault.{CertFault}
-use Rattle.dcx_cert_sections.specs.declared.fault.CertFault.TheVariants.{Form, Memory}
+use Rattle.dcx_answer.specs.declared.cert_fault.CertFault.{CertFault}
+use Rattle.dcx_answer.specs.declared.cert_fault.CertFault.TheVariants.{Form, Memory}
 use Rattle.dcx_cert_lines.specs.CertText.{cert_text}
 use Rattle.dcx_cert_lines.specs.Forms.{IsTextOf, Agrees, IsMisfit, IsReadFault}
 

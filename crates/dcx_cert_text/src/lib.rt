@@ -15,8 +15,7 @@ pub mod refusals;
 pub mod texts;
 mod write;
 
-pub use dcx_cert_sections::{
-    Cert, CertFault, Format, NodeWeights, Section, SectionList, Sections, Weights,
-};
+pub use dcx_answer::CertFault;
+pub use dcx_cert_sections::{Cert, Format, NodeWeights, Section, SectionList, Sections, Weights};
 pub use read::read_cert;
 pub use write::write_cert;

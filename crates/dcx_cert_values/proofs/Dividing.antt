@@ -18,8 +18,8 @@ use Rattle.dcx_tree.specs.Meaning.{names_in}
 use Rattle.dcx_tree.specs.Values.{IsMarked, array_at}
 use Rattle.dcx_tree.proofs.Forming.{All-from_has}
 use Rattle.dcx_tree.proofs.Marks.{mark_one, unmarked, reached_self}
-use Rattle.dcx_cert_sections.specs.declared.fault.CertFault.{CertFault}
-use Rattle.dcx_cert_sections.specs.declared.fault.CertFault.TheVariants.{Memory}
+use Rattle.dcx_answer.specs.declared.cert_fault.CertFault.{CertFault}
+use Rattle.dcx_answer.specs.declared.cert_fault.CertFault.TheVariants.{Memory}
 use Rattle.dcx_cert_sections.specs.Checks.{Checked, each_below}
 use Rattle.dcx_cert_values.specs.Forming.{IsUnformedAt, forming_at, divisor_in, IsBelowDivisor, nonzero, dividing_if, dividing_at, divisor_step, divisors}
 use Rattle.dcx_cert_values.specs.Tables.{AreKeptValues, StaysKept}

@@ -18,8 +18,8 @@ use Rattle.dcx_tree.specs.Meaning.{names_in}
 use Rattle.dcx_tree.specs.Values.{IsValueOf, IsNodeStop, IsMarked, array_at}
 use Rattle.dcx_tree.proofs.Forming.{some_of, All-from_has}
 use Rattle.dcx_tree.proofs.Marks.{reached_self}
-use Rattle.dcx_cert_sections.specs.declared.fault.CertFault.{CertFault}
-use Rattle.dcx_cert_sections.specs.declared.fault.CertFault.TheVariants.{Memory}
+use Rattle.dcx_answer.specs.declared.cert_fault.CertFault.{CertFault}
+use Rattle.dcx_answer.specs.declared.cert_fault.CertFault.TheVariants.{Memory}
 use Rattle.dcx_cert_values.specs.Forming.{IsFormedAt, fault_of, IsUnformedAt, forming_at, forming_where}
 use Rattle.dcx_cert_values.specs.Tables.{AreKeptValues, StaysKept}
 use Rattle.dcx_cert_values.specs.Marks.{AreClosed}

@@ -14,7 +14,7 @@ use Rattle.dcx_tree.specs.declared.problem.Problem.{Problem}
 use Rattle.dcx_tree.specs.Nodes.{Node, source_value}
 use Rattle.dcx_tree.specs.Meaning.{names_in}
 use Rattle.dcx_tree.specs.Values.{node_formed}
-use Rattle.dcx_cert_sections.specs.declared.fault.CertFault.{CertFault}
+use Rattle.dcx_answer.specs.declared.cert_fault.CertFault.{CertFault}
 use Rattle.dcx_cert_sections.specs.Laws.{IsSettled}
 use Rattle.dcx_cert_sections.proofs.Settled.{settled_together, two, many}
 use Rattle.dcx_cert_values.specs.Forming.{fault_of, IsUnformedAt, forming_at, forming_where, IsFixedNode, divisor_in, IsBelowDivisor, nonzero, dividing_if, dividing_at, divisor_step}

@@ -1,7 +1,7 @@
 -- What follows from a check's result.
 use Rattle.std.proofs.Common.{◌≡◌, ◌⊎◌, inl, inr, Result, Ok, Err, OnOk}
-use Rattle.dcx_cert_sections.specs.declared.fault.CertFault.{CertFault}
-use Rattle.dcx_cert_sections.specs.declared.fault.CertFault.TheVariants.{Memory}
+use Rattle.dcx_answer.specs.declared.cert_fault.CertFault.{CertFault}
+use Rattle.dcx_answer.specs.declared.cert_fault.CertFault.TheVariants.{Memory}
 use Rattle.dcx_cert_sections.specs.Checks.{Check, Checked, in_turn}
 
 -- what one check comes to, where it comes to the same as another

@@ -20,8 +20,8 @@ use Rattle.dcx_tree.specs.Nodes.{Node, source_value}
 use Rattle.dcx_tree.specs.Meaning.{names_in, convex_problem}
 use Rattle.dcx_tree.specs.Values.{node_formed, IsFormed}
 use Rattle.dcx_answer.specs.declared.stop.Stop.TheVariants as stops
-use Rattle.dcx_cert_sections.specs.declared.fault.CertFault.{CertFault}
-use Rattle.dcx_cert_sections.specs.declared.fault.CertFault.TheVariants.{Fit, Wide, Memory}
+use Rattle.dcx_answer.specs.declared.cert_fault.CertFault.{CertFault}
+use Rattle.dcx_answer.specs.declared.cert_fault.CertFault.TheVariants.{Fit, Wide, Memory}
 use Rattle.dcx_cert_sections.specs.Checks.{Check, nothing, in_turn, each_below}
 
 -- ---- what setting and point give

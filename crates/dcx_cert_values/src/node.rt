@@ -2,9 +2,8 @@
 ghost use Rattle.std.specs.Prelude.{◌≡◌};
 ghost use Rattle.dcx_cert_values.specs.Forming.{fault_of};
 
-use dcx_answer::Stop;
+use dcx_answer::{CertFault, Stop};
 use dcx_atom::ValueStop;
-use dcx_cert_sections::CertFault;
 use dcx_tree::NodeId;
 
 /// The fault that tells why a node isn't formed.

@@ -8,7 +8,7 @@ ghost use Rattle.dcx_convex.specs.Certificates.{is_fixed};
 ghost use Rattle.dcx_tree.specs.Nodes.{Node};
 ghost use Rattle.dcx_tree.specs.Meaning.{convex_problem};
 ghost use Rattle.dcx_tree.specs.Values.{array_at, IsMarked};
-ghost use Rattle.dcx_cert_sections.specs.declared.fault.CertFault.TheVariants.{Memory};
+ghost use Rattle.dcx_answer.specs.declared.cert_fault.CertFault.TheVariants.{Memory};
 ghost use Rattle.dcx_cert_sections.specs.Checks.{Checked};
 ghost use Rattle.dcx_cert_values.specs.Forming.{GivesParameters, GivesVariables, IsUnformedAt, forming_where, forming, forming_fixed};
 ghost use Rattle.dcx_cert_values.specs.Tables.{AreKeptValues, StaysKept, AreKeptBelow, AreKeptWhere, AreKeptFixed};
@@ -16,8 +16,8 @@ ghost use Rattle.dcx_cert_values.specs.Marks.{AreWithin, AreClosed};
 
 use crate::marks::{end_of, is_kept, is_marked, wanted};
 use crate::node::fault_of;
+use dcx_answer::CertFault;
 use dcx_atom::Array;
-use dcx_cert_sections::CertFault;
 use dcx_point::{Point, Setting};
 use dcx_tree::{NodeId, Problem, node_value};
 use std::alloc::{AllocError, Global};

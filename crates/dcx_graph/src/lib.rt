@@ -45,6 +45,11 @@ mod rows;
 mod side;
 mod stop;
 
+pub use dcx_answer::{
+    Answer, BranchTree, CertFault, Filtered, NotRanged, Ranged, Site, Stop, WholeAnswer,
+};
+pub use dcx_linear::Rows;
+pub use dcx_lp_answer::LpAnswer;
 pub use fixing::fix;
 pub use origin::Origin;
 pub use reading::{AnswerStop, map_back, point_read};

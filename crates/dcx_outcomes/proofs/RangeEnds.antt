@@ -9,7 +9,7 @@ use Rattle.dcx_answer.specs.declared.not_ranged.NotRanged.{NotRanged}
 use Rattle.dcx_answer.specs.declared.ranged.Ranged.{Ranged}
 use Rattle.dcx_answer.specs.declared.range_stop.RangeStop.{RangeStop}
 use Rattle.dcx_answer.specs.declared.range_stop.RangeStop.TheVariants as range
-use Rattle.dcx_outcomes.specs.declared.range_outcome.RangeOutcome.{RangeOutcome}
+use Rattle.dcx_answer.specs.declared.range_outcome.RangeOutcome.{RangeOutcome}
 use Rattle.dcx_graph.specs.Program.{Program}
 use Rattle.dcx_graph.specs.Fixing.{FixGives}
 use Rattle.dcx_graph.proofs.OneWay.{one_affine}

@@ -9,9 +9,9 @@ use Rattle.dcx_linear.specs.declared.param_form.ParamForm.{ParamForm}
 use Rattle.dcx_answer.specs.declared.not_ranged.NotRanged.{NotRanged}
 use Rattle.dcx_answer.specs.declared.ranged.Ranged.{Ranged}
 use Rattle.dcx_answer.specs.declared.range_stop.RangeStop.{RangeStop}
-use Rattle.dcx_outcomes.specs.declared.range_outcome.RangeEnd.{RangeEnd}
-use Rattle.dcx_outcomes.specs.declared.range_outcome.RangeEnd.TheVariants as the
-use Rattle.dcx_outcomes.specs.declared.range_outcome.RangeOutcome.{RangeOutcome}
+use Rattle.dcx_answer.specs.declared.range_outcome.RangeEnd.{RangeEnd}
+use Rattle.dcx_answer.specs.declared.range_outcome.RangeEnd.TheVariants as the
+use Rattle.dcx_answer.specs.declared.range_outcome.RangeOutcome.{RangeOutcome}
 use Rattle.dcx_graph.specs.Program.{Program}
 use Rattle.dcx_cache.specs.Programs.{IsMapOf, HasMap}
 use Rattle.dcx_range.specs.Parameters.{IsRanged, IsFaultOf}

@@ -3,8 +3,7 @@ ghost use Rattle.std.specs.Prelude.{◌≡◌, IfOk, OnOk};
 ghost use Rattle.dcx_outcomes.specs.Ranges.{HasRange, TellsOf, range_end, AreRangeOutcomes};
 
 use crate::asking::{Question, ask_session};
-use crate::range_outcome::{RangeEnd, RangeOutcome, RangeOutcomes};
-use dcx_answer::{RangeStop, Ranged, Stop};
+use dcx_answer::{RangeEnd, RangeOutcome, RangeOutcomes, RangeStop, Ranged, Stop};
 use dcx_cache::Session;
 use dcx_frac::Frac;
 use dcx_graph::Reduced;

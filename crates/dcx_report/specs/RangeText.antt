@@ -11,9 +11,9 @@ use Rattle.dcx_answer.specs.declared.ranged.Ranged.{Ranged}
 use Rattle.dcx_answer.specs.declared.ranged.Ranged.TheVariants.{Span, Infeasible, Unbounded}
 use Rattle.dcx_answer.specs.declared.range_stop.RangeStop.{RangeStop}
 use Rattle.dcx_answer.specs.declared.range_stop.RangeStop.TheVariants as range
-use Rattle.dcx_outcomes.specs.declared.range_outcome.RangeEnd.{RangeEnd}
-use Rattle.dcx_outcomes.specs.declared.range_outcome.RangeEnd.TheVariants as the
-use Rattle.dcx_outcomes.specs.declared.range_outcome.RangeOutcome.{RangeOutcome}
+use Rattle.dcx_answer.specs.declared.range_outcome.RangeEnd.{RangeEnd}
+use Rattle.dcx_answer.specs.declared.range_outcome.RangeEnd.TheVariants as the
+use Rattle.dcx_answer.specs.declared.range_outcome.RangeOutcome.{RangeOutcome}
 use Rattle.dcx_report.specs.AnswerText.{user_number}
 use Rattle.dcx_report.specs.OutcomeText.{counts_line}
 use Rattle.dcx_report.specs.Pieces.{passes_text}

@@ -1,7 +1,7 @@
 //! How a run ends.
 
 use crate::{FilterOutcomes, Outcomes, RangeOutcomes, Refusal, Sense, WholeOutcomes};
-use dcx_cert_sections::CertFault;
+use dcx_answer::CertFault;
 use dcx_refusal::Checked;
 use dcx_shape::{Bytes, Name};
 

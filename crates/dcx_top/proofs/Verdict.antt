@@ -18,8 +18,8 @@ use Rattle.dcx_front.specs.OneAnswer.{IsWithoutFault}
 use Rattle.dcx_elab.specs.declared.work.Work.{Work}
 use Rattle.dcx_front.proofs.OneAnswer.{one_work}
 use Rattle.dcx_front.proofs.OneVerdict.{apart, refused_for, acceptance}
-use Rattle.dcx_outcomes.specs.declared.filter_outcome.FilterOutcome.{FilterOutcome}
-use Rattle.dcx_outcomes.specs.declared.range_outcome.RangeOutcome.{RangeOutcome}
+use Rattle.dcx_answer.specs.declared.filter_outcome.FilterOutcome.{FilterOutcome}
+use Rattle.dcx_answer.specs.declared.range_outcome.RangeOutcome.{RangeOutcome}
 use Rattle.dcx_tree.specs.declared.constraint.Sense.{Sense}
 use Rattle.dcx_report.specs.declared.run.Run.{Run}
 use Rattle.dcx_report.specs.declared.run.Run.TheVariants as run

@@ -1,7 +1,7 @@
 -- What is collected is told, or its stop is.
 use Rattle.std.proofs.Common.{Result, Err}
 use Rattle.std.proofs.lemmas.Result.{err_from_is_err_and}
-use Rattle.dcx_cert_sections.specs.declared.fault.CertFault.{CertFault}
+use Rattle.dcx_answer.specs.declared.cert_fault.CertFault.{CertFault}
 use Rattle.dcx_cert_bound.specs.Weights.{weights_at}
 use Rattle.dcx_cert_bound.specs.Collecting.{collected}
 use Rattle.dcx_cert_bound.proofs.Falling.{is_collected}

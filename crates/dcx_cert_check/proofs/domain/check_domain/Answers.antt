@@ -1,6 +1,6 @@
 -- Where nothing is outside, each entry is as is demanded, and else the first is told that isn't.
 use Rattle.std.proofs.Common.{inr, refl}
-use Rattle.dcx_cert_sections.specs.declared.fault.CertFault.TheVariants as faults
+use Rattle.dcx_answer.specs.declared.cert_fault.CertFault.TheVariants as faults
 use Rattle.dcx_cert_check.proofs.Demands.{outside_fails}
 use Rattle.dcx_cert_check.proofs.Sound.{checks_sound}
 use Rattle.dcx_cert_check.proofs.domain.check_domain.Goals as goal

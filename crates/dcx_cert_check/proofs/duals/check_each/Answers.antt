@@ -3,7 +3,7 @@ use Rattle.std.proofs.Common.{◌≡◌, length, Some, Result, Ok, Err, refl}
 use Rattle.std.specs.List.{slice_get}
 use Rattle.std.proofs.lemmas.Option.{slice_get_read}
 use Rattle.std.proofs.lemmas.Result.{err_from_is_err_and}
-use Rattle.dcx_cert_sections.specs.declared.fault.CertFault.{CertFault}
+use Rattle.dcx_answer.specs.declared.cert_fault.CertFault.{CertFault}
 use Rattle.dcx_cert_check.specs.SingleChecks.{multipliers_signed}
 use Rattle.dcx_cert_check.proofs.Demands.{looked_up}
 use Rattle.dcx_cert_check.proofs.Steps.{one_more, all_passed, first_fails, at_place, at_passes, at_fails}

@@ -1,7 +1,7 @@
 -- The test is exact.
 use Rattle.std.proofs.Common.{◌≡◌, ◌⊎◌, sym, subst}
 use Rattle.dcx_frac.specs.Frac.{value}
-use Rattle.dcx_cert_sections.specs.declared.fault.CertFault.TheVariants as faults
+use Rattle.dcx_answer.specs.declared.cert_fault.CertFault.TheVariants as faults
 use Rattle.dcx_cert_check.specs.SingleChecks.{multiplier_signed}
 use Rattle.dcx_cert_check.proofs.Demands.{multiplier_fails}
 use Rattle.dcx_cert_check.proofs.duals.check_multiplier.Goals as goal

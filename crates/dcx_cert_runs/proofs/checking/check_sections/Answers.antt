@@ -1,7 +1,7 @@
 -- The sections pass, or the one at this place is the first that is refused.
 use Rattle.std.proofs.Common.{◌+◌, Result, length, refl, sym, subst, arith, rules}
 use Rattle.std.proofs.lemmas.Option.{slice_get_read}
-use Rattle.dcx_cert_sections.specs.declared.fault.CertFault.{CertFault}
+use Rattle.dcx_answer.specs.declared.cert_fault.CertFault.{CertFault}
 use Rattle.dcx_cert_sections.specs.Shown.{IsSectionOf}
 use Rattle.dcx_cert_sections.specs.Checks.{Checked}
 use Rattle.dcx_cert_outline.specs.Drawn.{problem_outline}

@@ -1,7 +1,7 @@
 -- A node that no divisor reaches needs no value, and any other is formed or tells why not.
 use Rattle.std.proofs.Common.{◌≡◌, ◌⊎◌, inl, inr, [], IfErr, sym, subst, ◌∙◌, true≢false}
 use Rattle.dcx_point.specs.Pairs.{Pairs}
-use Rattle.dcx_cert_sections.specs.declared.fault.CertFault.TheVariants.{Memory}
+use Rattle.dcx_answer.specs.declared.cert_fault.CertFault.TheVariants.{Memory}
 use Rattle.dcx_cert_values.specs.Forming.{IsUnformedAt}
 use Rattle.dcx_cert_values.specs.Tables.{AreKeptValues}
 use Rattle.dcx_cert_values.proofs.Keeping.{kept_formed}

@@ -3,8 +3,8 @@ use Rattle.std.proofs.Common.{◌≡◌, ◌⊎◌, All, List, Option, None, IsS
 use Rattle.dcx_atom.specs.declared.array.Array.{Array}
 use Rattle.dcx_arena.specs.Nodes.{args_at}
 use Rattle.dcx_tree.specs.Values.{array_at}
-use Rattle.dcx_cert_sections.specs.declared.fault.CertFault.{CertFault}
-use Rattle.dcx_cert_sections.specs.declared.fault.CertFault.TheVariants.{Memory}
+use Rattle.dcx_answer.specs.declared.cert_fault.CertFault.{CertFault}
+use Rattle.dcx_answer.specs.declared.cert_fault.CertFault.TheVariants.{Memory}
 use Rattle.dcx_cert_values.specs.Forming.{IsUnformedAt}
 use Rattle.dcx_cert_values.specs.Tables.{AreKeptValues}
 use Rattle.dcx_cert_values.proofs.Keeping.{values_more, unformed}

@@ -1,8 +1,9 @@
 //! How each setting of a run ends.
 ghost use Rattle.std.specs.Prelude.{◌≡◌, is_some};
-ghost use Rattle.dcx_outcomes.specs.NodeStops.{names_node};
+ghost use Rattle.dcx_answer.specs.NodeStops.{names_node};
 
-use dcx_answer::{Answer, Stop};
+use crate::answer::Answer;
+use crate::stop::Stop;
 use dcx_math::List;
 use dcx_shape::Place;
 

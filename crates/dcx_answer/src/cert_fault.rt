@@ -1,5 +1,5 @@
 //! Why a certificate is refused.
-use dcx_answer::Stop;
+use crate::stop::Stop;
 use dcx_arena::NodeId;
 use dcx_frac::{Frac, Passes};
 use std::alloc::{AllocError, AllocFailed};
@@ -134,7 +134,7 @@ pub enum CertFault {
 
 impl From<AllocError> for CertFault {
     ghost use Rattle.std.specs.Prelude.{◌≡◌};
-    ghost use Rattle.dcx_cert_sections.specs.declared.fault.CertFault.TheVariants.{Memory};
+    ghost use Rattle.dcx_answer.specs.declared.cert_fault.CertFault.TheVariants.{Memory};
 
     ghost from_gives = { λ _ e. e ≡ Memory };
 
@@ -145,7 +145,7 @@ impl From<AllocError> for CertFault {
 
 impl<T: Drop> From<AllocFailed<T>> for CertFault {
     ghost use Rattle.std.specs.Prelude.{◌≡◌};
-    ghost use Rattle.dcx_cert_sections.specs.declared.fault.CertFault.TheVariants.{Memory};
+    ghost use Rattle.dcx_answer.specs.declared.cert_fault.CertFault.TheVariants.{Memory};
 
     ghost from_gives = { λ _ e. e ≡ Memory };
 

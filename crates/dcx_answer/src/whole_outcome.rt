@@ -1,9 +1,9 @@
 //! How each setting of a run ends at which a problem with marked variables is solved.
 ghost use Rattle.std.specs.Prelude.{◌≡◌, is_some};
-ghost use Rattle.dcx_outcomes.specs.NodeStops.{whole_names_node};
+ghost use Rattle.dcx_answer.specs.NodeStops.{whole_names_node};
 
-use dcx_answer::Stop;
-use dcx_branch::{BranchStop, WholeAnswer};
+use crate::stop::Stop;
+use crate::whole_answer::{BranchStop, WholeAnswer};
 use dcx_math::List;
 use dcx_shape::Place;
 

@@ -1,6 +1,6 @@
 //! What branch and bound answers, and what stops it.
-use crate::tree::BranchTree;
-use dcx_answer::Stop;
+use crate::branch_tree::BranchTree;
+use crate::stop::Stop;
 use dcx_frac::Frac;
 use dcx_point::Point;
 use std::alloc::AllocError;
@@ -51,7 +51,7 @@ pub enum BranchStop {
 
 impl From<AllocError> for BranchStop {
     ghost use Rattle.std.specs.Prelude.{◌≡◌};
-    ghost use Rattle.dcx_branch.specs.declared.answer.BranchStop.TheVariants.{Memory};
+    ghost use Rattle.dcx_answer.specs.declared.whole_answer.BranchStop.TheVariants.{Memory};
 
     ghost from_gives = { λ _ e. e ≡ Memory };
 

@@ -1,8 +1,10 @@
 //! How each setting of a run ends at which a parameter's range is told.
 ghost use Rattle.std.specs.Prelude.{◌≡◌, is_some};
-ghost use Rattle.dcx_outcomes.specs.NodeStops.{range_names_node};
+ghost use Rattle.dcx_answer.specs.NodeStops.{range_names_node};
 
-use dcx_answer::{RangeStop, Ranged, Stop};
+use crate::range_stop::RangeStop;
+use crate::ranged::Ranged;
+use crate::stop::Stop;
 use dcx_math::List;
 use dcx_shape::Place;
 

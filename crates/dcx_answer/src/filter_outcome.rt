@@ -1,8 +1,10 @@
 //! How each setting of a run ends at which it is asked which constraints no point keeps together.
 ghost use Rattle.std.specs.Prelude.{◌≡◌, is_some};
-ghost use Rattle.dcx_outcomes.specs.NodeStops.{filter_names_node};
+ghost use Rattle.dcx_answer.specs.NodeStops.{filter_names_node};
 
-use dcx_answer::{FilterStop, Filtered, Stop};
+use crate::filter_stop::FilterStop;
+use crate::filtered::Filtered;
+use crate::stop::Stop;
 use dcx_math::List;
 use dcx_shape::Place;
 

@@ -1,12 +1,12 @@
 //! Trees that show what whole points there are, as they are handed out.
 
-use dcx_answer::Duals;
+use crate::duals::Duals;
 use dcx_frac::Frac;
 use dcx_math::List;
 
 /// The multiplier of a bound of an entry.
 #[derive(Clone, Copy)]
-pub struct BoundDual {
+pub struct BoundWeight {
     /// The variable, by position in order of declaration.
     pub variable: u32,
     /// The entry, in row-major order.
@@ -18,7 +18,7 @@ pub struct BoundDual {
 }
 
 /// Multipliers of bounds, seen by contracts as a list.
-pub type BoundDuals = List<BoundDual>;
+pub type BoundWeights = List<BoundWeight>;
 
 /// A node of a tree.
 #[derive(Drop)]
@@ -28,14 +28,14 @@ pub enum BranchNode {
         /// The multipliers of each constraint.
         duals: Duals,
         /// Those of the bounds of its box.
-        bounds: BoundDuals,
+        bounds: BoundWeights,
     },
     /// A leaf: the multipliers show that no point of its box is feasible.
     Empty {
         /// The multipliers of each constraint.
         duals: Duals,
         /// Those of the bounds of its box.
-        bounds: BoundDuals,
+        bounds: BoundWeights,
         /// What the multipliers leave above 0.
         gap: Frac,
     },

@@ -3,14 +3,14 @@ use Rattle.std.specs.Prelude.{Bool, true, false}
 use Rattle.dcx_answer.specs.declared.site.Site.TheVariants.{Node}
 use Rattle.dcx_answer.specs.declared.stop.Stop.{Stop}
 use Rattle.dcx_answer.specs.declared.stop.Stop.TheVariants.{ZeroDivisor, Wide}
-use Rattle.dcx_outcomes.specs.declared.outcome.OutcomeEnd.{OutcomeEnd}
-use Rattle.dcx_outcomes.specs.declared.outcome.OutcomeEnd.TheVariants as the
-use Rattle.dcx_outcomes.specs.declared.filter_outcome.FilterEnd.{FilterEnd}
-use Rattle.dcx_outcomes.specs.declared.filter_outcome.FilterEnd.TheVariants as filter
-use Rattle.dcx_outcomes.specs.declared.whole_outcome.WholeEnd.{WholeEnd}
-use Rattle.dcx_outcomes.specs.declared.whole_outcome.WholeEnd.TheVariants as whole
-use Rattle.dcx_outcomes.specs.declared.range_outcome.RangeEnd.{RangeEnd}
-use Rattle.dcx_outcomes.specs.declared.range_outcome.RangeEnd.TheVariants as range
+use Rattle.dcx_answer.specs.declared.outcome.OutcomeEnd.{OutcomeEnd}
+use Rattle.dcx_answer.specs.declared.outcome.OutcomeEnd.TheVariants as the
+use Rattle.dcx_answer.specs.declared.filter_outcome.FilterEnd.{FilterEnd}
+use Rattle.dcx_answer.specs.declared.filter_outcome.FilterEnd.TheVariants as filter
+use Rattle.dcx_answer.specs.declared.whole_outcome.WholeEnd.{WholeEnd}
+use Rattle.dcx_answer.specs.declared.whole_outcome.WholeEnd.TheVariants as whole
+use Rattle.dcx_answer.specs.declared.range_outcome.RangeEnd.{RangeEnd}
+use Rattle.dcx_answer.specs.declared.range_outcome.RangeEnd.TheVariants as range
 
 -- a zero divisor, or an operation at a node that passes
 abbrev pub stop_names_node : Stop → Bool
