@@ -53,8 +53,9 @@ use Rattle.dcx_branch.specs.Nodes.{node_program}
 use Rattle.dcx_branch.specs.Leaves.{IsLeaf}
 use Rattle.dcx_lp_solve.specs.Stops.{run_stop}
 use Rattle.dcx_branch.specs.Run.{Best, State, start, best_value, IsPruned, IsBetter, AreWhole, IsFirstSplit, unknowns_in, Turn, Cut, Found, Divided, TurnsOut, after, FormsLeaf, bounds_in, IsNode, Steps, Reaches, next, FallsAtRoot, NodeStops, at_rows, at_leaf}
-use Rattle.dcx_branch.specs.Trees.{shown_by, Lists, bound, empty, Shows}
-use Rattle.dcx_branch.specs.Answers.{IsPointAt, IsRightFor, IsEndOf}
+use Rattle.dcx_right.specs.WholeAnswers.{bound, empty}
+use Rattle.dcx_right.specs.WholeAnswers.{shown_by, Lists, Shows, IsRightFor}
+use Rattle.dcx_branch.specs.Answers.{IsPointAt, IsEndOf}
 use Rattle.dcx_branch.specs.Taken.{IsSolvedWith, IsLeafOf, IsTaken, TakenAs, FallsAt, StopsTaking}
 use Rattle.dcx_branch.specs.Searches.{IsBelow, Completes, IsNested, HasFloor, IsPlaced, HoldsBest, IsUnderWay, IsAt, IsDone, IsAtOrDone, node_of, best_after, AddsSide, Enters, answer_of, found_value, node_stop, StopsNext}
 use Rattle.dcx_branch.proofs.Members.{Each}

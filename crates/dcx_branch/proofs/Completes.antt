@@ -12,7 +12,8 @@ use Rattle.dcx_right.specs.Trees as trees
 use Rattle.dcx_right.specs.Trees.{Tree, IsTreeOf}
 use Rattle.dcx_answer.specs.declared.branch_tree.BranchNode.{BranchNode}
 use Rattle.dcx_answer.specs.declared.branch_tree.BranchNode.TheVariants.{Split}
-use Rattle.dcx_branch.specs.Trees.{Lists, split, Shows}
+use Rattle.dcx_right.specs.WholeAnswers.{split}
+use Rattle.dcx_right.specs.WholeAnswers.{Lists, Shows}
 use Rattle.dcx_branch.specs.Searches.{IsBelow, Fills, no_boxes, one_box, Completes}
 
 pub below_itself : (b : Option ℚ) → IsBelow b b

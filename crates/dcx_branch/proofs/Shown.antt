@@ -34,7 +34,8 @@ use Rattle.dcx_unknowns.specs.Layout.{constraint_rows}
 use Rattle.dcx_unknowns.specs.Unknowns.{point_at}
 use Rattle.dcx_postsolve.specs.Programs as mapping
 use Rattle.dcx_postsolve.specs.Programs.{gap_rows, multipliers_of}
-use Rattle.dcx_postsolve.specs.Duals.{AreDuals, multipliers_in, first_row}
+use Rattle.dcx_postsolve.specs.Duals.{AreDuals, first_row}
+use Rattle.dcx_right.specs.Answers.{multipliers_in}
 use Rattle.dcx_postsolve.specs.Laws.{AreSameMultipliers, HaveSlacks}
 use Rattle.dcx_postsolve.proofs.Carrying.{multipliers_same, penalty_same}
 use Rattle.dcx_postsolve.proofs.DualLaws.{right_multiplier}
@@ -50,7 +51,7 @@ use Rattle.dcx_branch.specs.Rows.{bound_form, bound_row, bound_rows, node_rows}
 use Rattle.dcx_branch.specs.Nodes.{excess, bound_number, node_program, IsBoundOf, weights_from, NodesShow}
 use Rattle.dcx_branch.specs.Leaves.{bound_duals, AreBoundDuals, IsLeaf}
 use Rattle.dcx_branch.specs.Run.{unknowns_in}
-use Rattle.dcx_branch.specs.Trees.{weight_of, shown_by}
+use Rattle.dcx_right.specs.WholeAnswers.{weight_of, shown_by}
 use Rattle.dcx_branch.proofs.Lifting.{back}
 use Rattle.dcx_branch.proofs.Linear.{node_linear}
 use Rattle.dcx_branch.proofs.Leaves.{answers_are_leaves}

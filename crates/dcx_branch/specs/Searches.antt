@@ -35,7 +35,7 @@ use Rattle.dcx_branch.specs.Between.{HasRoom}
 use Rattle.dcx_branch.specs.Nodes.{node_program}
 use Rattle.dcx_branch.specs.Run as run
 use Rattle.dcx_branch.specs.Run.{start, best_value, bounds_in, Reaches, FallsAtRoot, StopsAtNode}
-use Rattle.dcx_branch.specs.Trees.{Lists, Shows}
+use Rattle.dcx_right.specs.WholeAnswers.{Lists, Shows}
 use Rattle.dcx_branch.specs.Answers.{IsPointAt}
 
 -- ---- the tree so far

@@ -8,7 +8,7 @@
 //!
 //! | what must hold | where |
 //! |---|---|
-//! | an answer is a whole optimum with a tree that shows it, or a tree that shows that there is no whole point | `branch`, `specs/Answers.antt`: `IsRightFor` |
+//! | an answer is a whole optimum with a tree that shows it, or a tree that shows that there is no whole point | `branch`, `IsRightFor` in `WholeAnswers` of `dcx_right` |
 //! | the run ends so, with so many nodes; what stops it | `branch`, `specs/Answers.antt`: `IsEndOf`; `specs/Run.antt` |
 //! | a run has one end | `laws::runs_are_one` |
 //! | reduced programs have what `branch` asks of them | `laws::programs_have_unknowns` |

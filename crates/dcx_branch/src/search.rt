@@ -10,7 +10,8 @@ ghost use Rattle.dcx_branch.specs.Places.{places as places_by};
 ghost use Rattle.dcx_branch.specs.Between.{HasRoom};
 ghost use Rattle.dcx_branch.specs.Sides.{IsNextSide, box_bounds};
 ghost use Rattle.dcx_branch.specs.Taken.{TakenAs};
-ghost use Rattle.dcx_branch.specs.Answers.{IsEndOf, IsRightFor};
+ghost use Rattle.dcx_branch.specs.Answers.{IsEndOf};
+ghost use Rattle.dcx_right.specs.WholeAnswers.{IsRightFor};
 ghost use Rattle.dcx_branch.specs.Searches.{IsAt, IsDone, IsAtOrDone, AddsSide, Enters, HasRoomIn, answer_of, found_value, StopsNext, node_stop as stop_by};
 
 use crate::next::next_side;

@@ -35,7 +35,8 @@ use Rattle.dcx_graph.specs.declared.stop.ReduceStop.{ReduceStop}
 use Rattle.dcx_graph.specs.declared.stop.ReduceStop.TheVariants as reduces
 use Rattle.dcx_graph.specs.Program.{Program}
 use Rattle.dcx_graph.specs.Reduced.{Reduction}
-use Rattle.dcx_graph.specs.Answers.{rows_of, HasParts, IsAnswered, IsRead, PassesAt, IsSameAnswer, IsRightFor}
+use Rattle.dcx_graph.specs.Answers.{rows_of, HasParts, IsAnswered, IsRead, PassesAt, IsSameAnswer}
+use Rattle.dcx_right.specs.Answers.{IsRightFor}
 use Rattle.dcx_graph.proofs.Mapped.{read_right}
 use Rattle.dcx_graph.proofs.OneReading.{readings_are_one}
 use Rattle.dcx_cache.specs.declared.rewarming.Warmed.{Warmed}

@@ -3,7 +3,7 @@ ghost use Rattle.std.specs.Prelude.{◌≡◌, ◌↔◌, ◌+◌, ◌≤◌, le
 ghost use Rattle.dcx_fit.specs.Fit.{FitsParameters};
 ghost use Rattle.dcx_rules.specs.Verdicts.{IsVerdictOf};
 ghost use Rattle.dcx_tree.specs.Meaning.{IsAccepted, IsFitting, setting_of};
-ghost use Rattle.dcx_graph.specs.Answers.{IsRightFor};
+ghost use Rattle.dcx_right.specs.Answers.{IsRightFor};
 ghost use Rattle.dcx_cache.specs.declared.session.Last.{Last as Found};
 ghost use Rattle.dcx_cache.specs.Programs.{IsMapOf, HasMap, SessionGives, IsProgramAt, ProgramStops};
 ghost use Rattle.dcx_cache.specs.Answers.{Answers};

@@ -23,7 +23,8 @@ use Rattle.dcx_std.proofs.ScaledProgram.{scaled_program}
 use Rattle.dcx_std.proofs.RightAnswers.{shown_of}
 use Rattle.dcx_postsolve.specs.Programs.{bound_row, multipliers_of}
 use Rattle.dcx_unknowns.specs.Equations.{graph_numbers}
-use Rattle.dcx_postsolve.specs.Duals.{AreDuals, multipliers_in}
+use Rattle.dcx_postsolve.specs.Duals.{AreDuals}
+use Rattle.dcx_right.specs.Answers.{multipliers_in, IsRightFor}
 use Rattle.dcx_postsolve.specs.Laws.{AreSameMultipliers}
 use Rattle.dcx_postsolve.proofs.DualLaws.{right_multiplier}
 use Rattle.dcx_cert_collect.specs.Multipliers as collect
@@ -33,7 +34,7 @@ use Rattle.dcx_cert_sections.specs.declared.cert.Cert.TheVariants.{Optimal, Infe
 use Rattle.dcx_answer.specs.declared.cert_fault.CertFault.{CertFault}
 use Rattle.dcx_fit.specs.Fit.{FitsParameters}
 use Rattle.dcx_graph.specs.Program.{Program}
-use Rattle.dcx_graph.specs.Answers.{rows_of, IsAnswered, IsRead, IsRightFor}
+use Rattle.dcx_graph.specs.Answers.{rows_of, IsAnswered, IsRead}
 use Rattle.dcx_graph.proofs.Slacks.{have_slacks, multiplier_is}
 use Rattle.dcx_graph.proofs.Mapped.{read_right}
 use Rattle.dcx_cert_build.specs.Built.{AreWeightsIn, values_in, IsBuilt}

@@ -20,7 +20,8 @@ use Rattle.dcx_cert_sections.specs.Formats.{IsSectionOfFormat, AreOfFormat}
 use Rattle.dcx_cert_sections.specs.Shown.{IsSectionOf}
 use Rattle.dcx_cert_outline.specs.Drawn.{problem_outline}
 use Rattle.dcx_graph.specs.declared.origin.Origin.{Origin}
-use Rattle.dcx_graph.specs.Answers.{IsRead, IsRightFor}
+use Rattle.dcx_graph.specs.Answers.{IsRead}
+use Rattle.dcx_right.specs.Answers.{IsRightFor}
 use Rattle.dcx_cache.proofs.Answered.{answers_are_right}
 use Rattle.dcx_cert_build.specs.Built.{IsBuilt}
 use Rattle.dcx_cert_check.specs.Shown.{IsShown}

@@ -30,7 +30,8 @@ use Rattle.dcx_unknowns.specs.Layout.{constraint_rows}
 use Rattle.dcx_unknowns.specs.Unknowns.{point_at}
 use Rattle.dcx_postsolve.specs.Programs.{bound_row, multipliers_of}
 use Rattle.dcx_postsolve.specs.Points.{numbered, IsPointOf}
-use Rattle.dcx_postsolve.specs.Duals.{AreDuals, multipliers_in}
+use Rattle.dcx_postsolve.specs.Duals.{AreDuals}
+use Rattle.dcx_right.specs.Answers.{multipliers_in}
 use Rattle.dcx_postsolve.specs.Laws.{ColumnsTellUnknowns}
 use Rattle.dcx_postsolve.proofs.ColumnParts.{columns_tell}
 use Rattle.dcx_postsolve.proofs.DualLaws.{right_multiplier}

@@ -15,7 +15,8 @@ use Rattle.dcx_graph.specs.Fixing.{FixGives}
 use Rattle.dcx_graph.proofs.OneWay.{one_affine}
 use Rattle.dcx_cache.specs.Programs.{IsMapOf, SessionGives, mapped, anew}
 use Rattle.dcx_range.specs.Parameters.{IsRanged, IsFaultOf, IsTold}
-use Rattle.dcx_range.specs.Range.{RangeGives, HoldsOn, IsMapOf as IsAffineMapOf}
+use Rattle.dcx_range.specs.Range.{RangeGives, IsMapOf as IsAffineMapOf}
+use Rattle.dcx_right.specs.Ranges.{HoldsOn}
 use Rattle.dcx_range.specs.Laws.{AreOneRange}
 use Rattle.dcx_range.proofs.Named.{tells_once}
 use Rattle.dcx_range.proofs.OneRange.{ranges_are_one as one_range}

@@ -15,7 +15,8 @@ use Rattle.dcx_answer.specs.declared.range_outcome.RangeOutcome.{RangeOutcome}
 use Rattle.dcx_graph.specs.Program.{Program}
 use Rattle.dcx_cache.specs.Programs.{IsMapOf, HasMap}
 use Rattle.dcx_range.specs.Parameters.{IsRanged, IsFaultOf}
-use Rattle.dcx_range.specs.Range.{RangeGives, HoldsOn}
+use Rattle.dcx_range.specs.Range.{RangeGives}
+use Rattle.dcx_right.specs.Ranges.{HoldsOn}
 use Rattle.dcx_outcomes.specs.Asking.{AreAskedOutcomes}
 
 -- ---- whether a parameter has a range

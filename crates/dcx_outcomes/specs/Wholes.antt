@@ -11,7 +11,8 @@ use Rattle.dcx_answer.specs.declared.whole_outcome.WholeOutcome.{WholeOutcome}
 use Rattle.dcx_graph.specs.Program.{Program}
 use Rattle.dcx_answer.specs.declared.whole_answer.WholeAnswer.{WholeAnswer}
 use Rattle.dcx_answer.specs.declared.whole_answer.BranchStop.{BranchStop}
-use Rattle.dcx_branch.specs.Answers.{IsRightFor, IsEndOf}
+use Rattle.dcx_branch.specs.Answers.{IsEndOf}
+use Rattle.dcx_right.specs.WholeAnswers.{IsRightFor}
 use Rattle.dcx_outcomes.specs.Asking.{IsRightAt, AreAskedOutcomes}
 
 -- how many nodes a run may have

@@ -49,7 +49,7 @@ use Rattle.dcx_graph.proofs.Backward.{answers_carry_over}
 use Rattle.dcx_range.specs.Standing.{scales_unknown, scales_row}
 use Rattle.dcx_range.specs.Coefficients.{coefficient_of}
 use Rattle.dcx_range.specs.Parameters.{scales}
-use Rattle.dcx_range.specs.Interval.{DifferAt}
+use Rattle.dcx_right.specs.Ranges.{DifferAt}
 use Rattle.dcx_range.proofs.Moves.{none_at, IsScalarAt, moved, number_moves, form_moves}
 use Rattle.dcx_range.proofs.Shifted.{IsMoved}
 

@@ -31,7 +31,7 @@ use Rattle.dcx_answer.specs.declared.ranged.Ranged.{Ranged}
 use Rattle.dcx_answer.specs.declared.ranged.Ranged.TheVariants.{Span, Infeasible, Unbounded}
 use Rattle.dcx_answer.specs.declared.range_stop.RangeStop.{RangeStop}
 use Rattle.dcx_answer.specs.declared.range_stop.RangeStop.TheVariants as stops
-use Rattle.dcx_range.specs.Parameters.{IsNumber}
+use Rattle.dcx_right.specs.Ranges.{IsNumber}
 use Rattle.dcx_range.specs.Operations.{operations}
 use Rattle.dcx_range.specs.Range.{IsKnown, formed, RangeGives}
 use Rattle.dcx_range.specs.Laws.{AreOneRange, RangesAreOne}

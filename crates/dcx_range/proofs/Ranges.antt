@@ -55,11 +55,11 @@ use Rattle.dcx_answer.specs.declared.ranged.Ranged.{Ranged}
 use Rattle.dcx_answer.specs.declared.range_stop.RangeStop.{RangeStop}
 use Rattle.dcx_answer.specs.declared.range_stop.RangeStop.TheVariants as stops
 use Rattle.dcx_range.specs.Coefficients.{coefficient_of, HasConstants}
-use Rattle.dcx_range.specs.Parameters.{scales, IsNumber, IsRanged}
+use Rattle.dcx_range.specs.Parameters.{scales, IsRanged}
+use Rattle.dcx_right.specs.Ranges.{IsNumber, DifferAt, IsBetween, HasValue, HasNoPoint, HasNoLeast, HoldsOn}
 use Rattle.dcx_range.specs.Stops.{StopsAt, IsOfRun, IsToldAs}
 use Rattle.dcx_range.specs.Operations.{rates_of, ends_from, no_ends, sign_ends, slope_of, constant_of, span, finished, operations}
-use Rattle.dcx_range.specs.Interval.{DifferAt, IsBetween}
-use Rattle.dcx_range.specs.Range.{IsMapOf, IsAsked, IsKnown, formed, EndsInfeasible, EndsUnbounded, RangeGives, HasValue, HasNoPoint, HasNoLeast, HoldsOn}
+use Rattle.dcx_range.specs.Range.{IsMapOf, IsAsked, IsKnown, formed, EndsInfeasible, EndsUnbounded, RangeGives}
 use Rattle.dcx_range.proofs.Exact.{both_formed}
 use Rattle.dcx_range.proofs.Few.{is_fitting}
 use Rattle.dcx_range.proofs.Law.{row_kinds, rows_count}

@@ -62,10 +62,10 @@ use Rattle.dcx_graph.proofs.Entries.{all_at}
 use Rattle.dcx_range.specs.declared.rates.Rate.{Rate}
 use Rattle.dcx_range.specs.declared.ends.Ends.{Ends}
 use Rattle.dcx_range.specs.Coefficients.{coefficient_of, HasConstants}
-use Rattle.dcx_range.specs.Parameters.{scales, IsNumber}
+use Rattle.dcx_range.specs.Parameters.{scales}
+use Rattle.dcx_right.specs.Ranges.{IsNumber, DifferAt, HasValue}
 use Rattle.dcx_range.specs.Operations.{rates_of, change_at, ends_from, no_ends, sign_ends, slope_of, constant_of}
-use Rattle.dcx_range.specs.Interval.{with_value, DifferAt, HasSign, IsInInterval}
-use Rattle.dcx_range.specs.Range.{HasValue}
+use Rattle.dcx_range.specs.Interval.{with_value, HasSign, IsInInterval}
 use Rattle.dcx_range.proofs.Exact.{rate_value, rates_length, rate_at, sum_below, change_value, slope_value, constant_value}
 use Rattle.dcx_range.proofs.Between.{Within, sign_in, sign_out, IsSettled, allowed_here, all_in, all_out}
 use Rattle.dcx_range.proofs.Named.{name_is}

@@ -8,9 +8,10 @@ ghost use Rattle.dcx_graph.specs.Fixed.{HaveArrays};
 ghost use Rattle.dcx_graph.specs.Fixing.{FixGives};
 ghost use Rattle.dcx_range.specs.Coefficients.{HasConstants};
 ghost use Rattle.dcx_range.specs.Operations.{slope_of, constant_of, finished, operations};
-ghost use Rattle.dcx_range.specs.Parameters.{IsNumber, IsRanged};
+ghost use Rattle.dcx_range.specs.Parameters.{IsRanged};
+ghost use Rattle.dcx_right.specs.Ranges.{IsNumber, HoldsOn};
 ghost use Rattle.dcx_range.specs.Stops.{StopsAt, IsOfRun, IsToldAs};
-ghost use Rattle.dcx_range.specs.Range.{IsMapOf, IsAsked, RangeGives, HoldsOn};
+ghost use Rattle.dcx_range.specs.Range.{IsMapOf, IsAsked, RangeGives};
 
 use crate::asked::Asked;
 use crate::ends::{all_ends, change, sign_ends};

@@ -2,7 +2,8 @@
 ghost use Rattle.std.specs.Prelude.{◌≡◌, Option, option_copied, IfOk, IfErr};
 ghost use Rattle.dcx_linear.specs.declared.param_form.ParamForm.{ParamForm};
 ghost use Rattle.dcx_graph.specs.Program.{Program};
-ghost use Rattle.dcx_range.specs.Parameters.{place_of, scales, IsNumber, IsFaultOf, program_in, IsTold};
+ghost use Rattle.dcx_range.specs.Parameters.{scales, IsFaultOf, program_in, IsTold};
+ghost use Rattle.dcx_right.specs.Ranges.{place_of, IsNumber};
 
 use crate::standing::{scales_row, scales_unknown};
 use dcx_answer::NotRanged;

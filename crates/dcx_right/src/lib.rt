@@ -19,6 +19,9 @@
 //! | no feasible point has a smaller minimized objective than an optimal one | `laws::optima_are_least` |
 //! | where multipliers show that a problem is infeasible no point is feasible | `laws::infeasible_have_no_point` |
 //! | where a ray shows that a problem is unbounded no number bounds the minimized objective of all feasible points from below | `laws::unbounded_have_no_least` |
+//! | an answer is right at a setting | `specs/Answers.antt`: `IsRightFor` |
+//! | an answer in whole numbers is right, with the tree that shows it | `specs/WholeAnswers.antt`: `IsRightFor` |
+//! | what is told of the range of a parameter is right | `specs/Ranges.antt`: `HoldsOn` |
 //! | whole points, whole optima, and that there is no whole point | `specs/Points.antt` |
 //! | boxes, the box that has all whole points, and the two sides of a box | `specs/Boxes.antt` |
 //! | trees, and when one shows its box | `specs/Trees.antt` |
