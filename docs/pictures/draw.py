@@ -348,17 +348,17 @@ def architecture():
     graph, std, simplex, back = boxes[2:]
     report = Box(picture, 20, y + 6, 880, "dcx_report", "what is found of the problem, answers and stops, sections, faults: the lines of the report")
 
-    # What is asked at each setting in place of an answer: over the same rows, each program solved by dcx_solved.
+    # What is asked at each setting in place of an answer: over the same rows, each program solved by dcx_lp_solve.
     solved_top, solved_bottom = std.top - 10, simplex.top + simplex.height + 10
     picture.put("rect", x=10, y=solved_top, width=270, height=solved_bottom - solved_top, rx=8, fill="none", stroke=GREY, stroke_dasharray="5 4")
-    picture.words(14, solved_top - 3, "dcx_solved", "start", 12, GREY)
+    picture.words(14, solved_top - 3, "dcx_lp_solve", "start", 12, GREY)
     asked = [
         ("dcx_branch", "whole numbers: one program", "for each node"),
         ("dcx_iis", "constraints in the way: one", "program for each of them"),
         ("dcx_range", "how far a parameter may move,", "read at the last basis"),
     ]
     picture.words(460, graph.top - 34, "asked at each setting (dcx_outcomes),", "middle", 13, GREY)
-    picture.words(460, graph.top - 16, "each program solved by dcx_solved", "middle", 13, GREY)
+    picture.words(460, graph.top - 16, "each program solved by dcx_lp_solve", "middle", 13, GREY)
     fork, join, y = 312, 612, graph.top
     first = None
     for name, *does in asked:
@@ -373,7 +373,7 @@ def architecture():
     picture.line((fork, graph.side("right")[1]), (fork, last))
     picture.arrow((join, first.side("right")[1]), (join, report.top))
 
-    certify = Box(picture, 650, 330, 250, "dcx_certify", "the checks of a certificate, in", "order, on the problem's nodes:", "values, multipliers, weights, rays")
+    certify = Box(picture, 650, 330, 250, "dcx_cert_check", "the checks of a certificate, in", "order, on the problem's nodes:", "values, multipliers, weights, rays")
     picture.arrow((775, rail + 30), certify.side("top"))
     picture.put("rect", x=638, y=318, width=274, height=140, rx=8, fill="none", stroke=COLOURS[2], stroke_dasharray="5 4")
     picture.words(775, 432, "stands on neither the reduction", "middle", 12, COLOURS[2])
@@ -383,7 +383,7 @@ def architecture():
     picture.words(690, 512, "a file", "middle", 12, GREY)
     picture.arrow((690, 516), (690, 530))
     picture.arrow(text.side("top", 0.6), (800, 458))
-    build = Box(picture, 650, back.top, 250, "dcx_build", "an answer's numbers, and", "the weights of its atoms")
+    build = Box(picture, 650, back.top, 250, "dcx_cert_build", "an answer's numbers, and", "the weights of its atoms")
     picture.arrow(back.side("right"), build.side("left"))
     picture.words(460, back.side("right")[1] - 8, "certificate", "middle", 13, GREY)
     picture.arrow(build.side("top"), text.side("bottom"))

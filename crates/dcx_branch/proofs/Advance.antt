@@ -23,27 +23,27 @@ use Rattle.dcx_lp_answer.specs.declared.answer.LpStatus.{LpStatus}
 use Rattle.dcx_lp_answer.specs.declared.answer.LpStatus.TheVariants as status
 use Rattle.dcx_lp_answer.specs.Right.{multiplier_at}
 use Rattle.dcx_std.specs.Solutions.{linear_program}
-use Rattle.dcx_solved.specs.declared.solving.Solved.{Solved}
-use Rattle.dcx_solved.specs.declared.stop.SolveStop.{SolveStop}
-use Rattle.dcx_solved.specs.declared.stop.SolveStop.TheVariants as solves
+use Rattle.dcx_lp_solve.specs.declared.solving.Solved.{Solved}
+use Rattle.dcx_lp_solve.specs.declared.stop.SolveStop.{SolveStop}
+use Rattle.dcx_lp_solve.specs.declared.stop.SolveStop.TheVariants as solves
 use Rattle.dcx_graph.specs.Program.{Program}
 use Rattle.dcx_graph.specs.Answers.{rows_of, IsReducedAt}
-use Rattle.dcx_whole.specs.Boxes.{Box, root_box, IsWithin, at_most, at_least}
-use Rattle.dcx_whole.specs.Trees as trees
-use Rattle.dcx_whole.specs.Trees.{Shown, Tree, IsTreeOf, BoundsBelow, BoundsBy, ShowsEmpty}
-use Rattle.dcx_whole.proofs.Trees.{trees_bound, trees_show_optima, trees_show_none, root_has_all}
+use Rattle.dcx_right.specs.Boxes.{Box, root_box, IsWithin, at_most, at_least}
+use Rattle.dcx_right.specs.Trees as trees
+use Rattle.dcx_right.specs.Trees.{Shown, Tree, IsTreeOf, BoundsBelow, BoundsBy, ShowsEmpty}
+use Rattle.dcx_right.proofs.Trees.{trees_bound, trees_show_optima, trees_show_none, root_has_all}
 use Rattle.dcx_branch.specs.declared.place.Place.{Place}
 use Rattle.dcx_branch.specs.declared.bound.BoundAt.{BoundAt}
 use Rattle.dcx_branch.specs.declared.side.Side.{Side}
-use Rattle.dcx_branch.specs.declared.tree.BoundDual.{BoundDual}
-use Rattle.dcx_branch.specs.declared.tree.BranchNode.{BranchNode}
-use Rattle.dcx_branch.specs.declared.tree.BranchNode.TheVariants.{Bound, Empty, Split}
+use Rattle.dcx_answer.specs.declared.branch_tree.BoundWeight.{BoundWeight}
+use Rattle.dcx_answer.specs.declared.branch_tree.BranchNode.{BranchNode}
+use Rattle.dcx_answer.specs.declared.branch_tree.BranchNode.TheVariants.{Bound, Empty, Split}
 use Rattle.dcx_branch.specs.declared.node.Taken.{Taken}
 use Rattle.dcx_branch.specs.declared.node.Taken.TheVariants as taken
 use Rattle.dcx_branch.specs.declared.node.NodeStop.{NodeStop}
 use Rattle.dcx_branch.specs.declared.node.NodeStop.TheVariants as stops
-use Rattle.dcx_branch.specs.declared.answer.BranchStop.{BranchStop}
-use Rattle.dcx_branch.specs.declared.answer.BranchStop.TheVariants.{RelaxationUnbounded, NodeLimit, Node, Memory}
+use Rattle.dcx_answer.specs.declared.whole_answer.BranchStop.{BranchStop}
+use Rattle.dcx_answer.specs.declared.whole_answer.BranchStop.TheVariants.{RelaxationUnbounded, NodeLimit, Node, Memory}
 use Rattle.dcx_branch.specs.declared.search.Best as code
 use Rattle.dcx_branch.specs.Run as run
 use Rattle.dcx_branch.specs.declared.search.Search.{Search}
@@ -51,10 +51,11 @@ use Rattle.dcx_branch.specs.Places.{places}
 use Rattle.dcx_branch.specs.Sides.{box_of, open_sides, box_bounds, IsNextSide}
 use Rattle.dcx_branch.specs.Nodes.{node_program}
 use Rattle.dcx_branch.specs.Leaves.{IsLeaf}
-use Rattle.dcx_solved.specs.Stops.{run_stop}
+use Rattle.dcx_lp_solve.specs.Stops.{run_stop}
 use Rattle.dcx_branch.specs.Run.{Best, State, start, best_value, IsPruned, IsBetter, AreWhole, IsFirstSplit, unknowns_in, Turn, Cut, Found, Divided, TurnsOut, after, FormsLeaf, bounds_in, IsNode, Steps, Reaches, next, FallsAtRoot, NodeStops, at_rows, at_leaf}
-use Rattle.dcx_branch.specs.Trees.{shown_by, Lists, bound, empty, Shows}
-use Rattle.dcx_branch.specs.Answers.{IsPointAt, IsRightFor, IsEndOf}
+use Rattle.dcx_right.specs.WholeAnswers.{bound, empty}
+use Rattle.dcx_right.specs.WholeAnswers.{shown_by, Lists, Shows, IsRightFor}
+use Rattle.dcx_branch.specs.Answers.{IsPointAt, IsEndOf}
 use Rattle.dcx_branch.specs.Taken.{IsSolvedWith, IsLeafOf, IsTaken, TakenAs, FallsAt, StopsTaking}
 use Rattle.dcx_branch.specs.Searches.{IsBelow, Completes, IsNested, HasFloor, IsPlaced, HoldsBest, IsUnderWay, IsAt, IsDone, IsAtOrDone, node_of, best_after, AddsSide, Enters, answer_of, found_value, node_stop, StopsNext}
 use Rattle.dcx_branch.proofs.Members.{Each}
@@ -147,10 +148,10 @@ module _ (p : Problem) (s : Setting) (q : Program Frac) (limit : ℕ) (given : I
     optimal : a.status ≡ status.Optimal → IsOptimal (node_program (linear_program (rows_of q)) bs) (value a.number) x (multiplier_at solved.program.columns a)
     optimal e = shown.optimal p s q given box bs (each_bound p box) fit node.known solved.program a node.solved.made node.solved.solved.right e
 
-    leaf_bounds : (duals : List Array) (bounds : List BoundDual) → a.status ≡ status.Optimal → IsLeaf p a (length q.rows) bs duals bounds → BoundsBelow p s box (value a.number) (shown_by duals bounds)
+    leaf_bounds : (duals : List Array) (bounds : List BoundWeight) → a.status ≡ status.Optimal → IsLeaf p a (length q.rows) bs duals bounds → BoundsBelow p s box (value a.number) (shown_by duals bounds)
     leaf_bounds duals bounds e is = shown.leaf_bounds p s q given box bs (each_bound p box) fit node.known solved.program a node.solved.made node.solved.solved.right e enough duals bounds is
 
-    leaf_empty : (duals : List Array) (bounds : List BoundDual) → a.status ≡ status.Infeasible → IsLeaf p a (length q.rows) bs duals bounds → ShowsEmpty p s box (shown_by duals bounds) (value a.number)
+    leaf_empty : (duals : List Array) (bounds : List BoundWeight) → a.status ≡ status.Infeasible → IsLeaf p a (length q.rows) bs duals bounds → ShowsEmpty p s box (shown_by duals bounds) (value a.number)
     leaf_empty duals bounds e is = shown.leaf_empty p s q given box bs (each_bound p box) fit node.known solved.program a node.solved.made node.solved.solved.right e enough duals bounds is
 
     within : a.status ≡ status.Optimal → Each (λ (k : Place). IsWithin (box k.variable k.entry) (x k.unknown)) (places p.variables)

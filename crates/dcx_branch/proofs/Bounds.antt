@@ -7,7 +7,7 @@ use Rattle.dcx_math.proofs.Ring.{reads}
 use Rattle.dcx_math.proofs.Orders.{linear}
 use Rattle.dcx_linear.specs.FormTerms.{Unknowns}
 use Rattle.dcx_tree.specs.declared.problem.Problem.{Problem}
-use Rattle.dcx_whole.specs.Boxes.{IsAtLeast, IsAtMost, IsWithin, Box}
+use Rattle.dcx_right.specs.Boxes.{IsAtLeast, IsAtMost, IsWithin, Box}
 use Rattle.dcx_branch.specs.declared.place.Place.{Place}
 use Rattle.dcx_branch.specs.declared.bound.BoundAt.{BoundAt}
 use Rattle.dcx_branch.specs.Places.{places}

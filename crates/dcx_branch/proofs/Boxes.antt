@@ -1,7 +1,7 @@
 -- The box of sides and the boxes that are open beside it, one side more or less.
 use Rattle.std.proofs.Common.{◌≡◌, ℕ, suc, Bool, true, false, if◌then◌else◌, List, [], ◌∷◌, ◌++◌, Some, slice_get, refl, sym, ap, ap₂, ◌∙◌, append_assoc, ℤ, ◌+ℤ◌, pos}
 use Rattle.std.proofs.lemmas.List.{append-nil}
-use Rattle.dcx_whole.specs.Boxes.{Bounds, Box, mark_bounds, is_entry, at_most, at_least}
+use Rattle.dcx_right.specs.Boxes.{Bounds, Box, mark_bounds, is_entry, at_most, at_least}
 use Rattle.dcx_branch.specs.declared.place.Place.{Place}
 use Rattle.dcx_branch.specs.declared.side.Side.{Side}
 use Rattle.dcx_branch.specs.Rows.{bounds_of, all_bounds}

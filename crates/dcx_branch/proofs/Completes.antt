@@ -6,13 +6,14 @@ use Rattle.dcx_math.specs.Rational.{ℚ, ◌≤ℚ◌}
 use Rattle.dcx_math.proofs.Orders.{≤ℚ_trans, ≤ℚ_refl}
 use Rattle.dcx_convex.specs.Nodes.{Setting}
 use Rattle.dcx_tree.specs.declared.problem.Problem.{Problem}
-use Rattle.dcx_whole.specs.Points.{IsMarked}
-use Rattle.dcx_whole.specs.Boxes.{Box, root_box, at_most, at_least}
-use Rattle.dcx_whole.specs.Trees as trees
-use Rattle.dcx_whole.specs.Trees.{Tree, IsTreeOf}
-use Rattle.dcx_branch.specs.declared.tree.BranchNode.{BranchNode}
-use Rattle.dcx_branch.specs.declared.tree.BranchNode.TheVariants.{Split}
-use Rattle.dcx_branch.specs.Trees.{Lists, split, Shows}
+use Rattle.dcx_right.specs.Points.{IsMarked}
+use Rattle.dcx_right.specs.Boxes.{Box, root_box, at_most, at_least}
+use Rattle.dcx_right.specs.Trees as trees
+use Rattle.dcx_right.specs.Trees.{Tree, IsTreeOf}
+use Rattle.dcx_answer.specs.declared.branch_tree.BranchNode.{BranchNode}
+use Rattle.dcx_answer.specs.declared.branch_tree.BranchNode.TheVariants.{Split}
+use Rattle.dcx_right.specs.WholeAnswers.{split}
+use Rattle.dcx_right.specs.WholeAnswers.{Lists, Shows}
 use Rattle.dcx_branch.specs.Searches.{IsBelow, Fills, no_boxes, one_box, Completes}
 
 pub below_itself : (b : Option ℚ) → IsBelow b b

@@ -14,12 +14,12 @@ use Rattle.dcx_linear.specs.FormTerms.{Unknowns}
 use Rattle.dcx_linear.specs.declared.row.RowKind.{RowKind}
 use Rattle.dcx_linear.specs.declared.row.RowKind.TheVariants.{AtMost, Equal}
 use Rattle.dcx_linear.specs.Rows.{RowAt, LinearProgram, IsSolution, StandsTo, combined_from, IsOptimal, IsUnbounded}
-use Rattle.dcx_mapping.specs.Programs.{bound_row}
-use Rattle.dcx_mapping.proofs.Rows.{AllFrom, all_left, all_right}
+use Rattle.dcx_postsolve.specs.Programs.{bound_row}
+use Rattle.dcx_postsolve.proofs.Rows.{AllFrom, all_left, all_right}
 use Rattle.dcx_std.specs.Solutions.{linear_program}
 use Rattle.dcx_graph.specs.Program.{Program}
 use Rattle.dcx_graph.specs.Answers.{rows_of}
-use Rattle.dcx_whole.specs.Boxes.{Bounds, IsWithin, IsAtMost, Box, mark_bounds, root_box}
+use Rattle.dcx_right.specs.Boxes.{Bounds, IsWithin, IsAtMost, Box, mark_bounds, root_box}
 use Rattle.dcx_branch.specs.declared.place.Place.{Place}
 use Rattle.dcx_branch.specs.declared.bound.BoundAt.{BoundAt}
 use Rattle.dcx_branch.specs.Places.{places}

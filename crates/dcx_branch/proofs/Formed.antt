@@ -10,9 +10,9 @@ use Rattle.dcx_lp_answer.specs.Multipliers.{passing_from, StopsAt}
 use Rattle.dcx_postsolve.specs.Duals.{AreDuals}
 use Rattle.dcx_postsolve.proofs.DualLaws.{are_one}
 use Rattle.dcx_branch.specs.declared.bound.BoundAt.{BoundAt}
-use Rattle.dcx_branch.specs.declared.tree.BoundDual.{BoundDual}
-use Rattle.dcx_branch.specs.declared.tree.BranchNode.{BranchNode}
-use Rattle.dcx_branch.specs.declared.tree.BranchNode.TheVariants.{Bound, Empty, Split}
+use Rattle.dcx_answer.specs.declared.branch_tree.BoundWeight.{BoundWeight}
+use Rattle.dcx_answer.specs.declared.branch_tree.BranchNode.{BranchNode}
+use Rattle.dcx_answer.specs.declared.branch_tree.BranchNode.TheVariants.{Bound, Empty, Split}
 use Rattle.dcx_branch.specs.Leaves.{bound_multipliers, or_else, first_passing, IsLeaf, leaf_stop, StopsLeaf}
 use Rattle.dcx_branch.specs.Taken.{IsLeafOf}
 
@@ -21,7 +21,7 @@ passing_formed i [] = refl
 passing_formed i (w ∷ ws) = passing_formed (suc i) ws
 
 -- a leaf whose multipliers are formed has none that passes
-none_passes : (p : Problem) (a : LpAnswer) (first : ℕ) (bs : List BoundAt) (duals : List Array) (bounds : List BoundDual) → IsLeaf p a first bs duals bounds → first_passing p a first bs ≡ None
+none_passes : (p : Problem) (a : LpAnswer) (first : ℕ) (bs : List BoundAt) (duals : List Array) (bounds : List BoundWeight) → IsLeaf p a first bs duals bounds → first_passing p a first bs ≡ None
 none_passes p a first bs duals bounds h =
     ap₂ or_else ((are_one a.status p.constraints a.rows).none_passes duals h.constraints)
     (ap (passing_from first) (sym h.bounds_are.formed) ∙ passing_formed first h.bounds_are.weights)

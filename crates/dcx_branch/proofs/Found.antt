@@ -10,8 +10,8 @@ use Rattle.dcx_shape.specs.Sides.{entries_of}
 use Rattle.dcx_call.specs.declared.attribute.Variable.{Variable}
 use Rattle.dcx_tree.specs.declared.problem.Problem.{Problem}
 use Rattle.dcx_unknowns.specs.Unknowns.{sides_in}
-use Rattle.dcx_whole.specs.Points.{IsMarked}
-use Rattle.dcx_whole.specs.Boxes.{Bounds, unbounded, IsAtMost, Box, mark_bounds, root_bounds, root_box, is_entry, at_most, at_least}
+use Rattle.dcx_right.specs.Points.{IsMarked}
+use Rattle.dcx_right.specs.Boxes.{Bounds, unbounded, IsAtMost, Box, mark_bounds, root_bounds, root_box, is_entry, at_most, at_least}
 use Rattle.dcx_branch.specs.declared.place.Place.{Place}
 use Rattle.dcx_branch.specs.declared.side.Side.{Side}
 use Rattle.dcx_branch.specs.Places.{places}

@@ -11,12 +11,12 @@ use Rattle.dcx_convex.specs.Problems.{accepted_by}
 use Rattle.dcx_tree.specs.declared.problem.Problem.{Problem}
 use Rattle.dcx_tree.specs.Meaning.{convex_problem, Fits, IsInDomain, IsFeasible, objective_at, lagrangian}
 use Rattle.dcx_linear.specs.Rows.{LinearProgram, HaveSigns, combined_from}
-use Rattle.dcx_mapping.specs.Programs.{bound_row, multipliers_of}
-use Rattle.dcx_mapping.proofs.Rows.{AllFrom, IsSigned}
+use Rattle.dcx_postsolve.specs.Programs.{bound_row, multipliers_of}
+use Rattle.dcx_postsolve.proofs.Rows.{AllFrom, IsSigned}
 use Rattle.dcx_graph.specs.AsLinear.{IsReductionAt}
 use Rattle.dcx_graph.proofs.Backward.{well_formed}
-use Rattle.dcx_whole.specs.Boxes.{Box}
-use Rattle.dcx_whole.specs.Trees.{Weight, over, all_exceeded, MayShow, penalty}
+use Rattle.dcx_right.specs.Boxes.{Box}
+use Rattle.dcx_right.specs.Trees.{Weight, over, all_exceeded, MayShow, penalty}
 use Rattle.dcx_branch.specs.declared.bound.BoundAt.{BoundAt}
 use Rattle.dcx_branch.specs.Nodes.{excess, bound_number, node_program, IsBoundOf, weights_from, NodesShow, AnswersAreLeaves}
 use Rattle.dcx_branch.proofs.Lifting as lifting

@@ -18,7 +18,7 @@ use Rattle.dcx_linear.specs.FormTerms.{Unknowns}
 use Rattle.dcx_linear.specs.Rows.{RowAt, LinearProgram}
 use Rattle.dcx_linear.specs.declared.row.RowKind.TheVariants.{AtMost}
 use Rattle.dcx_std.specs.Solutions.{row_at, form_number, linear_program}
-use Rattle.dcx_mapping.specs.Programs as mapping
+use Rattle.dcx_postsolve.specs.Programs as mapping
 use Rattle.dcx_graph.specs.Program.{Program}
 use Rattle.dcx_graph.specs.Answers.{rows_of}
 use Rattle.dcx_frac.specs.declared.fraction.Frac.{Frac}

@@ -7,11 +7,11 @@ use Rattle.dcx_call.specs.declared.attribute.Variable.{Variable}
 use Rattle.dcx_call.specs.declared.attribute.Whole.{Whole}
 use Rattle.dcx_linear.proofs.Formed.{drop_at}
 use Rattle.dcx_unknowns.specs.Unknowns.{first_unknown}
-use Rattle.dcx_whole.specs.Boxes.{Bounds, Box, mark_bounds}
+use Rattle.dcx_right.specs.Boxes.{Bounds, Box, mark_bounds}
 use Rattle.dcx_branch.specs.declared.place.Place.{Place}
 use Rattle.dcx_branch.specs.declared.bound.BoundAt.{BoundAt}
 use Rattle.dcx_branch.specs.declared.side.Side.{Side}
-use Rattle.dcx_branch.specs.declared.tree.BoundDual.{BoundDual}
+use Rattle.dcx_answer.specs.declared.branch_tree.BoundWeight.{BoundWeight}
 use Rattle.dcx_branch.specs.Places.{places_of, place_if, variable_places, places_from}
 use Rattle.dcx_branch.specs.Rows.{bounds_of, bound_row, bound_rows}
 use Rattle.dcx_branch.specs.Sides.{sided, box_bounds, open_sides, box_of, IsUpperOf}
@@ -28,7 +28,7 @@ ends xs rest all e h = sym (append-nil xs) ∙ ap (λ l. xs ++ l) (sym e) ∙ h
 
 -- ---- bounds with their multipliers
 pub weighed_more : (bs : List BoundAt) (ws : List Frac) (i : ℕ) (b : BoundAt) (w : Frac) → i < length bs → b ≡ get_or bs i b → i < length ws → w ≡ get_or ws i w →
-    bound_duals (drop i bs) (drop i ws) ≡ (let d : BoundDual = record { variable = b.place.variable; entry = b.place.entry; upper = b.upper; weight = w } in d ∷ bound_duals (drop (i + 1) bs) (drop (i + 1) ws))
+    bound_duals (drop i bs) (drop i ws) ≡ (let d : BoundWeight = record { variable = b.place.variable; entry = b.place.entry; upper = b.upper; weight = w } in d ∷ bound_duals (drop (i + 1) bs) (drop (i + 1) ws))
 weighed_more bs ws i b w l is m at = ap₂ bound_duals (drop_at bs i b l is) (drop_at ws i w m at)
 
 pub weighed_all : (bs : List BoundAt) (ws : List Frac) (i : ℕ) → length bs ≤ i → bound_duals (drop i bs) (drop i ws) ≡ []

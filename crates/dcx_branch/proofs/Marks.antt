@@ -23,8 +23,8 @@ use Rattle.dcx_unknowns.proofs.Points.{array_is, below}
 use Rattle.dcx_postsolve.specs.Points.{numbered}
 use Rattle.dcx_postsolve.proofs.Alike.{arrays_are_points}
 use Rattle.dcx_postsolve.proofs.Carrying.{feasible_alike, objective_alike}
-use Rattle.dcx_whole.specs.Points.{HasEntry, IsWhole, KeepsMark, IsWholePoint}
-use Rattle.dcx_whole.specs.Boxes.{IsWithin, IsAtMost, Box}
+use Rattle.dcx_right.specs.Points.{HasEntry, IsWhole, KeepsMark, IsWholePoint}
+use Rattle.dcx_right.specs.Boxes.{IsWithin, IsAtMost, Box}
 use Rattle.dcx_branch.specs.declared.place.Place.{Place}
 use Rattle.dcx_branch.specs.Places.{places}
 use Rattle.dcx_branch.specs.Run.{AreWhole}

@@ -19,21 +19,21 @@ use Rattle.dcx_tab.specs.declared.program.Program as tab
 use Rattle.dcx_lp_answer.specs.declared.answer.LpAnswer.{LpAnswer}
 use Rattle.dcx_lp_answer.specs.declared.answer.LpStatus.{LpStatus}
 use Rattle.dcx_lp_answer.specs.declared.answer.LpStatus.TheVariants as status
-use Rattle.dcx_solved.specs.declared.solving.Solved.{Solved}
-use Rattle.dcx_solved.proofs.OneSolution as rows
+use Rattle.dcx_lp_solve.specs.declared.solving.Solved.{Solved}
+use Rattle.dcx_lp_solve.proofs.OneSolution as rows
 use Rattle.dcx_unknowns.specs.Unknowns.{point_at}
 use Rattle.dcx_postsolve.specs.Points.{numbered}
 use Rattle.dcx_graph.specs.Program.{Program}
 use Rattle.dcx_graph.specs.Answers.{IsSamePoint}
-use Rattle.dcx_whole.specs.Boxes.{Box, root_box}
+use Rattle.dcx_right.specs.Boxes.{Box, root_box}
 use Rattle.dcx_branch.specs.declared.place.Place.{Place}
-use Rattle.dcx_branch.specs.declared.answer.WholeAnswer.TheVariants.{Optimal, Infeasible}
-use Rattle.dcx_branch.specs.declared.answer.BranchStop.TheVariants.{RelaxationUnbounded, NodeLimit, Node, Memory}
+use Rattle.dcx_answer.specs.declared.whole_answer.WholeAnswer.TheVariants.{Optimal, Infeasible}
+use Rattle.dcx_answer.specs.declared.whole_answer.BranchStop.TheVariants.{RelaxationUnbounded, NodeLimit, Node, Memory}
 use Rattle.dcx_branch.specs.Places.{places}
 use Rattle.dcx_branch.specs.Rows.{node_rows}
 use Rattle.dcx_branch.specs.Between.{IsBetween}
 use Rattle.dcx_branch.specs.Leaves.{first_passing}
-use Rattle.dcx_solved.specs.Stops.{run_stop}
+use Rattle.dcx_lp_solve.specs.Stops.{run_stop}
 use Rattle.dcx_branch.specs.Run.{Best, State, start, best_value, IsPruned, IsBetter, AreWhole, IsFirstSplit, unknowns_in, Turn, Cut, Found, Divided, TurnsOut, after, IsLeafTurn, bounds_in, IsNode, leaf_passing, FormsLeaf, Steps, Reaches, here, next, Ends, PassesNodes, FallsAtRoot, NodeStops, at_rows, at_leaf, StopsAtNode}
 use Rattle.dcx_branch.specs.Answers.{IsPointAt, EndsAt, RunsAreOne}
 use Rattle.dcx_branch.proofs.Between.{one_between, between_not_whole}

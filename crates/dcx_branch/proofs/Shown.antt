@@ -32,9 +32,10 @@ use Rattle.dcx_std.proofs.Solutions.{facts_of, inequality_there, unmapped_at, at
 use Rattle.dcx_std.proofs.RightAnswers.{shown_of}
 use Rattle.dcx_unknowns.specs.Layout.{constraint_rows}
 use Rattle.dcx_unknowns.specs.Unknowns.{point_at}
-use Rattle.dcx_mapping.specs.Programs as mapping
-use Rattle.dcx_mapping.specs.Programs.{gap_rows, multipliers_of}
-use Rattle.dcx_postsolve.specs.Duals.{AreDuals, multipliers_in, first_row}
+use Rattle.dcx_postsolve.specs.Programs as mapping
+use Rattle.dcx_postsolve.specs.Programs.{gap_rows, multipliers_of}
+use Rattle.dcx_postsolve.specs.Duals.{AreDuals, first_row}
+use Rattle.dcx_right.specs.Answers.{multipliers_in}
 use Rattle.dcx_postsolve.specs.Laws.{AreSameMultipliers, HaveSlacks}
 use Rattle.dcx_postsolve.proofs.Carrying.{multipliers_same, penalty_same}
 use Rattle.dcx_postsolve.proofs.DualLaws.{right_multiplier}
@@ -42,15 +43,15 @@ use Rattle.dcx_postsolve.proofs.Lists.{in_front, behind}
 use Rattle.dcx_graph.specs.Program.{Program}
 use Rattle.dcx_graph.specs.Answers.{rows_of, IsReducedAt}
 use Rattle.dcx_graph.proofs.Slacks.{rows_enough, have_slacks, multiplier_is}
-use Rattle.dcx_whole.specs.Boxes.{Box}
-use Rattle.dcx_whole.specs.Trees.{Weight, all_exceeded, BoundsBelow, ShowsEmpty}
+use Rattle.dcx_right.specs.Boxes.{Box}
+use Rattle.dcx_right.specs.Trees.{Weight, all_exceeded, BoundsBelow, ShowsEmpty}
 use Rattle.dcx_branch.specs.declared.bound.BoundAt.{BoundAt}
-use Rattle.dcx_branch.specs.declared.tree.BoundDual.{BoundDual}
+use Rattle.dcx_answer.specs.declared.branch_tree.BoundWeight.{BoundWeight}
 use Rattle.dcx_branch.specs.Rows.{bound_form, bound_row, bound_rows, node_rows}
 use Rattle.dcx_branch.specs.Nodes.{excess, bound_number, node_program, IsBoundOf, weights_from, NodesShow}
 use Rattle.dcx_branch.specs.Leaves.{bound_duals, AreBoundDuals, IsLeaf}
 use Rattle.dcx_branch.specs.Run.{unknowns_in}
-use Rattle.dcx_branch.specs.Trees.{weight_of, shown_by}
+use Rattle.dcx_right.specs.WholeAnswers.{weight_of, shown_by}
 use Rattle.dcx_branch.proofs.Lifting.{back}
 use Rattle.dcx_branch.proofs.Linear.{node_linear}
 use Rattle.dcx_branch.proofs.Leaves.{answers_are_leaves}
@@ -145,7 +146,7 @@ module _ (p : Problem) (s : Setting) (q : Program Frac) (given : IsReducedAt p s
       let scaled = scaled_program (node_rows q bs) program made in
       inequality_there (node_rows q bs) program known scaled i (facts_of (node_rows q bs) program known scaled i (bound_row b) row) (kind_of_bound b.upper b.place.unknown b.limit)
 
-  bounds_same : (ds : List BoundDual) → length q.rows + length bs ≤ length a.rows → AreBoundDuals a (length q.rows) bs ds → map weight_of ds ≡ weights_from m (length q.rows) bs
+  bounds_same : (ds : List BoundWeight) → length q.rows + length bs ≤ length a.rows → AreBoundDuals a (length q.rows) bs ds → map weight_of ds ≡ weights_from m (length q.rows) bs
   bounds_same ds enough are =
       let first = length q.rows in
       let to = first + length bs in
@@ -182,15 +183,15 @@ module _ (p : Problem) (s : Setting) (q : Program Frac) (given : IsReducedAt p s
   pub unbounded : a.status ≡ status.Unbounded → IsUnbounded (node_program l bs) x (unknowns_at program.columns (map value a.ray)) (value a.number) (value a.slope)
   unbounded e = subst (λ (k : LinearProgram). IsUnbounded k x (unknowns_at program.columns (map value a.ray)) (value a.number) (value a.slope)) linear (right_as status.Unbounded e)
 
-  weights_there : (ds : List BoundDual) → length q.rows + length bs ≤ length a.rows → AreBoundDuals a (length q.rows) bs ds → weights_from m (length l.rows) bs ≡ map weight_of ds
+  weights_there : (ds : List BoundWeight) → length q.rows + length bs ≤ length a.rows → AreBoundDuals a (length q.rows) bs ds → weights_from m (length l.rows) bs ≡ map weight_of ds
   weights_there ds enough are = ap (λ n. weights_from m n bs) (length-map q.rows row_at) ∙ sym (bounds_same ds enough are)
 
-  pub leaf_bounds : a.status ≡ status.Optimal → length q.rows + length bs ≤ length a.rows → (duals : List Array) (bounds : List BoundDual) → IsLeaf p a (length q.rows) bs duals bounds → BoundsBelow p s box (value a.number) (shown_by duals bounds)
+  pub leaf_bounds : a.status ≡ status.Optimal → length q.rows + length bs ≤ length a.rows → (duals : List Array) (bounds : List BoundWeight) → IsLeaf p a (length q.rows) bs duals bounds → BoundsBelow p s box (value a.number) (shown_by duals bounds)
   leaf_bounds e enough duals bounds leaf =
       subst (λ ws. BoundsBelow p s box (value a.number) (record { duals = multipliers_in duals; bounds = ws })) (weights_there bounds enough leaf.bounds_are)
       (below_same p s (multipliers_of (convex_problem p) m) (multipliers_in duals) (duals_same duals leaf.constraints) box (value a.number) (weights_from m (length l.rows) bs) (nodes.bound (value a.number) x m (optimal e)))
 
-  pub leaf_empty : a.status ≡ status.Infeasible → length q.rows + length bs ≤ length a.rows → (duals : List Array) (bounds : List BoundDual) → IsLeaf p a (length q.rows) bs duals bounds → ShowsEmpty p s box (shown_by duals bounds) (value a.number)
+  pub leaf_empty : a.status ≡ status.Infeasible → length q.rows + length bs ≤ length a.rows → (duals : List Array) (bounds : List BoundWeight) → IsLeaf p a (length q.rows) bs duals bounds → ShowsEmpty p s box (shown_by duals bounds) (value a.number)
   leaf_empty e enough duals bounds leaf =
       subst (λ ws. ShowsEmpty p s box (record { duals = multipliers_in duals; bounds = ws }) (value a.number)) (weights_there bounds enough leaf.bounds_are)
       (empty_same p s (multipliers_of (convex_problem p) m) (multipliers_in duals) (duals_same duals leaf.constraints) box (value a.number) (weights_from m (length l.rows) bs) (nodes.empty (value a.number) m (infeasible e)))

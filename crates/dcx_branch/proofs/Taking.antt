@@ -17,24 +17,24 @@ use Rattle.dcx_linear.specs.FormTerms.{Unknowns}
 use Rattle.dcx_linear.specs.Size.{columns_for}
 use Rattle.dcx_tab.specs.declared.program.Program as tab
 use Rattle.dcx_lp_answer.specs.declared.answer.LpAnswer.{LpAnswer}
-use Rattle.dcx_solved.specs.declared.solving.Solved.{Solved}
-use Rattle.dcx_solved.specs.declared.stop.SolveStop.{SolveStop}
-use Rattle.dcx_solved.specs.declared.stop.SolveStop.TheVariants as solves
-use Rattle.dcx_solved.specs.Solved.{Stops as RowsStop}
+use Rattle.dcx_lp_solve.specs.declared.solving.Solved.{Solved}
+use Rattle.dcx_lp_solve.specs.declared.stop.SolveStop.{SolveStop}
+use Rattle.dcx_lp_solve.specs.declared.stop.SolveStop.TheVariants as solves
+use Rattle.dcx_lp_solve.specs.Solved.{Stops as RowsStop}
 use Rattle.dcx_postsolve.specs.Numbers.{numbers_from, unknown_numbers}
 use Rattle.dcx_postsolve.specs.Points.{numbered}
 use Rattle.dcx_graph.specs.Program.{Program}
-use Rattle.dcx_whole.specs.Points.{IsWhole}
+use Rattle.dcx_right.specs.Points.{IsWhole}
 use Rattle.dcx_branch.specs.declared.place.Place.{Place}
 use Rattle.dcx_branch.specs.declared.bound.BoundAt.{BoundAt}
-use Rattle.dcx_branch.specs.declared.tree.BranchNode.{BranchNode}
+use Rattle.dcx_answer.specs.declared.branch_tree.BranchNode.{BranchNode}
 use Rattle.dcx_branch.specs.declared.node.Taken.{Taken}
 use Rattle.dcx_branch.specs.declared.node.NodeStop.{NodeStop}
 use Rattle.dcx_branch.specs.declared.node.NodeStop.TheVariants as stops
 use Rattle.dcx_branch.specs.Places.{places}
 use Rattle.dcx_branch.specs.Rows.{node_rows}
 use Rattle.dcx_branch.specs.Leaves.{StopsLeaf}
-use Rattle.dcx_solved.specs.Stops.{run_stop}
+use Rattle.dcx_lp_solve.specs.Stops.{run_stop}
 use Rattle.dcx_branch.specs.Run.{Turn, TurnsOut, IsLeafTurn, unknowns_in, NodeStops, at_rows, at_leaf}
 use Rattle.dcx_branch.specs.Taken.{IsSolvedWith, TellsUnknowns, made_leaf, IsTaken, PassesLeaf, StopsJudging, TakenAs, StopsTaking}
 

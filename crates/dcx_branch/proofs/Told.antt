@@ -11,11 +11,11 @@ use Rattle.dcx_chained.specs.Tables.{table_of}
 use Rattle.dcx_std.specs.Solutions.{row_at}
 use Rattle.dcx_std.proofs.ScaledProgram.{scaled_program}
 use Rattle.dcx_std.proofs.RightAnswers.{one_sided}
-use Rattle.dcx_solved.specs.declared.solving.Solved.{Solved}
-use Rattle.dcx_solved.specs.Solved.{IsSolved}
-use Rattle.dcx_solved.proofs.Counts.{HasCounts, counts_of}
+use Rattle.dcx_lp_solve.specs.declared.solving.Solved.{Solved}
+use Rattle.dcx_lp_solve.specs.Solved.{IsSolved}
+use Rattle.dcx_lp_solve.proofs.Counts.{HasCounts, counts_of}
 use Rattle.dcx_unknowns.specs.Layout.{constraint_rows}
-use Rattle.dcx_mapping.specs.Programs.{gap_rows, bound_row}
+use Rattle.dcx_postsolve.specs.Programs.{gap_rows, bound_row}
 use Rattle.dcx_postsolve.proofs.ColumnParts.{columns_tell}
 use Rattle.dcx_graph.specs.Program.{Program}
 use Rattle.dcx_graph.specs.Answers.{IsReducedAt}

@@ -3,26 +3,16 @@ use Rattle.std.specs.Prelude.{◌≡◌, ◌≢◌, ⊤, ℕ, ◌<◌, ◌≤◌
 use Rattle.dcx_frac.specs.declared.fraction.Frac.{Frac}
 use Rattle.dcx_frac.specs.Frac.{value}
 use Rattle.dcx_point.specs.Pairs.{Pairs}
-use Rattle.dcx_convex.specs.Nodes.{Setting}
 use Rattle.dcx_tree.specs.declared.problem.Problem.{Problem}
-use Rattle.dcx_tree.specs.Meaning.{point_of}
 use Rattle.dcx_linear.specs.FormTerms.{Unknowns}
 use Rattle.dcx_postsolve.specs.Points.{numbered, IsPointOf}
 use Rattle.dcx_graph.specs.Program.{Program}
 use Rattle.dcx_graph.specs.Answers.{IsSamePoint}
-use Rattle.dcx_whole.specs.Points.{IsWholeOptimum, HasNoWholePoint}
-use Rattle.dcx_branch.specs.declared.answer.WholeAnswer.{WholeAnswer}
-use Rattle.dcx_branch.specs.declared.answer.WholeAnswer.TheVariants.{Optimal, Infeasible}
-use Rattle.dcx_branch.specs.declared.answer.BranchStop.{BranchStop}
-use Rattle.dcx_branch.specs.declared.answer.BranchStop.TheVariants.{RelaxationUnbounded, NodeLimit, Node, Memory}
-use Rattle.dcx_branch.specs.Trees.{Shows}
+use Rattle.dcx_answer.specs.declared.whole_answer.WholeAnswer.{WholeAnswer}
+use Rattle.dcx_answer.specs.declared.whole_answer.WholeAnswer.TheVariants.{Optimal, Infeasible}
+use Rattle.dcx_answer.specs.declared.whole_answer.BranchStop.{BranchStop}
+use Rattle.dcx_answer.specs.declared.whole_answer.BranchStop.TheVariants.{RelaxationUnbounded, NodeLimit, Node, Memory}
 use Rattle.dcx_branch.specs.Run.{Best, Ends, PassesNodes, FallsAtRoot, StopsAtNode}
-
--- ---- in words of points
--- the point is a whole optimum and the tree shows it, or the tree shows that there is no whole point
-abbrev pub IsRightFor : Problem → Setting → WholeAnswer → Type 0
-IsRightFor p s (Optimal number point tree nodes) = IsWholeOptimum p s (value number) (point_of p point) × Shows p s (Some (value number)) tree
-IsRightFor p s (Infeasible tree nodes) = HasNoWholePoint p s × Shows p s None tree
 
 -- ---- in words of the run
 -- the point has the arrays of these unknowns

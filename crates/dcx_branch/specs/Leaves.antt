@@ -14,11 +14,11 @@ use Rattle.dcx_lp_answer.specs.declared.stop.MultiplierStop.TheVariants as multi
 use Rattle.dcx_lp_answer.specs.Multipliers.{multiplier_of, passing_from}
 use Rattle.dcx_postsolve.specs.Duals.{all_multipliers, AreDuals}
 use Rattle.dcx_branch.specs.declared.bound.BoundAt.{BoundAt}
-use Rattle.dcx_branch.specs.declared.tree.BoundDual.{BoundDual}
+use Rattle.dcx_answer.specs.declared.branch_tree.BoundWeight.{BoundWeight}
 
 -- ---- bounds
 -- bounds with these multipliers
-abbrev pub bound_duals : List BoundAt → List Frac → List BoundDual
+abbrev pub bound_duals : List BoundAt → List Frac → List BoundWeight
 bound_duals [] ws = []
 bound_duals (b ∷ bs) [] = []
 bound_duals (b ∷ bs) (w ∷ ws) = record { variable = b.place.variable; entry = b.place.entry; upper = b.upper; weight = w } ∷ bound_duals bs ws
@@ -28,13 +28,13 @@ abbrev pub bound_multipliers : LpAnswer → ℕ → List BoundAt → List (Resul
 bound_multipliers a first bs = map (multiplier_of a.status AtMost) (slice_range a.rows first (first + length bs))
 
 -- they are formed, and each stands with its bound
-pub record AreBoundDuals (a : LpAnswer) (first : ℕ) (bs : List BoundAt) (ds : List BoundDual) : Type 0 where
+pub record AreBoundDuals (a : LpAnswer) (first : ℕ) (bs : List BoundAt) (ds : List BoundWeight) : Type 0 where
   pub weights : List Frac
   pub formed : map Ok weights ≡ bound_multipliers a first bs
   pub are : ds ≡ bound_duals bs weights
 
 -- ---- all of them
-pub record IsLeaf (p : Problem) (a : LpAnswer) (first : ℕ) (bs : List BoundAt) (duals : List Array) (bounds : List BoundDual) : Type 0 where
+pub record IsLeaf (p : Problem) (a : LpAnswer) (first : ℕ) (bs : List BoundAt) (duals : List Array) (bounds : List BoundWeight) : Type 0 where
   pub constraints : AreDuals a.status p.constraints a.rows duals
   pub bounds_are : AreBoundDuals a first bs bounds
 

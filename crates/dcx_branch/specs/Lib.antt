@@ -7,7 +7,6 @@ pub mod Sides
 pub mod Leaves
 pub mod Nodes
 pub mod Run
-pub mod Trees
 pub mod Answers
 pub mod Taken
 pub mod Searches

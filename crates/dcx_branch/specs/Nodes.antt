@@ -10,11 +10,11 @@ use Rattle.dcx_tree.specs.Meaning.{convex_problem, Fits, IsFeasible, objective_a
 use Rattle.dcx_linear.specs.FormTerms.{Unknowns}
 use Rattle.dcx_linear.specs.Rows.{LinearProgram, IsOptimal, IsInfeasible}
 use Rattle.dcx_unknowns.specs.Unknowns.{first_unknown, unknown_from, point_at}
-use Rattle.dcx_mapping.specs.Programs.{bound_row, multipliers_of}
+use Rattle.dcx_postsolve.specs.Programs.{bound_row, multipliers_of}
 use Rattle.dcx_graph.specs.AsLinear.{IsReductionAt}
-use Rattle.dcx_whole.specs.Points.{HasEntry}
-use Rattle.dcx_whole.specs.Boxes.{Box}
-use Rattle.dcx_whole.specs.Trees.{Weight, BoundsBelow, ShowsEmpty}
+use Rattle.dcx_right.specs.Points.{HasEntry}
+use Rattle.dcx_right.specs.Boxes.{Box}
+use Rattle.dcx_right.specs.Trees.{Weight, BoundsBelow, ShowsEmpty}
 use Rattle.dcx_branch.specs.declared.bound.BoundAt.{BoundAt}
 
 -- ---- bounds as rows

@@ -7,7 +7,7 @@ use Rattle.dcx_linear.specs.declared.row.Row.{Row}
 use Rattle.dcx_linear.specs.declared.row.RowKind.TheVariants.{AtMost}
 use Rattle.dcx_std.specs.GivenRows.{GivenRows, given}
 use Rattle.dcx_graph.specs.Program.{Program}
-use Rattle.dcx_whole.specs.Boxes.{Bounds, Box}
+use Rattle.dcx_right.specs.Boxes.{Bounds, Box}
 use Rattle.dcx_branch.specs.declared.place.Place.{Place}
 use Rattle.dcx_branch.specs.declared.bound.BoundAt.{BoundAt}
 

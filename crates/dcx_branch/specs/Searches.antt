@@ -14,19 +14,19 @@ use Rattle.dcx_linear.specs.Rows.{IsSolution}
 use Rattle.dcx_std.specs.Solutions.{linear_program}
 use Rattle.dcx_graph.specs.Program.{Program}
 use Rattle.dcx_graph.specs.Answers.{rows_of}
-use Rattle.dcx_whole.specs.Points.{IsWholePoint}
-use Rattle.dcx_whole.specs.Boxes.{Box, root_box}
-use Rattle.dcx_whole.specs.Trees.{Tree, IsTreeOf}
+use Rattle.dcx_right.specs.Points.{IsWholePoint}
+use Rattle.dcx_right.specs.Boxes.{Box, root_box}
+use Rattle.dcx_right.specs.Trees.{Tree, IsTreeOf}
 use Rattle.dcx_branch.specs.declared.place.Place.{Place}
 use Rattle.dcx_branch.specs.declared.side.Side.{Side}
-use Rattle.dcx_branch.specs.declared.tree.BranchNode.{BranchNode}
-use Rattle.dcx_branch.specs.declared.tree.BranchNode.TheVariants.{Split}
+use Rattle.dcx_answer.specs.declared.branch_tree.BranchNode.{BranchNode}
+use Rattle.dcx_answer.specs.declared.branch_tree.BranchNode.TheVariants.{Split}
 use Rattle.dcx_branch.specs.declared.node.Taken.{Taken}
 use Rattle.dcx_branch.specs.declared.node.Taken.TheVariants as taken
-use Rattle.dcx_branch.specs.declared.answer.WholeAnswer.{WholeAnswer}
-use Rattle.dcx_branch.specs.declared.answer.WholeAnswer.TheVariants.{Optimal, Infeasible}
-use Rattle.dcx_branch.specs.declared.answer.BranchStop.{BranchStop}
-use Rattle.dcx_branch.specs.declared.answer.BranchStop.TheVariants.{RelaxationUnbounded, NodeLimit, Node, Memory}
+use Rattle.dcx_answer.specs.declared.whole_answer.WholeAnswer.{WholeAnswer}
+use Rattle.dcx_answer.specs.declared.whole_answer.WholeAnswer.TheVariants.{Optimal, Infeasible}
+use Rattle.dcx_answer.specs.declared.whole_answer.BranchStop.{BranchStop}
+use Rattle.dcx_answer.specs.declared.whole_answer.BranchStop.TheVariants.{RelaxationUnbounded, NodeLimit, Node, Memory}
 use Rattle.dcx_branch.specs.declared.search.Best.{Best}
 use Rattle.dcx_branch.specs.declared.search.Search.{Search}
 use Rattle.dcx_branch.specs.Places.{places}
@@ -35,7 +35,7 @@ use Rattle.dcx_branch.specs.Between.{HasRoom}
 use Rattle.dcx_branch.specs.Nodes.{node_program}
 use Rattle.dcx_branch.specs.Run as run
 use Rattle.dcx_branch.specs.Run.{start, best_value, bounds_in, Reaches, FallsAtRoot, StopsAtNode}
-use Rattle.dcx_branch.specs.Trees.{Lists, Shows}
+use Rattle.dcx_right.specs.WholeAnswers.{Lists, Shows}
 use Rattle.dcx_branch.specs.Answers.{IsPointAt}
 
 -- ---- the tree so far

@@ -1,6 +1,6 @@
 -- Sides of splits, one after another from the root box on: the box that they lead to, and the boxes that are open beside it.
 use Rattle.std.specs.Prelude.{◌≡◌, ℕ, Bool, true, false, if◌then◌else◌, List, [], ◌∷◌, ◌++◌, Some, ◌+ℤ◌, pos}
-use Rattle.dcx_whole.specs.Boxes.{Bounds, Box, mark_bounds, is_entry, at_most, at_least}
+use Rattle.dcx_right.specs.Boxes.{Bounds, Box, mark_bounds, is_entry, at_most, at_least}
 use Rattle.dcx_branch.specs.declared.place.Place.{Place}
 use Rattle.dcx_branch.specs.declared.bound.BoundAt.{BoundAt}
 use Rattle.dcx_branch.specs.declared.side.Side.{Side}

@@ -5,8 +5,7 @@ ghost use Rattle.dcx_lp_answer.specs.Multipliers.{passing_from, StopsAt};
 ghost use Rattle.dcx_branch.specs.Leaves.{bound_duals as duals_by, bound_multipliers, AreBoundDuals, IsLeaf, StopsLeaf, leaf_stop as stop_by};
 
 use crate::bound::BoundAt;
-use crate::tree::{BoundDual, BoundDuals};
-use dcx_answer::{Duals, Site, Stop};
+use dcx_answer::{BoundWeight, BoundWeights, Duals, Site, Stop};
 use dcx_frac::Frac;
 use dcx_linear::RowKind;
 use dcx_lp_answer::{LpAnswer, MultiplierStop, multipliers};
@@ -20,7 +19,7 @@ pub(crate) struct Leaf {
     /// Those of each constraint.
     pub duals: Duals,
     /// Those of the bounds of its box.
-    pub bounds: BoundDuals,
+    pub bounds: BoundWeights,
 }
 
 /// The stop at a multiplier.
@@ -34,20 +33,20 @@ fn leaf_stop(stop: MultiplierStop) -> Stop
 }
 
 /// The bounds with these multipliers.
-fn weighed(alloc: Global, bounds: &[BoundAt], weights: &[Frac]) -> Result<BoundDuals, AllocError>
+fn weighed(alloc: Global, bounds: &[BoundAt], weights: &[Frac]) -> Result<BoundWeights, AllocError>
     requires { length bounds.now ≤ length weights.now }
     ensures { IfOk result (λ d. d ≡ duals_by bounds.now weights.now) }
 {
     let mut duals = Vec::with_capacity(alloc, bounds.len())?;
     'bounds: for (index, bound) in bounds.iter().enumerate() {
-        duals.push(BoundDual {
+        duals.push(BoundWeight {
             variable: bound.place.variable,
             entry: bound.place.entry,
             upper: bound.upper,
             weight: weights[index],
         })?;
     }
-    Ok(BoundDuals::from_vec(duals))
+    Ok(BoundWeights::from_vec(duals))
 }
 
 /// The multipliers of the rows of bounds, the first of which has the number `first`.
@@ -56,7 +55,7 @@ fn bound_duals(
     answer: &LpAnswer,
     first: u32,
     bounds: &[BoundAt],
-) -> Result<BoundDuals, MultiplierStop>
+) -> Result<BoundWeights, MultiplierStop>
     requires rows { first + length bounds.now ≤ length answer.now.rows }
     requires few { length answer.now.rows < 2 ^ 32 }
     ensures made { IfOk result (AreBoundDuals answer.now first bounds.now) }

@@ -1,6 +1,6 @@
 //! The bounds of the box of sides, entry by entry.
 ghost use Rattle.std.specs.Prelude.{◌≡◌, ◌++◌, ◌∷◌, [], IfOk, OnOk};
-ghost use Rattle.dcx_whole.specs.Boxes.{mark_bounds, is_entry};
+ghost use Rattle.dcx_right.specs.Boxes.{mark_bounds, is_entry};
 ghost use Rattle.dcx_branch.specs.Rows.{bound_of, bounds_of as bounds_by};
 ghost use Rattle.dcx_branch.specs.Sides.{limits_of, side_bounds, sided, box_bounds};
 

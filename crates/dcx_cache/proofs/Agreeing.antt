@@ -3,7 +3,7 @@ use Rattle.dcx_frac.specs.Frac.{value}
 use Rattle.dcx_tree.specs.Meaning.{point_of}
 use Rattle.dcx_tree.proofs.LawsHold.{answers_agree}
 use Rattle.dcx_answer.specs.declared.answer.Answer.TheVariants.{Optimal, Infeasible, Unbounded}
-use Rattle.dcx_postsolve.specs.Duals.{multipliers_in}
+use Rattle.dcx_right.specs.Answers.{multipliers_in}
 use Rattle.dcx_cache.specs.Laws.{RightAnswersAgree}
 
 pub right_answers_agree : RightAnswersAgree

@@ -7,14 +7,14 @@ use Rattle.dcx_tree.specs.declared.problem.Problem.{Problem}
 use Rattle.dcx_tree.specs.Meaning.{IsAccepted, IsFitting, setting_of}
 use Rattle.dcx_answer.specs.declared.stop.Stop.{Stop}
 use Rattle.dcx_fit.specs.Fit.{FitsParameters}
-use Rattle.dcx_quotients.proofs.LawsHold.{formed_are_fitting}
+use Rattle.dcx_cache.proofs.DivisorLawsHold.{formed_are_fitting}
 use Rattle.dcx_tab.specs.declared.program.Program as tab
 use Rattle.dcx_lp_answer.specs.declared.answer.LpAnswer.{LpAnswer}
 use Rattle.dcx_lp_answer.specs.Right.{IsRight}
 use Rattle.dcx_std.specs.IntegerRows.{IsMade}
-use Rattle.dcx_solved.specs.declared.solving.Solved.{Solved}
-use Rattle.dcx_solved.specs.Solved.{IsSolved}
-use Rattle.dcx_solved.proofs.Counts.{counts_of}
+use Rattle.dcx_lp_solve.specs.declared.solving.Solved.{Solved}
+use Rattle.dcx_lp_solve.specs.Solved.{IsSolved}
+use Rattle.dcx_lp_solve.proofs.Counts.{counts_of}
 use Rattle.dcx_graph.specs.Program.{Program}
 use Rattle.dcx_graph.specs.Reduced.{Reduction}
 use Rattle.dcx_graph.specs.Answers.{rows_of, HasParts, IsAnswered}

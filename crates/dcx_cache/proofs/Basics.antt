@@ -17,8 +17,8 @@ use Rattle.dcx_simplex.specs.Whole.{RunEnds}
 use Rattle.dcx_simplex.proofs.Ended.{shown_optimal, shown_infeasible, shown_unbounded}
 use Rattle.dcx_tab.specs.First.{first_tableau}
 use Rattle.dcx_graph.specs.Answers.{IsSameAnswer}
-use Rattle.dcx_solved.specs.declared.solving.Solved.{Solved}
-use Rattle.dcx_solved.specs.Solved.{IsRunSolved}
+use Rattle.dcx_lp_solve.specs.declared.solving.Solved.{Solved}
+use Rattle.dcx_lp_solve.specs.Solved.{IsRunSolved}
 use Rattle.dcx_cache.specs.Columns.{basic_columns, columns_after, kept_or, AreApart, HoldsApart}
 
 -- ---- none stands twice

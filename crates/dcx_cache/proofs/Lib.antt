@@ -8,3 +8,5 @@ pub mod OneEnd
 pub mod Agreeing
 pub mod Basics
 pub mod WarmRuns
+pub mod Divisors
+pub mod DivisorLawsHold

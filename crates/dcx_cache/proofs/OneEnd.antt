@@ -12,10 +12,10 @@ use Rattle.dcx_linear.specs.declared.param_form.ParamForm.{ParamForm}
 use Rattle.dcx_lp_answer.specs.declared.answer.LpAnswer.{LpAnswer}
 use Rattle.dcx_fit.specs.Fit.{FitsParameters, IsFirstMisfit}
 use Rattle.dcx_fit.proofs.First.{stops_hold}
-use Rattle.dcx_solved.specs.declared.solving.Solved.{Solved}
-use Rattle.dcx_solved.specs.declared.stop.SolveStop.TheVariants as solves
-use Rattle.dcx_solved.specs.Solved.{IsSolved, Stops as RowsStop}
-use Rattle.dcx_solved.proofs.OneSolution.{answers_are_one, solved_or_stopped, stops_are_one, few_pivots}
+use Rattle.dcx_lp_solve.specs.declared.solving.Solved.{Solved}
+use Rattle.dcx_lp_solve.specs.declared.stop.SolveStop.TheVariants as solves
+use Rattle.dcx_lp_solve.specs.Solved.{IsSolved, Stops as RowsStop}
+use Rattle.dcx_lp_solve.proofs.OneSolution.{answers_are_one, solved_or_stopped, stops_are_one, few_pivots}
 use Rattle.dcx_graph.specs.declared.stop.ReduceStop.{ReduceStop}
 use Rattle.dcx_graph.specs.declared.stop.ReduceStop.TheVariants as reduces
 use Rattle.dcx_graph.specs.declared.reading.AnswerStop.{AnswerStop}
@@ -26,7 +26,7 @@ use Rattle.dcx_graph.proofs.OneReading.{readings_are_one}
 use Rattle.dcx_graph.proofs.OneWay.{one_affine, one_numbers}
 use Rattle.dcx_graph.proofs.Settings.{one_fixed}
 use Rattle.dcx_cache.specs.Programs.{IsMapOf, Fixes, SessionGives, mapped, anew}
-use Rattle.dcx_solved.specs.Stops.{run_stop}
+use Rattle.dcx_lp_solve.specs.Stops.{run_stop}
 use Rattle.dcx_cache.specs.Stops.{program_stop, reading_stop}
 use Rattle.dcx_cache.specs.Answers.{IsAnswerOf, StopsAt, at_program, at_run, at_reading, IsStopped, Stops, Answers}
 use Rattle.dcx_cache.specs.Laws.{HasOneEnd, BoundsLimit, LimitsAreSmall}

@@ -6,10 +6,10 @@ use Rattle.dcx_tree.specs.declared.problem.Problem.{Problem}
 use Rattle.dcx_answer.specs.declared.stop.Stop.{Stop}
 use Rattle.dcx_answer.specs.declared.stop.Stop.TheVariants as why
 use Rattle.dcx_fit.specs.Fit.{FitsParameters, IsFirstMisfit}
-use Rattle.dcx_solved.specs.declared.solving.Solved.{Solved}
-use Rattle.dcx_solved.specs.declared.stop.SolveStop.{SolveStop}
-use Rattle.dcx_solved.specs.declared.stop.SolveStop.TheVariants as solves
-use Rattle.dcx_solved.specs.Solved.{IsSolved, Stops as RowsStop}
+use Rattle.dcx_lp_solve.specs.declared.solving.Solved.{Solved}
+use Rattle.dcx_lp_solve.specs.declared.stop.SolveStop.{SolveStop}
+use Rattle.dcx_lp_solve.specs.declared.stop.SolveStop.TheVariants as solves
+use Rattle.dcx_lp_solve.specs.Solved.{IsSolved, Stops as RowsStop}
 use Rattle.dcx_graph.specs.declared.stop.ReduceStop.{ReduceStop}
 use Rattle.dcx_graph.specs.declared.stop.ReduceStop.TheVariants as reduces
 use Rattle.dcx_graph.specs.declared.reading.AnswerStop.{AnswerStop}
@@ -20,7 +20,7 @@ use Rattle.dcx_graph.specs.Reducing.{OrMemory}
 use Rattle.dcx_graph.specs.Answers.{rows_of, StopsReading}
 use Rattle.dcx_cache.specs.Programs.{SessionGives, ProgramStops}
 use Rattle.dcx_cache.specs.Answers.{at_program, at_run, at_reading, Stops}
-use Rattle.dcx_solved.specs.Stops.{run_stop}
+use Rattle.dcx_lp_solve.specs.Stops.{run_stop}
 use Rattle.dcx_cache.specs.Stops.{program_stop, reading_stop}
 
 -- ---- the program

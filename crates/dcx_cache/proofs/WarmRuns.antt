@@ -27,15 +27,16 @@ use Rattle.dcx_std.specs.GivenRows.{GivenRows}
 use Rattle.dcx_std.specs.IntegerRows.{IsMade, IsStopOf}
 use Rattle.dcx_std.specs.Solutions.{HasKinds}
 use Rattle.dcx_std.proofs.OneProgram as programs
-use Rattle.dcx_solved.specs.declared.solving.Solved.{Solved}
-use Rattle.dcx_solved.specs.OneSolution.{IsSameSolution}
-use Rattle.dcx_solved.proofs.OneReading.{one_reading}
-use Rattle.dcx_solved.proofs.OneSolution.{answers_are_one}
+use Rattle.dcx_lp_solve.specs.declared.solving.Solved.{Solved}
+use Rattle.dcx_lp_solve.specs.OneSolution.{IsSameSolution}
+use Rattle.dcx_lp_solve.proofs.OneReading.{one_reading}
+use Rattle.dcx_lp_solve.proofs.OneSolution.{answers_are_one}
 use Rattle.dcx_graph.specs.declared.stop.ReduceStop.{ReduceStop}
 use Rattle.dcx_graph.specs.declared.stop.ReduceStop.TheVariants as reduces
 use Rattle.dcx_graph.specs.Program.{Program}
 use Rattle.dcx_graph.specs.Reduced.{Reduction}
-use Rattle.dcx_graph.specs.Answers.{rows_of, HasParts, IsAnswered, IsRead, PassesAt, IsSameAnswer, IsRightFor}
+use Rattle.dcx_graph.specs.Answers.{rows_of, HasParts, IsAnswered, IsRead, PassesAt, IsSameAnswer}
+use Rattle.dcx_right.specs.Answers.{IsRightFor}
 use Rattle.dcx_graph.proofs.Mapped.{read_right}
 use Rattle.dcx_graph.proofs.OneReading.{readings_are_one}
 use Rattle.dcx_cache.specs.declared.rewarming.Warmed.{Warmed}

@@ -13,7 +13,8 @@ use Rattle.dcx_frac.specs.declared.fraction.Frac.{Frac}
 use Rattle.dcx_tab.specs.declared.program.Program as tab
 use Rattle.dcx_std.specs.IntegerRows.{IsMade}
 use Rattle.dcx_graph.specs.Program.{Program}
-use Rattle.dcx_graph.specs.Answers.{rows_of, IsRightFor, IsSameAnswer}
+use Rattle.dcx_graph.specs.Answers.{rows_of, IsSameAnswer}
+use Rattle.dcx_right.specs.Answers.{IsRightFor}
 use Rattle.dcx_cache.specs.declared.rewarming.Warmed.{Warmed}
 use Rattle.dcx_cache.specs.Programs.{SessionGives}
 use Rattle.dcx_cache.specs.Answers.{Answers}

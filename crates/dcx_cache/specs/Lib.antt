@@ -6,4 +6,5 @@ pub mod Columns
 pub mod Sessions
 pub mod Warm
 pub mod Codes
+pub mod DivisorLaws
 pub mod Laws

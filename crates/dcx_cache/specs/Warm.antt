@@ -20,7 +20,7 @@ use Rattle.dcx_warm.specs.Warm.{WarmEnds}
 use Rattle.dcx_std.specs.GivenRows.{GivenRows}
 use Rattle.dcx_std.specs.IntegerRows.{IsMade}
 use Rattle.dcx_std.specs.Solutions.{HasKinds}
-use Rattle.dcx_solved.specs.declared.solving.Solved.{Solved}
+use Rattle.dcx_lp_solve.specs.declared.solving.Solved.{Solved}
 use Rattle.dcx_graph.specs.Program.{Program}
 use Rattle.dcx_graph.specs.Answers.{rows_of, IsRead, PassesAt}
 use Rattle.dcx_cache.specs.declared.session.Last.{Last}

@@ -1,5 +1,6 @@
 //! What holds of all answers of sessions. There is no code: each clause is a statement about all problems and settings.
 ghost use Rattle.dcx_cache.specs.Laws.{AnswersAreRight, HasOneEnd, LimitsAreSmall, RightAnswersAgree, WarmAnswersAreRight, WarmAnswersAgree, AnsweredStaysAnswered, HasOneWarmEnd, HaveOneWarmEnds};
+ghost use Rattle.dcx_cache.specs.DivisorLaws.{FracsDivideByNoZero, ParamFormsDivideByNoZero, FormedAreFitting};
 
 /// Where a setting of an accepted problem is answered, it fits, and the answer is right for the problem there.
 pub fn answers_are_right()
@@ -45,4 +46,21 @@ pub fn one_warm_answer()
 /// Settings one after another have one list of answers and stops, from the same columns, until memory runs out.
 pub fn one_warm_list()
     ensures { HaveOneWarmEnds }
+{}
+
+/// Where the nodes of an accepted problem are formed of fractions at a setting, no entry of a divisor is 0 there, at any point.
+pub fn fracs_divide_by_no_zero()
+    ensures { FracsDivideByNoZero }
+{}
+
+/// Where the nodes of a problem that is accepted where parameters are affine are formed of affine numbers, no entry of a divisor is
+/// 0, at any setting and point.
+pub fn param_forms_divide_by_no_zero()
+    ensures { ParamFormsDivideByNoZero }
+{}
+
+/// A setting that fits the parameters, at which all nodes are formed, is a fitting one of the problem; so is each that fits them
+/// where nodes are formed of affine numbers.
+pub fn formed_are_fitting()
+    ensures { FormedAreFitting }
 {}

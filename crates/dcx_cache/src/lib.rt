@@ -22,6 +22,8 @@
 //! | a setting is answered by the warm run from these columns exactly where that is told, and else as without them | `Session::solve_warm`, `specs/Warm.antt`: `WarmAnswers` |
 //! | a warm answer is right, and has the status and value of a fresh one | `laws::warm_answers_are_right`, `laws::warm_answers_agree` |
 //! | a warm re-solve stops only where a fresh one does, and so | `Session::solve_warm`: `answers`, `laws::answered_stays_answered` |
+//! | nodes of an accepted problem that are formed of fractions at a setting, or of affine numbers: no entry of a divisor is 0 there, at any point, or at every setting | `laws::fracs_divide_by_no_zero`, `laws::param_forms_divide_by_no_zero` |
+//! | so a setting that fits the parameters is a fitting one of the problem | `laws::formed_are_fitting` |
 //! | settings one after another have one list of answers, warm or not, and of stops | `laws::one_warm_answer`, `laws::one_warm_list` |
 //! | the program at a setting is given, or the first thing that stops it | `Session::program`, `specs/Programs.antt`: `ProgramStops`, `IsProgramAt` |
 //! | the program with affine coefficients is lent where it is kept | `Session::map` |

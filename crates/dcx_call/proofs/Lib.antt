@@ -5,3 +5,7 @@ pub mod SignedProducts
 pub mod CallLaws
 pub mod CallValues
 pub mod Given
+pub mod Fractions
+pub mod Summands
+pub mod Coefficients
+pub mod Exact

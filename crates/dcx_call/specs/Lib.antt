@@ -6,4 +6,5 @@ pub mod Calls
 pub mod Buckets
 pub mod Forming
 pub mod Values
+pub mod Exact
 pub mod Laws

@@ -11,6 +11,7 @@
 //! | what an attribute tells, which arrays are in a variable's domain, and which variables are square | `Variable::demanded`, `specs/Attributes.antt` |
 //! | the value of a call over exact numbers of any size | `specs/Values.antt` |
 //! | the value that is formed is that one, or names the first operation that passes 128 bits or the first divisor that is 0 | `Call::value`, `specs/Forming.antt` |
+//! | where each number of the arguments is a fraction of 128 bits, an entry that is formed is the entry of the value | `laws::formed_entries_are_exact`, `specs/Exact.antt` |
 //! | each value has the sign that is told, and moves with each argument as the trend says | `laws::calls`, `specs/Laws.antt` |
 //! | whether the array that a leaf takes is given, with the shape of the leaf | `Call::is_given` |
 //! | equal calls are told, share a number, and can be copied | `Operator` of `dcx_arena`, `specs/Buckets.antt` |

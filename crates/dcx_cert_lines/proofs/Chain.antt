@@ -8,11 +8,11 @@ use Rattle.dcx_atom.specs.declared.array.Array.{Array}
 use Rattle.dcx_point.specs.Pairs.{Pairs}
 use Rattle.dcx_lines.specs.Lines.{number_line}
 use Rattle.dcx_lines.specs.Shown.{variables_of, constraints_of}
-use Rattle.dcx_sections.specs.declared.weights.NodeWeights.{NodeWeights}
-use Rattle.dcx_sections.specs.declared.section.Format.{Format}
-use Rattle.dcx_sections.specs.declared.section.Format.TheVariants.{One, Two}
-use Rattle.dcx_sections.specs.Shown.{Outline, AreParams, atoms_of}
-use Rattle.dcx_sections.specs.Formats.{HasParams}
+use Rattle.dcx_cert_sections.specs.declared.weights.NodeWeights.{NodeWeights}
+use Rattle.dcx_cert_sections.specs.declared.section.Format.{Format}
+use Rattle.dcx_cert_sections.specs.declared.section.Format.TheVariants.{One, Two}
+use Rattle.dcx_cert_sections.specs.Shown.{Outline, AreParams, atoms_of}
+use Rattle.dcx_cert_sections.specs.Formats.{HasParams}
 use Rattle.dcx_cert_lines.specs.CertText.{Line, end_line, param_lines, named_lines, dual_lines, node_lines}
 use Rattle.dcx_cert_lines.specs.Templates.{Template, filled, AreFilled, HasNoLine, IsRead, IsStopped, IsSame, named_template, node_template, number_template, plain_template, end_template, duals_from, param_templates}
 use Rattle.dcx_cert_lines.proofs.Filled.{named_filled, duals_filled, nodes_filled, number_is, read_as}

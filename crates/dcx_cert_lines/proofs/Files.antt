@@ -6,13 +6,13 @@ use Rattle.std.proofs.lemmas.List.Folds.{concat-append}
 use Rattle.std.proofs.lemmas.List.Sums.{sum_by-append}
 use Rattle.std.proofs.lemmas.List.Elements.{recursion_from_All}
 use Rattle.std.specs.List.{AllByRecursion, concat, flat_map, count_by}
-use Rattle.dcx_sections.specs.declared.section.Section.{Section}
-use Rattle.dcx_sections.specs.declared.section.Section.TheVariants as sections
-use Rattle.dcx_sections.specs.declared.section.Sections.{Sections}
-use Rattle.dcx_sections.specs.declared.section.Format.{Format}
-use Rattle.dcx_sections.specs.declared.section.Format.TheVariants.{One, Two}
-use Rattle.dcx_sections.specs.Shown.{Outline, IsSectionOf, AreSectionsOf}
-use Rattle.dcx_sections.specs.Formats.{IsSectionOfFormat, AreOfFormat}
+use Rattle.dcx_cert_sections.specs.declared.section.Section.{Section}
+use Rattle.dcx_cert_sections.specs.declared.section.Section.TheVariants as sections
+use Rattle.dcx_cert_sections.specs.declared.section.Sections.{Sections}
+use Rattle.dcx_cert_sections.specs.declared.section.Format.{Format}
+use Rattle.dcx_cert_sections.specs.declared.section.Format.TheVariants.{One, Two}
+use Rattle.dcx_cert_sections.specs.Shown.{Outline, IsSectionOf, AreSectionsOf}
+use Rattle.dcx_cert_sections.specs.Formats.{IsSectionOfFormat, AreOfFormat}
 use Rattle.std.specs.Prelude.{codes}
 use Rattle.dcx_lines.specs.Pieces.{entry_text}
 use Rattle.dcx_lines.proofs.Reading.{first_same}

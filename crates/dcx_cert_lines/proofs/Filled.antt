@@ -10,8 +10,8 @@ use Rattle.dcx_point.specs.Pairs.{Pairs}
 use Rattle.dcx_lines.specs.Pieces.{shape_text, entry_text, array_text}
 use Rattle.dcx_lines.specs.Lines.{named_line, dual_line, number_line}
 use Rattle.dcx_lines.specs.Shown.{variables_of, constraints_of}
-use Rattle.dcx_sections.specs.declared.weights.NodeWeights.{NodeWeights}
-use Rattle.dcx_sections.specs.Shown.{atoms_of}
+use Rattle.dcx_cert_sections.specs.declared.weights.NodeWeights.{NodeWeights}
+use Rattle.dcx_cert_sections.specs.Shown.{atoms_of}
 use Rattle.dcx_cert_lines.specs.declared.cursor.ReadStop.{ReadStop}
 use Rattle.dcx_cert_lines.specs.declared.cursor.ReadStop.TheVariants.{Misfit, Memory}
 use Rattle.dcx_cert_lines.specs.CertText.{Line, node_line, named_lines, node_lines}

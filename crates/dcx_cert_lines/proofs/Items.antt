@@ -7,8 +7,8 @@ use Rattle.dcx_atom.specs.declared.array.Array.{Array}
 use Rattle.dcx_lines.specs.Lines.{dual_line}
 use Rattle.dcx_lines.specs.Shown.{constraints_of}
 use Rattle.dcx_lines.proofs.Numbered.{enumerate_from-push}
-use Rattle.dcx_sections.specs.declared.weights.NodeWeights.{NodeWeights}
-use Rattle.dcx_sections.specs.Shown.{atoms_of}
+use Rattle.dcx_cert_sections.specs.declared.weights.NodeWeights.{NodeWeights}
+use Rattle.dcx_cert_sections.specs.Shown.{atoms_of}
 use Rattle.dcx_cert_lines.specs.CertText.{dual_lines, node_line, node_lines}
 use Rattle.dcx_cert_lines.specs.Templates.{AreFilled, IsRead, IsStopped, dual_template, node_template, duals_from}
 use Rattle.dcx_cert_lines.proofs.Filled.{duals_filled, nodes_filled}

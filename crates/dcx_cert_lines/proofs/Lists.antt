@@ -5,10 +5,10 @@ use Rattle.std.proofs.lemmas.List.Elements.{All-append}
 use Rattle.std.proofs.lemmas.Grind.{flat_map-append}
 use Rattle.std.specs.List.{All, flat_map, enumerate_from}
 use Rattle.dcx_lines.proofs.Numbered.{enumerate_from-push}
-use Rattle.dcx_sections.specs.declared.section.Section.{Section}
-use Rattle.dcx_sections.specs.declared.section.Format.{Format}
-use Rattle.dcx_sections.specs.Shown.{Outline, IsSectionOf}
-use Rattle.dcx_sections.specs.Formats.{IsSectionOfFormat}
+use Rattle.dcx_cert_sections.specs.declared.section.Section.{Section}
+use Rattle.dcx_cert_sections.specs.declared.section.Format.{Format}
+use Rattle.dcx_cert_sections.specs.Shown.{Outline, IsSectionOf}
+use Rattle.dcx_cert_sections.specs.Formats.{IsSectionOfFormat}
 use Rattle.dcx_cert_lines.specs.CertText.{section_lines}
 use Rattle.dcx_cert_lines.specs.Templates.{IsRead, AreRead, IsSectionStop, IsListStop, lines_from}
 use Rattle.dcx_cert_lines.proofs.Steps.{read_none, read_then}

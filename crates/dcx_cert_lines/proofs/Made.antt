@@ -11,14 +11,14 @@ use Rattle.dcx_atom.specs.declared.array.Array.{Array}
 use Rattle.dcx_point.specs.Pairs.{Pairs}
 use Rattle.dcx_lines.specs.Lines.{number_line, dual_line}
 use Rattle.dcx_lines.specs.Shown.{variables_of, constraints_of}
-use Rattle.dcx_sections.specs.declared.weights.NodeWeights.{NodeWeights}
-use Rattle.dcx_sections.specs.declared.cert.Cert.TheVariants as certs
-use Rattle.dcx_sections.specs.declared.section.Section.{Section}
-use Rattle.dcx_sections.specs.declared.section.Section.TheVariants as sections
-use Rattle.dcx_sections.specs.declared.section.Format.{Format}
-use Rattle.dcx_sections.specs.declared.section.Format.TheVariants.{One, Two}
-use Rattle.dcx_sections.specs.Shown.{Outline, AreParams, IsSectionOf, atoms_of}
-use Rattle.dcx_sections.specs.Formats.{HasParams, HasRays, IsSectionOfFormat}
+use Rattle.dcx_cert_sections.specs.declared.weights.NodeWeights.{NodeWeights}
+use Rattle.dcx_cert_sections.specs.declared.cert.Cert.TheVariants as certs
+use Rattle.dcx_cert_sections.specs.declared.section.Section.{Section}
+use Rattle.dcx_cert_sections.specs.declared.section.Section.TheVariants as sections
+use Rattle.dcx_cert_sections.specs.declared.section.Format.{Format}
+use Rattle.dcx_cert_sections.specs.declared.section.Format.TheVariants.{One, Two}
+use Rattle.dcx_cert_sections.specs.Shown.{Outline, AreParams, IsSectionOf, atoms_of}
+use Rattle.dcx_cert_sections.specs.Formats.{HasParams, HasRays, IsSectionOfFormat}
 use Rattle.dcx_cert_lines.specs.declared.kind.Kind.{Kind}
 use Rattle.dcx_cert_lines.specs.declared.kind.Kind.TheVariants.{Optimal, Infeasible, Unbounded, Empty}
 use Rattle.dcx_cert_lines.specs.CertText.{Line, end_line, param_lines, named_lines, node_lines, section_body}

@@ -5,20 +5,20 @@ use Rattle.std.proofs.lemmas.List.{append-nil, take-append-le}
 use Rattle.std.proofs.lemmas.List.Folds.{concat-append}
 use Rattle.std.specs.Prelude.{codes}
 use Rattle.std.specs.List.{AllByRecursion, concat}
-use Rattle.dcx_sections.specs.declared.cert.Cert.TheVariants as certs
-use Rattle.dcx_sections.specs.declared.section.Section.{Section}
-use Rattle.dcx_sections.specs.declared.section.Section.TheVariants as sections
-use Rattle.dcx_sections.specs.declared.section.Format.{Format}
-use Rattle.dcx_sections.specs.declared.section.Format.TheVariants.{One, Two}
-use Rattle.dcx_sections.specs.Shown.{Outline, IsSectionOf, AreParams, atoms_of}
-use Rattle.dcx_sections.specs.Formats.{IsSectionOfFormat, HasParams}
+use Rattle.dcx_cert_sections.specs.declared.cert.Cert.TheVariants as certs
+use Rattle.dcx_cert_sections.specs.declared.section.Section.{Section}
+use Rattle.dcx_cert_sections.specs.declared.section.Section.TheVariants as sections
+use Rattle.dcx_cert_sections.specs.declared.section.Format.{Format}
+use Rattle.dcx_cert_sections.specs.declared.section.Format.TheVariants.{One, Two}
+use Rattle.dcx_cert_sections.specs.Shown.{Outline, IsSectionOf, AreParams, atoms_of}
+use Rattle.dcx_cert_sections.specs.Formats.{IsSectionOfFormat, HasParams}
 use Rattle.dcx_shape.specs.declared.shape.Shape.{Shape}
 use Rattle.dcx_frac.specs.declared.fraction.Frac.{Frac}
 use Rattle.dcx_atom.specs.declared.array.Array.{Array}
 use Rattle.dcx_point.specs.Pairs.{Pairs}
 use Rattle.dcx_lines.specs.Lines.{number_line}
 use Rattle.dcx_lines.specs.Shown.{variables_of, constraints_of}
-use Rattle.dcx_sections.specs.declared.weights.NodeWeights.{NodeWeights}
+use Rattle.dcx_cert_sections.specs.declared.weights.NodeWeights.{NodeWeights}
 use Rattle.dcx_cert_lines.specs.declared.kind.Kind.{Kind}
 use Rattle.dcx_cert_lines.specs.declared.kind.Kind.TheVariants.{Optimal, Infeasible, Unbounded}
 use Rattle.dcx_cert_lines.specs.CertText.{Line, head_line, end_line, param_lines, named_lines, dual_lines, node_lines, section_word, section_body, section_lines}

@@ -1,11 +1,11 @@
 -- Which certificates there are for a problem, and up to which line bytes are the text of one.
 use Rattle.std.specs.Prelude.{◌≡◌, ⊤, ℕ, ◌+◌, ◌≤◌, List, ◌++◌, length, take}
 use Rattle.std.specs.List.{concat}
-use Rattle.dcx_sections.specs.declared.section.Sections.{Sections}
-use Rattle.dcx_sections.specs.declared.fault.CertFault.{CertFault}
-use Rattle.dcx_sections.specs.declared.fault.CertFault.TheVariants.{Form, Memory}
-use Rattle.dcx_sections.specs.Formats.{AreOfFormat}
-use Rattle.dcx_sections.specs.Shown.{Outline, AreSectionsOf}
+use Rattle.dcx_cert_sections.specs.declared.section.Sections.{Sections}
+use Rattle.dcx_answer.specs.declared.cert_fault.CertFault.{CertFault}
+use Rattle.dcx_answer.specs.declared.cert_fault.CertFault.TheVariants.{Form, Memory}
+use Rattle.dcx_cert_sections.specs.Formats.{AreOfFormat}
+use Rattle.dcx_cert_sections.specs.Shown.{Outline, AreSectionsOf}
 use Rattle.dcx_cert_lines.specs.CertText.{all_lines, cert_text}
 
 -- a certificate of so many sections for the problem with this outline

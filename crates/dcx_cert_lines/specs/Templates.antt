@@ -10,13 +10,13 @@ use Rattle.dcx_atom.specs.declared.array.Array.{Array}
 use Rattle.dcx_point.specs.Pairs.{Pairs, same_name}
 use Rattle.dcx_lines.specs.Lines.{named_line}
 use Rattle.dcx_lines.specs.Pieces.{shape_text, entry_text}
-use Rattle.dcx_sections.specs.Shown.{Outline, AreSectionsOf}
-use Rattle.dcx_sections.specs.Formats.{AreOfFormat}
-use Rattle.dcx_sections.specs.declared.cert.Cert.TheVariants as certs
-use Rattle.dcx_sections.specs.declared.section.Section.{Section}
-use Rattle.dcx_sections.specs.declared.section.Section.TheVariants as sections
-use Rattle.dcx_sections.specs.declared.section.Format.{Format}
-use Rattle.dcx_sections.specs.declared.section.Format.TheVariants.{One, Two}
+use Rattle.dcx_cert_sections.specs.Shown.{Outline, AreSectionsOf}
+use Rattle.dcx_cert_sections.specs.Formats.{AreOfFormat}
+use Rattle.dcx_cert_sections.specs.declared.cert.Cert.TheVariants as certs
+use Rattle.dcx_cert_sections.specs.declared.section.Section.{Section}
+use Rattle.dcx_cert_sections.specs.declared.section.Section.TheVariants as sections
+use Rattle.dcx_cert_sections.specs.declared.section.Format.{Format}
+use Rattle.dcx_cert_sections.specs.declared.section.Format.TheVariants.{One, Two}
 use Rattle.dcx_cert_lines.specs.declared.kind.Kind.{Kind}
 use Rattle.dcx_cert_lines.specs.declared.kind.Kind.TheVariants.{Optimal, Infeasible, Unbounded, Empty}
 use Rattle.dcx_cert_lines.specs.declared.cursor.ReadStop.{ReadStop}

@@ -3,17 +3,17 @@ ghost use Rattle.std.specs.Prelude.{◌≡◌, ◌∷◌, ◌++◌, [], map, IfO
 ghost use Rattle.dcx_point.specs.Pairs.{array_of};
 ghost use Rattle.dcx_lines.specs.Shown.{variables_of, constraints_of};
 ghost use Rattle.dcx_lines.specs.Lines.{named_line, dual_line};
-ghost use Rattle.dcx_sections.specs.Outlines.{shown, rows_shown};
-ghost use Rattle.dcx_sections.specs.Shown.{atoms_of};
+ghost use Rattle.dcx_cert_sections.specs.Outlines.{shown, rows_shown};
+ghost use Rattle.dcx_cert_sections.specs.Shown.{atoms_of};
 ghost use Rattle.dcx_cert_lines.specs.CertText.{named_lines, dual_lines, node_lines, node_line};
 ghost use Rattle.dcx_cert_lines.specs.Templates.{IsRead, IsStopped, IfMisfit, named_front, dual_front, node_front, named_template, dual_template, node_template, duals_from, AreDistinctNames, IsNextRead};
 
 use crate::cursor::{Cursor, ReadStop};
 use dcx_atom::Array;
+use dcx_cert_sections::{AtomRows, NodeWeights, Shown};
 use dcx_frac::Fracs;
 use dcx_lines::{put_bytes, put_number, put_shape};
 use dcx_point::{Point, Setting};
-use dcx_sections::{AtomRows, NodeWeights, Shown};
 use dcx_shape::{Shape, copy_name};
 use std::alloc::{AllocError, Global};
 

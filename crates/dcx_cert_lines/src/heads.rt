@@ -6,8 +6,8 @@ ghost use Rattle.dcx_cert_lines.specs.Templates.{IsRead, IsSame, IfMisfit, HasNo
 
 use crate::cursor::{Cursor, ReadStop};
 use crate::kind::Kind;
+use dcx_cert_sections::Format;
 use dcx_lines::{put_bytes, put_number};
-use dcx_sections::Format;
 use std::alloc::{AllocError, Global};
 
 /// The word for a kind.

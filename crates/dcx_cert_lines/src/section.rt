@@ -1,7 +1,7 @@
 //! Reads the sections of a certificate.
 ghost use Rattle.std.specs.Prelude.{◌≡◌, ◌∷◌, [], None, IfOk, IfErr, OnOk};
-ghost use Rattle.dcx_sections.specs.Shown.{AreParams, IsSectionOf};
-ghost use Rattle.dcx_sections.specs.Formats.{HasParams, IsSectionOfFormat};
+ghost use Rattle.dcx_cert_sections.specs.Shown.{AreParams, IsSectionOf};
+ghost use Rattle.dcx_cert_sections.specs.Formats.{HasParams, IsSectionOfFormat};
 ghost use Rattle.dcx_cert_lines.specs.CertText.{param_lines, end_line, section_body, section_lines};
 ghost use Rattle.dcx_cert_lines.specs.Parts.{AreEmpty, optimal_of, infeasible_of, unbounded_of};
 ghost use Rattle.dcx_cert_lines.specs.Templates.{IsRead, IsStopped, IfMisfit, MayHead, HasDistinctNames, param_templates, body_templates, end_template, IsSectionStop, kind_of};
@@ -12,9 +12,9 @@ use crate::heads::read_head;
 use crate::kind::Kind;
 use dcx_answer::Duals;
 use dcx_atom::Array;
+use dcx_cert_sections::{Cert, Format, NodeWeights, Outline, Section, Weights};
 use dcx_frac::Frac;
 use dcx_point::{Point, Setting};
-use dcx_sections::{Cert, Format, NodeWeights, Outline, Section, Weights};
 use std::alloc::Global;
 
 /// The parts of a section, as they are read.

@@ -6,7 +6,8 @@ ghost use Rattle.dcx_cert_lines.specs.Templates.{IfMisfit, HasDistinctNames, Are
 use crate::cursor::{Cursor, ReadStop};
 use crate::heads::read_format;
 use crate::section::read_section;
-use dcx_sections::{CertFault, Format, Outline, Section, SectionList, Sections};
+use dcx_answer::CertFault;
+use dcx_cert_sections::{Format, Outline, Section, SectionList, Sections};
 use std::alloc::Global;
 
 /// Reads so many sections into an empty list.

@@ -8,10 +8,10 @@ use Rattle.dcx_frac.specs.declared.fraction.Frac.{Frac}
 use Rattle.dcx_atom.specs.declared.array.Array.{Array}
 use Rattle.dcx_point.specs.Pairs.{Pairs}
 use Rattle.dcx_lines.specs.Lines.{named_line, dual_line, number_line}
-use Rattle.dcx_sections.specs.declared.weights.NodeWeights.{NodeWeights}
-use Rattle.dcx_sections.specs.declared.cert.Cert.TheVariants as certs
-use Rattle.dcx_sections.specs.declared.section.Section.{Section}
-use Rattle.dcx_sections.specs.declared.section.Section.TheVariants as sections
+use Rattle.dcx_cert_sections.specs.declared.weights.NodeWeights.{NodeWeights}
+use Rattle.dcx_cert_sections.specs.declared.cert.Cert.TheVariants as certs
+use Rattle.dcx_cert_sections.specs.declared.section.Section.{Section}
+use Rattle.dcx_cert_sections.specs.declared.section.Section.TheVariants as sections
 use Rattle.dcx_cert_lines.specs.CertText.{Line, end_line, node_line, param_lines, named_lines, dual_lines, node_lines, section_lines}
 use Rattle.dcx_cert_text.specs.Written.{section_text, params_text, body_text}
 

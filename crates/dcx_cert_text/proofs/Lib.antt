@@ -1,2 +1,6 @@
 pub mod Joined
 pub mod Names
+pub mod Parts
+pub mod Bodies
+pub mod OneText
+pub mod Fronts

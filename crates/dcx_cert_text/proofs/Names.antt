@@ -8,7 +8,7 @@ use Rattle.dcx_call.specs.declared.attribute.Variable.{Variable}
 use Rattle.dcx_call.specs.declared.attribute.Parameter.{Parameter}
 use Rattle.dcx_tree.specs.declared.problem.Problem.{Problem}
 use Rattle.dcx_cert_lines.specs.Templates.{HasDistinctNames}
-use Rattle.dcx_outline.specs.Drawn.{problem_outline}
+use Rattle.dcx_cert_outline.specs.Drawn.{problem_outline}
 
 -- what holds of two lists one after the other holds of each
 first_of : {X : Type 0} (P : X → Type 0) (xs ys : List X) → AllByRecursion P (xs ++ ys) → AllByRecursion P xs

@@ -2,7 +2,7 @@
 use Rattle.std.specs.Prelude.{ℕ, List, Option}
 use Rattle.std.specs.List.{concat}
 use Rattle.dcx_point.specs.Pairs.{Pairs}
-use Rattle.dcx_sections.specs.declared.section.Section.{Section}
+use Rattle.dcx_cert_sections.specs.declared.section.Section.{Section}
 use Rattle.dcx_cert_lines.specs.CertText.{param_lines, section_body, section_lines}
 
 -- the lines of parameters

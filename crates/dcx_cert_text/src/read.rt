@@ -1,11 +1,12 @@
 //! Reads the text of a certificate for a problem.
 ghost use Rattle.std.specs.Prelude.{◌==◌, ◌<◌, ◌-◌, ◌^◌, MatchResult, count_by};
-ghost use Rattle.dcx_outline.specs.Drawn.{problem_outline};
+ghost use Rattle.dcx_cert_outline.specs.Drawn.{problem_outline};
 ghost use Rattle.dcx_cert_lines.specs.Forms.{IsTextOf, IsReadFault};
 
+use dcx_answer::CertFault;
 use dcx_cert_lines::read_outlined;
-use dcx_outline::outline_of_problem;
-use dcx_sections::{CertFault, Sections};
+use dcx_cert_outline::outline_of_problem;
+use dcx_cert_sections::Sections;
 use dcx_tree::Problem;
 use std::alloc::Global;
 

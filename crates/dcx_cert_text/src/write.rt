@@ -2,19 +2,19 @@
 ghost use Rattle.std.specs.Prelude.{◌≡◌, ◌++◌, Some, None, IfSome, IfOk, OnOk, MatchOption, slice_get, codes};
 ghost use Rattle.std.specs.List.{flat_map, enumerate_from};
 ghost use Rattle.dcx_lines.specs.Lines.{named_line, dual_line};
-ghost use Rattle.dcx_sections.specs.declared.section.Section.TheVariants as sections;
-ghost use Rattle.dcx_sections.specs.declared.cert.Cert.TheVariants as certs;
+ghost use Rattle.dcx_cert_sections.specs.declared.section.Section.TheVariants as sections;
+ghost use Rattle.dcx_cert_sections.specs.declared.cert.Cert.TheVariants as certs;
 ghost use Rattle.dcx_cert_lines.specs.CertText.{first_line, head_line, node_line, end_line, section_word, cert_text};
 ghost use Rattle.dcx_cert_text.specs.Written.{params_text, body_text, section_text};
 
 use dcx_atom::Array;
+use dcx_cert_sections::{Cert, Format, NodeWeights, Section, Sections};
 use dcx_frac::Frac;
 use dcx_lines::{
     put_bytes, put_dual_lines, put_entries, put_named_line, put_named_lines, put_number,
     put_number_line,
 };
 use dcx_point::{Point, Setting};
-use dcx_sections::{Cert, Format, NodeWeights, Section, Sections};
 use dcx_shape::{Bytes, Name};
 use std::alloc::{AllocError, Global};
 

@@ -3,10 +3,10 @@ use Rattle.std.proofs.Common.{◌≡◌, ℕ, Bool, false, List, ◌∷◌, Opti
 use Rattle.dcx_shape.specs.declared.place.Place.{Place}
 use Rattle.dcx_syntax.specs.declared.tree.Named.{Named}
 use Rattle.dcx_syntax.specs.Expressions.{name_at, Trailers, attribute, call, indexed, Args, Index, Indices, postfix}
-use Rattle.dcx_kinds.specs.declared.fault.ElabFault.{ElabFault}
-use Rattle.dcx_kinds.specs.Values.{Value, State, and_then, ◌>>=◌, done}
-use Rattle.dcx_kinds.specs.View.{Fails}
-use Rattle.dcx_kinds.proofs.Acts.{Fails-then, Fails-same, then_is}
+use Rattle.dcx_script_values.specs.declared.fault.ElabFault.{ElabFault}
+use Rattle.dcx_script_values.specs.Values.{Value, State, and_then, ◌>>=◌, done}
+use Rattle.dcx_script_values.specs.View.{Fails}
+use Rattle.dcx_script_values.proofs.Acts.{Fails-then, Fails-same, then_is}
 use Rattle.dcx_operators.specs.Indices.{Evaluated, index_value}
 use Rattle.dcx_signature.specs.Arguments.{Given}
 use Rattle.dcx_elab.specs.Expressions.{is_range, name_called, is_solve, target_before, method_called, args_mean, index_means, indices_mean, postfix_means, trailers_mean}

@@ -3,11 +3,11 @@ use Rattle.std.proofs.Common.{◌≡◌, ℕ, true, false, true≢false, List, [
 use Rattle.dcx_shape.specs.declared.place.Place.{Place}
 use Rattle.dcx_syntax.specs.declared.tree.Named.{Named}
 use Rattle.dcx_syntax.specs.Expressions.{Primary, name_at, Trailers, no_trailer, attribute, call, indexed, Args, Index, Indices, Optional, Step, slice, postfix, more_indices}
-use Rattle.dcx_kinds.specs.declared.fault.ElabFault.{ElabFault}
-use Rattle.dcx_kinds.specs.declared.fault.ElabFault.TheVariants.{UnknownCall, Memory}
-use Rattle.dcx_kinds.specs.Values.{Value, State, Act, and_then, ◌>>=◌, done, look}
-use Rattle.dcx_kinds.specs.View.{Fails}
-use Rattle.dcx_kinds.proofs.Acts.{Fails-then, Fails-same, then_is}
+use Rattle.dcx_script_values.specs.declared.fault.ElabFault.{ElabFault}
+use Rattle.dcx_script_values.specs.declared.fault.ElabFault.TheVariants.{UnknownCall, Memory}
+use Rattle.dcx_script_values.specs.Values.{Value, State, Act, and_then, ◌>>=◌, done, look}
+use Rattle.dcx_script_values.specs.View.{Fails}
+use Rattle.dcx_script_values.proofs.Acts.{Fails-then, Fails-same, then_is}
 use Rattle.dcx_operators.specs.Attributes.{attribute_value}
 use Rattle.dcx_operators.specs.Indices.{Evaluated, index_value}
 use Rattle.dcx_signature.specs.Arguments.{Given}

@@ -13,13 +13,13 @@ use Rattle.dcx_syntax.specs.declared.tree.Sum as code_sum
 use Rattle.dcx_syntax.specs.declared.tree.Term as code_term
 use Rattle.dcx_syntax.specs.Expressions.{Expr, expr, Compared, no_comparison, compared, Sum, sum, Added, no_addition, added, Term, term, Scaled, no_scaling, scaled, Factor, factor, Power, power_of, Raised, no_power, raised, exponent, Postfix, Trailers, Primary, Arg, Index, Step}
 use Rattle.dcx_syntax.specs.View.{chained, compared_view, added_view, scaled_view, raised_view, expr_view, sum_view, term_view, factor_view, power_view, postfix_view, arg_layer, index_layer, primary_layer, step_layer, trailer_layer, added_layer, compared_layer, expr_layer, factor_layer, postfix_layer, power_layer, raised_layer, scaled_layer, sum_layer, term_layer}
-use Rattle.dcx_kinds.specs.declared.fault.ElabFault.{ElabFault}
-use Rattle.dcx_kinds.specs.declared.fault.ElabFault.TheVariants.{NotOffered}
-use Rattle.dcx_kinds.specs.declared.value.Value as code_value
-use Rattle.dcx_kinds.specs.Values.{Value, State, Act, and_then, ◌>>=◌}
-use Rattle.dcx_kinds.specs.Meant.{meant}
-use Rattle.dcx_kinds.specs.View.{Fails, Gives}
-use Rattle.dcx_kinds.proofs.Acts.{Fails-then, Fails-same, then_is}
+use Rattle.dcx_script_values.specs.declared.fault.ElabFault.{ElabFault}
+use Rattle.dcx_script_values.specs.declared.fault.ElabFault.TheVariants.{NotOffered}
+use Rattle.dcx_script_values.specs.declared.value.Value as code_value
+use Rattle.dcx_script_values.specs.Values.{Value, State, Act, and_then, ◌>>=◌}
+use Rattle.dcx_script_values.specs.Meant.{meant}
+use Rattle.dcx_script_values.specs.View.{Fails, Gives}
+use Rattle.dcx_script_values.proofs.Acts.{Fails-then, Fails-same, then_is}
 use Rattle.dcx_operators.specs.Operators.{add_values, scale_values, compare_values}
 use Rattle.dcx_elab.specs.Expressions.{signed, expr_means, compared_means, chained_means, sum_means, added_means, term_means, scaled_means, factor_means, power_means, raised_means, postfix_means}
 use Rattle.dcx_elab.specs.View.{compared_from}

@@ -13,10 +13,10 @@ use Rattle.dcx_syntax.specs.declared.tree.Line.TheVariants as forms
 use Rattle.dcx_syntax.specs.Expressions.{Expr}
 use Rattle.dcx_syntax.specs.View.{expr_view, line_layer, line_view, lines_of}
 use Rattle.dcx_syntax.specs.Statements.{Line, assign, add_to, set_value, repeats, Lines, lines}
-use Rattle.dcx_kinds.specs.declared.fault.ElabFault.{ElabFault}
-use Rattle.dcx_kinds.specs.Values.{Value, Values, nothing, list as list_value, State, Act, and_then, ◌>>=◌, ◌>>◌, bind, joined, step}
-use Rattle.dcx_kinds.specs.View.{Fails, Gives}
-use Rattle.dcx_kinds.proofs.Acts.{Fails-then, Fails-same, then_is}
+use Rattle.dcx_script_values.specs.declared.fault.ElabFault.{ElabFault}
+use Rattle.dcx_script_values.specs.Values.{Value, Values, nothing, list as list_value, State, Act, and_then, ◌>>=◌, ◌>>◌, bind, joined, step}
+use Rattle.dcx_script_values.specs.View.{Fails, Gives}
+use Rattle.dcx_script_values.proofs.Acts.{Fails-then, Fails-same, then_is}
 use Rattle.dcx_signature.specs.Turns.{items_through}
 use Rattle.dcx_elab.specs.Expressions.{expr_means}
 use Rattle.dcx_elab.specs.Turns.{each_turn}

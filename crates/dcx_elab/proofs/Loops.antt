@@ -9,11 +9,11 @@ use Rattle.dcx_syntax.specs.declared.tree.Index as code_index
 use Rattle.dcx_syntax.specs.declared.tree.Expr as code_expr
 use Rattle.dcx_syntax.specs.Expressions.{Expr, Arg, MoreArgs, more_args, Indices, more_indices, MoreItems, tuple, list, comprehension}
 use Rattle.dcx_syntax.specs.View.{chained, then_arg, args_ending, args_of, indices_of, items_ending, more_items_of, items_of as tree_items, arg_view, index_view, expr_view}
-use Rattle.dcx_kinds.specs.declared.fault.ElabFault.{ElabFault}
-use Rattle.dcx_kinds.specs.Values.{Value, Values, values_of, items_of, State, Act, and_then, ◌>>=◌, ◌>>◌, done, room, with_room, tuple as tuple_value, list as list_value, list_of}
-use Rattle.dcx_kinds.specs.View.{Fails}
-use Rattle.dcx_kinds.proofs.Acts.{Fails-then, Fails-same, then_is}
-use Rattle.dcx_kinds.proofs.Lists.{items_of-values_of, values_of-items_of}
+use Rattle.dcx_script_values.specs.declared.fault.ElabFault.{ElabFault}
+use Rattle.dcx_script_values.specs.Values.{Value, Values, values_of, items_of, State, Act, and_then, ◌>>=◌, ◌>>◌, done, room, with_room, tuple as tuple_value, list as list_value, list_of}
+use Rattle.dcx_script_values.specs.View.{Fails}
+use Rattle.dcx_script_values.proofs.Acts.{Fails-then, Fails-same, then_is}
+use Rattle.dcx_script_values.proofs.Lists.{items_of-values_of, values_of-items_of}
 use Rattle.dcx_operators.specs.Indices.{Evaluated}
 use Rattle.dcx_signature.specs.Arguments.{Given}
 use Rattle.dcx_elab.specs.Expressions.{args_mean, more_args_mean, arg_means, index_means, indices_mean, with_item, more_items_mean, items_mean, expr_means, primary_means}

@@ -3,7 +3,7 @@ use Rattle.std.proofs.Common.{◌≡◌, ℕ, Bool, true, false, cond, List, [],
 use Rattle.indexmap.specs.IndexMap.{insert_entry}
 use Rattle.dcx_point.specs.Pairs.{same_name}
 use Rattle.dcx_point.proofs.Puts.{same_name-refl}
-use Rattle.dcx_kinds.specs.Values.{Value}
+use Rattle.dcx_script_values.specs.Values.{Value}
 
 pub bound-twice : (names : List (List ℕ × Value)) (name : List ℕ) (v w : Value) → insert_entry same_name (insert_entry same_name names name v) name w ≡ insert_entry same_name names name w
 bound-twice [] name v w = rw (same_name-refl name) refl

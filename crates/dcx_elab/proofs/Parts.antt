@@ -11,10 +11,10 @@ use Rattle.dcx_syntax.specs.declared.tree.Primary as code_primary
 use Rattle.dcx_syntax.specs.declared.tree.Step as code_step
 use Rattle.dcx_syntax.specs.Expressions.{Expr, Items, MoreItems, Primary, tuple, list}
 use Rattle.dcx_syntax.specs.View.{arg_view, index_view, step_view, optional_view, expr_view, primary_view}
-use Rattle.dcx_kinds.specs.declared.fault.ElabFault.{ElabFault}
-use Rattle.dcx_kinds.specs.Values.{Value, nothing, State, Act, and_then, ◌>>=◌, ◌>>◌, done, bound_to, bind, restore, step}
-use Rattle.dcx_kinds.specs.View.{Fails}
-use Rattle.dcx_kinds.proofs.Acts.{Fails-then, Fails-same, then_is}
+use Rattle.dcx_script_values.specs.declared.fault.ElabFault.{ElabFault}
+use Rattle.dcx_script_values.specs.Values.{Value, nothing, State, Act, and_then, ◌>>=◌, ◌>>◌, done, bound_to, bind, restore, step}
+use Rattle.dcx_script_values.specs.View.{Fails}
+use Rattle.dcx_script_values.proofs.Acts.{Fails-then, Fails-same, then_is}
 use Rattle.dcx_operators.specs.Indices.{single, sliced}
 use Rattle.dcx_signature.specs.Firsts.{expr_place}
 use Rattle.dcx_elab.specs.Expressions.{is_ignored, with_item, arg_means, expr_means, index_means, optional_means, step_means, primary_means}

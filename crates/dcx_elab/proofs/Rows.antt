@@ -6,7 +6,7 @@ use Rattle.dcx_syntax.specs.declared.tree.Comparison.TheVariants.{AtMost, Less}
 use Rattle.dcx_syntax.specs.declared.tree.Sign.TheVariants.{Plus}
 use Rattle.dcx_syntax.specs.Expressions.{Expr, expr, sum, added, no_addition, term, no_scaling, factor, power_of, no_power, compared, no_comparison, postfix, no_trailer, tuple, items, items_end, no_args, args, more_args, args_end, by_place, by_name, at, slice, present, no_step, truth_at}
 use Rattle.dcx_syntax.specs.Statements.{Lines, no_lines}
-use Rattle.dcx_kinds.specs.declared.fault.ElabFault.TheVariants.{UnknownName, UnknownCall, BadArgument, NotOffered, ShapeClash, IndexRange, EmptyResult, NoProblem, TooMany}
+use Rattle.dcx_script_values.specs.declared.fault.ElabFault.TheVariants.{UnknownName, UnknownCall, BadArgument, NotOffered, ShapeClash, IndexRange, EmptyResult, NoProblem, TooMany}
 use Rattle.dcx_array.specs.Shapes.{dec_few, shape_with}
 use Rattle.dcx_elab.specs.Meaning.{meaning}
 use Rattle.dcx_elab.proofs.Samples.{place, named, sum_of_one, alone, name_postfix, number_postfix, name_expr, number_expr, cp_expr, compared_expr, list_of_one, indexed_expr, one_arg, two_args, after_imports, after_variable, assigned, zero_number, one_number, two, three, five, twenty_thousand, twenty_thousand_and_one}

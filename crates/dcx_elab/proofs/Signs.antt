@@ -2,10 +2,10 @@
 use Rattle.std.proofs.Common.{◌≡◌, ℕ, ◌+◌, ◌<◌, List, [], ◌∷◌, ◌++◌, take, length, get_or, Result, Ok, Err, refl, ap, ◌∙◌}
 use Rattle.std.proofs.lemmas.List.{take_more}
 use Rattle.dcx_syntax.specs.declared.tree.Signed.{Signed}
-use Rattle.dcx_kinds.specs.declared.fault.ElabFault.{ElabFault}
-use Rattle.dcx_kinds.specs.Values.{Value, State, and_then, done}
-use Rattle.dcx_kinds.specs.View.{Fails}
-use Rattle.dcx_kinds.proofs.Acts.{Fails-then, Fails-same, then_is}
+use Rattle.dcx_script_values.specs.declared.fault.ElabFault.{ElabFault}
+use Rattle.dcx_script_values.specs.Values.{Value, State, and_then, done}
+use Rattle.dcx_script_values.specs.View.{Fails}
+use Rattle.dcx_script_values.proofs.Acts.{Fails-then, Fails-same, then_is}
 use Rattle.dcx_operators.specs.Operators.{sign_value}
 use Rattle.dcx_elab.specs.Expressions.{signed}
 use Rattle.dcx_elab.proofs.Chains.{assoc}

@@ -11,11 +11,11 @@ use Rattle.dcx_point.specs.Pairs.{same_name}
 use Rattle.dcx_point.proofs.Puts.{same_name-refl, same_name-true}
 use Rattle.dcx_point.proofs.Names.{unlike}
 use Rattle.dcx_syntax.specs.Statements.{Lines, no_lines, lines}
-use Rattle.dcx_kinds.specs.declared.fault.ElabFault.{ElabFault}
-use Rattle.dcx_kinds.specs.Values.{Value, State, Act, and_then, ◌>>=◌, ◌>>◌, done, bind, restore, step, room, bound_to, most_steps}
+use Rattle.dcx_script_values.specs.declared.fault.ElabFault.{ElabFault}
+use Rattle.dcx_script_values.specs.Values.{Value, State, Act, and_then, ◌>>=◌, ◌>>◌, done, bind, restore, step, room, bound_to, most_steps}
 use Rattle.dcx_elab.specs.Turns.{turn, turns, each_turn}
 use Rattle.dcx_elab.specs.Statements.{line_means, lines_mean}
-use Rattle.dcx_state.specs.Declarations.{start}
+use Rattle.dcx_script_state.specs.Declarations.{start}
 use Rattle.dcx_elab.specs.Meaning.{meaning, ended}
 use Rattle.dcx_elab.specs.Laws.{followed_by, HoldsForLines, HasDistinctNames, KeepsNamesDistinct, HoldsForTurns}
 

@@ -7,16 +7,16 @@ use Rattle.dcx_syntax.specs.declared.tree.Named.{Named}
 use Rattle.dcx_syntax.specs.declared.tree.Module.{Module}
 use Rattle.dcx_syntax.specs.declared.tree.Signed.{Signed}
 use Rattle.dcx_syntax.specs.Expressions.{Expr, expr, Compared, no_comparison, compared, Sum, sum, Added, no_addition, added, Term, term, Scaled, no_scaling, scaled, Factor, factor, Power, power_of, Raised, no_power, raised, Exponent, exponent, Postfix, postfix, Trailers, no_trailer, attribute, call, indexed, Args, no_args, args, MoreArgs, args_end, args_comma, more_args, Arg, by_place, by_name, Indices, no_index, more_indices, Index, at, slice, Optional, absent, present, Step, no_step, step, Primary, number_at, text_at, name_at, truth_at, none_at, unit, round, tuple, empty_list, list, comprehension, Items, no_items, items, MoreItems, items_end, items_comma, more_items}
-use Rattle.dcx_kinds.specs.declared.fault.ElabFault.TheVariants.{UnknownName, UnknownCall, NotOffered}
+use Rattle.dcx_script_values.specs.declared.fault.ElabFault.TheVariants.{UnknownName, UnknownCall, NotOffered}
 use Rattle.dcx_signature.specs.declared.table.Function.TheVariants as functions
-use Rattle.dcx_kinds.specs.Values.{Value, plain, text, truth, nothing, tuple as tuple_value, list as list_value, library, problem, end, values_of, list_of, Act, ◌>>=◌, ◌>>◌, done, fault, or_fault, read, look, bound_to, room}
+use Rattle.dcx_script_values.specs.Values.{Value, plain, text, truth, nothing, tuple as tuple_value, list as list_value, library, problem, end, values_of, list_of, Act, ◌>>=◌, ◌>>◌, done, fault, or_fault, read, look, bound_to, room}
 use Rattle.dcx_array.specs.Arrays.{number}
 use Rattle.dcx_operators.specs.Operators.{add_values, scale_values, sign_value, compare_values}
 use Rattle.dcx_operators.specs.Indices.{Evaluated, single, sliced, index_value}
 use Rattle.dcx_operators.specs.Attributes.{attribute_value}
 use Rattle.dcx_signature.specs.Table.{function_named, ignored_words, solve_row}
 use Rattle.dcx_signature.specs.Arguments.{Given, arguments}
-use Rattle.dcx_state.specs.Declarations.{solve}
+use Rattle.dcx_script_state.specs.Declarations.{solve}
 use Rattle.dcx_functions.specs.Calls.{function_called}
 use Rattle.dcx_signature.specs.Turns.{items_through}
 use Rattle.dcx_elab.specs.Turns.{turns}

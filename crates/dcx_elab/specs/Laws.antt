@@ -5,9 +5,9 @@ use Rattle.std.specs.Map.{keys_of, lookup}
 use Rattle.dcx_shape.specs.declared.place.Place.{Place}
 use Rattle.dcx_point.specs.Pairs.{same_name}
 use Rattle.dcx_syntax.specs.Statements.{Lines, no_lines, lines}
-use Rattle.dcx_kinds.specs.declared.fault.ElabFault.{ElabFault}
-use Rattle.dcx_kinds.specs.Values.{Value, State, Act, ◌>>=◌, ◌>>◌}
-use Rattle.dcx_state.specs.Declarations.{start}
+use Rattle.dcx_script_values.specs.declared.fault.ElabFault.{ElabFault}
+use Rattle.dcx_script_values.specs.Values.{Value, State, Act, ◌>>=◌, ◌>>◌}
+use Rattle.dcx_script_state.specs.Declarations.{start}
 use Rattle.dcx_elab.specs.Turns.{turn, turns, each_turn}
 use Rattle.dcx_elab.specs.Statements.{lines_mean}
 use Rattle.dcx_elab.specs.Meaning.{meaning}

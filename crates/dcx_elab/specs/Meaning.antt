@@ -4,12 +4,12 @@ use Rattle.dcx_tree.specs.Gather.{IsProblemOf}
 use Rattle.dcx_syntax.specs.declared.tree.Script.{Script}
 use Rattle.dcx_syntax.specs.Statements.{Lines}
 use Rattle.dcx_syntax.specs.View.{script_view}
-use Rattle.dcx_kinds.specs.declared.fault.ElabFault.{ElabFault}
-use Rattle.dcx_kinds.specs.declared.fault.ElabFault.TheVariants.{NoProblem}
-use Rattle.dcx_kinds.specs.Values.{Asked, State}
-use Rattle.dcx_kinds.specs.View.{Fails}
-use Rattle.dcx_state.specs.Declarations.{start, standing_setting, events_or_end}
-use Rattle.dcx_state.specs.Ends.{script_start, roots_in}
+use Rattle.dcx_script_values.specs.declared.fault.ElabFault.{ElabFault}
+use Rattle.dcx_script_values.specs.declared.fault.ElabFault.TheVariants.{NoProblem}
+use Rattle.dcx_script_values.specs.Values.{Asked, State}
+use Rattle.dcx_script_values.specs.View.{Fails}
+use Rattle.dcx_script_state.specs.Declarations.{start, standing_setting, events_or_end}
+use Rattle.dcx_script_state.specs.Ends.{script_start, roots_in}
 use Rattle.dcx_elab.specs.declared.work.Work.{Work}
 use Rattle.dcx_elab.specs.Statements.{lines_mean}
 

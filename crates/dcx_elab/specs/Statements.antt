@@ -6,12 +6,12 @@ use Rattle.dcx_syntax.specs.declared.tree.Named.{Named}
 use Rattle.dcx_syntax.specs.declared.tree.Sign.TheVariants.{Plus}
 use Rattle.dcx_syntax.specs.Expressions.{Expr, expr, no_comparison, sum, no_addition, term, no_scaling, factor, power_of, no_power, Postfix, postfix, no_trailer, name_at}
 use Rattle.dcx_syntax.specs.Statements.{Line, importing, assign, add_to, set_value, evaluate, prints, repeats, Lines, no_lines, lines}
-use Rattle.dcx_kinds.specs.declared.fault.ElabFault.TheVariants.{NotOffered}
-use Rattle.dcx_kinds.specs.Values.{Value, library, Act, ◌>>=◌, ◌>>◌, done, unless, look, bind, step}
-use Rattle.dcx_kinds.specs.Kinds.{reading, is_list}
+use Rattle.dcx_script_values.specs.declared.fault.ElabFault.TheVariants.{NotOffered}
+use Rattle.dcx_script_values.specs.Values.{Value, library, Act, ◌>>=◌, ◌>>◌, done, unless, look, bind, step}
+use Rattle.dcx_script_values.specs.Kinds.{reading, is_list}
 use Rattle.dcx_operators.specs.Operators.{add_values}
 use Rattle.dcx_signature.specs.Table.{module_name}
-use Rattle.dcx_state.specs.Declarations.{give}
+use Rattle.dcx_script_state.specs.Declarations.{give}
 use Rattle.dcx_signature.specs.Turns.{items_through}
 use Rattle.dcx_elab.specs.Turns.{each_turn}
 use Rattle.dcx_signature.specs.Firsts.{expr_place}

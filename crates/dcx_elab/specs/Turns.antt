@@ -1,7 +1,7 @@
 -- The turns of a comprehension and of a `for`.
 use Rattle.std.specs.Prelude.{ℕ, List, [], ◌∷◌, ◌++◌}
 use Rattle.dcx_shape.specs.declared.place.Place.{Place}
-use Rattle.dcx_kinds.specs.Values.{Value, Act, ◌>>=◌, ◌>>◌, done, bound_to, bind, restore, step, room}
+use Rattle.dcx_script_values.specs.Values.{Value, Act, ◌>>=◌, ◌>>◌, done, bound_to, bind, restore, step, room}
 
 -- ---- a comprehension
 -- the element, with the name bound to an item meanwhile, and then again as it was; the element begins at `first`

@@ -4,9 +4,9 @@ use Rattle.dcx_syntax.specs.declared.tree.Compared as code_compared
 use Rattle.dcx_syntax.specs.declared.tree.Trailer as code_trailer
 use Rattle.dcx_syntax.specs.Expressions.{Compared, no_comparison, Trailers, no_trailer}
 use Rattle.dcx_syntax.specs.View.{chained, compared_view, trailer_view}
-use Rattle.dcx_kinds.specs.declared.fault.ElabFault.{ElabFault}
-use Rattle.dcx_kinds.specs.Values.{State, Act}
-use Rattle.dcx_kinds.specs.View.{Fails}
+use Rattle.dcx_script_values.specs.declared.fault.ElabFault.{ElabFault}
+use Rattle.dcx_script_values.specs.Values.{State, Act}
+use Rattle.dcx_script_values.specs.View.{Fails}
 
 -- the comparisons from an index on
 abbrev pub compared_from : List code_compared.Compared → ℕ → Compared

@@ -1,16 +1,16 @@
 //! What a name that is called gives, with or without a dot before it.
 ghost use Rattle.std.specs.Prelude.{◌≡◌, map, option_copied};
-ghost use Rattle.dcx_kinds.specs.Meant.{meant};
-ghost use Rattle.dcx_kinds.specs.View.{Gives};
+ghost use Rattle.dcx_script_values.specs.Meant.{meant};
+ghost use Rattle.dcx_script_values.specs.View.{Gives};
 ghost use Rattle.dcx_signature.specs.View.{given_seen};
 ghost use Rattle.dcx_elab.specs.Expressions as meaning;
 ghost use Rattle.dcx_elab.specs.View.{trailers_from};
 
 use dcx_functions::function_called;
-use dcx_kinds::{ElabFault, Value};
+use dcx_script_state::State;
+use dcx_script_values::{ElabFault, Value};
 use dcx_shape::{Name, Place};
 use dcx_signature::{Function, Given, arguments, function_named, is_word, solve_row};
-use dcx_state::State;
 use dcx_syntax::{Module, Named, Trailer};
 
 /// Whether a name that is called without a dot is `range`. A name that is bound is no call, and another isn't known.

@@ -2,9 +2,9 @@
 ghost use Rattle.std.specs.Prelude.{Bool, [], ◌∷◌, ◌<◌, ◌≤◌, length, map, option_copied, option_map, IfOk, if◌then◌else◌};
 ghost use Rattle.dcx_syntax.specs.Expressions.{no_addition, no_scaling, no_power, name_at, attribute as attribute_of, postfix as postfix_of};
 ghost use Rattle.dcx_syntax.specs.View.{chained, args_of, indices_of, more_items_of, optional_view, step_view, expr_view, sum_view, added_view, term_view, scaled_view, factor_view, power_view, raised_view, postfix_view, arg_view, index_view, primary_view};
-ghost use Rattle.dcx_kinds.specs.Values.{items_of, nothing, done, and_then};
-ghost use Rattle.dcx_kinds.specs.Meant.{meant};
-ghost use Rattle.dcx_kinds.specs.View.{Gives};
+ghost use Rattle.dcx_script_values.specs.Values.{items_of, nothing, done, and_then};
+ghost use Rattle.dcx_script_values.specs.Meant.{meant};
+ghost use Rattle.dcx_script_values.specs.View.{Gives};
 ghost use Rattle.dcx_signature.specs.View.{given_seen, through_seen};
 ghost use Rattle.dcx_signature.specs.Firsts.{expr_place as first_place};
 ghost use Rattle.dcx_operators.specs.View.{evaluated};
@@ -14,15 +14,15 @@ ghost use Rattle.dcx_elab.specs.View.{GoesOn, compared_from, trailers_from};
 
 use crate::called::{is_range, is_solve, method_called, name_called, target_before};
 use crate::leaves::{no_items, signed, text};
-use dcx_kinds::{ElabFault, Items, Value};
 use dcx_operators::{
     Evaluated, add_values, attribute_value, compare_values, index_value, scale_values,
 };
+use dcx_script_state::State;
+use dcx_script_values::{ElabFault, Items, Value};
 use dcx_shape::{Name, Place};
 use dcx_signature::{
     Given, Through, expr_place, is_ignored_word, items_through, number_value, primary_place,
 };
-use dcx_state::State;
 use dcx_syntax::{
     Added, Arg, Compared, Expr, Factor, Index, Named, Postfix, Power, Primary, Raised, Scaled,
     Step, Sum, Term, Trailer,

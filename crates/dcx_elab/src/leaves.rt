@@ -1,14 +1,14 @@
 //! Values without parts, and signs before a value.
 ghost use Rattle.std.specs.Prelude.{◌≡◌, IfOk};
-ghost use Rattle.dcx_kinds.specs.Values.{text as text_value, end};
-ghost use Rattle.dcx_kinds.specs.Meant.{meant};
-ghost use Rattle.dcx_kinds.specs.View.{Gives};
+ghost use Rattle.dcx_script_values.specs.Values.{text as text_value, end};
+ghost use Rattle.dcx_script_values.specs.Meant.{meant};
+ghost use Rattle.dcx_script_values.specs.View.{Gives};
 ghost use Rattle.dcx_elab.specs.Expressions as meaning;
 
-use dcx_kinds::{ElabFault, Items, Value};
 use dcx_operators::sign_value;
+use dcx_script_state::State;
+use dcx_script_values::{ElabFault, Items, Value};
 use dcx_shape::Bytes;
-use dcx_state::State;
 use dcx_syntax::Signed;
 use std::alloc::{AllocError, Global};
 use std::rc::Rc;

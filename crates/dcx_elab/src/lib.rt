@@ -4,9 +4,9 @@
 //!
 //! | what is meant | where |
 //! |---|---|
-//! | the kinds of values, what is carried along, and the first fault | `dcx_kinds`, `specs/Values.antt` |
-//! | nodes: constants, promotions, calls | `dcx_kinds`, `specs/Nodes.antt` |
-//! | declarations, the problem, its solves | `dcx_state`, `specs/Declarations.antt` |
+//! | the kinds of values, what is carried along, and the first fault | `dcx_script_values`, `specs/Values.antt` |
+//! | nodes: constants, promotions, calls | `dcx_script_values`, `specs/Nodes.antt` |
+//! | declarations, the problem, its solves | `dcx_script_state`, `specs/Declarations.antt` |
 //! | the calls as a table, and how arguments are given | `dcx_signature`, `specs/Table.antt`, `Arguments.antt` |
 //! | operators and indices on values of any kind | `dcx_operators`, `specs/Operators.antt`, `Indices.antt` |
 //! | what each call does | `dcx_functions`, `specs/Calls.antt` |
@@ -27,5 +27,5 @@ mod leaves;
 mod statements;
 mod work;
 
-pub use dcx_kinds::ElabFault;
+pub use dcx_script_values::ElabFault;
 pub use work::{Events, Work, elaborate};

@@ -1,17 +1,17 @@
 //! What a line does: one function for each form of the grammar.
 ghost use Rattle.std.specs.Prelude.{◌≡◌, map, option_map, option_copied};
 ghost use Rattle.dcx_syntax.specs.View.{expr_view, postfix_view, line_view, lines_of};
-ghost use Rattle.dcx_kinds.specs.Values.{list, joined, bind, and_then};
-ghost use Rattle.dcx_kinds.specs.Meant.{meant};
-ghost use Rattle.dcx_kinds.specs.View.{Gives};
+ghost use Rattle.dcx_script_values.specs.Values.{list, joined, bind, and_then};
+ghost use Rattle.dcx_script_values.specs.Meant.{meant};
+ghost use Rattle.dcx_script_values.specs.View.{Gives};
 ghost use Rattle.dcx_elab.specs.Statements as meaning;
 
 use crate::expressions::{expr, postfix};
-use dcx_kinds::{ElabFault, Items, Value, joined, read_value};
 use dcx_operators::add_values;
+use dcx_script_state::State;
+use dcx_script_values::{ElabFault, Items, Value, joined, read_value};
 use dcx_shape::{Name, Place};
 use dcx_signature::{expr_place, items_through, module_word};
-use dcx_state::State;
 use dcx_syntax::{Expr, Import, Line, Named, Postfix, Primary, Sign};
 use std::rc::Rc;
 

@@ -3,9 +3,9 @@ ghost use Rattle.dcx_elab.specs.Meaning.{Elaborates};
 
 use crate::statements::lines;
 use dcx_frac::List;
-use dcx_kinds::ElabFault;
 use dcx_point::Setting;
-use dcx_state::State;
+use dcx_script_state::State;
+use dcx_script_values::ElabFault;
 use dcx_syntax::Script;
 use dcx_tree::Problem;
 use std::alloc::Global;

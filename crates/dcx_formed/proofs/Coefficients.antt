@@ -19,8 +19,8 @@ use Rattle.dcx_fold.specs.Running.{running_rows}
 use Rattle.dcx_call.specs.declared.atoms.AtomCall.{AtomCall}
 use Rattle.dcx_call.specs.declared.atoms.AtomCall.TheVariants as atoms
 use Rattle.dcx_call.specs.Atoms.{atom_meaning}
-use Rattle.dcx_exact.specs.Exact.{HaveFewEntries}
-use Rattle.dcx_exact.proofs.Fractions.{negative_fits}
+use Rattle.dcx_call.specs.Exact.{HaveFewEntries}
+use Rattle.dcx_call.proofs.Fractions.{negative_fits}
 use Rattle.dcx_formed.proofs.Representable.{outward_fits, whole_fits, one_fits, minus_one_fits}
 use Rattle.dcx_formed.proofs.Lists.{all_below, all_joined}
 

@@ -64,7 +64,7 @@ use Rattle.dcx_entries.specs.Parts.{Arguments, zero_form, form_of_unknown, term_
 use Rattle.dcx_entries.specs.Entries.{alone, PairEntry}
 use Rattle.dcx_entries.specs.Standing.{args_among}
 use Rattle.dcx_entries.specs.Nodes.{is_told, has_numbers, Table, table_forms, side_of, scaling_of, ReducedEntry, NodeEntryBy, AreFormed}
-use Rattle.dcx_exact.proofs.Coefficients.{FitsIn, coefficients_fit}
+use Rattle.dcx_call.proofs.Coefficients.{FitsIn, coefficients_fit}
 use Rattle.dcx_formed.specs.Forms.{forms_at}
 use Rattle.dcx_formed.proofs.Settled.{fixed_alike}
 use Rattle.dcx_formed.proofs.Reached.{node_bent}

@@ -48,7 +48,7 @@ use Rattle.dcx_entries.specs.Entries.{alone}
 use Rattle.dcx_entries.specs.Standing.{args_among}
 use Rattle.dcx_entries.specs.Nodes.{Table, table_forms, number_entry, numbers_in, NodeEntryBy, AreFormed}
 use Rattle.dcx_formed.proofs.Coefs.{AreCoefs}
-use Rattle.dcx_exact.proofs.Exact.{forms_exactly}
+use Rattle.dcx_call.proofs.Exact.{forms_exactly}
 use Rattle.dcx_formed.proofs.Few.{few_args}
 use Rattle.dcx_formed.proofs.Named.{where_named}
 use Rattle.dcx_formed.proofs.PartValues.{number_is}

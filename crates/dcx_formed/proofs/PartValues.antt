@@ -24,7 +24,7 @@ use Rattle.dcx_linear.specs.Parts.{sums_parts, parts_value}
 use Rattle.dcx_linear.proofs.PartSums.{parts_sum_value}
 use Rattle.dcx_unknowns.specs.Unknowns.{number_at}
 use Rattle.dcx_entries.specs.Parts.{Arguments, zero_form, unknown_form, form_of_unknown, term_part, aux_part, operand_form, row_part}
-use Rattle.dcx_exact.proofs.Coefficients.{FitsIn}
+use Rattle.dcx_call.proofs.Coefficients.{FitsIn}
 use Rattle.dcx_formed.proofs.Representable.{one_fits}
 use Rattle.dcx_formed.proofs.Coefficients.{FitsRow, FitsFormTerm}
 use Rattle.dcx_formed.proofs.Coefs.{AreCoefs}

@@ -8,7 +8,7 @@ use Rattle.dcx_frac.proofs.Turns.{over_one}
 use Rattle.dcx_atom.specs.Bounding.{outward}
 use Rattle.dcx_atom.specs.declared.flags.Bend.{Bend}
 use Rattle.dcx_atom.specs.declared.flags.Bend.TheVariants.{Convex, Concave}
-use Rattle.dcx_exact.proofs.Fractions.{negative_fits}
+use Rattle.dcx_call.proofs.Fractions.{negative_fits}
 
 pub outward_fits : (bend : Bend) (x : ℚ) → IsRepresentable x → IsRepresentable (outward bend x)
 outward_fits Convex x h = h

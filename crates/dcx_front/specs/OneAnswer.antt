@@ -5,8 +5,8 @@ use Rattle.dcx_tokens.specs.declared.fault.ReadFault.TheVariants as reads
 use Rattle.dcx_syntax.specs.declared.tree.Script.{Script}
 use Rattle.dcx_read.specs.Parses.{IsReading}
 use Rattle.dcx_tree.specs.Meaning.{IsAccepted}
-use Rattle.dcx_kinds.specs.declared.fault.ElabFault.{ElabFault}
-use Rattle.dcx_kinds.specs.declared.fault.ElabFault.TheVariants as elabs
+use Rattle.dcx_script_values.specs.declared.fault.ElabFault.{ElabFault}
+use Rattle.dcx_script_values.specs.declared.fault.ElabFault.TheVariants as elabs
 use Rattle.dcx_elab.specs.declared.work.Work.{Work}
 use Rattle.dcx_elab.specs.Meaning.{Elaborates}
 use Rattle.dcx_front.specs.declared.fault.FrontFault.TheVariants.{Memory}

@@ -4,8 +4,8 @@ ghost use Rattle.dcx_refusal.specs.Refusals.{is_refusal};
 ghost use Rattle.dcx_front.specs.Accepts.{refused, plainly, read_ending, elab_ending, Tells};
 
 use crate::FrontFault;
-use dcx_kinds::ElabFault;
 use dcx_refusal::{Carried, Refusal, RefusalSource};
+use dcx_script_values::ElabFault;
 use dcx_shape::Place;
 use dcx_tokens::ReadFault;
 

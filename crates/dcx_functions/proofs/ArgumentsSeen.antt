@@ -2,8 +2,8 @@
 use Rattle.std.specs.Prelude.{◌≡◌, List, [], ◌∷◌, map, length}
 use Rattle.std.proofs.Common.{refl, sym, ap, ◌∙◌}
 use Rattle.std.proofs.lemmas.List.{length-map}
-use Rattle.dcx_kinds.specs.Kinds.{Reading, reading}
-use Rattle.dcx_kinds.specs.Meant.{meant}
+use Rattle.dcx_script_values.specs.Kinds.{Reading, reading}
+use Rattle.dcx_script_values.specs.Meant.{meant}
 use Rattle.dcx_signature.specs.declared.matching.Argument.{Argument}
 use Rattle.dcx_signature.specs.Seen.{argument_seen}
 use Rattle.dcx_signature.specs.Arguments.{Bound}

@@ -3,10 +3,10 @@ use Rattle.std.specs.Prelude.{◌≡◌, ℕ, Bool, List, Option, Some, option_m
 use Rattle.std.proofs.Common.{sym, ap, ap₂, ◌∙◌}
 use Rattle.dcx_shape.specs.declared.shape.Sides.{Sides}
 use Rattle.dcx_shape.specs.declared.place.Place.{Place}
-use Rattle.dcx_kinds.specs.Values.{State}
-use Rattle.dcx_kinds.specs.Kinds.{Reading, reading}
-use Rattle.dcx_state.specs.declared.flags.Flags.{Flags}
-use Rattle.dcx_state.specs.Declarations.{declare_variable, declare_parameter}
+use Rattle.dcx_script_values.specs.Values.{State}
+use Rattle.dcx_script_values.specs.Kinds.{Reading, reading}
+use Rattle.dcx_script_state.specs.declared.flags.Flags.{Flags}
+use Rattle.dcx_script_state.specs.Declarations.{declare_variable, declare_parameter}
 use Rattle.dcx_signature.specs.Table.{value_word, nonneg_word, nonpos_word}
 use Rattle.dcx_signature.specs.Arguments.{Bound, given_for}
 use Rattle.dcx_functions.specs.Calls.{is_set, declared_sides, flags_of, names_unoffered, variable_of, parameter_of}

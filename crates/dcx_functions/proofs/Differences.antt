@@ -5,11 +5,11 @@ use Rattle.dcx_shape.specs.declared.place.Place.{Place}
 use Rattle.dcx_call.specs.declared.call.Call.{Call}
 use Rattle.dcx_call.specs.declared.call.Call.TheVariants as calls
 use Rattle.dcx_call.specs.declared.linears.LinearCall.TheVariants as linears
-use Rattle.dcx_kinds.specs.declared.fault.ElabFault.{ElabFault}
-use Rattle.dcx_kinds.specs.Values.{State}
-use Rattle.dcx_kinds.specs.Nodes.{push}
-use Rattle.dcx_kinds.specs.View.{Fails}
-use Rattle.dcx_kinds.proofs.Acts.{Fails-then, then_is}
+use Rattle.dcx_script_values.specs.declared.fault.ElabFault.{ElabFault}
+use Rattle.dcx_script_values.specs.Values.{State}
+use Rattle.dcx_script_values.specs.Nodes.{push}
+use Rattle.dcx_script_values.specs.View.{Fails}
+use Rattle.dcx_script_values.proofs.Acts.{Fails-then, then_is}
 use Rattle.dcx_functions.specs.Calls.{differences}
 
 abbrev difference : Call

@@ -2,11 +2,11 @@
 use Rattle.std.specs.Prelude.{◌≡◌, ℤ, Result}
 use Rattle.std.proofs.Common.{subst}
 use Rattle.dcx_shape.specs.declared.place.Place.{Place}
-use Rattle.dcx_kinds.specs.declared.value.Value as code_value
-use Rattle.dcx_kinds.specs.declared.fault.ElabFault.{ElabFault}
-use Rattle.dcx_kinds.specs.Values.{State}
-use Rattle.dcx_kinds.specs.Meant.{meant}
-use Rattle.dcx_kinds.specs.View.{Gives}
+use Rattle.dcx_script_values.specs.declared.value.Value as code_value
+use Rattle.dcx_script_values.specs.declared.fault.ElabFault.{ElabFault}
+use Rattle.dcx_script_values.specs.Values.{State}
+use Rattle.dcx_script_values.specs.Meant.{meant}
+use Rattle.dcx_script_values.specs.View.{Gives}
 use Rattle.dcx_signature.specs.Turns.{range_from}
 
 -- what is given of a range is given of one of the same numbers

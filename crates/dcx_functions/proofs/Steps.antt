@@ -4,13 +4,13 @@ use Rattle.std.proofs.Common.{refl, sym, ap, subst, ◌∙◌}
 use Rattle.dcx_shape.specs.declared.place.Place.{Place}
 use Rattle.dcx_call.specs.declared.linears.LinearCall.{LinearCall}
 use Rattle.dcx_call.specs.declared.call.Call.TheVariants as calls
-use Rattle.dcx_kinds.specs.declared.fault.ElabFault.{ElabFault}
-use Rattle.dcx_kinds.specs.Values.{Value, expression, State, Act, and_then, done}
-use Rattle.dcx_kinds.specs.Nodes.{Operand, called}
-use Rattle.dcx_kinds.specs.Kinds.{Reading, reading}
-use Rattle.dcx_kinds.specs.Operands.{operands_read, as_expression}
-use Rattle.dcx_kinds.specs.View.{Fails, Gives}
-use Rattle.dcx_kinds.proofs.Acts.{Fails-then, Fails-same, then_is}
+use Rattle.dcx_script_values.specs.declared.fault.ElabFault.{ElabFault}
+use Rattle.dcx_script_values.specs.Values.{Value, expression, State, Act, and_then, done}
+use Rattle.dcx_script_values.specs.Nodes.{Operand, called}
+use Rattle.dcx_script_values.specs.Kinds.{Reading, reading}
+use Rattle.dcx_script_values.specs.Operands.{operands_read, as_expression}
+use Rattle.dcx_script_values.specs.View.{Fails, Gives}
+use Rattle.dcx_script_values.proofs.Acts.{Fails-then, Fails-same, then_is}
 use Rattle.dcx_signature.specs.declared.table.Function.{Function}
 use Rattle.dcx_signature.specs.Table.{row}
 use Rattle.dcx_signature.specs.Arguments.{Given, Bound, arguments}

@@ -10,7 +10,7 @@ use Rattle.dcx_shape.specs.Sides.{entries_of}
 use Rattle.dcx_array.specs.Shapes.{shape_with, told, size_fault}
 use Rattle.dcx_array.specs.Arrays.{made, identity, identity_entry}
 use Rattle.dcx_array.proofs.AllowedShapes.{shape_with-none, size_fault-told}
-use Rattle.dcx_kinds.proofs.ShapesAsked.{few_sides, shape_with-told}
+use Rattle.dcx_script_values.proofs.ShapesAsked.{few_sides, shape_with-told}
 
 size_fault-same : (m n : ℕ) → told m ≡ told n → size_fault m ≡ size_fault n
 size_fault-same m n h = sym (size_fault-told m) ∙ (ap size_fault h ∙ size_fault-told n)

@@ -22,13 +22,13 @@ use Rattle.dcx_tree.specs.declared.constraint.Sense.{Sense}
 use Rattle.dcx_tree.specs.declared.constraint.Sense.TheVariants as senses
 use Rattle.dcx_array.specs.Shapes.{shape_with, told}
 use Rattle.dcx_array.specs.Arrays.{constant, identity}
-use Rattle.dcx_kinds.specs.declared.fault.ElabFault.TheVariants.{BadArgument, NotOffered, ShapeClash, EmptyResult}
-use Rattle.dcx_kinds.specs.Values.{Value, objective, Act, ◌>>=◌, ◌>>◌, done, fault, or_fault, or_array_fault, unless, read}
-use Rattle.dcx_kinds.specs.Nodes.{Operand, operand_sides, pushed, push, called, broadcast_called}
-use Rattle.dcx_kinds.specs.Kinds.{Reading, reading, whole_number, axis_of, sides_from, rows_array, list_items}
-use Rattle.dcx_kinds.specs.Operands.{operands_read, operand_read, numbers_read, as_plain, as_expression}
-use Rattle.dcx_state.specs.declared.flags.Flags.{Flags}
-use Rattle.dcx_state.specs.Declarations.{declare_variable, declare_parameter, make_problem}
+use Rattle.dcx_script_values.specs.declared.fault.ElabFault.TheVariants.{BadArgument, NotOffered, ShapeClash, EmptyResult}
+use Rattle.dcx_script_values.specs.Values.{Value, objective, Act, ◌>>=◌, ◌>>◌, done, fault, or_fault, or_array_fault, unless, read}
+use Rattle.dcx_script_values.specs.Nodes.{Operand, operand_sides, pushed, push, called, broadcast_called}
+use Rattle.dcx_script_values.specs.Kinds.{Reading, reading, whole_number, axis_of, sides_from, rows_array, list_items}
+use Rattle.dcx_script_values.specs.Operands.{operands_read, operand_read, numbers_read, as_plain, as_expression}
+use Rattle.dcx_script_state.specs.declared.flags.Flags.{Flags}
+use Rattle.dcx_script_state.specs.Declarations.{declare_variable, declare_parameter, make_problem}
 use Rattle.dcx_signature.specs.declared.table.Function.{Function}
 use Rattle.dcx_signature.specs.declared.table.Function.TheVariants as functions
 use Rattle.dcx_signature.specs.Fits.{is_one, is_true, is_infinity, is_by_rows}

@@ -1,8 +1,8 @@
 //! A call of a function: one line for each.
 ghost use Rattle.std.specs.Prelude.{◌≡◌, map};
 ghost use Rattle.std.specs.Option.{option_copied};
-ghost use Rattle.dcx_kinds.specs.Meant.{meant};
-ghost use Rattle.dcx_kinds.specs.View.{Gives};
+ghost use Rattle.dcx_script_values.specs.Meant.{meant};
+ghost use Rattle.dcx_script_values.specs.View.{Gives};
 ghost use Rattle.dcx_signature.specs.View.{given_seen};
 ghost use Rattle.dcx_functions.specs.Calls as meaning;
 
@@ -18,10 +18,10 @@ use dcx_call::{AtomCall, LinearCall};
 use dcx_elem::{Abs, Maximum, Minimum, Neg, Pos};
 use dcx_fold::{CumMax, MaxOf, MinOf, Norm1, NormInf, SumLargest, SumSmallest};
 use dcx_frac::Frac;
-use dcx_kinds::{ElabFault, Value};
+use dcx_script_state::State;
+use dcx_script_values::{ElabFault, Value};
 use dcx_shape::{Name, Place};
 use dcx_signature::{Bound, Function, Given, arguments, row_of};
-use dcx_state::State;
 use dcx_tree::Sense;
 
 /// What a call gives, under the name to which it is assigned, where it is.

@@ -1,18 +1,18 @@
 //! The calls that declare variables and parameters, and that make an objective and the problem.
 ghost use Rattle.std.specs.Prelude.{◌≡◌, option_map, IfOk};
 ghost use Rattle.std.specs.Option.{option_copied};
-ghost use Rattle.dcx_kinds.specs.Kinds.{reading};
-ghost use Rattle.dcx_kinds.specs.Meant.{meant};
-ghost use Rattle.dcx_kinds.specs.View.{read_as, extent_sides, Gives};
+ghost use Rattle.dcx_script_values.specs.Kinds.{reading};
+ghost use Rattle.dcx_script_values.specs.Meant.{meant};
+ghost use Rattle.dcx_script_values.specs.View.{read_as, extent_sides, Gives};
 ghost use Rattle.dcx_signature.specs.Arguments.{given_for};
 ghost use Rattle.dcx_signature.specs.Table.{value_word};
 ghost use Rattle.dcx_functions.specs.Calls as meaning;
 
 use crate::given::{extent_for, is_set, items_for, operand_for};
-use dcx_kinds::{ElabFault, Extent, Objective, Reading, Value, read_value};
+use dcx_script_state::{Flags, State};
+use dcx_script_values::{ElabFault, Extent, Objective, Reading, Value, read_value};
 use dcx_shape::{Name, Place};
 use dcx_signature::Bound;
-use dcx_state::{Flags, State};
 use dcx_tree::Sense;
 use std::alloc::{AllocError, Global};
 

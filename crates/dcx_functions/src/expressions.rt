@@ -1,13 +1,13 @@
 //! The calls that make a node.
 ghost use Rattle.std.specs.Prelude.{◌≡◌, false, [], ◌∷◌, ◌++◌, map, IfOk, OnOk};
 ghost use Rattle.dcx_shape.specs.Shape.{sides_of};
-ghost use Rattle.dcx_kinds.specs.Values.{State as MeantState};
-ghost use Rattle.dcx_kinds.specs.Kinds.{reading};
-ghost use Rattle.dcx_kinds.specs.Nodes.{called};
-ghost use Rattle.dcx_kinds.specs.Operands.{as_expression};
-ghost use Rattle.dcx_kinds.specs.Meant.{meant};
-ghost use Rattle.dcx_kinds.specs.View.{read_as, meant_operand, extent_sides, Gives};
-ghost use Rattle.dcx_state.specs.Declarations.{is_declaration};
+ghost use Rattle.dcx_script_values.specs.Values.{State as MeantState};
+ghost use Rattle.dcx_script_values.specs.Kinds.{reading};
+ghost use Rattle.dcx_script_values.specs.Nodes.{called};
+ghost use Rattle.dcx_script_values.specs.Operands.{as_expression};
+ghost use Rattle.dcx_script_values.specs.Meant.{meant};
+ghost use Rattle.dcx_script_values.specs.View.{read_as, meant_operand, extent_sides, Gives};
+ghost use Rattle.dcx_script_state.specs.Declarations.{is_declaration};
 ghost use Rattle.dcx_signature.specs.Arguments.{value_for};
 ghost use Rattle.dcx_signature.specs.Fits as fits;
 ghost use Rattle.dcx_signature.specs.Table.{order_word, list_word, k_word};
@@ -19,12 +19,12 @@ use dcx_arena::NodeId;
 use dcx_atom::Axis;
 use dcx_call::{AtomCall, Call, LinearCall};
 use dcx_fold::{Norm1, NormInf};
-use dcx_kinds::{
+use dcx_script_state::State;
+use dcx_script_values::{
     ElabFault, Extent, Operand, Reading, Value, numbers_read, operands_read, read_value,
 };
 use dcx_shape::{Place, Shape, Sides};
 use dcx_signature::{Argument, Bound, is_by_rows, is_infinity, is_one};
-use dcx_state::State;
 use std::alloc::{AllocError, Global};
 
 // ---- one expression

@@ -1,17 +1,17 @@
 //! What is given for the arguments of a call.
 ghost use Rattle.std.specs.Prelude.{◌≡◌, ◌≤◌, length, map, option_map, pos, IfOk};
 ghost use Rattle.dcx_frac.specs.Fits.{Fits};
-ghost use Rattle.dcx_kinds.specs.Values.{State};
-ghost use Rattle.dcx_kinds.specs.Kinds as kinds;
-ghost use Rattle.dcx_kinds.specs.Meant.{meant};
-ghost use Rattle.dcx_kinds.specs.View.{read_as, meant_operand, extent_sides, Gives};
+ghost use Rattle.dcx_script_values.specs.Values.{State};
+ghost use Rattle.dcx_script_values.specs.Kinds as kinds;
+ghost use Rattle.dcx_script_values.specs.Meant.{meant};
+ghost use Rattle.dcx_script_values.specs.View.{read_as, meant_operand, extent_sides, Gives};
 ghost use Rattle.dcx_signature.specs.Arguments.{value_for};
 ghost use Rattle.dcx_signature.specs.Fits as fits;
 ghost use Rattle.dcx_signature.specs.Table.{shape_word};
 ghost use Rattle.dcx_functions.specs.Calls as meaning;
 
 use dcx_atom::Axis;
-use dcx_kinds::{
+use dcx_script_values::{
     ElabFault, Extent, Operand, Reading, Value, axis_of, operand_read, read_value, sides_from,
     told_side, whole_number,
 };

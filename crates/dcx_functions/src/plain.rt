@@ -1,13 +1,13 @@
 //! The calls that make plain arrays and ranges.
-ghost use Rattle.dcx_kinds.specs.Values.{State};
-ghost use Rattle.dcx_kinds.specs.Meant.{meant};
-ghost use Rattle.dcx_kinds.specs.View.{Gives};
+ghost use Rattle.dcx_script_values.specs.Values.{State};
+ghost use Rattle.dcx_script_values.specs.Meant.{meant};
+ghost use Rattle.dcx_script_values.specs.View.{Gives};
 ghost use Rattle.dcx_functions.specs.Calls as meaning;
 
 use crate::given::{extent_for, items_for, natural_or, whole_or};
 use dcx_array::{constant, identity};
 use dcx_frac::Frac;
-use dcx_kinds::{ElabFault, Value, as_plain, rows_array, told_side};
+use dcx_script_values::{ElabFault, Value, as_plain, rows_array, told_side};
 use dcx_shape::Place;
 use dcx_signature::{Bound, range_from};
 use std::alloc::Global;

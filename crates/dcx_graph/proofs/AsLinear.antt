@@ -41,7 +41,7 @@ use Rattle.dcx_entries.specs.declared.formed.FormedRow.{FormedRow}
 use Rattle.dcx_entries.specs.Nodes.{Table, table_forms}
 use Rattle.dcx_entries.specs.Kept.{graph_rows}
 use Rattle.dcx_formed.proofs.Lists.{maps_same}
-use Rattle.dcx_mapping.specs.Programs.{kind_of, gap_row, gap_rows, bound_row, IsProgramOf}
+use Rattle.dcx_postsolve.specs.Programs.{kind_of, gap_row, gap_rows, bound_row, IsProgramOf}
 use Rattle.dcx_postsolve.specs.Duals.{row_kind}
 use Rattle.dcx_graph.specs.declared.constraint.ConstraintEntry.{ConstraintEntry}
 use Rattle.dcx_graph.specs.Program.{Program, minus_one, entries_in, entries_from, constraint_entries, form_at, Least, graph_row, EntryRow, EntryRows, Objective, IsProgram}

@@ -12,8 +12,8 @@ use Rattle.dcx_tree.specs.Meaning as meaning
 use Rattle.dcx_tree.specs.Meaning.{names_in, convex_problem, convex_constraint, Fits}
 use Rattle.dcx_tree.proofs.Lawful.{mapped, tree_lawful}
 use Rattle.dcx_unknowns.specs.Unknowns.{point_at}
-use Rattle.dcx_mapping.specs.Programs.{multipliers_of}
-use Rattle.dcx_mapping.proofs.LawsHold as program
+use Rattle.dcx_postsolve.specs.Programs.{multipliers_of}
+use Rattle.dcx_postsolve.proofs.CarryingLawsHold as program
 use Rattle.dcx_graph.specs.Backward.{AnswersCarryOver}
 
 -- a problem is well formed in the terms of disciplined convex programming

@@ -17,7 +17,7 @@ use Rattle.dcx_linear.specs.ParamLaws.{form_number_value, form_told_number, form
 use Rattle.dcx_linear.specs.FormsAt.{frac_value}
 use Rattle.dcx_unknowns.specs.Equations.{reduced_with}
 use Rattle.dcx_entries.specs.Nodes.{table_forms}
-use Rattle.dcx_mapping.specs.Programs.{IsProgramOf}
+use Rattle.dcx_postsolve.specs.Programs.{IsProgramOf}
 use Rattle.dcx_formed.specs.Forms.{forms_at}
 use Rattle.dcx_formed.proofs.LawsHold.{fracs_meet_equations, param_forms_meet_equations}
 use Rattle.dcx_graph.specs.Program.{Program}

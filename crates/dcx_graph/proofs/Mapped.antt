@@ -29,16 +29,17 @@ use Rattle.dcx_std.proofs.RightAnswers.{one_sided, shown_of}
 use Rattle.dcx_unknowns.specs.Layout.{constraint_rows}
 use Rattle.dcx_unknowns.specs.Unknowns.{point_at}
 use Rattle.dcx_unknowns.specs.Laws.{AreAlike}
-use Rattle.dcx_mapping.specs.Programs.{multipliers_of, bound_row}
+use Rattle.dcx_postsolve.specs.Programs.{multipliers_of, bound_row}
 use Rattle.dcx_postsolve.specs.Points.{numbered}
-use Rattle.dcx_postsolve.specs.Duals.{AreDuals, multipliers_in}
+use Rattle.dcx_postsolve.specs.Duals.{AreDuals}
+use Rattle.dcx_right.specs.Answers.{multipliers_in, IsRightFor}
 use Rattle.dcx_postsolve.specs.Laws.{ColumnsTellUnknowns, AreSameMultipliers}
 use Rattle.dcx_postsolve.proofs.ColumnParts.{columns_tell}
 use Rattle.dcx_postsolve.proofs.DualLaws.{right_multiplier}
 use Rattle.dcx_postsolve.proofs.Alike.{arrays_are_points}
 use Rattle.dcx_postsolve.proofs.Carrying.{answers_stay}
 use Rattle.dcx_graph.specs.Program.{Program}
-use Rattle.dcx_graph.specs.Answers.{rows_of, IsAnswered, TellUnknowns, CanBeRead, IsPointRead, IsRead, IsRightFor}
+use Rattle.dcx_graph.specs.Answers.{rows_of, IsAnswered, TellUnknowns, CanBeRead, IsPointRead, IsRead}
 use Rattle.dcx_graph.specs.Backward.{CarriesOver}
 use Rattle.dcx_graph.proofs.Backward.{answers_carry_over}
 use Rattle.dcx_graph.proofs.Slacks.{rows_enough, have_slacks, multiplier_is}

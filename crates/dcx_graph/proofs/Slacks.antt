@@ -28,8 +28,8 @@ use Rattle.dcx_std.specs.Solutions.{HasKinds, row_at, linear_program}
 use Rattle.dcx_std.proofs.ScaledProgram.{scaled_program}
 use Rattle.dcx_std.proofs.Solutions.{unmapped_at, facts_of, no_slack, inequality_there}
 use Rattle.dcx_unknowns.specs.Layout.{constraint_rows}
-use Rattle.dcx_mapping.specs.Programs.{kind_of, gap_row, gap_rows, multipliers_from}
-use Rattle.dcx_mapping.proofs.Rows.{AllFrom, all_left, all_right, all_below}
+use Rattle.dcx_postsolve.specs.Programs.{kind_of, gap_row, gap_rows, multipliers_from}
+use Rattle.dcx_postsolve.proofs.Rows.{AllFrom, all_left, all_right, all_below}
 use Rattle.dcx_postsolve.specs.Duals.{row_kind, first_row}
 use Rattle.dcx_postsolve.specs.Laws.{HaveSlacks}
 

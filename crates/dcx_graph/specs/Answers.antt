@@ -11,8 +11,7 @@ use Rattle.dcx_convex.specs.Nodes.{Setting}
 use Rattle.dcx_convex.specs.Rules.{Rules}
 use Rattle.dcx_convex.specs.Problems.{accepted_by}
 use Rattle.dcx_tree.specs.declared.problem.Problem.{Problem}
-use Rattle.dcx_tree.specs.Meaning as meaning
-use Rattle.dcx_tree.specs.Meaning.{convex_problem, point_of, Fits}
+use Rattle.dcx_tree.specs.Meaning.{convex_problem, Fits}
 use Rattle.dcx_linear.specs.declared.row.UnknownKind.{UnknownKind}
 use Rattle.dcx_tab.specs.declared.program.Program as tab
 use Rattle.dcx_lp_answer.specs.declared.answer.LpStatus.TheVariants as status
@@ -32,7 +31,7 @@ use Rattle.dcx_unknowns.specs.Layout.{constraint_rows}
 use Rattle.dcx_unknowns.specs.Laws.{IsVariable}
 use Rattle.dcx_postsolve.specs.Numbers.{unknown_numbers, HasColumns, AreOneSided}
 use Rattle.dcx_postsolve.specs.Points.{IsPointOf}
-use Rattle.dcx_postsolve.specs.Duals.{all_multipliers, AreDuals, multipliers_in}
+use Rattle.dcx_postsolve.specs.Duals.{all_multipliers, AreDuals}
 use Rattle.dcx_graph.specs.declared.reading.AnswerStop.{AnswerStop}
 use Rattle.dcx_graph.specs.declared.reading.AnswerStop.TheVariants as stops
 use Rattle.dcx_graph.specs.Program.{Program}
@@ -107,14 +106,6 @@ answer_stop multipliers.Memory = stops.Memory
 abbrev pub StopsReading : Problem → LpAnswer → AnswerStop → Type 0
 StopsReading p a (stops.Wide site) = PassesAt p a site
 StopsReading p a stops.Memory = ⊤
-
--- ---- what it is for the problem
--- the answer shows itself right: the point is feasible and the multipliers bound its value, or they show that no point is feasible,
--- or from the point along the ray the objective falls for ever
-abbrev pub IsRightFor : Problem → Setting → Answer → Type 0
-IsRightFor p s (answers.Optimal number point duals) = meaning.IsOptimal p s (value number) (point_of p point) (multipliers_in duals)
-IsRightFor p s (answers.Infeasible duals gap) = meaning.IsInfeasible p s (multipliers_in duals) (value gap)
-IsRightFor p s (answers.Unbounded point ray bound slope) = meaning.IsUnbounded p s (point_of p point) (point_of p ray) (value bound) (value slope)
 
 -- ---- one answer
 -- the points have the same names, and the same numbers for each variable, past its entries too

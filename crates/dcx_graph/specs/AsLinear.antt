@@ -11,7 +11,7 @@ use Rattle.dcx_linear.specs.Parameters.{Parameters}
 use Rattle.dcx_linear.specs.Forms.{linear_value}
 use Rattle.dcx_linear.specs.Rows.{RowAt, LinearProgram}
 use Rattle.dcx_unknowns.specs.Unknowns.{point_at}
-use Rattle.dcx_mapping.specs.Programs.{IsProgramOf}
+use Rattle.dcx_postsolve.specs.Programs.{IsProgramOf}
 use Rattle.dcx_frac.specs.declared.fraction.Frac.{Frac}
 use Rattle.dcx_frac.specs.declared.fraction.Passes.{Passes}
 use Rattle.dcx_linear.specs.declared.change.Change.{Change}

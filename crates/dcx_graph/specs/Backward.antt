@@ -11,7 +11,7 @@ use Rattle.dcx_linear.specs.FormTerms.{Unknowns}
 use Rattle.dcx_linear.specs.Rows as rows
 use Rattle.dcx_linear.specs.Rows.{LinearProgram}
 use Rattle.dcx_unknowns.specs.Unknowns.{point_at}
-use Rattle.dcx_mapping.specs.Programs.{multipliers_of}
+use Rattle.dcx_postsolve.specs.Programs.{multipliers_of}
 use Rattle.dcx_graph.specs.AsLinear.{IsReductionAt}
 
 -- each right answer of the linear program is one of the problem: with the point, or the ray, of its unknowns, and the multipliers

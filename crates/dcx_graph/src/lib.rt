@@ -25,7 +25,7 @@
 //! | of nodes whose forms and rows are a reduced program, the program is the linear program of that one; of nodes that are formed with affine coefficients, it lists entries of declared parameters alone | `laws::programs_are_reductions`, `laws::programs_are_known` |
 //! | it is told whether a program was put at a setting | `Reduced::from_map`, `reduce`, `fix` |
 //! | a right answer of the linear program of a reduced program is one of the problem | `laws::answers_carry_over` |
-//! | what is read from a right answer of the integer rows is right for the problem | `map_back`, `specs/Answers.antt`: `IsRightFor` |
+//! | what is read from a right answer of the integer rows is right for the problem | `map_back`, `IsRightFor` in `Answers` of `dcx_right` |
 //! | it has the numbers of that answer, or the first multiplier that passes 128 bits is told, with its row | `map_back`, `specs/Answers.antt`: `IsRead`, `StopsReading` |
 //! | one answer is read, or one stop | `laws::readings_are_one` |
 //! | the point of the unknowns that columns tell, an array for each variable | `point_read` |
@@ -45,6 +45,11 @@ mod rows;
 mod side;
 mod stop;
 
+pub use dcx_answer::{
+    Answer, BranchTree, CertFault, Filtered, NotRanged, Ranged, Site, Stop, WholeAnswer,
+};
+pub use dcx_linear::Rows;
+pub use dcx_lp_answer::LpAnswer;
 pub use fixing::fix;
 pub use origin::Origin;
 pub use reading::{AnswerStop, map_back, point_read};

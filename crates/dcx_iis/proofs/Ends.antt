@@ -18,12 +18,12 @@ use Rattle.dcx_answer.specs.declared.stop.Stop.TheVariants as stops
 use Rattle.dcx_answer.specs.declared.site.Site.TheVariants as sites
 use Rattle.dcx_postsolve.specs.Duals.{all_multipliers}
 use Rattle.dcx_postsolve.proofs.DualLaws.{are_one}
-use Rattle.dcx_solved.specs.declared.solving.Solved.{Solved}
-use Rattle.dcx_solved.specs.declared.stop.SolveStop.{SolveStop}
-use Rattle.dcx_solved.specs.declared.stop.SolveStop.TheVariants as solves
-use Rattle.dcx_solved.specs.Solved.{IsSolved, Stops}
-use Rattle.dcx_solved.specs.Stops.{run_stop}
-use Rattle.dcx_solved.proofs.OneSolution as one
+use Rattle.dcx_lp_solve.specs.declared.solving.Solved.{Solved}
+use Rattle.dcx_lp_solve.specs.declared.stop.SolveStop.{SolveStop}
+use Rattle.dcx_lp_solve.specs.declared.stop.SolveStop.TheVariants as solves
+use Rattle.dcx_lp_solve.specs.Solved.{IsSolved, Stops}
+use Rattle.dcx_lp_solve.specs.Stops.{run_stop}
+use Rattle.dcx_lp_solve.proofs.OneSolution as one
 use Rattle.dcx_graph.specs.Program.{Program}
 use Rattle.dcx_answer.specs.declared.filtered.Filtered.TheVariants as filtered
 use Rattle.dcx_iis.specs.Sets.{ConstraintSet, every_constraint, set_of, KeepsSet, StayBelow, IsFilterSet}
@@ -33,7 +33,7 @@ use Rattle.dcx_iis.specs.Laws.{FilterSetsAreMinimal, FilterSetsAreOne, ProgramsT
 use Rattle.dcx_iis.proofs.Sets.{beside_same, filter_set_is_minimal, one_filter_set, same_below}
 use Rattle.dcx_iis.proofs.Kept.{kept_same}
 use Rattle.dcx_iis.proofs.Telling.{only, solution_keeps, infeasible_only, only_impossible, program_same}
-use Rattle.dcx_mapping.specs.Programs.{multipliers_of}
+use Rattle.dcx_postsolve.specs.Programs.{multipliers_of}
 
 pub filter_sets_are_minimal : FilterSetsAreMinimal
 filter_sets_are_minimal p s set f = filter_set_is_minimal p s set f

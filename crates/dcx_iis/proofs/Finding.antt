@@ -20,9 +20,10 @@ use Rattle.dcx_lp_answer.specs.declared.answer.LpAnswer.{LpAnswer}
 use Rattle.dcx_lp_answer.specs.Multipliers.{passing_from}
 use Rattle.dcx_std.specs.Solutions.{row_at}
 use Rattle.dcx_unknowns.specs.Layout.{constraint_rows}
-use Rattle.dcx_mapping.specs.Programs.{gap_rows, bound_row}
-use Rattle.dcx_postsolve.specs.Duals.{all_multipliers, AreDuals, multipliers_in}
-use Rattle.dcx_solved.specs.Solved.{IsSolved}
+use Rattle.dcx_postsolve.specs.Programs.{gap_rows, bound_row}
+use Rattle.dcx_postsolve.specs.Duals.{all_multipliers, AreDuals}
+use Rattle.dcx_right.specs.Answers.{multipliers_in}
+use Rattle.dcx_lp_solve.specs.Solved.{IsSolved}
 use Rattle.dcx_graph.specs.Program.{Program}
 use Rattle.dcx_graph.proofs.Slacks.{gaps_length}
 use Rattle.dcx_answer.specs.declared.filter_stop.FilterStop.{FilterStop}

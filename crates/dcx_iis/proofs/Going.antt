@@ -14,9 +14,9 @@ use Rattle.dcx_lp_answer.specs.declared.stop.MultiplierStop.{MultiplierStop}
 use Rattle.dcx_lp_answer.specs.declared.stop.MultiplierStop.TheVariants as multipliers
 use Rattle.dcx_lp_answer.specs.Multipliers.{passing_from, StopsAt}
 use Rattle.dcx_postsolve.specs.Duals.{all_multipliers}
-use Rattle.dcx_solved.specs.declared.stop.SolveStop.{SolveStop}
-use Rattle.dcx_solved.specs.declared.stop.SolveStop.TheVariants as solves
-use Rattle.dcx_solved.specs.Solved.{IsSolved, Stops}
+use Rattle.dcx_lp_solve.specs.declared.stop.SolveStop.{SolveStop}
+use Rattle.dcx_lp_solve.specs.declared.stop.SolveStop.TheVariants as solves
+use Rattle.dcx_lp_solve.specs.Solved.{IsSolved, Stops}
 use Rattle.dcx_graph.specs.Program.{Program}
 use Rattle.dcx_answer.specs.declared.filter_stop.FilterStop.{FilterStop}
 use Rattle.dcx_answer.specs.declared.filter_stop.FilterStop.TheVariants as filter

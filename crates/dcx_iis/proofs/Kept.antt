@@ -12,7 +12,7 @@ use Rattle.dcx_linear.specs.declared.row.Row.{Row}
 use Rattle.dcx_linear.specs.Widths.{rows_width}
 use Rattle.dcx_linear.specs.Rows.{RowAt}
 use Rattle.dcx_unknowns.specs.Layout.{constraint_rows}
-use Rattle.dcx_mapping.specs.Programs.{gap_row, gap_rows}
+use Rattle.dcx_postsolve.specs.Programs.{gap_row, gap_rows}
 use Rattle.dcx_iis.specs.Sets.{ConstraintSet}
 use Rattle.dcx_iis.specs.Steps.{kept_from, rows_from}
 

@@ -13,7 +13,7 @@ use Rattle.dcx_linear.specs.declared.form.Form.{Form}
 use Rattle.dcx_linear.specs.declared.row.Row.{Row}
 use Rattle.dcx_linear.proofs.Formed.{drop_at}
 use Rattle.dcx_unknowns.specs.Layout.{constraint_rows}
-use Rattle.dcx_postsolve.specs.Duals.{multipliers_in}
+use Rattle.dcx_right.specs.Answers.{multipliers_in}
 use Rattle.dcx_iis.specs.Sets.{ConstraintSet}
 use Rattle.dcx_iis.specs.Steps.{kept_from, kept_of, rows_from}
 use Rattle.dcx_iis.specs.Multipliers.{HasShapeOf, AreZeros, TakesNext, AreSpread}

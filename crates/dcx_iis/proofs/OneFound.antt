@@ -14,12 +14,13 @@ use Rattle.dcx_convex.specs.Nodes.{Setting}
 use Rattle.dcx_tree.specs.declared.problem.Problem.{Problem}
 use Rattle.dcx_tree.specs.Meaning.{point_of}
 use Rattle.dcx_linear.specs.Terms.{IsRising}
-use Rattle.dcx_postsolve.specs.Duals.{AreDuals, multipliers_in}
+use Rattle.dcx_postsolve.specs.Duals.{AreDuals}
+use Rattle.dcx_right.specs.Answers.{multipliers_in}
 use Rattle.dcx_postsolve.proofs.DualLaws.{are_one}
 use Rattle.dcx_lp_answer.specs.declared.answer.LpStatus.TheVariants as status
 use Rattle.dcx_lp_answer.specs.declared.answer.LpAnswer.{LpAnswer}
-use Rattle.dcx_solved.specs.OneSolution.{IsSameSolution}
-use Rattle.dcx_solved.proofs.OneSolution.{answers_are_one}
+use Rattle.dcx_lp_solve.specs.OneSolution.{IsSameSolution}
+use Rattle.dcx_lp_solve.proofs.OneSolution.{answers_are_one}
 use Rattle.dcx_graph.specs.Program.{Program}
 use Rattle.dcx_graph.specs.Answers.{IsPointRead, IsSamePoint}
 use Rattle.dcx_graph.proofs.OneReading.{same_point}

@@ -28,23 +28,23 @@ use Rattle.dcx_std.proofs.ScaledProgram.{scaled_program}
 use Rattle.dcx_std.proofs.RightAnswers.{one_sided, shown_of}
 use Rattle.dcx_unknowns.specs.Layout.{constraint_rows}
 use Rattle.dcx_unknowns.specs.Unknowns.{point_at}
-use Rattle.dcx_mapping.specs.Programs.{bound_row, multipliers_of}
+use Rattle.dcx_postsolve.specs.Programs.{bound_row, multipliers_of}
 use Rattle.dcx_postsolve.specs.Points.{numbered, IsPointOf}
-use Rattle.dcx_postsolve.specs.Duals.{AreDuals, multipliers_in}
+use Rattle.dcx_postsolve.specs.Duals.{AreDuals}
+use Rattle.dcx_right.specs.Answers.{multipliers_in}
 use Rattle.dcx_postsolve.specs.Laws.{ColumnsTellUnknowns}
 use Rattle.dcx_postsolve.proofs.ColumnParts.{columns_tell}
 use Rattle.dcx_postsolve.proofs.DualLaws.{right_multiplier}
 use Rattle.dcx_postsolve.proofs.Alike.{arrays_are_points}
 use Rattle.dcx_postsolve.proofs.Carrying.{alike_value, domain_alike}
-use Rattle.dcx_solved.specs.declared.solving.Solved.{Solved}
-use Rattle.dcx_solved.proofs.Counts.{counts_of}
+use Rattle.dcx_lp_solve.specs.declared.solving.Solved.{Solved}
+use Rattle.dcx_lp_solve.proofs.Counts.{counts_of}
 use Rattle.dcx_graph.specs.Program.{Program}
-use Rattle.dcx_graph.specs.Answers.{HasParts, TellUnknowns, IsPointRead}
+use Rattle.dcx_graph.specs.Answers.{HasParts, TellUnknowns, IsPointRead, IsReducedAt}
 use Rattle.dcx_graph.proofs.Mapped.{numbered_same}
 use Rattle.dcx_graph.proofs.Slacks.{rows_enough, have_slacks, multiplier_is}
 use Rattle.dcx_iis.specs.Sets.{ConstraintSet, KeepsSet, IsImpossible}
 use Rattle.dcx_iis.specs.Steps.{kept_of, program_of_set}
-use Rattle.dcx_graph.specs.Answers.{IsReducedAt}
 use Rattle.dcx_iis.specs.Multipliers.{HasShapeOf, AreSpread}
 use Rattle.dcx_iis.specs.Runs.{IsStep}
 use Rattle.dcx_iis.proofs.Telling.{only, set_rows, solution_keeps, infeasible_only, only_impossible}

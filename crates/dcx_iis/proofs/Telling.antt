@@ -20,9 +20,9 @@ use Rattle.dcx_tree.specs.Meaning.{names_in, convex_problem, convex_constraint}
 use Rattle.dcx_tree.proofs.Lawful.{mapped, tree_lawful}
 use Rattle.dcx_linear.specs.Rows.{LinearProgram, StandsTo, IsSolution, IsInfeasible}
 use Rattle.dcx_unknowns.specs.Unknowns.{point_at}
-use Rattle.dcx_mapping.specs.Programs.{gap_rows, bound_row, IsProgramOf, multipliers_of}
-use Rattle.dcx_mapping.proofs.Rows.{AllFrom, all_left, all_right, gaps_hold}
-use Rattle.dcx_mapping.proofs.LawsHold as program
+use Rattle.dcx_postsolve.specs.Programs.{gap_rows, bound_row, IsProgramOf, multipliers_of}
+use Rattle.dcx_postsolve.proofs.Rows.{AllFrom, all_left, all_right, gaps_hold}
+use Rattle.dcx_postsolve.proofs.CarryingLawsHold as program
 use Rattle.dcx_linear.specs.Forms.{is_constant}
 use Rattle.dcx_atom.specs.Formed.{zero_frac}
 use Rattle.dcx_std.specs.GivenRows.{given}

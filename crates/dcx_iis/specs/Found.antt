@@ -11,10 +11,11 @@ use Rattle.dcx_convex.specs.Nodes.{Setting}
 use Rattle.dcx_tree.specs.declared.problem.Problem.{Problem}
 use Rattle.dcx_tree.specs.Meaning.{point_of, IsFeasible, IsInfeasible, IsDomainPoint}
 use Rattle.dcx_linear.specs.Terms.{IsRising}
-use Rattle.dcx_postsolve.specs.Duals.{AreDuals, multipliers_in}
+use Rattle.dcx_postsolve.specs.Duals.{AreDuals}
+use Rattle.dcx_right.specs.Answers.{multipliers_in}
 use Rattle.dcx_lp_answer.specs.declared.answer.LpStatus.TheVariants as status
-use Rattle.dcx_solved.specs.declared.solving.Solved.{Solved}
-use Rattle.dcx_solved.specs.Solved.{IsSolved}
+use Rattle.dcx_lp_solve.specs.declared.solving.Solved.{Solved}
+use Rattle.dcx_lp_solve.specs.Solved.{IsSolved}
 use Rattle.dcx_graph.specs.Program.{Program}
 use Rattle.dcx_answer.specs.declared.filtered.Filtered.{Filtered}
 use Rattle.dcx_answer.specs.declared.filtered.Filtered.TheVariants as filtered

@@ -14,7 +14,7 @@ use Rattle.dcx_graph.specs.Program.{Program}
 use Rattle.dcx_graph.specs.Answers.{IsReducedAt, IsSamePoint}
 use Rattle.dcx_answer.specs.declared.filtered.Filtered.{Filtered}
 use Rattle.dcx_answer.specs.declared.filtered.Filtered.TheVariants as filtered
-use Rattle.dcx_postsolve.specs.Duals.{multipliers_in}
+use Rattle.dcx_right.specs.Answers.{multipliers_in}
 use Rattle.dcx_iis.specs.Sets.{ConstraintSet, KeepsSet, IsImpossible, IsFilterSet}
 use Rattle.dcx_iis.specs.Steps.{program_of_set, StopsAt}
 use Rattle.dcx_iis.specs.Found.{IsRight, IsFound}

@@ -6,7 +6,7 @@ use Rattle.dcx_shape.specs.Shape.{sides_of}
 use Rattle.dcx_atom.specs.declared.array.Array.{Array}
 use Rattle.dcx_atom.specs.Arrays.{number_at}
 use Rattle.dcx_tree.specs.declared.constraint.Constraint.{Constraint}
-use Rattle.dcx_postsolve.specs.Duals.{multipliers_in}
+use Rattle.dcx_right.specs.Answers.{multipliers_in}
 use Rattle.dcx_iis.specs.Sets.{ConstraintSet}
 use Rattle.dcx_iis.specs.Steps.{kept_of}
 

@@ -3,14 +3,14 @@ ghost use Rattle.std.specs.Prelude.{◌≡◌, ◌≤◌, ◌++◌, [], if◌the
 ghost use Rattle.dcx_unknowns.specs.Layout.{constraint_rows};
 ghost use Rattle.dcx_std.specs.GivenRows.{given};
 ghost use Rattle.dcx_std.specs.Solutions.{HasKinds};
-ghost use Rattle.dcx_solved.specs.Solved.{IsSolved, Stops};
+ghost use Rattle.dcx_lp_solve.specs.Solved.{IsSolved, Stops};
 ghost use Rattle.dcx_iis.specs.Sets.{flagged};
 ghost use Rattle.dcx_iis.specs.Steps.{rows_from, program_of_set};
 
 use dcx_frac::Frac;
 use dcx_graph::Reduced;
 use dcx_linear::{Form, Row, RowList, Rows, UnknownKinds};
-use dcx_solved::{SolveStop, Solved, solve_rows};
+use dcx_lp_solve::{SolveStop, Solved, solve_rows};
 use dcx_tree::{Constraint, Problem};
 use std::alloc::{AllocError, Global};
 

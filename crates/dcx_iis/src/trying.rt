@@ -10,8 +10,8 @@ use dcx_answer::FilterStop;
 use dcx_frac::Frac;
 use dcx_graph::{Reduced, point_read};
 use dcx_lp_answer::{LpAnswer, LpStatus};
+use dcx_lp_solve::{SolveStop, Solved, run_stop};
 use dcx_point::Point;
-use dcx_solved::{SolveStop, Solved, run_stop};
 use dcx_tree::Problem;
 use std::alloc::{AllocError, Global};
 

@@ -14,7 +14,7 @@
 //! | what must hold | where |
 //! |---|---|
 //! | each node is formed from its arguments, the forms of the roots are kept, and all rows, or the first node and entry that stops is told | `form_nodes`, `specs/SoFar.antt` |
-//! | a number is formed exactly: it is the value at the numbers of the arguments | `number`, by `dcx_exact` |
+//! | a number is formed exactly: it is the value at the numbers of the arguments | `number`, by `dcx_call` |
 //! | a variable has its own unknowns, and a parameter its own entries | `leaf` |
 //! | an atom takes the next auxiliary unknowns, and speaks of no others | `calls`, `specs/Given.antt` |
 //! | a side that is a number, or an affine number where the other side has numbers, scales the other side | `products`, `specs/Marks.antt` |

@@ -23,13 +23,13 @@ use Rattle.dcx_array.specs.Answers.{Gives as Answers}
 use Rattle.dcx_array.specs.Shapes.{shape_with}
 use Rattle.dcx_array.specs.Picks.{indexed}
 use Rattle.dcx_array.proofs.AllowedShapes.{shape_with-is}
-use Rattle.dcx_kinds.specs.declared.fault.ElabFault.{ElabFault}
-use Rattle.dcx_kinds.specs.declared.fault.ElabFault.TheVariants.{BadArgument, ShapeClash, IndexRange, Memory}
-use Rattle.dcx_kinds.specs.Faults.{array_fault_at}
-use Rattle.dcx_kinds.specs.Values.{Value, State, Act, and_then, ◌>>=◌, or_fault, or_array_fault}
-use Rattle.dcx_kinds.specs.Nodes.{push}
-use Rattle.dcx_kinds.specs.View.{Fails, Gives}
-use Rattle.dcx_kinds.proofs.Acts.{Fails-then}
+use Rattle.dcx_script_values.specs.declared.fault.ElabFault.{ElabFault}
+use Rattle.dcx_script_values.specs.declared.fault.ElabFault.TheVariants.{BadArgument, ShapeClash, IndexRange, Memory}
+use Rattle.dcx_script_values.specs.Faults.{array_fault_at}
+use Rattle.dcx_script_values.specs.Values.{Value, State, Act, and_then, ◌>>=◌, or_fault, or_array_fault}
+use Rattle.dcx_script_values.specs.Nodes.{push}
+use Rattle.dcx_script_values.specs.View.{Fails, Gives}
+use Rattle.dcx_script_values.proofs.Acts.{Fails-then}
 use Rattle.dcx_operators.specs.Indices.{index_node, index_plain, item_at, index_list}
 use Rattle.dcx_operators.specs.View.{nearest, nearest_pick}
 use Rattle.dcx_operators.proofs.NearestPicks.{indexed_nearest, picked_array-nearest, steps_back}

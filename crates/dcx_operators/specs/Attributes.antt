@@ -9,11 +9,11 @@ use Rattle.dcx_point.specs.Pairs.{same_name}
 use Rattle.dcx_call.specs.declared.call.Call.TheVariants as calls
 use Rattle.dcx_call.specs.declared.linears.LinearCall.TheVariants as linears
 use Rattle.dcx_array.specs.Operators.{transposed}
-use Rattle.dcx_kinds.specs.declared.fault.ElabFault.TheVariants.{NotOffered}
-use Rattle.dcx_kinds.specs.Values.{Value, plain, expression, Act, ◌>>=◌, ◌>>◌, done, fault, or_array_fault, unless}
-use Rattle.dcx_kinds.specs.Nodes.{sides_of_node, push}
-use Rattle.dcx_kinds.specs.Kinds.{is_scalar}
-use Rattle.dcx_kinds.specs.Operands.{as_plain, as_expression}
+use Rattle.dcx_script_values.specs.declared.fault.ElabFault.TheVariants.{NotOffered}
+use Rattle.dcx_script_values.specs.Values.{Value, plain, expression, Act, ◌>>=◌, ◌>>◌, done, fault, or_array_fault, unless}
+use Rattle.dcx_script_values.specs.Nodes.{sides_of_node, push}
+use Rattle.dcx_script_values.specs.Kinds.{is_scalar}
+use Rattle.dcx_script_values.specs.Operands.{as_plain, as_expression}
 
 -- a scalar and a vector are their own transposes
 abbrev pub node_turned : Place → ℕ → Sides → Act ℕ

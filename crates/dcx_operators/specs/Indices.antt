@@ -10,11 +10,11 @@ use Rattle.dcx_call.specs.declared.call.Call.TheVariants as calls
 use Rattle.dcx_call.specs.declared.linears.LinearCall.TheVariants as linears
 use Rattle.dcx_array.specs.Shapes.{shape_with}
 use Rattle.dcx_array.specs.Picks.{indexed, picked_array}
-use Rattle.dcx_kinds.specs.declared.fault.ElabFault.TheVariants.{BadArgument, NotOffered, ShapeClash, IndexRange}
-use Rattle.dcx_kinds.specs.Values.{Value, plain, list, expression, items_of, Act, ◌>>=◌, ◌>>◌, fault, or_fault, or_array_fault, unless}
-use Rattle.dcx_kinds.specs.Nodes.{sides_of_node, push}
-use Rattle.dcx_kinds.specs.Kinds.{whole_number, is_scalar}
-use Rattle.dcx_kinds.specs.Operands.{as_plain, as_expression}
+use Rattle.dcx_script_values.specs.declared.fault.ElabFault.TheVariants.{BadArgument, NotOffered, ShapeClash, IndexRange}
+use Rattle.dcx_script_values.specs.Values.{Value, plain, list, expression, items_of, Act, ◌>>=◌, ◌>>◌, fault, or_fault, or_array_fault, unless}
+use Rattle.dcx_script_values.specs.Nodes.{sides_of_node, push}
+use Rattle.dcx_script_values.specs.Kinds.{whole_number, is_scalar}
+use Rattle.dcx_script_values.specs.Operands.{as_plain, as_expression}
 
 -- an index that was evaluated: a value, or the parts of a slice, of which each may be left out
 pub data Evaluated : Type 0 where

@@ -16,12 +16,12 @@ use Rattle.dcx_array.specs.declared.fault.ArrayFault.{ArrayFault}
 use Rattle.dcx_array.specs.Operators.{added, subtracted as difference, multiplied as product, divided, matrix_multiplied, negated}
 use Rattle.dcx_tree.specs.declared.constraint.Kind.TheVariants as kinds
 use Rattle.dcx_tree.specs.declared.constraint.Constraint.{Constraint}
-use Rattle.dcx_kinds.specs.declared.fault.ElabFault.TheVariants.{BadArgument, NotOffered}
-use Rattle.dcx_kinds.specs.Values.{Value, Values, plain, list, expression, joined, Act, ◌>>=◌, ◌>>◌, done, fault, or_array_fault, unless, read}
-use Rattle.dcx_kinds.specs.Nodes.{Operand, operand_sides, push, called, broadcast_called, subtracted, constrained}
-use Rattle.dcx_kinds.specs.Kinds.{Reading, reading}
-use Rattle.dcx_kinds.specs.Operands.{operand_read, as_plain, as_expression, as_constraint}
-use Rattle.dcx_kinds.specs.View.{is_node}
+use Rattle.dcx_script_values.specs.declared.fault.ElabFault.TheVariants.{BadArgument, NotOffered}
+use Rattle.dcx_script_values.specs.Values.{Value, Values, plain, list, expression, joined, Act, ◌>>=◌, ◌>>◌, done, fault, or_array_fault, unless, read}
+use Rattle.dcx_script_values.specs.Nodes.{Operand, operand_sides, push, called, broadcast_called, subtracted, constrained}
+use Rattle.dcx_script_values.specs.Kinds.{Reading, reading}
+use Rattle.dcx_script_values.specs.Operands.{operand_read, as_plain, as_expression, as_constraint}
+use Rattle.dcx_script_values.specs.View.{is_node}
 
 -- ---- two operands
 -- two values beside each other: both plain, both lists, one of them an expression, or neither

@@ -4,10 +4,10 @@ use Rattle.std.specs.Int.{saturate_signed, w64}
 use Rattle.dcx_shape.specs.declared.index.Pick.{Pick}
 use Rattle.dcx_shape.specs.declared.index.Pick.TheVariants as picks
 use Rattle.dcx_shape.specs.declared.slice.Slice.{Slice}
-use Rattle.dcx_kinds.specs.declared.reading.Operand as code_operand
-use Rattle.dcx_kinds.specs.Nodes.{Operand}
-use Rattle.dcx_kinds.specs.Meant.{meant}
-use Rattle.dcx_kinds.specs.View.{read_as, meant_operand}
+use Rattle.dcx_script_values.specs.declared.reading.Operand as code_operand
+use Rattle.dcx_script_values.specs.Nodes.{Operand}
+use Rattle.dcx_script_values.specs.Meant.{meant}
+use Rattle.dcx_script_values.specs.View.{read_as, meant_operand}
 use Rattle.dcx_operators.specs.declared.operators.Pair as code_pair
 use Rattle.dcx_operators.specs.declared.operators.Pair.TheVariants as pairs
 use Rattle.dcx_operators.specs.declared.indices.Evaluated as code_evaluated

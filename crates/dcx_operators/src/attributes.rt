@@ -1,9 +1,9 @@
 //! Attributes that aren't called: `.T` alone.
 ghost use Rattle.std.specs.Prelude.{◌≡◌, codes};
 ghost use Rattle.dcx_point.specs.Pairs.{same_name};
-ghost use Rattle.dcx_kinds.specs.Values.{State as MeantState};
-ghost use Rattle.dcx_kinds.specs.Meant.{meant};
-ghost use Rattle.dcx_kinds.specs.View.{Gives};
+ghost use Rattle.dcx_script_values.specs.Values.{State as MeantState};
+ghost use Rattle.dcx_script_values.specs.Meant.{meant};
+ghost use Rattle.dcx_script_values.specs.View.{Gives};
 ghost use Rattle.dcx_operators.specs.Attributes as meaning;
 
 use dcx_affine::Transpose;
@@ -11,9 +11,9 @@ use dcx_arena::NodeId;
 use dcx_array::transpose;
 use dcx_atom::Array;
 use dcx_call::{Call, LinearCall};
-use dcx_kinds::{ElabFault, Value, as_plain};
+use dcx_script_state::State;
+use dcx_script_values::{ElabFault, Value, as_plain};
 use dcx_shape::{Name, Place, Sides};
-use dcx_state::State;
 use dcx_syntax::Named;
 use std::alloc::Global;
 

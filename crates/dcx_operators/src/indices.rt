@@ -4,11 +4,11 @@ ghost use Rattle.std.specs.List.{All};
 ghost use Rattle.dcx_shape.specs.Index.{HasStep};
 ghost use Rattle.dcx_shape.specs.Slice.{counted as counted_on};
 ghost use Rattle.dcx_arena.specs.Nodes.{positions};
-ghost use Rattle.dcx_kinds.specs.declared.fault.ElabFault.TheVariants.{BadArgument as BadKind};
-ghost use Rattle.dcx_kinds.specs.Values.{State as MeantState, or_fault};
-ghost use Rattle.dcx_kinds.specs.Kinds as kinds;
-ghost use Rattle.dcx_kinds.specs.Meant.{meant};
-ghost use Rattle.dcx_kinds.specs.View.{Gives};
+ghost use Rattle.dcx_script_values.specs.declared.fault.ElabFault.TheVariants.{BadArgument as BadKind};
+ghost use Rattle.dcx_script_values.specs.Values.{State as MeantState, or_fault};
+ghost use Rattle.dcx_script_values.specs.Kinds as kinds;
+ghost use Rattle.dcx_script_values.specs.Meant.{meant};
+ghost use Rattle.dcx_script_values.specs.View.{Gives};
 ghost use Rattle.dcx_operators.specs.Indices as meaning;
 ghost use Rattle.dcx_operators.specs.View.{evaluated, nearest, nearest_pick};
 
@@ -16,9 +16,9 @@ use dcx_arena::NodeId;
 use dcx_array::{index, pick};
 use dcx_atom::Array;
 use dcx_call::{Call, LinearCall};
-use dcx_kinds::{ElabFault, Value, array_fault, as_plain, whole_number};
+use dcx_script_state::State;
+use dcx_script_values::{ElabFault, Value, array_fault, as_plain, whole_number};
 use dcx_shape::{Pick, Place, Slice};
-use dcx_state::State;
 use std::alloc::Global;
 
 /// An index that was evaluated: a value, or the parts of a slice, of which each may be left out.

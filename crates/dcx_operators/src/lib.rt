@@ -1,6 +1,6 @@
 //! Operators, indices and attributes on values of any kind: what each makes of its operands, or its first fault.
 //!
-//! Each function does what the definition of the same name in `specs/` says (`Gives` of `dcx_kinds`): its value and what is
+//! Each function does what the definition of the same name in `specs/` says (`Gives` of `dcx_script_values`): its value and what is
 //! then carried along, or the first fault with its place. Want of memory alone is free.
 //!
 //! | what must hold | where |

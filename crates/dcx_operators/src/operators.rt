@@ -1,10 +1,10 @@
 //! Operators on values of any kind: sums, products, signs and comparisons.
 ghost use Rattle.std.specs.Prelude.{◌≡◌, ◌||◌, IfOk};
 ghost use Rattle.dcx_arena.specs.Nodes.{positions};
-ghost use Rattle.dcx_kinds.specs.Values.{State as MeantState, plain, list};
-ghost use Rattle.dcx_kinds.specs.Kinds.{reading};
-ghost use Rattle.dcx_kinds.specs.Meant.{meant};
-ghost use Rattle.dcx_kinds.specs.View.{read_as, meant_operand, is_node, Gives};
+ghost use Rattle.dcx_script_values.specs.Values.{State as MeantState, plain, list};
+ghost use Rattle.dcx_script_values.specs.Kinds.{reading};
+ghost use Rattle.dcx_script_values.specs.Meant.{meant};
+ghost use Rattle.dcx_script_values.specs.View.{read_as, meant_operand, is_node, Gives};
 ghost use Rattle.dcx_operators.specs.Operators as meaning;
 ghost use Rattle.dcx_operators.specs.Operators.{with_expression};
 ghost use Rattle.dcx_operators.specs.View.{pair_meant, operands_meant};
@@ -15,11 +15,11 @@ use dcx_arena::NodeId;
 use dcx_array::negate;
 use dcx_atom::{Array, copy_array};
 use dcx_call::{Call, LinearCall};
-use dcx_kinds::{
+use dcx_script_state::State;
+use dcx_script_values::{
     ElabFault, Items, Operand, Reading, Value, as_plain, joined, operand_read, read_value,
 };
 use dcx_shape::Place;
-use dcx_state::State;
 use dcx_syntax::{Comparison, Scaling, Sign};
 use dcx_tree::{Constraint, Kind};
 use std::alloc::{AllocError, Global};

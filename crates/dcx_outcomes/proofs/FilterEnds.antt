@@ -7,7 +7,7 @@ use Rattle.dcx_tree.specs.Meaning.{setting_of}
 use Rattle.dcx_answer.specs.declared.filter_stop.FilterStop.{FilterStop}
 use Rattle.dcx_answer.specs.declared.filter_stop.FilterStop.TheVariants as filter
 use Rattle.dcx_answer.specs.declared.filtered.Filtered.{Filtered}
-use Rattle.dcx_outcomes.specs.declared.filter_outcome.FilterOutcome.{FilterOutcome}
+use Rattle.dcx_answer.specs.declared.filter_outcome.FilterOutcome.{FilterOutcome}
 use Rattle.dcx_graph.specs.Program.{Program}
 use Rattle.dcx_iis.specs.Found.{IsRight}
 use Rattle.dcx_iis.specs.Laws.{IsSameFiltered}

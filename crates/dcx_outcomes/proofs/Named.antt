@@ -8,9 +8,9 @@ use Rattle.dcx_answer.specs.declared.site.Site.{Site}
 use Rattle.dcx_answer.specs.declared.site.Site.TheVariants as sites
 use Rattle.dcx_answer.specs.declared.stop.Stop.{Stop}
 use Rattle.dcx_answer.specs.declared.stop.Stop.TheVariants as why
-use Rattle.dcx_solved.specs.declared.stop.SolveStop.{SolveStop}
-use Rattle.dcx_solved.specs.declared.stop.SolveStop.TheVariants as solves
-use Rattle.dcx_solved.specs.Solved.{Stops as RowsStop}
+use Rattle.dcx_lp_solve.specs.declared.stop.SolveStop.{SolveStop}
+use Rattle.dcx_lp_solve.specs.declared.stop.SolveStop.TheVariants as solves
+use Rattle.dcx_lp_solve.specs.Solved.{Stops as RowsStop}
 use Rattle.dcx_lp_answer.specs.declared.answer.LpAnswer.{LpAnswer}
 use Rattle.dcx_graph.specs.declared.stop.ReduceStop.{ReduceStop}
 use Rattle.dcx_graph.specs.declared.stop.ReduceStop.TheVariants as reduces
@@ -19,7 +19,7 @@ use Rattle.dcx_graph.specs.declared.reading.AnswerStop.TheVariants as reads
 use Rattle.dcx_graph.specs.Program.{Program}
 use Rattle.dcx_graph.specs.Answers.{rows_of, StopsReading}
 use Rattle.dcx_cache.specs.Programs.{SessionGives, mapped, anew, ProgramStops}
-use Rattle.dcx_solved.specs.Stops.{run_stop}
+use Rattle.dcx_lp_solve.specs.Stops.{run_stop}
 use Rattle.dcx_cache.specs.Stops.{program_stop, reading_stop}
 use Rattle.dcx_cache.specs.Answers.{StopsAt, at_program, at_run, at_reading, Stops}
 use Rattle.dcx_outcomes.specs.Outcomes.{IsNodeSite, NamesNodes}

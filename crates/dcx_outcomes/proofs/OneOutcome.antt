@@ -4,7 +4,7 @@ use Rattle.std.specs.List.{slice_get}
 use Rattle.dcx_point.specs.Pairs.{Pairs}
 use Rattle.dcx_tree.specs.declared.problem.Problem.{Problem}
 use Rattle.dcx_tree.specs.Meaning.{IsAccepted}
-use Rattle.dcx_outcomes.specs.declared.outcome.Outcome.{Outcome}
+use Rattle.dcx_answer.specs.declared.outcome.Outcome.{Outcome}
 use Rattle.dcx_cache.proofs.OneEnd.{has_one_end}
 use Rattle.dcx_outcomes.specs.Outcomes.{end_of, IsOutcome}
 use Rattle.dcx_outcomes.specs.Laws.{AreAlike, OutcomesAreOne}

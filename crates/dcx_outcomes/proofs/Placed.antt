@@ -5,7 +5,7 @@ use Rattle.dcx_tree.specs.declared.problem.Problem.{Problem}
 use Rattle.dcx_answer.specs.declared.site.Site.TheVariants as sites
 use Rattle.dcx_answer.specs.declared.stop.Stop.{Stop}
 use Rattle.dcx_answer.specs.declared.stop.Stop.TheVariants as why
-use Rattle.dcx_outcomes.specs.NodeStops.{stop_names_node}
+use Rattle.dcx_answer.specs.NodeStops.{stop_names_node}
 use Rattle.dcx_outcomes.specs.Outcomes.{NamesNodes, stop_place}
 
 there : {X Y : Type 0} (f : X → Y) (xs : List X) (i : ℕ) → i < length xs → is_some (option_map f (slice_get xs i)) ≡ true

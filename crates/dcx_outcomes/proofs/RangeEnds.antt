@@ -5,17 +5,18 @@ use Rattle.dcx_point.specs.Pairs.{Pairs}
 use Rattle.dcx_tree.specs.declared.problem.Problem.{Problem}
 use Rattle.dcx_tree.specs.Meaning.{setting_of}
 use Rattle.dcx_linear.specs.declared.param_form.ParamForm.{ParamForm}
-use Rattle.dcx_ranged.specs.declared.not_ranged.NotRanged.{NotRanged}
-use Rattle.dcx_ranged.specs.declared.ranged.Ranged.{Ranged}
-use Rattle.dcx_ranged.specs.declared.stop.RangeStop.{RangeStop}
-use Rattle.dcx_ranged.specs.declared.stop.RangeStop.TheVariants as range
-use Rattle.dcx_outcomes.specs.declared.range_outcome.RangeOutcome.{RangeOutcome}
+use Rattle.dcx_answer.specs.declared.not_ranged.NotRanged.{NotRanged}
+use Rattle.dcx_answer.specs.declared.ranged.Ranged.{Ranged}
+use Rattle.dcx_answer.specs.declared.range_stop.RangeStop.{RangeStop}
+use Rattle.dcx_answer.specs.declared.range_stop.RangeStop.TheVariants as range
+use Rattle.dcx_answer.specs.declared.range_outcome.RangeOutcome.{RangeOutcome}
 use Rattle.dcx_graph.specs.Program.{Program}
 use Rattle.dcx_graph.specs.Fixing.{FixGives}
 use Rattle.dcx_graph.proofs.OneWay.{one_affine}
 use Rattle.dcx_cache.specs.Programs.{IsMapOf, SessionGives, mapped, anew}
 use Rattle.dcx_range.specs.Parameters.{IsRanged, IsFaultOf, IsTold}
-use Rattle.dcx_range.specs.Range.{RangeGives, HoldsOn, IsMapOf as IsAffineMapOf}
+use Rattle.dcx_range.specs.Range.{RangeGives, IsMapOf as IsAffineMapOf}
+use Rattle.dcx_right.specs.Ranges.{HoldsOn}
 use Rattle.dcx_range.specs.Laws.{AreOneRange}
 use Rattle.dcx_range.proofs.Named.{tells_once}
 use Rattle.dcx_range.proofs.OneRange.{ranges_are_one as one_range}

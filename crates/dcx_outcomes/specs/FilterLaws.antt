@@ -5,7 +5,7 @@ use Rattle.dcx_point.specs.Pairs.{Pairs}
 use Rattle.dcx_tree.specs.declared.problem.Problem.{Problem}
 use Rattle.dcx_tree.specs.Meaning.{setting_of}
 use Rattle.dcx_answer.specs.declared.filter_stop.FilterStop.TheVariants as filter
-use Rattle.dcx_outcomes.specs.declared.filter_outcome.FilterOutcome.{FilterOutcome}
+use Rattle.dcx_answer.specs.declared.filter_outcome.FilterOutcome.{FilterOutcome}
 use Rattle.dcx_iis.specs.Found.{IsRight}
 use Rattle.dcx_iis.specs.Laws.{IsSameFiltered}
 use Rattle.dcx_outcomes.specs.Asking.{FindsRight, AreOneEnd}

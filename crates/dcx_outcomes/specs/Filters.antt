@@ -7,9 +7,9 @@ use Rattle.dcx_tree.specs.Meaning.{setting_of}
 use Rattle.dcx_answer.specs.declared.filter_stop.FilterStop.{FilterStop}
 use Rattle.dcx_answer.specs.declared.filtered.Filtered.{Filtered}
 use Rattle.dcx_answer.specs.declared.stop.Stop.{Stop}
-use Rattle.dcx_outcomes.specs.declared.filter_outcome.FilterEnd.{FilterEnd}
-use Rattle.dcx_outcomes.specs.declared.filter_outcome.FilterEnd.TheVariants as the
-use Rattle.dcx_outcomes.specs.declared.filter_outcome.FilterOutcome.{FilterOutcome}
+use Rattle.dcx_answer.specs.declared.filter_outcome.FilterEnd.{FilterEnd}
+use Rattle.dcx_answer.specs.declared.filter_outcome.FilterEnd.TheVariants as the
+use Rattle.dcx_answer.specs.declared.filter_outcome.FilterOutcome.{FilterOutcome}
 use Rattle.dcx_graph.specs.Program.{Program}
 use Rattle.dcx_iis.specs.Steps.{StopsFilter}
 use Rattle.dcx_iis.specs.Found.{IsRight, IsFound}

@@ -6,8 +6,8 @@ use Rattle.dcx_tree.specs.Meaning.{IsAccepted}
 use Rattle.dcx_answer.specs.declared.answer.Answer.{Answer}
 use Rattle.dcx_answer.specs.declared.stop.Stop.{Stop}
 use Rattle.dcx_answer.specs.declared.stop.Stop.TheVariants as why
-use Rattle.dcx_outcomes.specs.declared.outcome.Outcome.{Outcome}
-use Rattle.dcx_outcomes.specs.declared.outcome.OutcomeEnd.TheVariants as the
+use Rattle.dcx_answer.specs.declared.outcome.Outcome.{Outcome}
+use Rattle.dcx_answer.specs.declared.outcome.OutcomeEnd.TheVariants as the
 use Rattle.dcx_cache.specs.Laws.{AreOneEnd, Agree}
 use Rattle.dcx_outcomes.specs.Outcomes.{end_of, AreOutcomes}
 use Rattle.dcx_outcomes.specs.Right.{AreRight}

@@ -10,4 +10,3 @@ pub mod Wholes
 pub mod WholeLaws
 pub mod Ranges
 pub mod RangeLaws
-pub mod NodeStops

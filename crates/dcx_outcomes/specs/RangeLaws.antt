@@ -4,11 +4,11 @@ use Rattle.std.specs.List.{AllZip}
 use Rattle.dcx_point.specs.Pairs.{Pairs}
 use Rattle.dcx_tree.specs.declared.problem.Problem.{Problem}
 use Rattle.dcx_tree.specs.Meaning.{setting_of}
-use Rattle.dcx_ranged.specs.declared.not_ranged.NotRanged.{NotRanged}
-use Rattle.dcx_ranged.specs.declared.ranged.Ranged.{Ranged}
-use Rattle.dcx_ranged.specs.declared.stop.RangeStop.TheVariants as range
-use Rattle.dcx_outcomes.specs.declared.range_outcome.RangeOutcome.{RangeOutcome}
-use Rattle.dcx_range.specs.Range.{HoldsOn}
+use Rattle.dcx_answer.specs.declared.not_ranged.NotRanged.{NotRanged}
+use Rattle.dcx_answer.specs.declared.ranged.Ranged.{Ranged}
+use Rattle.dcx_answer.specs.declared.range_stop.RangeStop.TheVariants as range
+use Rattle.dcx_answer.specs.declared.range_outcome.RangeOutcome.{RangeOutcome}
+use Rattle.dcx_right.specs.Ranges.{HoldsOn}
 use Rattle.dcx_outcomes.specs.Asking.{FindsRight, AreOneEnd}
 use Rattle.dcx_outcomes.specs.Ranges.{HasRange, LacksRange, range_end, AreRangeOutcomes}
 

@@ -6,16 +6,17 @@ use Rattle.dcx_tree.specs.declared.problem.Problem.{Problem}
 use Rattle.dcx_tree.specs.Meaning.{IsFitting, setting_of}
 use Rattle.dcx_answer.specs.declared.stop.Stop.{Stop}
 use Rattle.dcx_linear.specs.declared.param_form.ParamForm.{ParamForm}
-use Rattle.dcx_ranged.specs.declared.not_ranged.NotRanged.{NotRanged}
-use Rattle.dcx_ranged.specs.declared.ranged.Ranged.{Ranged}
-use Rattle.dcx_ranged.specs.declared.stop.RangeStop.{RangeStop}
-use Rattle.dcx_outcomes.specs.declared.range_outcome.RangeEnd.{RangeEnd}
-use Rattle.dcx_outcomes.specs.declared.range_outcome.RangeEnd.TheVariants as the
-use Rattle.dcx_outcomes.specs.declared.range_outcome.RangeOutcome.{RangeOutcome}
+use Rattle.dcx_answer.specs.declared.not_ranged.NotRanged.{NotRanged}
+use Rattle.dcx_answer.specs.declared.ranged.Ranged.{Ranged}
+use Rattle.dcx_answer.specs.declared.range_stop.RangeStop.{RangeStop}
+use Rattle.dcx_answer.specs.declared.range_outcome.RangeEnd.{RangeEnd}
+use Rattle.dcx_answer.specs.declared.range_outcome.RangeEnd.TheVariants as the
+use Rattle.dcx_answer.specs.declared.range_outcome.RangeOutcome.{RangeOutcome}
 use Rattle.dcx_graph.specs.Program.{Program}
 use Rattle.dcx_cache.specs.Programs.{IsMapOf, HasMap}
 use Rattle.dcx_range.specs.Parameters.{IsRanged, IsFaultOf}
-use Rattle.dcx_range.specs.Range.{RangeGives, HoldsOn}
+use Rattle.dcx_range.specs.Range.{RangeGives}
+use Rattle.dcx_right.specs.Ranges.{HoldsOn}
 use Rattle.dcx_outcomes.specs.Asking.{AreAskedOutcomes}
 
 -- ---- whether a parameter has a range

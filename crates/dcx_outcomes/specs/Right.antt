@@ -9,9 +9,9 @@ use Rattle.dcx_tree.specs.declared.problem.Problem.{Problem}
 use Rattle.dcx_tree.specs.Meaning.{IsFitting, names_in, setting_of}
 use Rattle.dcx_answer.specs.declared.answer.Answer.{Answer}
 use Rattle.dcx_answer.specs.declared.answer.Answer.TheVariants.{Optimal, Infeasible, Unbounded}
-use Rattle.dcx_outcomes.specs.declared.outcome.Outcome.{Outcome}
-use Rattle.dcx_outcomes.specs.declared.outcome.OutcomeEnd.TheVariants as the
-use Rattle.dcx_graph.specs.Answers.{IsRightFor}
+use Rattle.dcx_answer.specs.declared.outcome.Outcome.{Outcome}
+use Rattle.dcx_answer.specs.declared.outcome.OutcomeEnd.TheVariants as the
+use Rattle.dcx_right.specs.Answers.{IsRightFor}
 
 -- a point has an array of its shape for each variable of the problem, in order of declaration, and for nothing else
 pub record IsPointFor (p : Problem) (point : Pairs) : Type 0 where

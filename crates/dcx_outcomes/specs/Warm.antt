@@ -4,7 +4,7 @@ use Rattle.dcx_point.specs.Pairs.{Pairs}
 use Rattle.dcx_tree.specs.declared.problem.Problem.{Problem}
 use Rattle.dcx_answer.specs.declared.answer.Answer.{Answer}
 use Rattle.dcx_answer.specs.declared.stop.Stop.{Stop}
-use Rattle.dcx_outcomes.specs.declared.outcome.Outcome.{Outcome}
+use Rattle.dcx_answer.specs.declared.outcome.Outcome.{Outcome}
 use Rattle.dcx_cache.specs.declared.rewarming.Warmed.{Warmed}
 use Rattle.dcx_cache.specs.Answers.{Answers}
 use Rattle.dcx_cache.specs.Warm.{WarmAnswers, WarmAnswersAll}

@@ -4,11 +4,12 @@ use Rattle.std.specs.List.{AllZip}
 use Rattle.dcx_point.specs.Pairs.{Pairs}
 use Rattle.dcx_tree.specs.declared.problem.Problem.{Problem}
 use Rattle.dcx_tree.specs.Meaning.{setting_of}
-use Rattle.dcx_outcomes.specs.declared.whole_outcome.WholeOutcome.{WholeOutcome}
-use Rattle.dcx_branch.specs.declared.answer.BranchStop.TheVariants as branch
-use Rattle.dcx_branch.specs.declared.answer.WholeAnswer.{WholeAnswer}
-use Rattle.dcx_branch.specs.declared.answer.WholeAnswer.TheVariants.{Optimal, Infeasible}
-use Rattle.dcx_branch.specs.Answers.{IsRightFor, IsSameAnswer}
+use Rattle.dcx_answer.specs.declared.whole_outcome.WholeOutcome.{WholeOutcome}
+use Rattle.dcx_answer.specs.declared.whole_answer.BranchStop.TheVariants as branch
+use Rattle.dcx_answer.specs.declared.whole_answer.WholeAnswer.{WholeAnswer}
+use Rattle.dcx_answer.specs.declared.whole_answer.WholeAnswer.TheVariants.{Optimal, Infeasible}
+use Rattle.dcx_branch.specs.Answers.{IsSameAnswer}
+use Rattle.dcx_right.specs.WholeAnswers.{IsRightFor}
 use Rattle.dcx_outcomes.specs.Asking.{FindsRight, AreOneEnd}
 use Rattle.dcx_outcomes.specs.Right.{IsPointFor}
 use Rattle.dcx_outcomes.specs.Wholes.{whole_end, AreWholeOutcomes}

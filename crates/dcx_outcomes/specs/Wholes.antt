@@ -5,13 +5,14 @@ use Rattle.dcx_point.specs.Pairs.{Pairs}
 use Rattle.dcx_tree.specs.declared.problem.Problem.{Problem}
 use Rattle.dcx_tree.specs.Meaning.{setting_of}
 use Rattle.dcx_answer.specs.declared.stop.Stop.{Stop}
-use Rattle.dcx_outcomes.specs.declared.whole_outcome.WholeEnd.{WholeEnd}
-use Rattle.dcx_outcomes.specs.declared.whole_outcome.WholeEnd.TheVariants as the
-use Rattle.dcx_outcomes.specs.declared.whole_outcome.WholeOutcome.{WholeOutcome}
+use Rattle.dcx_answer.specs.declared.whole_outcome.WholeEnd.{WholeEnd}
+use Rattle.dcx_answer.specs.declared.whole_outcome.WholeEnd.TheVariants as the
+use Rattle.dcx_answer.specs.declared.whole_outcome.WholeOutcome.{WholeOutcome}
 use Rattle.dcx_graph.specs.Program.{Program}
-use Rattle.dcx_branch.specs.declared.answer.WholeAnswer.{WholeAnswer}
-use Rattle.dcx_branch.specs.declared.answer.BranchStop.{BranchStop}
-use Rattle.dcx_branch.specs.Answers.{IsRightFor, IsEndOf}
+use Rattle.dcx_answer.specs.declared.whole_answer.WholeAnswer.{WholeAnswer}
+use Rattle.dcx_answer.specs.declared.whole_answer.BranchStop.{BranchStop}
+use Rattle.dcx_branch.specs.Answers.{IsEndOf}
+use Rattle.dcx_right.specs.WholeAnswers.{IsRightFor}
 use Rattle.dcx_outcomes.specs.Asking.{IsRightAt, AreAskedOutcomes}
 
 -- how many nodes a run may have

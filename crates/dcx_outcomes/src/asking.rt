@@ -8,7 +8,7 @@ ghost use Rattle.dcx_tree.specs.declared.problem.Problem.{Problem};
 ghost use Rattle.dcx_tree.specs.Meaning.{IsAccepted};
 ghost use Rattle.dcx_fit.specs.Fit.{FitsParameters};
 ghost use Rattle.dcx_answer.specs.declared.stop.Stop.{Stop};
-ghost use Rattle.dcx_outcomes.specs.NodeStops.{stop_names_node};
+ghost use Rattle.dcx_answer.specs.NodeStops.{stop_names_node};
 ghost use Rattle.dcx_graph.specs.Program.{Program};
 ghost use Rattle.dcx_cache.specs.Programs.{IsMapOf, HasMap, SessionGives, IsProgramAt};
 ghost use Rattle.dcx_outcomes.specs.Outcomes.{Counts};

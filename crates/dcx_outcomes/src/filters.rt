@@ -6,8 +6,7 @@ ghost use Rattle.dcx_outcomes.specs.Outcomes.{Counts};
 ghost use Rattle.dcx_outcomes.specs.Filters.{FilterGives, filter_end, AreFilterOutcomes};
 
 use crate::asking::{Question, ask_problem};
-use crate::filter_outcome::{FilterEnd, FilterOutcome, FilterOutcomes};
-use dcx_answer::{FilterStop, Filtered, Stop};
+use dcx_answer::{FilterEnd, FilterOutcome, FilterOutcomes, FilterStop, Filtered, Stop};
 use dcx_frac::Frac;
 use dcx_graph::Reduced;
 use dcx_iis::filter;

@@ -7,8 +7,8 @@ ghost use Rattle.dcx_outcomes.specs.Outcomes.{Counts};
 ghost use Rattle.dcx_outcomes.specs.Warm.{AreToldFrom, AreFound, counted_where};
 
 use crate::beginning::begin;
-use crate::outcome::Outcomes;
 use crate::telling::outcome;
+use dcx_answer::Outcomes;
 use dcx_cache::Session;
 use dcx_point::Setting;
 use dcx_rules::Verdict;

@@ -25,22 +25,14 @@
 
 mod asking;
 mod beginning;
-mod filter_outcome;
 mod filters;
 mod finding;
 pub mod laws;
-mod outcome;
-mod range_outcome;
 mod ranges;
 mod telling;
-mod whole_outcome;
 mod wholes;
 
-pub use filter_outcome::{FilterEnd, FilterOutcome, FilterOutcomes};
 pub use filters::filter_outcomes;
 pub use finding::{Found, outcomes};
-pub use outcome::{Outcome, OutcomeEnd, Outcomes};
-pub use range_outcome::{RangeEnd, RangeOutcome, RangeOutcomes};
 pub use ranges::range_outcomes;
-pub use whole_outcome::{WholeEnd, WholeOutcome, WholeOutcomes};
 pub use wholes::whole_outcomes;

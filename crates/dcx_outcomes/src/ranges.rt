@@ -3,15 +3,13 @@ ghost use Rattle.std.specs.Prelude.{◌≡◌, IfOk, OnOk};
 ghost use Rattle.dcx_outcomes.specs.Ranges.{HasRange, TellsOf, range_end, AreRangeOutcomes};
 
 use crate::asking::{Question, ask_session};
-use crate::range_outcome::{RangeEnd, RangeOutcome, RangeOutcomes};
-use dcx_answer::Stop;
+use dcx_answer::{RangeEnd, RangeOutcome, RangeOutcomes, RangeStop, Ranged, Stop};
 use dcx_cache::Session;
 use dcx_frac::Frac;
 use dcx_graph::Reduced;
 use dcx_linear::ParamForm;
 use dcx_point::Setting;
 use dcx_range::range;
-use dcx_ranged::{RangeStop, Ranged};
 use dcx_shape::{Name, Place};
 use dcx_steps::Steps;
 use dcx_tree::Problem;

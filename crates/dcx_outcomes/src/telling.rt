@@ -4,8 +4,7 @@ ghost use Rattle.dcx_cache.specs.Programs.{HasMap};
 ghost use Rattle.dcx_outcomes.specs.Outcomes.{site_place, stop_place, NamesNodes, IsNodeSite};
 ghost use Rattle.dcx_outcomes.specs.Warm.{is_kept as is_kept_of, Tells, EndsFrom, IsToldFrom};
 
-use crate::outcome::{Outcome, OutcomeEnd};
-use dcx_answer::{Site, Stop};
+use dcx_answer::{Outcome, OutcomeEnd, Site, Stop};
 use dcx_cache::{Session, Warmed};
 use dcx_point::Setting;
 use dcx_shape::Place;

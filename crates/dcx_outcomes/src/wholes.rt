@@ -6,9 +6,8 @@ ghost use Rattle.dcx_outcomes.specs.Outcomes.{Counts};
 ghost use Rattle.dcx_outcomes.specs.Wholes.{WholeGives, whole_end, AreWholeOutcomes};
 
 use crate::asking::{Question, ask_problem};
-use crate::whole_outcome::{WholeEnd, WholeOutcome, WholeOutcomes};
-use dcx_answer::Stop;
-use dcx_branch::{BranchStop, WholeAnswer, branch};
+use dcx_answer::{BranchStop, Stop, WholeAnswer, WholeEnd, WholeOutcome, WholeOutcomes};
+use dcx_branch::branch;
 use dcx_frac::Frac;
 use dcx_graph::Reduced;
 use dcx_linear::ParamForm;

@@ -18,7 +18,8 @@ use Rattle.dcx_lp_answer.specs.declared.answer.RowNote.{RowNote}
 use Rattle.dcx_lp_answer.specs.Multipliers.{multiplier_of, passing_from}
 use Rattle.dcx_lp_answer.proofs.Formed.{formed_is_right}
 use Rattle.dcx_unknowns.specs.Layout.{constraint_rows}
-use Rattle.dcx_postsolve.specs.Duals.{row_kind, row_multipliers, all_multipliers, IsDual, AreDuals, multipliers_in, first_row, IsRowMultiplier}
+use Rattle.dcx_postsolve.specs.Duals.{row_kind, row_multipliers, all_multipliers, IsDual, AreDuals, first_row, IsRowMultiplier}
+use Rattle.dcx_right.specs.Answers.{multipliers_in}
 use Rattle.dcx_postsolve.specs.Laws.{DualsAreRight, AreOne}
 use Rattle.dcx_postsolve.proofs.Fractions.{found}
 use Rattle.dcx_postsolve.proofs.Lists.{in_front, behind, same_formed}

@@ -9,3 +9,5 @@ pub mod DualSteps
 pub mod DualLaws
 pub mod Carrying
 pub mod Alike
+pub mod Rows
+pub mod CarryingLawsHold

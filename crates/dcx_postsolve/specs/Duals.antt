@@ -6,8 +6,6 @@ use Rattle.dcx_frac.specs.declared.fraction.Passes.{Passes}
 use Rattle.dcx_frac.specs.Frac.{value}
 use Rattle.dcx_shape.specs.Shape.{sides_of}
 use Rattle.dcx_atom.specs.declared.array.Array.{Array}
-use Rattle.dcx_atom.specs.Arrays.{numbers_of}
-use Rattle.dcx_convex.specs.Answers.{Multipliers}
 use Rattle.dcx_tree.specs.declared.constraint.Constraint.{Constraint}
 use Rattle.dcx_tree.specs.declared.constraint.Kind.{Kind}
 use Rattle.dcx_tree.specs.declared.constraint.Kind.TheVariants as relations
@@ -49,11 +47,6 @@ pub record AddsDual (status : LpStatus) (c : Constraint) (notes : List RowNote) 
   pub array : Array
   pub is : IsDual status c notes array
   pub added : after ≡ before ++ array ∷ []
-
--- ---- entry by entry
--- entry j of array k, and 0 past the end
-abbrev pub multipliers_in : List Array → Multipliers
-multipliers_in duals = numbers_of duals
 
 -- the number of the first row of constraint k
 abbrev pub first_row : List Constraint → ℕ → ℕ

@@ -26,7 +26,8 @@ use Rattle.dcx_unknowns.specs.Layout.{constraint_rows}
 use Rattle.dcx_unknowns.specs.Laws.{AreAlike}
 use Rattle.dcx_postsolve.specs.Numbers.{unknown_numbers, HasColumns, AreOneSided}
 use Rattle.dcx_postsolve.specs.Points.{numbered, IsPointOf}
-use Rattle.dcx_postsolve.specs.Duals.{row_kind, all_multipliers, AreDuals, multipliers_in, first_row, IsRowMultiplier}
+use Rattle.dcx_postsolve.specs.Duals.{row_kind, all_multipliers, AreDuals, first_row, IsRowMultiplier}
+use Rattle.dcx_right.specs.Answers.{multipliers_in}
 
 -- ---- unknowns
 -- numbers of the columns of a program, one for each, tell those of the unknowns of its rows

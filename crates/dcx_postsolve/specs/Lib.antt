@@ -2,4 +2,6 @@
 pub mod Numbers
 pub mod Points
 pub mod Duals
+pub mod Programs
+pub mod CarryingLaws
 pub mod Laws

@@ -1,5 +1,6 @@
 //! The laws above the definitions of `specs/`. There is no code: each clause is a statement about all programs or problems.
 ghost use Rattle.dcx_postsolve.specs.Laws.{ColumnsAreUnknowns, ArraysArePoints, DualsAreOne, DualsAreMultipliers, DualsAreRight, AlikePointsHaveValues, AnswersStay};
+ghost use Rattle.dcx_postsolve.specs.CarryingLaws.{ProgramsCarryOver};
 
 /// A scaled program that is made of rows has the columns of all its unknowns in front. What is read from the numbers of
 /// columns are the unknowns that the columns stand for; it may be read where of the two columns of each free unknown one at
@@ -38,4 +39,10 @@ pub fn alike_points_have_values()
 /// entries of the constraints.
 pub fn answers_stay()
     ensures { AnswersStay }
+{}
+
+/// An answer that is right for the linear program of a reduced program is right for the reduced program: with the multipliers
+/// of the rows of constraints as those of the constraints, entry by entry, and those of the other rows as weights.
+pub fn answers_carry_over()
+    ensures { ProgramsCarryOver }
 {}

@@ -16,6 +16,7 @@
 //! | there is one such list of multipliers, or one first that passes | `laws::duals_are_one` |
 //! | each entry is the multiplier of its row, the one by which the answer is right | `laws::duals_are_multipliers`, `laws::duals_are_right` |
 //! | points that have the same entries of the variables have the same values | `laws::alike_points_have_values` |
+//! | an answer that is right for a linear program is right for the reduced program whose rows it has: those of the constraints, in order and entry by entry, and then those beside them | `laws::answers_carry_over`, `specs/Programs.antt` |
 //! | answers stay answers at such points, and at multipliers that are the same at the rows of the constraints | `laws::answers_stay` |
 #![tactic(auto)]
 

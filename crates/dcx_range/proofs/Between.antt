@@ -21,7 +21,8 @@ use Rattle.dcx_simplex.specs.Run.{right_at}
 use Rattle.dcx_range.specs.declared.rates.Rate.{Rate}
 use Rattle.dcx_range.specs.declared.ends.Ends.{Ends}
 use Rattle.dcx_range.specs.Operations.{change_at, greater, lesser, from_on, up_to, with_end, zero_of, ends_by, row_ends, next_ends, ends_from, no_ends, sign_ends}
-use Rattle.dcx_range.specs.Interval.{HasSign, IsFrom, IsUpTo, IsBetween}
+use Rattle.dcx_range.specs.Interval.{HasSign}
+use Rattle.dcx_right.specs.Ranges.{IsFrom, IsUpTo, IsBetween}
 use Rattle.dcx_range.proofs.Exact.{both_formed, end_value}
 
 -- ---- tests

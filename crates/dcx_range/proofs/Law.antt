@@ -36,7 +36,7 @@ use Rattle.dcx_std.specs.Solutions as solutions
 use Rattle.dcx_std.specs.Solutions.{linear_program}
 use Rattle.dcx_std.proofs.Solutions.{unmapped_at}
 use Rattle.dcx_unknowns.specs.Unknowns.{point_at}
-use Rattle.dcx_mapping.specs.Programs.{multipliers_of}
+use Rattle.dcx_postsolve.specs.Programs.{multipliers_of}
 use Rattle.dcx_graph.specs.Program.{Program}
 use Rattle.dcx_graph.specs.Answers.{rows_of}
 use Rattle.dcx_graph.specs.AsLinear.{row_at, linear_at}
@@ -49,7 +49,7 @@ use Rattle.dcx_graph.proofs.Backward.{answers_carry_over}
 use Rattle.dcx_range.specs.Standing.{scales_unknown, scales_row}
 use Rattle.dcx_range.specs.Coefficients.{coefficient_of}
 use Rattle.dcx_range.specs.Parameters.{scales}
-use Rattle.dcx_range.specs.Interval.{DifferAt}
+use Rattle.dcx_right.specs.Ranges.{DifferAt}
 use Rattle.dcx_range.proofs.Moves.{none_at, IsScalarAt, moved, number_moves, form_moves}
 use Rattle.dcx_range.proofs.Shifted.{IsMoved}
 

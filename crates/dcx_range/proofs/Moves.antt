@@ -21,7 +21,7 @@ use Rattle.dcx_linear.specs.FormTerms.{Unknowns, unknown_value}
 use Rattle.dcx_linear.specs.Forms.{linear_value}
 use Rattle.dcx_range.specs.Standing.{lists, scales_unknown}
 use Rattle.dcx_range.specs.Coefficients.{coefficient_in, coefficient_of}
-use Rattle.dcx_range.specs.Interval.{DifferAt}
+use Rattle.dcx_right.specs.Ranges.{DifferAt}
 
 -- ---- tests
 pub none_at : {X : Type 0} (p : X → Bool) (xs : List X) → list_any p xs ≡ false → All (λ x. p x ≡ false) xs

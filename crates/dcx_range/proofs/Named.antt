@@ -17,10 +17,11 @@ use Rattle.dcx_linear.specs.Parameters.{array_entry}
 use Rattle.dcx_graph.specs.Program.{Program}
 use Rattle.dcx_graph.specs.Fixed.{HaveArrays}
 use Rattle.dcx_graph.proofs.Entries.{all_at}
-use Rattle.dcx_ranged.specs.declared.not_ranged.NotRanged.TheVariants as faults
+use Rattle.dcx_answer.specs.declared.not_ranged.NotRanged.TheVariants as faults
 use Rattle.dcx_range.specs.declared.asked.Asked.{Asked}
 use Rattle.dcx_range.specs.Range.{IsAsked}
-use Rattle.dcx_range.specs.Parameters.{place_of, HasParameter, scales, IsNumber, HasSides, IsRanged, IsScaling, TellsOnce}
+use Rattle.dcx_range.specs.Parameters.{scales, HasSides, IsRanged, IsScaling, TellsOnce}
+use Rattle.dcx_right.specs.Ranges.{place_of, HasParameter, IsNumber}
 
 -- the position is that of a parameter
 pub place_low : (parameters : List Parameter) (name : List ℕ) (k : ℕ) → place_of parameters name ≡ Some k → k < length parameters

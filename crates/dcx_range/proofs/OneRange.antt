@@ -20,18 +20,18 @@ use Rattle.dcx_simplex.proofs.Starts.{starts}
 use Rattle.dcx_std.specs.declared.stop.RowStop.TheVariants as rows
 use Rattle.dcx_std.specs.IntegerRows.{IsMade}
 use Rattle.dcx_std.proofs.OneProgram.{programs_are_one, made_or_stopped}
-use Rattle.dcx_solved.specs.declared.stop.SolveStop.{SolveStop}
-use Rattle.dcx_solved.specs.declared.stop.SolveStop.TheVariants as solves
-use Rattle.dcx_solved.specs.Solved.{Stops}
-use Rattle.dcx_solved.proofs.OneSolution.{stops_are_one}
+use Rattle.dcx_lp_solve.specs.declared.stop.SolveStop.{SolveStop}
+use Rattle.dcx_lp_solve.specs.declared.stop.SolveStop.TheVariants as solves
+use Rattle.dcx_lp_solve.specs.Solved.{Stops}
+use Rattle.dcx_lp_solve.proofs.OneSolution.{stops_are_one}
 use Rattle.dcx_graph.specs.Program.{Program}
 use Rattle.dcx_graph.specs.Answers.{rows_of}
 use Rattle.dcx_range.specs.declared.asked.Asked.{Asked}
-use Rattle.dcx_ranged.specs.declared.ranged.Ranged.{Ranged}
-use Rattle.dcx_ranged.specs.declared.ranged.Ranged.TheVariants.{Span, Infeasible, Unbounded}
-use Rattle.dcx_ranged.specs.declared.stop.RangeStop.{RangeStop}
-use Rattle.dcx_ranged.specs.declared.stop.RangeStop.TheVariants as stops
-use Rattle.dcx_range.specs.Parameters.{IsNumber}
+use Rattle.dcx_answer.specs.declared.ranged.Ranged.{Ranged}
+use Rattle.dcx_answer.specs.declared.ranged.Ranged.TheVariants.{Span, Infeasible, Unbounded}
+use Rattle.dcx_answer.specs.declared.range_stop.RangeStop.{RangeStop}
+use Rattle.dcx_answer.specs.declared.range_stop.RangeStop.TheVariants as stops
+use Rattle.dcx_right.specs.Ranges.{IsNumber}
 use Rattle.dcx_range.specs.Operations.{operations}
 use Rattle.dcx_range.specs.Range.{IsKnown, formed, RangeGives}
 use Rattle.dcx_range.specs.Laws.{AreOneRange, RangesAreOne}

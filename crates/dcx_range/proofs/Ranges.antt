@@ -35,12 +35,12 @@ use Rattle.dcx_std.specs.Solutions.{linear_program, unknowns_at, HasKinds}
 use Rattle.dcx_std.specs.Answers.{IsRightForRowsAs}
 use Rattle.dcx_std.proofs.ScaledProgram.{scaled_program}
 use Rattle.dcx_std.proofs.RightAnswers.{shown_of}
-use Rattle.dcx_solved.specs.declared.solving.Solved.{Solved}
-use Rattle.dcx_solved.specs.declared.stop.SolveStop.{SolveStop}
-use Rattle.dcx_solved.specs.declared.stop.SolveStop.TheVariants as solves
-use Rattle.dcx_solved.specs.Solved.{IsSolved, Stops}
+use Rattle.dcx_lp_solve.specs.declared.solving.Solved.{Solved}
+use Rattle.dcx_lp_solve.specs.declared.stop.SolveStop.{SolveStop}
+use Rattle.dcx_lp_solve.specs.declared.stop.SolveStop.TheVariants as solves
+use Rattle.dcx_lp_solve.specs.Solved.{IsSolved, Stops}
 use Rattle.dcx_unknowns.specs.Unknowns.{point_at}
-use Rattle.dcx_mapping.specs.Programs.{multipliers_of}
+use Rattle.dcx_postsolve.specs.Programs.{multipliers_of}
 use Rattle.dcx_graph.specs.Program.{Program}
 use Rattle.dcx_graph.specs.Answers.{rows_of}
 use Rattle.dcx_graph.specs.Fixing.{FixGives}
@@ -51,15 +51,15 @@ use Rattle.dcx_graph.proofs.Correct.{affine_are_known, affine_are_reductions}
 use Rattle.dcx_range.specs.declared.rates.Rate.{Rate}
 use Rattle.dcx_range.specs.declared.ends.Ends.{Ends}
 use Rattle.dcx_range.specs.declared.asked.Asked.{Asked}
-use Rattle.dcx_ranged.specs.declared.ranged.Ranged.{Ranged}
-use Rattle.dcx_ranged.specs.declared.stop.RangeStop.{RangeStop}
-use Rattle.dcx_ranged.specs.declared.stop.RangeStop.TheVariants as stops
+use Rattle.dcx_answer.specs.declared.ranged.Ranged.{Ranged}
+use Rattle.dcx_answer.specs.declared.range_stop.RangeStop.{RangeStop}
+use Rattle.dcx_answer.specs.declared.range_stop.RangeStop.TheVariants as stops
 use Rattle.dcx_range.specs.Coefficients.{coefficient_of, HasConstants}
-use Rattle.dcx_range.specs.Parameters.{scales, IsNumber, IsRanged}
+use Rattle.dcx_range.specs.Parameters.{scales, IsRanged}
+use Rattle.dcx_right.specs.Ranges.{IsNumber, DifferAt, IsBetween, HasValue, HasNoPoint, HasNoLeast, HoldsOn}
 use Rattle.dcx_range.specs.Stops.{StopsAt, IsOfRun, IsToldAs}
 use Rattle.dcx_range.specs.Operations.{rates_of, ends_from, no_ends, sign_ends, slope_of, constant_of, span, finished, operations}
-use Rattle.dcx_range.specs.Interval.{DifferAt, IsBetween}
-use Rattle.dcx_range.specs.Range.{IsMapOf, IsAsked, IsKnown, formed, EndsInfeasible, EndsUnbounded, RangeGives, HasValue, HasNoPoint, HasNoLeast, HoldsOn}
+use Rattle.dcx_range.specs.Range.{IsMapOf, IsAsked, IsKnown, formed, EndsInfeasible, EndsUnbounded, RangeGives}
 use Rattle.dcx_range.proofs.Exact.{both_formed}
 use Rattle.dcx_range.proofs.Few.{is_fitting}
 use Rattle.dcx_range.proofs.Law.{row_kinds, rows_count}

@@ -37,7 +37,7 @@ use Rattle.dcx_tab.specs.Program.{right_side_at, right_of, is_negated, first_bas
 use Rattle.dcx_lp_answer.specs.declared.answer.LpAnswer.{LpAnswer}
 use Rattle.dcx_lp_answer.specs.declared.answer.LpStatus.TheVariants as status
 use Rattle.dcx_lp_answer.specs.Notes.{row_factor}
-use Rattle.dcx_lp_answer.specs.Right.{turned_if}
+use Rattle.dcx_lp_answer.specs.Right.{turned_if, multiplier_at}
 use Rattle.dcx_simplex.specs.Run.{right_at}
 use Rattle.dcx_simplex.specs.Whole.{objective_row, RunEnds}
 use Rattle.dcx_simplex.specs.declared.run.LpEnd.TheVariants as lp
@@ -49,8 +49,7 @@ use Rattle.dcx_std.specs.ScaledProgram.{IsScaledProgram}
 use Rattle.dcx_std.specs.Solutions.{unknowns_at, HasKinds}
 use Rattle.dcx_std.proofs.Solutions.{mapped_at, at_place}
 use Rattle.dcx_unknowns.specs.Unknowns.{point_at}
-use Rattle.dcx_mapping.specs.Programs.{multipliers_of}
-use Rattle.dcx_lp_answer.specs.Right.{multiplier_at}
+use Rattle.dcx_postsolve.specs.Programs.{multipliers_of}
 use Rattle.dcx_graph.specs.Program.{Program}
 use Rattle.dcx_graph.specs.Answers.{rows_of}
 use Rattle.dcx_graph.specs.AsLinear.{linear_at}
@@ -63,10 +62,10 @@ use Rattle.dcx_graph.proofs.Entries.{all_at}
 use Rattle.dcx_range.specs.declared.rates.Rate.{Rate}
 use Rattle.dcx_range.specs.declared.ends.Ends.{Ends}
 use Rattle.dcx_range.specs.Coefficients.{coefficient_of, HasConstants}
-use Rattle.dcx_range.specs.Parameters.{scales, IsNumber}
+use Rattle.dcx_range.specs.Parameters.{scales}
+use Rattle.dcx_right.specs.Ranges.{IsNumber, DifferAt, HasValue}
 use Rattle.dcx_range.specs.Operations.{rates_of, change_at, ends_from, no_ends, sign_ends, slope_of, constant_of}
-use Rattle.dcx_range.specs.Interval.{with_value, DifferAt, HasSign, IsInInterval}
-use Rattle.dcx_range.specs.Range.{HasValue}
+use Rattle.dcx_range.specs.Interval.{with_value, HasSign, IsInInterval}
 use Rattle.dcx_range.proofs.Exact.{rate_value, rates_length, rate_at, sum_below, change_value, slope_value, constant_value}
 use Rattle.dcx_range.proofs.Between.{Within, sign_in, sign_out, IsSettled, allowed_here, all_in, all_out}
 use Rattle.dcx_range.proofs.Named.{name_is}

@@ -1,8 +1,7 @@
 -- The values of a parameter at which the last basis stays feasible.
-use Rattle.std.specs.Prelude.{◌≡◌, ◌≢◌, ⊤, ℕ, ◌<◌, ◌≤◌, nat_eq, if◌then◌else◌, List, length, Option, Some, None, slice_get, pos}
+use Rattle.std.specs.Prelude.{◌≡◌, ⊤, ℕ, ◌<◌, ◌≤◌, nat_eq, if◌then◌else◌, List, length, Some, slice_get, pos}
 use Rattle.dcx_math.specs.Rational.{ℚ, whole, ◌*ℚ◌, neg_ℚ, ◌≤ℚ◌}
 use Rattle.dcx_math.specs.Sums.{rat_at}
-use Rattle.dcx_frac.specs.declared.fraction.Frac.{Frac}
 use Rattle.dcx_frac.specs.Frac.{value}
 use Rattle.dcx_call.specs.declared.attribute.Attribute.{Attribute}
 use Rattle.dcx_call.specs.declared.attribute.Attribute.TheVariants.{Free, Nonneg, Nonpos, Symmetric, Diag}
@@ -21,10 +20,6 @@ use Rattle.dcx_simplex.specs.Basis.{IsBasic}
 -- the numbers of the parameters with another value of the one at position k
 abbrev pub with_value : ℕ → ℚ → Parameters → Parameters
 with_value k v s j e = if nat_eq j k then v else s j e
-
--- they differ by the parameter at position k alone
-abbrev pub DifferAt : ℕ → Parameters → Parameters → Type 0
-DifferAt k s t = (j e : ℕ) → j ≢ k → t j e ≡ s j e
 
 -- ---- the basis
 -- a scaled program has a row for each of these rows; its columns at these numbers have the right sides that the rows have at a setting:
@@ -54,17 +49,3 @@ HasSign Diag v = ⊤
 pub record IsInInterval (q : Program) (t : Table) (rows : List (Row ParamForm)) (s : Parameters) (k : ℕ) (attribute : Attribute) (v : ℚ) : Type 0 where
   pub sign : HasSign attribute v
   pub feasible : StaysFeasible q t rows (with_value k v s)
-
--- ---- ends
-abbrev pub IsFrom : Option Frac → ℚ → Type 0
-IsFrom None v = ⊤
-IsFrom (Some x) v = value x ≤ℚ v
-
-abbrev pub IsUpTo : Option Frac → ℚ → Type 0
-IsUpTo None v = ⊤
-IsUpTo (Some x) v = v ≤ℚ value x
-
--- the value is between the ends
-pub record IsBetween (low high : Option Frac) (v : ℚ) : Type 0 where
-  pub from : IsFrom low v
-  pub up_to : IsUpTo high v

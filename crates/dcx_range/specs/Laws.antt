@@ -5,9 +5,9 @@ use Rattle.dcx_point.specs.Pairs.{Pairs}
 use Rattle.dcx_tree.specs.declared.problem.Problem.{Problem}
 use Rattle.dcx_linear.specs.declared.param_form.ParamForm.{ParamForm}
 use Rattle.dcx_graph.specs.Program.{Program}
-use Rattle.dcx_ranged.specs.declared.ranged.Ranged.{Ranged}
-use Rattle.dcx_ranged.specs.declared.stop.RangeStop.{RangeStop}
-use Rattle.dcx_ranged.specs.declared.stop.RangeStop.TheVariants as stops
+use Rattle.dcx_answer.specs.declared.ranged.Ranged.{Ranged}
+use Rattle.dcx_answer.specs.declared.range_stop.RangeStop.{RangeStop}
+use Rattle.dcx_answer.specs.declared.range_stop.RangeStop.TheVariants as stops
 use Rattle.dcx_range.specs.Range.{RangeGives}
 
 -- two answers are one; want of memory is free

@@ -18,8 +18,8 @@ use Rattle.dcx_range.specs.Coefficients.{coefficient_of}
 use Rattle.dcx_range.specs.declared.rates.Rate.{Rate}
 use Rattle.dcx_range.specs.declared.ends.Ends.{Ends}
 use Rattle.dcx_range.specs.declared.asked.Asked.{Asked}
-use Rattle.dcx_ranged.specs.declared.ranged.Ranged.{Ranged}
-use Rattle.dcx_ranged.specs.declared.ranged.Ranged.TheVariants.{Span}
+use Rattle.dcx_answer.specs.declared.ranged.Ranged.{Ranged}
+use Rattle.dcx_answer.specs.declared.ranged.Ranged.TheVariants.{Span}
 
 -- ---- the changes of the right sides
 abbrev pub opposite : Frac → Frac

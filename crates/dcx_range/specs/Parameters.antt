@@ -1,38 +1,19 @@
 -- Which parameters have a range: numbers that stand in no coefficient of an unknown.
-use Rattle.std.specs.Prelude.{◌≡◌, ◌≢◌, ℕ, ◌||◌, Bool, true, false, List, Option, Some, None, Result, Ok, Err, position, slice_get}
+use Rattle.std.specs.Prelude.{◌≡◌, ◌≢◌, ℕ, ◌||◌, Bool, true, false, List, Option, Some, None, Result, Ok, Err}
 use Rattle.dcx_shape.specs.declared.shape.Sides.TheVariants.{Scalar}
 use Rattle.dcx_shape.specs.Shape.{sides_of}
-use Rattle.dcx_point.specs.Pairs.{same_name}
 use Rattle.dcx_call.specs.declared.attribute.Parameter.{Parameter}
 use Rattle.dcx_tree.specs.declared.problem.Problem.{Problem}
 use Rattle.dcx_linear.specs.declared.param_form.ParamForm.{ParamForm}
 use Rattle.dcx_graph.specs.Program.{Program}
 use Rattle.dcx_graph.specs.Reduced.{Reduction}
 use Rattle.dcx_range.specs.Standing.{scales_row, scales_unknown}
-use Rattle.dcx_ranged.specs.declared.not_ranged.NotRanged.{NotRanged}
-use Rattle.dcx_ranged.specs.declared.not_ranged.NotRanged.TheVariants as faults
-
--- ---- where a parameter stands
--- the position of the parameter with this name, in order of declaration; None where the problem reaches none
-abbrev pub place_of : List Parameter → List ℕ → Option ℕ
-place_of parameters name = position (λ q. same_name name q.name) parameters
-
--- q is the parameter with this name, at position k
-pub record HasParameter (p : Problem) (name : List ℕ) (k : ℕ) (q : Parameter) : Type 0 where
-  pub place : place_of p.parameters name ≡ Some k
-  pub there : slice_get p.parameters k ≡ Some q
+use Rattle.dcx_answer.specs.declared.not_ranged.NotRanged.{NotRanged}
+use Rattle.dcx_answer.specs.declared.not_ranged.NotRanged.TheVariants as faults
 
 -- the parameter stands in the coefficient of an unknown in a row or in what is to be small
 abbrev pub scales : ℕ → Program ParamForm → Bool
 scales k q = scales_row k q.rows || scales_unknown k q.objective
-
--- ---- which have a range
--- the parameter with this name is a number
-pub record IsNumber (p : Problem) (name : List ℕ) : Type 0 where
-  pub at : ℕ
-  pub parameter : Parameter
-  pub named : HasParameter p name at parameter
-  pub scalar : sides_of parameter.shape ≡ Scalar
 
 -- it is an array with sides
 pub record HasSides (p : Problem) (name : List ℕ) : Type 0 where

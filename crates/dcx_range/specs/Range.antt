@@ -1,14 +1,12 @@
 -- What is told of the range of a parameter.
-use Rattle.std.specs.Prelude.{◌≡◌, ⊤, ℕ, ◌↔◌, List, Option, Some, Result, Ok, Err}
-use Rattle.dcx_math.specs.Rational.{ℚ, ◌+ℚ◌, ◌*ℚ◌}
+use Rattle.std.specs.Prelude.{◌≡◌, ⊤, ℕ, ◌↔◌, List, Some, Result, Ok, Err}
+use Rattle.dcx_math.specs.Rational.{ℚ}
 use Rattle.dcx_frac.specs.declared.fraction.Frac.{Frac}
 use Rattle.dcx_frac.specs.declared.fraction.Passes.{Passes}
 use Rattle.dcx_frac.specs.Frac.{value}
 use Rattle.dcx_point.specs.Pairs.{Pairs}
-use Rattle.dcx_convex.specs.Nodes.{Setting, Point}
-use Rattle.dcx_convex.specs.Answers.{Multipliers}
 use Rattle.dcx_tree.specs.declared.problem.Problem.{Problem}
-use Rattle.dcx_tree.specs.Meaning.{IsDpp, Fits, IsOptimal, IsInfeasible, IsUnbounded, setting_of}
+use Rattle.dcx_tree.specs.Meaning.{IsDpp, setting_of}
 use Rattle.dcx_linear.specs.declared.param_form.ParamForm.{ParamForm}
 use Rattle.dcx_linear.specs.Parameters.{entry_of}
 use Rattle.dcx_tab.specs.declared.program.Program as tab
@@ -18,19 +16,19 @@ use Rattle.dcx_simplex.specs.declared.run.LpEnd.TheVariants as ends
 use Rattle.dcx_simplex.specs.Reading.{cost_at}
 use Rattle.dcx_simplex.specs.Whole.{objective_row, RunEnds}
 use Rattle.dcx_std.specs.IntegerRows.{IsMade}
-use Rattle.dcx_solved.specs.declared.stop.SolveStop.TheVariants as solves
-use Rattle.dcx_solved.specs.Solved.{EndsAt, Stops}
+use Rattle.dcx_lp_solve.specs.declared.stop.SolveStop.TheVariants as solves
+use Rattle.dcx_lp_solve.specs.Solved.{EndsAt, Stops}
 use Rattle.dcx_graph.specs.Program.{Program}
 use Rattle.dcx_graph.specs.Answers.{rows_of}
 use Rattle.dcx_graph.specs.Correct.{ReducesAffine}
 use Rattle.dcx_range.specs.declared.asked.Asked.{Asked}
-use Rattle.dcx_ranged.specs.declared.ranged.Ranged.{Ranged}
-use Rattle.dcx_ranged.specs.declared.ranged.Ranged.TheVariants.{Span, Infeasible, Unbounded}
-use Rattle.dcx_ranged.specs.declared.stop.RangeStop.{RangeStop}
-use Rattle.dcx_ranged.specs.declared.stop.RangeStop.TheVariants as stops
-use Rattle.dcx_range.specs.Parameters.{IsNumber}
+use Rattle.dcx_answer.specs.declared.ranged.Ranged.{Ranged}
+use Rattle.dcx_answer.specs.declared.ranged.Ranged.TheVariants.{Span, Infeasible, Unbounded}
+use Rattle.dcx_answer.specs.declared.range_stop.RangeStop.{RangeStop}
+use Rattle.dcx_answer.specs.declared.range_stop.RangeStop.TheVariants as stops
+use Rattle.dcx_right.specs.Ranges.{IsNumber, IsBetween}
 use Rattle.dcx_range.specs.Operations.{operations}
-use Rattle.dcx_range.specs.Interval.{DifferAt, IsBetween, IsInInterval}
+use Rattle.dcx_range.specs.Interval.{IsInInterval}
 
 -- the rules accept the problem with parameters affine, and this is its program with affine coefficients, in building which some setting
 -- was at hand
@@ -107,36 +105,3 @@ RangeGives p q r setting name limit (Err (stops.Wide site)) = Stops limit (rows_
 RangeGives p q r setting name limit (Err (stops.PivotLimit count)) = Stops limit (rows_of r) (solves.PivotLimit count)
 RangeGives p q r setting name limit (Err (stops.RangeWide passes)) = IsPassing p q r setting name limit passes
 RangeGives p q r setting name limit (Err stops.Memory) = ⊤
-
--- ---- in the problem's own words
--- some point and some multipliers show that the problem has this value
-pub record HasValue (p : Problem) (s : Setting) (v : ℚ) : Type 0 where
-  pub point : Point
-  pub multipliers : Multipliers
-  pub optimal : IsOptimal p s v point multipliers
-
--- some multipliers show that no point is feasible
-pub record HasNoPoint (p : Problem) (s : Setting) : Type 0 where
-  pub multipliers : Multipliers
-  pub gap : ℚ
-  pub infeasible : IsInfeasible p s multipliers gap
-
--- from some feasible point along some ray the objective falls for ever
-pub record HasNoLeast (p : Problem) (s : Setting) : Type 0 where
-  pub point : Point
-  pub ray : Point
-  pub bound : ℚ
-  pub slope : ℚ
-  pub unbounded : IsUnbounded p s point ray bound slope
-
--- the parameter's value at the setting is in the span; and at each setting that fits and differs from it by a value of the parameter in
--- the span alone, the problem has the value on the line
-pub record HoldsAlong (p : Problem) (s : Setting) (name : List ℕ) (low high : Option Frac) (constant slope : Frac) : Type 0 where
-  pub here : (n : IsNumber p name) → IsBetween low high (s n.at 0)
-  pub along : (n : IsNumber p name) (t : Setting) → Fits p t → DifferAt n.at s t → IsBetween low high (t n.at 0) → HasValue p t (value constant +ℚ value slope *ℚ t n.at 0)
-
--- what is told of the parameter is true of the problem
-abbrev pub HoldsOn : Problem → Setting → List ℕ → Ranged → Type 0
-HoldsOn p s name (Span low high constant slope) = HoldsAlong p s name low high constant slope
-HoldsOn p s name Infeasible = HasNoPoint p s
-HoldsOn p s name Unbounded = HasNoLeast p s

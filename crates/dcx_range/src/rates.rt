@@ -7,9 +7,9 @@ ghost use Rattle.dcx_range.specs.Operations.{opposite, turned, rate_of, rates_of
 ghost use Rattle.dcx_range.specs.Stops.{StopsAt};
 
 use crate::numbers::zero;
+use dcx_answer::RangeStop;
 use dcx_frac::{Frac, Passes};
 use dcx_linear::{ParamForm, Row};
-use dcx_ranged::RangeStop;
 use dcx_tab::IntRow;
 use std::alloc::Global;
 

@@ -2,12 +2,13 @@
 ghost use Rattle.std.specs.Prelude.{◌≡◌, Option, option_copied, IfOk, IfErr};
 ghost use Rattle.dcx_linear.specs.declared.param_form.ParamForm.{ParamForm};
 ghost use Rattle.dcx_graph.specs.Program.{Program};
-ghost use Rattle.dcx_range.specs.Parameters.{place_of, scales, IsNumber, IsFaultOf, program_in, IsTold};
+ghost use Rattle.dcx_range.specs.Parameters.{scales, IsFaultOf, program_in, IsTold};
+ghost use Rattle.dcx_right.specs.Ranges.{place_of, IsNumber};
 
 use crate::standing::{scales_row, scales_unknown};
+use dcx_answer::NotRanged;
 use dcx_graph::Reduced;
 use dcx_linear::ParamForm;
-use dcx_ranged::NotRanged;
 use dcx_shape::{Name, Sides};
 use dcx_tree::{Parameter, Problem};
 

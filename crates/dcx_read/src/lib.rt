@@ -32,5 +32,5 @@ pub use dcx_syntax::{
     Added, Arg, Compared, Comparison, Expr, Factor, Import, Index, Line, Module, Named, Postfix,
     Power, Primary, Raised, Scaled, Scaling, Script, Sign, Signed, Signs, Step, Sum, Term, Trailer,
 };
-pub use dcx_tokens::ReadFault;
+pub use dcx_tokens::{ReadFault, tokens};
 pub use parser::parse;

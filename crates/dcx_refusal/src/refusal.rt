@@ -2,9 +2,9 @@
 ghost use Rattle.std.specs.Prelude.{IsTrue};
 ghost use Rattle.dcx_refusal.specs.Refusals.{is_refusal};
 
+use dcx_answer::NotRanged;
 use dcx_arena::Count;
 use dcx_frac::Passes;
-use dcx_ranged::NotRanged;
 use dcx_rules::Rule;
 use dcx_shape::Place;
 

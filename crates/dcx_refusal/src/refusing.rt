@@ -4,7 +4,7 @@ ghost use Rattle.dcx_refusal.specs.Refusals.{is_refusal, refusal_name};
 ghost use Rattle.dcx_refusal.specs.Made.{IsRefusedAs, IsTooLong};
 
 use crate::{Carried, Refusal, RefusalSource};
-use dcx_ranged::NotRanged;
+use dcx_answer::NotRanged;
 use dcx_shape::Place;
 
 /// The name of the refusal of a number.

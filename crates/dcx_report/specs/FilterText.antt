@@ -9,9 +9,9 @@ use Rattle.dcx_answer.specs.declared.filter_stop.FilterStop.TheVariants as filte
 use Rattle.dcx_answer.specs.declared.filtered.Filtered.{Filtered}
 use Rattle.dcx_answer.specs.declared.filtered.Filtered.TheVariants.{Feasible, Infeasible}
 use Rattle.dcx_answer.specs.declared.stop.Stop.TheVariants as stops
-use Rattle.dcx_outcomes.specs.declared.filter_outcome.FilterEnd.{FilterEnd}
-use Rattle.dcx_outcomes.specs.declared.filter_outcome.FilterEnd.TheVariants as the
-use Rattle.dcx_outcomes.specs.declared.filter_outcome.FilterOutcome.{FilterOutcome}
+use Rattle.dcx_answer.specs.declared.filter_outcome.FilterEnd.{FilterEnd}
+use Rattle.dcx_answer.specs.declared.filter_outcome.FilterEnd.TheVariants as the
+use Rattle.dcx_answer.specs.declared.filter_outcome.FilterOutcome.{FilterOutcome}
 use Rattle.dcx_report.specs.AnswerText.{var_lines}
 use Rattle.dcx_report.specs.OutcomeText.{counts_line}
 use Rattle.dcx_report.specs.StopText.{stop_name, stop_details, stopped_text}

@@ -4,9 +4,9 @@ use Rattle.std.specs.List.{flat_map, enumerate_from}
 use Rattle.std.specs.declared.option.Option.{Option}
 use Rattle.dcx_shape.specs.declared.place.Place.{Place}
 use Rattle.dcx_tree.specs.declared.constraint.Sense.{Sense}
-use Rattle.dcx_outcomes.specs.declared.outcome.Outcome.{Outcome}
-use Rattle.dcx_outcomes.specs.declared.outcome.OutcomeEnd.{OutcomeEnd}
-use Rattle.dcx_outcomes.specs.declared.outcome.OutcomeEnd.TheVariants.{Answer, Stop}
+use Rattle.dcx_answer.specs.declared.outcome.Outcome.{Outcome}
+use Rattle.dcx_answer.specs.declared.outcome.OutcomeEnd.{OutcomeEnd}
+use Rattle.dcx_answer.specs.declared.outcome.OutcomeEnd.TheVariants.{Answer, Stop}
 use Rattle.dcx_report.specs.declared.run.Word.{Word}
 use Rattle.dcx_report.specs.declared.run.Word.TheVariants.{Solve, Setting}
 use Rattle.dcx_report.specs.AnswerText.{answer_text}

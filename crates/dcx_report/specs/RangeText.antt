@@ -7,13 +7,13 @@ use Rattle.dcx_frac.specs.declared.fraction.Frac.{Frac}
 use Rattle.dcx_frac.specs.Text.{frac_text}
 use Rattle.dcx_tree.specs.declared.constraint.Sense.{Sense}
 use Rattle.dcx_answer.specs.declared.stop.Stop.TheVariants as stops
-use Rattle.dcx_ranged.specs.declared.ranged.Ranged.{Ranged}
-use Rattle.dcx_ranged.specs.declared.ranged.Ranged.TheVariants.{Span, Infeasible, Unbounded}
-use Rattle.dcx_ranged.specs.declared.stop.RangeStop.{RangeStop}
-use Rattle.dcx_ranged.specs.declared.stop.RangeStop.TheVariants as range
-use Rattle.dcx_outcomes.specs.declared.range_outcome.RangeEnd.{RangeEnd}
-use Rattle.dcx_outcomes.specs.declared.range_outcome.RangeEnd.TheVariants as the
-use Rattle.dcx_outcomes.specs.declared.range_outcome.RangeOutcome.{RangeOutcome}
+use Rattle.dcx_answer.specs.declared.ranged.Ranged.{Ranged}
+use Rattle.dcx_answer.specs.declared.ranged.Ranged.TheVariants.{Span, Infeasible, Unbounded}
+use Rattle.dcx_answer.specs.declared.range_stop.RangeStop.{RangeStop}
+use Rattle.dcx_answer.specs.declared.range_stop.RangeStop.TheVariants as range
+use Rattle.dcx_answer.specs.declared.range_outcome.RangeEnd.{RangeEnd}
+use Rattle.dcx_answer.specs.declared.range_outcome.RangeEnd.TheVariants as the
+use Rattle.dcx_answer.specs.declared.range_outcome.RangeOutcome.{RangeOutcome}
 use Rattle.dcx_report.specs.AnswerText.{user_number}
 use Rattle.dcx_report.specs.OutcomeText.{counts_line}
 use Rattle.dcx_report.specs.Pieces.{passes_text}

@@ -9,8 +9,8 @@ use Rattle.dcx_arena.specs.declared.fault.Count.{Count}
 use Rattle.dcx_arena.specs.declared.fault.Count.TheVariants.{Nodes, Entries, Items, Steps, Events}
 use Rattle.dcx_rules.specs.declared.fault.Rule.{Rule}
 use Rattle.dcx_rules.specs.declared.fault.Rule.TheVariants.{Composition, Minimize, Maximize, Equal, AtMost}
-use Rattle.dcx_ranged.specs.declared.not_ranged.NotRanged.{NotRanged}
-use Rattle.dcx_ranged.specs.declared.not_ranged.NotRanged.TheVariants.{Unknown, Shape, Map, Coefficient}
+use Rattle.dcx_answer.specs.declared.not_ranged.NotRanged.{NotRanged}
+use Rattle.dcx_answer.specs.declared.not_ranged.NotRanged.TheVariants.{Unknown, Shape, Map, Coefficient}
 use Rattle.dcx_report.specs.Pieces.{place_text, passes_text}
 use Rattle.dcx_refusal.specs.Refusals.{refusal_name}
 

@@ -8,9 +8,9 @@ use Rattle.dcx_answer.specs.declared.answer.Answer.TheVariants.{Optimal, Infeasi
 use Rattle.dcx_answer.specs.declared.stop.Stop.{Stop}
 use Rattle.dcx_answer.specs.declared.stop.Stop.TheVariants.{UnknownParam, MissingParam, ParamShape, ParamSign}
 use Rattle.dcx_lines.specs.Shown.{variables_of, constraints_of}
-use Rattle.dcx_outcomes.specs.declared.outcome.Outcome.{Outcome}
-use Rattle.dcx_outcomes.specs.declared.outcome.OutcomeEnd.{OutcomeEnd}
-use Rattle.dcx_outcomes.specs.declared.outcome.OutcomeEnd.TheVariants as the
+use Rattle.dcx_answer.specs.declared.outcome.Outcome.{Outcome}
+use Rattle.dcx_answer.specs.declared.outcome.OutcomeEnd.{OutcomeEnd}
+use Rattle.dcx_answer.specs.declared.outcome.OutcomeEnd.TheVariants as the
 use Rattle.dcx_report.specs.declared.run.Word.{Word}
 use Rattle.dcx_report.specs.declared.run.Run.TheVariants.{Solved}
 use Rattle.dcx_report.specs.ReportText.{text_of}

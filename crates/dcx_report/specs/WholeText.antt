@@ -6,14 +6,14 @@ use Rattle.dcx_shape.specs.declared.place.Place.{Place}
 use Rattle.dcx_tree.specs.declared.constraint.Sense.{Sense}
 use Rattle.dcx_answer.specs.declared.stop.Stop.TheVariants as stops
 use Rattle.dcx_lines.specs.Lines.{number_line}
-use Rattle.dcx_branch.specs.declared.answer.WholeAnswer.{WholeAnswer}
-use Rattle.dcx_branch.specs.declared.answer.WholeAnswer.TheVariants.{Optimal, Infeasible}
-use Rattle.dcx_branch.specs.declared.answer.BranchStop.{BranchStop}
-use Rattle.dcx_branch.specs.declared.answer.BranchStop.TheVariants as branch
+use Rattle.dcx_answer.specs.declared.whole_answer.WholeAnswer.{WholeAnswer}
+use Rattle.dcx_answer.specs.declared.whole_answer.WholeAnswer.TheVariants.{Optimal, Infeasible}
+use Rattle.dcx_answer.specs.declared.whole_answer.BranchStop.{BranchStop}
+use Rattle.dcx_answer.specs.declared.whole_answer.BranchStop.TheVariants as branch
 use Rattle.dcx_report.specs.declared.run.Word.{Word}
-use Rattle.dcx_outcomes.specs.declared.whole_outcome.WholeEnd.{WholeEnd}
-use Rattle.dcx_outcomes.specs.declared.whole_outcome.WholeEnd.TheVariants as the
-use Rattle.dcx_outcomes.specs.declared.whole_outcome.WholeOutcome.{WholeOutcome}
+use Rattle.dcx_answer.specs.declared.whole_outcome.WholeEnd.{WholeEnd}
+use Rattle.dcx_answer.specs.declared.whole_outcome.WholeEnd.TheVariants as the
+use Rattle.dcx_answer.specs.declared.whole_outcome.WholeOutcome.{WholeOutcome}
 use Rattle.dcx_report.specs.AnswerText.{user_number, var_lines}
 use Rattle.dcx_report.specs.OutcomeText.{word_text, counts_line}
 use Rattle.dcx_report.specs.StopText.{stop_name, stop_details, stopped_text}

@@ -29,15 +29,13 @@ mod stop_line;
 mod trial_lines;
 mod whole_lines;
 
-pub use dcx_answer::{Answer, FilterStop, Filtered, Stop};
-pub use dcx_branch::{BranchStop, WholeAnswer};
-pub use dcx_outcomes::{
-    FilterEnd, FilterOutcome, FilterOutcomes, Outcome, OutcomeEnd, Outcomes, RangeEnd,
-    RangeOutcome, RangeOutcomes, WholeEnd, WholeOutcome, WholeOutcomes,
+pub use dcx_answer::{
+    Answer, BranchStop, CertFault, FilterEnd, FilterOutcome, FilterOutcomes, FilterStop, Filtered,
+    Outcome, OutcomeEnd, Outcomes, RangeEnd, RangeOutcome, RangeOutcomes, RangeStop, Ranged, Stop,
+    WholeAnswer, WholeEnd, WholeOutcome, WholeOutcomes,
 };
-pub use dcx_ranged::{RangeStop, Ranged};
+pub use dcx_host::{FetchFault, Library, Sink, SinkFault};
 pub use dcx_refusal::Refusal;
-pub use dcx_sections::CertFault;
 pub use dcx_tree::Sense;
 pub use report::report_text;
 pub use run::{Run, Word};

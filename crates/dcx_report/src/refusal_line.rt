@@ -4,9 +4,9 @@ ghost use Rattle.dcx_report.specs.RefusalText.{source_text, count_text, rule_tex
 
 use crate::Refusal;
 use crate::pieces::{put_both, put_numbered, put_passes, put_place};
+use dcx_answer::NotRanged;
 use dcx_arena::Count;
 use dcx_lines::put_bytes;
-use dcx_ranged::NotRanged;
 use dcx_refusal::{Carried, RefusalSource};
 use dcx_rules::Rule;
 use std::alloc::AllocError;

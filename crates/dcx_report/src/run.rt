@@ -1,8 +1,8 @@
 //! How a run ends.
 
 use crate::{FilterOutcomes, Outcomes, RangeOutcomes, Refusal, Sense, WholeOutcomes};
+use dcx_answer::CertFault;
 use dcx_refusal::Checked;
-use dcx_sections::CertFault;
 use dcx_shape::{Bytes, Name};
 
 /// The word that a run's outcomes stand under.

@@ -1,6 +1,6 @@
 -- What is given for arguments, one behind the other.
 use Rattle.std.proofs.Common.{◌≡◌, ℕ, List, [], ◌∷◌, ◌++◌, Some, None, refl, sym, ap, ◌∙◌, append_assoc}
-use Rattle.dcx_kinds.specs.Values.{Value}
+use Rattle.dcx_script_values.specs.Values.{Value}
 use Rattle.dcx_signature.specs.Arguments.{Matched, bound_of}
 
 -- that of the first, and then that of the others

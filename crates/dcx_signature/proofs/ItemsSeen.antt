@@ -2,9 +2,9 @@
 use Rattle.std.specs.Prelude.{◌≡◌, ℕ, ◌<◌, List, map, length, get_or, slice_get, option_map, Some, Result, Ok, Err, IfOk}
 use Rattle.std.proofs.Common.{sym, ap, ◌∙◌}
 use Rattle.std.proofs.lemmas.Option.{slice_get-get_or, slice_get-map}
-use Rattle.dcx_kinds.specs.declared.value.Value as code_value
-use Rattle.dcx_kinds.specs.Values.{Value}
-use Rattle.dcx_kinds.specs.Meant.{meant}
+use Rattle.dcx_script_values.specs.declared.value.Value as code_value
+use Rattle.dcx_script_values.specs.Values.{Value}
+use Rattle.dcx_script_values.specs.Meant.{meant}
 
 -- the item at a place, as it is seen
 pub item_seen : {A B : Type 0} (f : A → B) (xs : List A) (k : ℕ) (x : A) → k < length xs → x ≡ get_or xs k x → slice_get (map f xs) k ≡ Some (f x)

@@ -18,9 +18,9 @@ use Rattle.dcx_shape.specs.Shape.{sides_of}
 use Rattle.dcx_atom.specs.Formed.{frac_at}
 use Rattle.dcx_atom.proofs.FormedSums.{frac_at-value}
 use Rattle.dcx_array.specs.Arrays.{entry, whole_entry}
-use Rattle.dcx_kinds.specs.Values.{Value, plain, nothing}
-use Rattle.dcx_kinds.specs.Kinds.{whole_number}
-use Rattle.dcx_kinds.specs.Ranges.{AreInside}
+use Rattle.dcx_script_values.specs.Values.{Value, plain, nothing}
+use Rattle.dcx_script_values.specs.Kinds.{whole_number}
+use Rattle.dcx_script_values.specs.Ranges.{AreInside}
 use Rattle.dcx_signature.specs.Turns.{range_items, whole_value}
 
 -- ---- the way from the first number

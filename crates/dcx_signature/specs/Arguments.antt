@@ -8,9 +8,9 @@ use Rattle.dcx_point.specs.Pairs.{same_name}
 use Rattle.dcx_arena.specs.Nodes.{Node}
 use Rattle.dcx_call.specs.declared.call.Call.{Call}
 use Rattle.dcx_signature.specs.declared.table.Takes.{Takes}
-use Rattle.dcx_kinds.specs.declared.fault.ElabFault.TheVariants.{BadArgument}
-use Rattle.dcx_kinds.specs.Values.{Value, nothing, Act, ◌>>◌, done, unless}
-use Rattle.dcx_kinds.specs.Kinds.{reading, reading_sides}
+use Rattle.dcx_script_values.specs.declared.fault.ElabFault.TheVariants.{BadArgument}
+use Rattle.dcx_script_values.specs.Values.{Value, nothing, Act, ◌>>◌, done, unless}
+use Rattle.dcx_script_values.specs.Kinds.{reading, reading_sides}
 use Rattle.dcx_signature.specs.Fits.{fits}
 use Rattle.dcx_signature.specs.Table.{Param, Row, unnamed, x_word}
 

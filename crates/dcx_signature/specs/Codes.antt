@@ -1,8 +1,8 @@
 -- How the logic stores what was given for the arguments of a call.
 use Rattle.std.specs.Prelude.{refl, ℕ, List}
 use Rattle.std.specs.Coded.{Coded, code_by, coded_list, coded_ℕ, coded×}
-use Rattle.dcx_kinds.specs.Values.{Value, Values, nothing, end, item}
-use Rattle.dcx_kinds.specs.Codes.{values_code}
+use Rattle.dcx_script_values.specs.Values.{Value, Values, nothing, end, item}
+use Rattle.dcx_script_values.specs.Codes.{values_code}
 
 abbrev pub first_of : Values → Value
 first_of end = nothing

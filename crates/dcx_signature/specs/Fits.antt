@@ -7,8 +7,8 @@ use Rattle.dcx_shape.specs.Sides.{entries_of}
 use Rattle.dcx_atom.specs.declared.axis.Axis.{Axis}
 use Rattle.dcx_atom.specs.Axis.{folded}
 use Rattle.dcx_point.specs.Pairs.{same_name}
-use Rattle.dcx_kinds.specs.Values.{Value, text, truth, constraint, objective}
-use Rattle.dcx_kinds.specs.Kinds.{is_number, whole_number, is_list, list_items, reading, is_fit, is_constant, sides_from, are_rows, axis_of}
+use Rattle.dcx_script_values.specs.Values.{Value, text, truth, constraint, objective}
+use Rattle.dcx_script_values.specs.Kinds.{is_number, whole_number, is_list, list_items, reading, is_fit, is_constant, sides_from, are_rows, axis_of}
 use Rattle.dcx_signature.specs.declared.table.Takes.{Takes}
 use Rattle.dcx_signature.specs.declared.table.Takes.TheVariants as takes
 

@@ -10,8 +10,8 @@ use Rattle.dcx_shape.specs.Places.{places_below}
 use Rattle.dcx_atom.specs.declared.array.Array.{Array}
 use Rattle.dcx_atom.specs.Formed.{frac_at}
 use Rattle.dcx_arena.specs.declared.fault.Count.TheVariants.{Items}
-use Rattle.dcx_kinds.specs.declared.fault.ElabFault.TheVariants.{NotOffered}
-use Rattle.dcx_kinds.specs.Values.{Value, plain, list, range, items_of, Act, ◌>>◌, done, fault, unless, too_many, most_items}
+use Rattle.dcx_script_values.specs.declared.fault.ElabFault.TheVariants.{NotOffered}
+use Rattle.dcx_script_values.specs.Values.{Value, plain, list, range, items_of, Act, ◌>>◌, done, fault, unless, too_many, most_items}
 use Rattle.dcx_array.specs.Arrays.{number}
 
 -- ---- ranges

@@ -2,8 +2,8 @@
 use Rattle.std.specs.Prelude.{ℕ, Bool, true, false, List, map, option_map}
 use Rattle.std.proofs.Common.{Bor}
 use Rattle.dcx_array.specs.Arrays.{number}
-use Rattle.dcx_kinds.specs.Values.{Value, plain, items_of}
-use Rattle.dcx_kinds.specs.Meant.{meant}
+use Rattle.dcx_script_values.specs.Values.{Value, plain, items_of}
+use Rattle.dcx_script_values.specs.Meant.{meant}
 use Rattle.dcx_signature.specs.declared.table.Way.{Way}
 use Rattle.dcx_signature.specs.declared.table.Way.TheVariants.{Must, May, Keyword, MustByPosition, MayByPosition}
 use Rattle.dcx_signature.specs.declared.table.Param as code_param

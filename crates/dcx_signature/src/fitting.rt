@@ -3,14 +3,14 @@ ghost use Rattle.std.specs.Prelude.{◌≡◌, ◌&&◌, map, not, option_map, p
 ghost use Rattle.std.specs.List.{list_all};
 ghost use Rattle.std.specs.Ordering.{int_eq};
 ghost use Rattle.dcx_shape.specs.Shape.{sides_of};
-ghost use Rattle.dcx_kinds.specs.Kinds.{axis_of, reading, whole_number};
-ghost use Rattle.dcx_kinds.specs.Kinds as kinds;
-ghost use Rattle.dcx_kinds.specs.Meant.{meant};
+ghost use Rattle.dcx_script_values.specs.Kinds.{axis_of, reading, whole_number};
+ghost use Rattle.dcx_script_values.specs.Kinds as kinds;
+ghost use Rattle.dcx_script_values.specs.Meant.{meant};
 ghost use Rattle.dcx_signature.specs.Fits as meaning;
 
 use crate::table::Takes;
 use dcx_atom::Axis;
-use dcx_kinds::{
+use dcx_script_values::{
     Value, are_rows, axis_of, is_constant, is_fit, is_number, sides_from, whole_number,
 };
 use dcx_shape::Shape;

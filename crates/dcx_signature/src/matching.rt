@@ -4,10 +4,10 @@ ghost use Rattle.std.specs.List.{list_any, list_all};
 ghost use Rattle.dcx_point.specs.Pairs.{same_name};
 ghost use Rattle.dcx_shape.specs.Shape.{sides_of};
 ghost use Rattle.dcx_arena.specs.Nodes.{sides_at};
-ghost use Rattle.dcx_kinds.specs.Values.{State as MeantState};
-ghost use Rattle.dcx_kinds.specs.Kinds.{reading, reading_sides};
-ghost use Rattle.dcx_kinds.specs.Meant.{meant};
-ghost use Rattle.dcx_kinds.specs.View.{Gives};
+ghost use Rattle.dcx_script_values.specs.Values.{State as MeantState};
+ghost use Rattle.dcx_script_values.specs.Kinds.{reading, reading_sides};
+ghost use Rattle.dcx_script_values.specs.Meant.{meant};
+ghost use Rattle.dcx_script_values.specs.View.{Gives};
 ghost use Rattle.dcx_signature.specs.Arguments as meaning;
 ghost use Rattle.dcx_signature.specs.Seen.{argument_seen};
 ghost use Rattle.dcx_signature.specs.View.{param_seen, row_seen, words, given_seen, assignment_seen};
@@ -15,7 +15,7 @@ ghost use Rattle.dcx_signature.specs.View.{param_seen, row_seen, words, given_se
 use crate::fitting::fits;
 use crate::table::{Param, Row, Takes, Way, is_word};
 use dcx_arena::NodeId;
-use dcx_kinds::{ElabFault, Value, plain_shape_of};
+use dcx_script_values::{ElabFault, Value, plain_shape_of};
 use dcx_shape::{Name, Place, Shape};
 use dcx_tree::Tree;
 use std::alloc::{AllocError, Global};
@@ -52,7 +52,7 @@ pub struct Bound {
 
 impl Model for Bound {
     ghost use Rattle.std.specs.Prelude.{ℕ, List, map};
-    ghost use Rattle.dcx_kinds.specs.Values.{Value as MeantValue};
+    ghost use Rattle.dcx_script_values.specs.Values.{Value as MeantValue};
     ghost use Rattle.dcx_signature.specs.Codes.{bound_code};
     ghost use Rattle.dcx_signature.specs.Seen.{argument_seen};
 

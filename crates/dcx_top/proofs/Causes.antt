@@ -5,18 +5,18 @@ use Rattle.std.proofs.lemmas.Option.{none-some}
 use Rattle.dcx_point.specs.Pairs.{Pairs}
 use Rattle.dcx_tree.specs.declared.problem.Problem.{Problem}
 use Rattle.dcx_elab.specs.declared.work.Work.{Work}
-use Rattle.dcx_sections.specs.declared.fault.CertFault.{CertFault}
-use Rattle.dcx_sections.specs.declared.section.Sections.{Sections}
-use Rattle.dcx_sections.specs.declared.fault.CertFault.TheVariants as faults
-use Rattle.dcx_sections.specs.declared.section.Section.{Section}
+use Rattle.dcx_answer.specs.declared.cert_fault.CertFault.{CertFault}
+use Rattle.dcx_cert_sections.specs.declared.section.Sections.{Sections}
+use Rattle.dcx_answer.specs.declared.cert_fault.CertFault.TheVariants as faults
+use Rattle.dcx_cert_sections.specs.declared.section.Section.{Section}
 use Rattle.dcx_cert_lines.specs.CertText.{cert_text}
 use Rattle.dcx_cache.specs.Programs.{HasMap}
 use Rattle.dcx_outcomes.specs.Outcomes.{Counts}
 use Rattle.dcx_outcomes.specs.Warm.{AreFound}
 use Rattle.dcx_outcomes.specs.Wholes.{AreWholeOutcomes}
-use Rattle.dcx_certificates.specs.Sections.{StopsSomewhere, IsCertificateAt}
-use Rattle.dcx_certificates.specs.Checking.{is_cert, ArePassed, IsFirstRefused}
-use Rattle.dcx_certificates.specs.Migrating.{IsMigrated}
+use Rattle.dcx_cert_runs.specs.Sections.{StopsSomewhere, IsCertificateAt}
+use Rattle.dcx_cert_runs.specs.Checking.{is_cert, ArePassed, IsFirstRefused}
+use Rattle.dcx_cert_runs.specs.Migrating.{IsMigrated}
 use Rattle.dcx_host.specs.Files.{Files, IsTold}
 use Rattle.dcx_front.specs.declared.accepted.Accepted.{Accepted}
 use Rattle.dcx_refusal.specs.declared.checked.Checked.{Checked}
@@ -27,8 +27,8 @@ use Rattle.dcx_refusal.specs.declared.refusal.RefusalSource.TheVariants.{Script,
 use Rattle.dcx_front.specs.Checks.{IsFoundOf}
 use Rattle.dcx_front.specs.Accepts.{Gives, IsJudged}
 use Rattle.dcx_front.proofs.OneVerdict.{acceptance}
-use Rattle.dcx_outcomes.specs.declared.outcome.Outcome.{Outcome}
-use Rattle.dcx_outcomes.specs.declared.whole_outcome.WholeOutcome.{WholeOutcome}
+use Rattle.dcx_answer.specs.declared.outcome.Outcome.{Outcome}
+use Rattle.dcx_answer.specs.declared.whole_outcome.WholeOutcome.{WholeOutcome}
 use Rattle.dcx_report.specs.declared.run.Run.{Run}
 use Rattle.dcx_report.specs.declared.run.Run.TheVariants as run
 use Rattle.dcx_report.specs.declared.run.Word.{Word}

@@ -4,7 +4,7 @@ use Rattle.dcx_point.specs.Pairs.{Pairs}
 use Rattle.dcx_tree.specs.declared.constraint.Sense.{Sense}
 use Rattle.dcx_host.specs.Files.{Files}
 use Rattle.dcx_front.specs.declared.accepted.Accepted.{Accepted}
-use Rattle.dcx_outcomes.specs.declared.whole_outcome.WholeOutcome.{WholeOutcome}
+use Rattle.dcx_answer.specs.declared.whole_outcome.WholeOutcome.{WholeOutcome}
 use Rattle.dcx_report.specs.declared.run.Run.{Run}
 use Rattle.dcx_report.specs.declared.run.Run.TheVariants as run
 use Rattle.dcx_report.specs.declared.run.Word.TheVariants as word

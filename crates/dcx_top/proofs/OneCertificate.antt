@@ -5,21 +5,21 @@ use Rattle.dcx_point.specs.Pairs.{Pairs}
 use Rattle.dcx_host.specs.Files.{Files}
 use Rattle.dcx_front.specs.declared.accepted.Accepted.{Accepted}
 use Rattle.dcx_front.proofs.OneVerdict.{acceptance}
-use Rattle.dcx_sections.specs.declared.fault.CertFault.{CertFault}
-use Rattle.dcx_sections.specs.declared.fault.CertFault.TheVariants as faults
-use Rattle.dcx_sections.specs.declared.section.Sections.{Sections}
-use Rattle.dcx_outline.specs.Drawn.{problem_outline}
+use Rattle.dcx_answer.specs.declared.cert_fault.CertFault.{CertFault}
+use Rattle.dcx_answer.specs.declared.cert_fault.CertFault.TheVariants as faults
+use Rattle.dcx_cert_sections.specs.declared.section.Sections.{Sections}
+use Rattle.dcx_cert_outline.specs.Drawn.{problem_outline}
 use Rattle.dcx_cert_lines.specs.CertText.{cert_text}
 use Rattle.dcx_cert_lines.specs.Forms.{IsTextOf, IsMisfit}
-use Rattle.dcx_cert_laws.proofs.OneText.{one_text}
-use Rattle.dcx_cert_laws.proofs.Fronts.{one_line}
-use Rattle.dcx_certificates.specs.Sections.{StopsSomewhere, IsCertificateAt}
-use Rattle.dcx_certificates.specs.Checking.{is_cert, ArePassed, IsFirstRefused}
-use Rattle.dcx_certificates.specs.Migrating.{IsMigrated}
-use Rattle.dcx_certificates.specs.Laws.{AreAlike}
-use Rattle.dcx_certificates.proofs.OneCertificate.{certificates_are_one}
-use Rattle.dcx_certificates.proofs.OneRefusal.{refusals_are_one}
-use Rattle.dcx_certificates.proofs.Migrated.{migrations_are_one}
+use Rattle.dcx_cert_text.proofs.OneText.{one_text}
+use Rattle.dcx_cert_text.proofs.Fronts.{one_line}
+use Rattle.dcx_cert_runs.specs.Sections.{StopsSomewhere, IsCertificateAt}
+use Rattle.dcx_cert_runs.specs.Checking.{is_cert, ArePassed, IsFirstRefused}
+use Rattle.dcx_cert_runs.specs.Migrating.{IsMigrated}
+use Rattle.dcx_cert_runs.specs.Laws.{AreAlike}
+use Rattle.dcx_cert_runs.proofs.OneCertificate.{certificates_are_one}
+use Rattle.dcx_cert_runs.proofs.OneRefusal.{refusals_are_one}
+use Rattle.dcx_cert_runs.proofs.Migrated.{migrations_are_one}
 use Rattle.dcx_words.specs.Commands.{Command, certificate, certify, migrate, command_of}
 use Rattle.dcx_report.specs.declared.run.Run.TheVariants as run
 use Rattle.dcx_top.specs.Commands.{AreSettingsOf, limit_of}

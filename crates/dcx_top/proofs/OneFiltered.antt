@@ -3,7 +3,7 @@ use Rattle.std.proofs.Common.{◌≡◌, ℕ, List, Some, sym, subst}
 use Rattle.dcx_point.specs.Pairs.{Pairs}
 use Rattle.dcx_host.specs.Files.{Files}
 use Rattle.dcx_front.specs.declared.accepted.Accepted.{Accepted}
-use Rattle.dcx_outcomes.specs.declared.filter_outcome.FilterOutcome.{FilterOutcome}
+use Rattle.dcx_answer.specs.declared.filter_outcome.FilterOutcome.{FilterOutcome}
 use Rattle.dcx_words.specs.Commands.{Command, iis}
 use Rattle.dcx_outcomes.specs.Filters.{AreFilterOutcomes}
 use Rattle.dcx_outcomes.specs.FilterLaws.{AreAlikeFilters}

@@ -5,7 +5,7 @@ use Rattle.dcx_point.specs.Pairs.{Pairs}
 use Rattle.dcx_tree.specs.declared.constraint.Sense.{Sense}
 use Rattle.dcx_host.specs.Files.{Files}
 use Rattle.dcx_front.specs.declared.accepted.Accepted.{Accepted}
-use Rattle.dcx_outcomes.specs.declared.range_outcome.RangeOutcome.{RangeOutcome}
+use Rattle.dcx_answer.specs.declared.range_outcome.RangeOutcome.{RangeOutcome}
 use Rattle.dcx_words.specs.Commands.{Command, range}
 use Rattle.dcx_outcomes.specs.Ranges.{AreRangeOutcomes}
 use Rattle.dcx_outcomes.specs.RangeLaws.{AreAlikeRanges}

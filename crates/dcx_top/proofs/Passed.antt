@@ -6,15 +6,15 @@ use Rattle.std.proofs.lemmas.List.Elements.{All-get_or}
 use Rattle.dcx_point.specs.Pairs.{Pairs}
 use Rattle.dcx_tree.specs.declared.problem.Problem.{Problem}
 use Rattle.dcx_tree.specs.Meaning.{IsAccepted}
-use Rattle.dcx_sections.specs.declared.cert.Cert.TheVariants.{Optimal, Infeasible, Unbounded}
-use Rattle.dcx_sections.specs.declared.section.Section.{Section}
-use Rattle.dcx_sections.specs.declared.section.Section.TheVariants as sections
-use Rattle.dcx_sections.specs.declared.section.Sections.{Sections}
-use Rattle.dcx_sections.specs.Shown.{IsSectionOf, AreSectionsOf}
-use Rattle.dcx_outline.specs.Drawn.{problem_outline}
-use Rattle.dcx_certify.proofs.Shows.{passed_are_shown}
-use Rattle.dcx_certificates.specs.Checking.{section_check, IsSectionShown, ArePassed, AreShown}
-use Rattle.dcx_certificates.specs.Migrating.{with_values, IsMigrated}
+use Rattle.dcx_cert_sections.specs.declared.cert.Cert.TheVariants.{Optimal, Infeasible, Unbounded}
+use Rattle.dcx_cert_sections.specs.declared.section.Section.{Section}
+use Rattle.dcx_cert_sections.specs.declared.section.Section.TheVariants as sections
+use Rattle.dcx_cert_sections.specs.declared.section.Sections.{Sections}
+use Rattle.dcx_cert_sections.specs.Shown.{IsSectionOf, AreSectionsOf}
+use Rattle.dcx_cert_outline.specs.Drawn.{problem_outline}
+use Rattle.dcx_cert_check.proofs.Shows.{passed_are_shown}
+use Rattle.dcx_cert_runs.specs.Checking.{section_check, IsSectionShown, ArePassed, AreShown}
+use Rattle.dcx_cert_runs.specs.Migrating.{with_values, IsMigrated}
 
 section_shown : (p : Problem) (s : Pairs) (x : Section) → IsAccepted p → IsSectionOf (problem_outline p) x → (section_check p s x).passes → IsSectionShown p s x
 section_shown p s (sections.Cert cert) ok of_problem h = passed_are_shown p s cert ok of_problem h

@@ -4,11 +4,11 @@ use Rattle.dcx_host.specs.Files.{Files, IsTold}
 use Rattle.dcx_point.specs.Pairs.{Pairs}
 use Rattle.dcx_tree.specs.declared.problem.Problem.{Problem}
 use Rattle.dcx_tree.specs.Meaning.{IsAccepted}
-use Rattle.dcx_outline.specs.Drawn.{problem_outline}
-use Rattle.dcx_sections.specs.declared.fault.CertFault.{CertFault}
-use Rattle.dcx_sections.specs.declared.fault.CertFault.TheVariants as faults
-use Rattle.dcx_sections.specs.declared.section.Sections.{Sections}
-use Rattle.dcx_sections.specs.Shown.{AreSectionsOf}
+use Rattle.dcx_cert_outline.specs.Drawn.{problem_outline}
+use Rattle.dcx_answer.specs.declared.cert_fault.CertFault.{CertFault}
+use Rattle.dcx_answer.specs.declared.cert_fault.CertFault.TheVariants as faults
+use Rattle.dcx_cert_sections.specs.declared.section.Sections.{Sections}
+use Rattle.dcx_cert_sections.specs.Shown.{AreSectionsOf}
 use Rattle.dcx_cert_lines.specs.Forms.{IsReadFault}
 use Rattle.dcx_settings.specs.declared.settings.SettingItem.{SettingItem}
 use Rattle.dcx_settings.specs.File.{SpellSettings}

@@ -16,8 +16,8 @@ use Rattle.dcx_tree.specs.Nodes.{Node}
 use Rattle.dcx_call.specs.declared.attribute.Variable.{Variable}
 use Rattle.dcx_tree.specs.declared.problem.Problem.{Problem}
 use Rattle.dcx_shape.specs.declared.place.Place.{Place}
-use Rattle.dcx_ranged.specs.declared.not_ranged.NotRanged.{NotRanged as Fault}
-use Rattle.dcx_ranged.specs.declared.not_ranged.NotRanged.TheVariants as faults
+use Rattle.dcx_answer.specs.declared.not_ranged.NotRanged.{NotRanged as Fault}
+use Rattle.dcx_answer.specs.declared.not_ranged.NotRanged.TheVariants as faults
 use Rattle.dcx_outcomes.proofs.RangeEnds.{range_is_told}
 use Rattle.dcx_front.specs.declared.accepted.Accepted.{Accepted}
 use Rattle.dcx_front.specs.declared.fault.FrontFault.TheVariants as front

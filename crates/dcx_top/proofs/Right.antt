@@ -3,8 +3,8 @@ use Rattle.std.proofs.Common.{◌≡◌, inl, inr, ℕ, Bool, List, Option, Some
 use Rattle.dcx_host.specs.Files.{Files}
 use Rattle.dcx_front.specs.declared.accepted.Accepted.{Accepted}
 use Rattle.dcx_front.proofs.OneVerdict.{acceptance}
-use Rattle.dcx_outcomes.specs.declared.filter_outcome.FilterOutcome.{FilterOutcome}
-use Rattle.dcx_outcomes.specs.declared.range_outcome.RangeOutcome.{RangeOutcome}
+use Rattle.dcx_answer.specs.declared.filter_outcome.FilterOutcome.{FilterOutcome}
+use Rattle.dcx_answer.specs.declared.range_outcome.RangeOutcome.{RangeOutcome}
 use Rattle.dcx_tree.specs.declared.constraint.Sense.{Sense}
 use Rattle.dcx_report.specs.declared.run.Run.{Run}
 use Rattle.dcx_report.specs.declared.run.Run.TheVariants as run
@@ -14,10 +14,10 @@ use Rattle.dcx_outcomes.proofs.Warm.{found_are_right}
 use Rattle.dcx_outcomes.proofs.FilterEnds.{filters_are_right}
 use Rattle.dcx_outcomes.proofs.WholeEnds.{wholes_are_right}
 use Rattle.dcx_outcomes.proofs.RangeEnds.{ranges_are_right}
-use Rattle.dcx_sections.specs.declared.section.Section.{Section}
-use Rattle.dcx_sections.specs.declared.section.Sections.{Sections}
-use Rattle.dcx_certificates.specs.Checking.{AreShown}
-use Rattle.dcx_certificates.proofs.Shown.{sections_are_shown}
+use Rattle.dcx_cert_sections.specs.declared.section.Section.{Section}
+use Rattle.dcx_cert_sections.specs.declared.section.Sections.{Sections}
+use Rattle.dcx_cert_runs.specs.Checking.{AreShown}
+use Rattle.dcx_cert_runs.proofs.Shown.{sections_are_shown}
 use Rattle.dcx_top.specs.Commands.{limit_of}
 use Rattle.dcx_top.specs.Runs.{GivesProblem, IsSolvedRun, IsBranchedRun, IsFilteredRun, IsRangedRun, IsCertificateRun, HasCertificate, HasPassed, IsMigrateRun, Causes}
 use Rattle.dcx_top.specs.Headline.{IsAcceptedWork, IsRightlySolved, IsRightlyBranched, IsRightlyFiltered, IsRightlyRanged, IsRightlyShown, IsRightRun}

@@ -16,7 +16,7 @@ use Rattle.dcx_tree.specs.Problems.{HasCall}
 use Rattle.std.proofs.Math.Logic.{∥∥₁_elim}
 use Rattle.dcx_graph.proofs.Entries.{all_at}
 use Rattle.dcx_range.proofs.Named.{name_is}
-use Rattle.dcx_ranged.specs.declared.not_ranged.NotRanged.TheVariants as faults
+use Rattle.dcx_answer.specs.declared.not_ranged.NotRanged.TheVariants as faults
 use Rattle.dcx_linear.specs.declared.param_form.ParamForm.{ParamForm}
 use Rattle.dcx_graph.specs.declared.reduced.Reduced.{Reduced}
 use Rattle.dcx_cache.specs.Programs.{IsMapOf, HasMap}

@@ -7,17 +7,17 @@ use Rattle.dcx_report.specs.ReportText.{text_of}
 use Rattle.dcx_answer.specs.declared.stop.Stop.TheVariants.{Memory as StopMemory}
 use Rattle.dcx_report.specs.declared.run.Run.{Run}
 use Rattle.dcx_report.specs.declared.run.Run.TheVariants.{Usage, Refused, Checked, Solved, Branched, Certificates, Certified, CertRefused, Trial, Filtered, Ranged, ReadFault, Memory}
-use Rattle.dcx_outcomes.specs.declared.outcome.OutcomeEnd.{OutcomeEnd}
-use Rattle.dcx_outcomes.specs.declared.outcome.OutcomeEnd.TheVariants.{Answer, Stop}
+use Rattle.dcx_answer.specs.declared.outcome.OutcomeEnd.{OutcomeEnd}
+use Rattle.dcx_answer.specs.declared.outcome.OutcomeEnd.TheVariants.{Answer, Stop}
 use Rattle.dcx_answer.specs.declared.filter_stop.FilterStop.TheVariants.{Memory as FilterMemory}
-use Rattle.dcx_outcomes.specs.declared.filter_outcome.FilterEnd.{FilterEnd}
-use Rattle.dcx_outcomes.specs.declared.filter_outcome.FilterEnd.TheVariants as filter
-use Rattle.dcx_branch.specs.declared.answer.BranchStop.TheVariants.{Memory as BranchMemory}
-use Rattle.dcx_outcomes.specs.declared.whole_outcome.WholeEnd.{WholeEnd}
-use Rattle.dcx_outcomes.specs.declared.whole_outcome.WholeEnd.TheVariants as whole
-use Rattle.dcx_ranged.specs.declared.stop.RangeStop.TheVariants.{Memory as RangeMemory}
-use Rattle.dcx_outcomes.specs.declared.range_outcome.RangeEnd.{RangeEnd}
-use Rattle.dcx_outcomes.specs.declared.range_outcome.RangeEnd.TheVariants as range
+use Rattle.dcx_answer.specs.declared.filter_outcome.FilterEnd.{FilterEnd}
+use Rattle.dcx_answer.specs.declared.filter_outcome.FilterEnd.TheVariants as filter
+use Rattle.dcx_answer.specs.declared.whole_answer.BranchStop.TheVariants.{Memory as BranchMemory}
+use Rattle.dcx_answer.specs.declared.whole_outcome.WholeEnd.{WholeEnd}
+use Rattle.dcx_answer.specs.declared.whole_outcome.WholeEnd.TheVariants as whole
+use Rattle.dcx_answer.specs.declared.range_stop.RangeStop.TheVariants.{Memory as RangeMemory}
+use Rattle.dcx_answer.specs.declared.range_outcome.RangeEnd.{RangeEnd}
+use Rattle.dcx_answer.specs.declared.range_outcome.RangeEnd.TheVariants as range
 use Rattle.dcx_top.specs.declared.ended.Ended.{Ended}
 
 -- the setting stopped

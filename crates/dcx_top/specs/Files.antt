@@ -14,10 +14,10 @@ use Rattle.dcx_refusal.specs.Made.{IsTooLong}
 use Rattle.dcx_front.specs.Accepts.{Gives, IsRefusedBy, read_ending}
 use Rattle.dcx_tree.specs.declared.problem.Problem.{Problem}
 use Rattle.dcx_point.specs.Pairs.{Pairs}
-use Rattle.dcx_sections.specs.declared.fault.CertFault.{CertFault}
-use Rattle.dcx_sections.specs.declared.fault.CertFault.TheVariants as faults
-use Rattle.dcx_sections.specs.declared.section.Sections.{Sections}
-use Rattle.dcx_outline.specs.Drawn.{problem_outline}
+use Rattle.dcx_answer.specs.declared.cert_fault.CertFault.{CertFault}
+use Rattle.dcx_answer.specs.declared.cert_fault.CertFault.TheVariants as faults
+use Rattle.dcx_cert_sections.specs.declared.section.Sections.{Sections}
+use Rattle.dcx_cert_outline.specs.Drawn.{problem_outline}
 use Rattle.dcx_cert_lines.specs.Forms.{IsTextOf, IsMisfit}
 use Rattle.dcx_report.specs.declared.run.Run.{Run}
 use Rattle.dcx_report.specs.declared.run.Run.TheVariants as run

@@ -10,10 +10,10 @@ use Rattle.dcx_elab.specs.declared.work.Work.{Work}
 use Rattle.dcx_elab.specs.Meaning.{Elaborates}
 use Rattle.dcx_refusal.specs.declared.checked.Checked.{Checked}
 use Rattle.dcx_front.specs.Checks.{IsFoundOf}
-use Rattle.dcx_outcomes.specs.declared.outcome.Outcome.{Outcome}
-use Rattle.dcx_outcomes.specs.declared.filter_outcome.FilterOutcome.{FilterOutcome}
-use Rattle.dcx_outcomes.specs.declared.whole_outcome.WholeOutcome.{WholeOutcome}
-use Rattle.dcx_outcomes.specs.declared.range_outcome.RangeOutcome.{RangeOutcome}
+use Rattle.dcx_answer.specs.declared.outcome.Outcome.{Outcome}
+use Rattle.dcx_answer.specs.declared.filter_outcome.FilterOutcome.{FilterOutcome}
+use Rattle.dcx_answer.specs.declared.whole_outcome.WholeOutcome.{WholeOutcome}
+use Rattle.dcx_answer.specs.declared.range_outcome.RangeOutcome.{RangeOutcome}
 use Rattle.dcx_tree.specs.declared.constraint.Sense.{Sense}
 use Rattle.dcx_report.specs.declared.run.Run.{Run}
 use Rattle.dcx_report.specs.declared.run.Run.TheVariants as run
@@ -22,10 +22,10 @@ use Rattle.dcx_outcomes.specs.Right.{AreRight}
 use Rattle.dcx_outcomes.specs.FilterLaws.{AreRightFilters}
 use Rattle.dcx_outcomes.specs.WholeLaws.{AreRightWholes}
 use Rattle.dcx_outcomes.specs.RangeLaws.{AreRightRanges}
-use Rattle.dcx_sections.specs.declared.section.Section.{Section}
-use Rattle.dcx_sections.specs.declared.section.Sections.{Sections}
+use Rattle.dcx_cert_sections.specs.declared.section.Section.{Section}
+use Rattle.dcx_cert_sections.specs.declared.section.Sections.{Sections}
 use Rattle.dcx_cert_lines.specs.CertText.{cert_text}
-use Rattle.dcx_certificates.specs.Checking.{is_cert, AreShown}
+use Rattle.dcx_cert_runs.specs.Checking.{is_cert, AreShown}
 use Rattle.dcx_top.specs.Commands.{IsScriptOf, parameter_name, AreSettingsOf, TellsOutcomes, TellsWholes}
 use Rattle.dcx_top.specs.Whole.{HasNoWhole}
 

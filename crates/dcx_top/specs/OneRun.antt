@@ -2,9 +2,9 @@
 use Rattle.std.specs.Prelude.{◌≡◌, ⊤, ℕ, List, Option, Some, None}
 use Rattle.dcx_host.specs.Faults.{Rose}
 use Rattle.dcx_host.specs.Files.{Files}
-use Rattle.dcx_outcomes.specs.declared.outcome.Outcome.{Outcome}
-use Rattle.dcx_outcomes.specs.declared.filter_outcome.FilterOutcome.{FilterOutcome}
-use Rattle.dcx_outcomes.specs.declared.whole_outcome.WholeOutcome.{WholeOutcome}
+use Rattle.dcx_answer.specs.declared.outcome.Outcome.{Outcome}
+use Rattle.dcx_answer.specs.declared.filter_outcome.FilterOutcome.{FilterOutcome}
+use Rattle.dcx_answer.specs.declared.whole_outcome.WholeOutcome.{WholeOutcome}
 use Rattle.dcx_report.specs.declared.run.Run.{Run}
 use Rattle.dcx_report.specs.declared.run.Run.TheVariants as run
 use Rattle.dcx_front.specs.declared.accepted.Accepted.{Accepted}
@@ -13,9 +13,9 @@ use Rattle.dcx_outcomes.specs.Laws.{AreOneFound}
 use Rattle.dcx_outcomes.specs.FilterLaws.{AreAlikeFilters}
 use Rattle.dcx_outcomes.specs.WholeLaws.{AreAlikeWholes}
 use Rattle.dcx_outcomes.specs.RangeLaws.{AreAlikeRanges}
-use Rattle.dcx_sections.specs.declared.section.Sections.{Sections}
+use Rattle.dcx_cert_sections.specs.declared.section.Sections.{Sections}
 use Rattle.dcx_cert_lines.specs.CertText.{cert_text}
-use Rattle.dcx_certificates.specs.Laws.{AreAlike as AreAlikeSections}
+use Rattle.dcx_cert_runs.specs.Laws.{AreAlike as AreAlikeSections}
 use Rattle.dcx_top.specs.Runs.{GivesProblem, Causes}
 
 -- neither the library nor memory failed

@@ -8,7 +8,7 @@ use Rattle.dcx_call.specs.declared.call.Call.TheVariants as calls
 use Rattle.dcx_call.specs.declared.attribute.Parameter.{Parameter}
 use Rattle.dcx_tree.specs.declared.problem.Problem.{Problem}
 use Rattle.dcx_tree.specs.Nodes.{Node}
-use Rattle.dcx_range.specs.Parameters.{HasParameter}
+use Rattle.dcx_right.specs.Ranges.{HasParameter}
 
 -- the name that a call declares
 abbrev pub name_of : Call → Option (List ℕ)

@@ -10,7 +10,7 @@ use Rattle.dcx_report.specs.declared.run.Run.{Run}
 use Rattle.dcx_report.specs.declared.run.Run.TheVariants as run
 use Rattle.dcx_words.specs.Commands.{Command, command_of}
 use Rattle.dcx_refusal.specs.declared.refusal.RefusalSource.TheVariants.{Certificate}
-use Rattle.dcx_ranged.specs.declared.not_ranged.NotRanged.{NotRanged}
+use Rattle.dcx_answer.specs.declared.not_ranged.NotRanged.{NotRanged}
 use Rattle.dcx_outcomes.specs.Ranges.{LacksRange}
 use Rattle.dcx_top.specs.NoRange.{AllowsRange}
 use Rattle.dcx_top.specs.Commands.{IsScriptOf, settings_name, certificate_name, parameter_name}

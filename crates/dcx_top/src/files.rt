@@ -3,12 +3,13 @@ ghost use Rattle.std.specs.Prelude.{◌≡◌, ◌≤◌, length, IfOk, IfErr};
 ghost use Rattle.dcx_host.specs.Faults.{Rose};
 ghost use Rattle.dcx_top.specs.Files.{most_bytes as most_bytes_of, run_of, GivesBytes, EndsAt, ReadsScript, ReadsSettings, refused_at as refused_at_of, ReadsCertificate};
 
+use dcx_answer::CertFault;
+use dcx_cert_sections::Sections;
 use dcx_cert_text::read_cert;
 use dcx_front::{Accepted, FrontFault, accept, unread};
 use dcx_host::{FetchFault, Library};
 use dcx_refusal::{Refusal, RefusalSource};
 use dcx_report::Run;
-use dcx_sections::{CertFault, Sections};
 use dcx_settings::{Settings, parse_settings};
 use dcx_shape::Bytes;
 use dcx_tree::Problem;

@@ -4,9 +4,9 @@ ghost use Rattle.dcx_outcomes.specs.Ranges.{HasRange, LacksRange};
 ghost use Rattle.dcx_top.specs.NoRange.{IsPlaceOf, IsRefusedForRange};
 
 use crate::stands::place_of;
+use dcx_answer::NotRanged;
 use dcx_cache::Session;
 use dcx_range::ranged;
-use dcx_ranged::NotRanged;
 use dcx_refusal::Refusal;
 use dcx_shape::{Name, Place};
 use dcx_tree::Problem;

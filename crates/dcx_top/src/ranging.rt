@@ -7,7 +7,7 @@ ghost use Rattle.dcx_host.specs.Faults.{Rose};
 ghost use Rattle.dcx_front.specs.Accepts.{IsJudged};
 ghost use Rattle.dcx_words.specs.Commands.{range as ranges, command_of};
 ghost use Rattle.dcx_overlay.specs.Settings.{AreLaidOver};
-ghost use Rattle.dcx_outcomes.specs.declared.range_outcome.RangeOutcome.{RangeOutcome};
+ghost use Rattle.dcx_answer.specs.declared.range_outcome.RangeOutcome.{RangeOutcome};
 ghost use Rattle.dcx_outcomes.specs.Outcomes.{Counts};
 ghost use Rattle.dcx_outcomes.specs.Ranges.{HasRange, AreRangeOutcomes};
 ghost use Rattle.dcx_elab.specs.declared.work.Work.{Work};

@@ -18,7 +18,7 @@ ghost use Rattle.dcx_top.specs.Runs.{OrWhole, SolvesAt, BranchesAt, AnswersAt, R
 use crate::certifying::written;
 use crate::files::{ended, read_script, read_settings};
 use crate::whole::{has_whole, refuse_whole};
-use dcx_certificates::certificate;
+use dcx_cert_runs::certificate;
 use dcx_elab::Work;
 use dcx_front::{Accepted, accept};
 use dcx_host::Library;

@@ -1,6 +1,6 @@
 -- The sides that are left make of the bounds so far those of all sides.
 use Rattle.std.proofs.Common.{◌≡◌, drop}
-use Rattle.dcx_whole.specs.Boxes.{mark_bounds}
+use Rattle.dcx_right.specs.Boxes.{mark_bounds}
 use Rattle.dcx_branch.specs.Sides.{limits_of, sided}
 use Rattle.dcx_branch.proofs.limits.limits_at.Given as goal
 

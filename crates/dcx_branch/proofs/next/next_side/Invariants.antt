@@ -1,6 +1,6 @@
 -- What is left has the same boxes open beside it.
 use Rattle.std.proofs.Common.{◌≡◌, vec_len}
-use Rattle.dcx_whole.specs.Boxes.{Box}
+use Rattle.dcx_right.specs.Boxes.{Box}
 use Rattle.dcx_branch.specs.Sides.{open_sides}
 use Rattle.dcx_branch.proofs.next.next_side.Given as goal
 

@@ -6,7 +6,7 @@ use Rattle.std.proofs.lemmas.Option.{slice_get-get_or}
 use Rattle.dcx_call.specs.declared.attribute.Whole.TheVariants.{Not}
 use Rattle.dcx_postsolve.specs.Points.{numbered}
 use Rattle.dcx_postsolve.proofs.Fractions.{read}
-use Rattle.dcx_whole.specs.Points.{IsWhole}
+use Rattle.dcx_right.specs.Points.{IsWhole}
 use Rattle.dcx_branch.specs.declared.place.Place.{Place}
 use Rattle.dcx_branch.specs.Between.{IsBetween}
 use Rattle.dcx_branch.proofs.Rooms.{room_fits}

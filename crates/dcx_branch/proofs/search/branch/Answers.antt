@@ -5,8 +5,9 @@ use Rattle.dcx_tree.specs.Meaning.{setting_of}
 use Rattle.dcx_tree.proofs.Few.{few_variables}
 use Rattle.dcx_unknowns.specs.Unknowns.{variable_unknowns}
 use Rattle.dcx_unknowns.proofs.Domains.{unknowns_few}
-use Rattle.dcx_branch.specs.declared.answer.WholeAnswer.{WholeAnswer}
-use Rattle.dcx_branch.specs.Answers.{IsRightFor, IsEndOf}
+use Rattle.dcx_answer.specs.declared.whole_answer.WholeAnswer.{WholeAnswer}
+use Rattle.dcx_branch.specs.Answers.{IsEndOf}
+use Rattle.dcx_right.specs.WholeAnswers.{IsRightFor}
 use Rattle.dcx_branch.proofs.Told.{rows_there}
 use Rattle.dcx_branch.proofs.Advance.{begun, done_right, done_ends}
 use Rattle.dcx_branch.proofs.search.branch.Goals as goal

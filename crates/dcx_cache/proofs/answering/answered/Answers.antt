@@ -1,5 +1,5 @@
 use Rattle.std.proofs.Common.{sym, subst}
-use Rattle.dcx_solved.specs.Solved.{IsSolved, Stops as RowsStop}
+use Rattle.dcx_lp_solve.specs.Solved.{IsSolved, Stops as RowsStop}
 use Rattle.dcx_graph.proofs.Mapped.{given_rows}
 use Rattle.dcx_cache.specs.Answers.{Stops}
 use Rattle.dcx_cache.proofs.Answered.{is_answered}

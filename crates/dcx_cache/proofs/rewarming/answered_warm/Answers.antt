@@ -1,7 +1,7 @@
 -- What is read back from rows that are solved from the columns is the answer, and there is none where they aren't.
 use Rattle.std.proofs.Common.{Option, Some, None, subst}
 use Rattle.dcx_std.specs.GivenRows.{given}
-use Rattle.dcx_solved.specs.declared.solving.Solved.{Solved}
+use Rattle.dcx_lp_solve.specs.declared.solving.Solved.{Solved}
 use Rattle.dcx_graph.proofs.Mapped.{given_rows, known_of}
 use Rattle.dcx_cache.specs.Warm.{SolvesWarm}
 use Rattle.dcx_cache.proofs.WarmRuns.{warm_is_answered, never_solved, reads_result}

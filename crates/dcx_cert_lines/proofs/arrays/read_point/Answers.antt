@@ -2,7 +2,7 @@
 use Rattle.std.proofs.Common.{rules, [], ◌∷◌, map, arith}
 use Rattle.std.specs.Prelude.{IfErr}
 use Rattle.std.proofs.lemmas.Result.{err_from_is_err_and}
-use Rattle.dcx_sections.specs.Outlines.{shown}
+use Rattle.dcx_cert_sections.specs.Outlines.{shown}
 use Rattle.dcx_cert_lines.specs.Templates.{IsStopped, IfMisfit, named_template}
 use Rattle.dcx_cert_lines.proofs.Filled.{stop_map}
 use Rattle.dcx_cert_lines.proofs.Slots.{mapped_at, absent_among, more_shown, more_read, stop_at}

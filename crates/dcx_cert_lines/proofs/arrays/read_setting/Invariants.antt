@@ -2,7 +2,7 @@
 use Rattle.std.proofs.Common.{◌≡◌, take, map}
 use Rattle.std.specs.Prelude.{codes}
 use Rattle.dcx_lines.specs.Shown.{variables_of}
-use Rattle.dcx_sections.specs.Outlines.{shown}
+use Rattle.dcx_cert_sections.specs.Outlines.{shown}
 use Rattle.dcx_cert_lines.specs.CertText.{named_lines}
 use Rattle.dcx_cert_lines.specs.Templates.{IsRead}
 use Rattle.dcx_cert_lines.proofs.arrays.read_setting.Given as goal

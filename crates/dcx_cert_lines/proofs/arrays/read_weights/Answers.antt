@@ -2,8 +2,8 @@
 use Rattle.std.proofs.Common.{rules, ◌≡◌, [], ◌∷◌, ◌++◌, map, get_or, arith}
 use Rattle.std.specs.Prelude.{IfErr}
 use Rattle.std.proofs.lemmas.Result.{err_from_is_err_and}
-use Rattle.dcx_sections.specs.declared.outline.AtomRows.{AtomRows}
-use Rattle.dcx_sections.specs.Outlines.{rows_shown}
+use Rattle.dcx_cert_sections.specs.declared.outline.AtomRows.{AtomRows}
+use Rattle.dcx_cert_sections.specs.Outlines.{rows_shown}
 use Rattle.dcx_cert_lines.specs.Templates.{IsStopped, IfMisfit, node_template}
 use Rattle.dcx_cert_lines.proofs.Filled.{stop_map}
 use Rattle.dcx_cert_lines.proofs.Slots.{read_at}

@@ -1,7 +1,7 @@
 -- The weights so far are read.
 use Rattle.std.proofs.Common.{◌≡◌, take, map}
-use Rattle.dcx_sections.specs.Outlines.{rows_shown}
-use Rattle.dcx_sections.specs.Shown.{atoms_of}
+use Rattle.dcx_cert_sections.specs.Outlines.{rows_shown}
+use Rattle.dcx_cert_sections.specs.Shown.{atoms_of}
 use Rattle.dcx_cert_lines.specs.CertText.{node_lines}
 use Rattle.dcx_cert_lines.specs.Templates.{IsRead}
 use Rattle.dcx_cert_lines.proofs.arrays.read_weights.Given as goal

@@ -1,8 +1,8 @@
 -- What is read makes the section.
 use Rattle.std.proofs.Common.{◌≡◌, IfOk, refl, sym, subst}
-use Rattle.dcx_sections.specs.declared.section.Section.{Section}
-use Rattle.dcx_sections.specs.Shown.{IsSectionOf}
-use Rattle.dcx_sections.specs.Formats.{IsSectionOfFormat}
+use Rattle.dcx_cert_sections.specs.declared.section.Section.{Section}
+use Rattle.dcx_cert_sections.specs.Shown.{IsSectionOf}
+use Rattle.dcx_cert_sections.specs.Formats.{IsSectionOfFormat}
 use Rattle.dcx_cert_lines.specs.declared.kind.Kind.TheVariants.{Optimal}
 use Rattle.dcx_cert_lines.specs.CertText.{section_body}
 use Rattle.dcx_cert_lines.specs.Parts.{optimal_of}

@@ -2,7 +2,7 @@
 use Rattle.std.proofs.Common.{rules, [], ◌∷◌, ◌++◌, map, subst}
 use Rattle.std.specs.Prelude.{codes, IfErr}
 use Rattle.std.proofs.lemmas.Result.{err_from_is_err_and}
-use Rattle.dcx_sections.specs.Outlines.{shown, rows_shown}
+use Rattle.dcx_cert_sections.specs.Outlines.{shown, rows_shown}
 use Rattle.dcx_cert_lines.specs.declared.kind.Kind.TheVariants.{Optimal}
 use Rattle.dcx_cert_lines.specs.Templates.{IsStopped, IfMisfit, body_templates, param_templates, number_template, named_template, node_template, duals_from, end_template}
 use Rattle.dcx_cert_lines.proofs.Filled.{stop_map}

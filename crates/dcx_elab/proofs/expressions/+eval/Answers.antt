@@ -10,12 +10,12 @@ use Rattle.dcx_syntax.specs.declared.tree.Primary.TheVariants as primaries
 use Rattle.dcx_syntax.specs.declared.tree.Trailer as code_trailer
 use Rattle.dcx_syntax.specs.Expressions.{Primary, number_at, text_at, name_at, truth_at, none_at, unit, empty_list, Index, Step, Postfix, postfix, Trailers, attribute}
 use Rattle.dcx_syntax.specs.View.{args_of, indices_of, items_of as tree_items, more_items_of, optional_view, arg_view, index_view, expr_view, primary_view, postfix_view, step_view}
-use Rattle.dcx_kinds.specs.declared.fault.ElabFault.{ElabFault}
-use Rattle.dcx_kinds.specs.declared.value.Value as code_value
-use Rattle.dcx_kinds.specs.Values.{Value, Values, tuple as tuple_value, list as list_value, items_of, end, with_room, State, and_then, done}
-use Rattle.dcx_kinds.specs.Meant.{meant}
-use Rattle.dcx_kinds.specs.View.{Fails, Gives}
-use Rattle.dcx_kinds.proofs.Acts.{Fails-same}
+use Rattle.dcx_script_values.specs.declared.fault.ElabFault.{ElabFault}
+use Rattle.dcx_script_values.specs.declared.value.Value as code_value
+use Rattle.dcx_script_values.specs.Values.{Value, Values, tuple as tuple_value, list as list_value, items_of, end, with_room, State, and_then, done}
+use Rattle.dcx_script_values.specs.Meant.{meant}
+use Rattle.dcx_script_values.specs.View.{Fails, Gives}
+use Rattle.dcx_script_values.proofs.Acts.{Fails-same}
 use Rattle.dcx_operators.specs.declared.indices.Evaluated as code_evaluated
 use Rattle.dcx_operators.specs.Indices.{index_value}
 use Rattle.dcx_operators.specs.View.{evaluated}

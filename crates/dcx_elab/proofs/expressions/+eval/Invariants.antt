@@ -2,8 +2,8 @@
 use Rattle.std.proofs.Common.{◌≡◌, ◌-◌, Bool, [], ◌∷◌, map, drop, length, option_copied}
 use Rattle.dcx_syntax.specs.Expressions.{no_addition, no_scaling}
 use Rattle.dcx_syntax.specs.View.{chained, args_of, indices_of, more_items_of, arg_view, index_view, added_view, scaled_view, expr_view}
-use Rattle.dcx_kinds.specs.Values.{items_of, and_then, done}
-use Rattle.dcx_kinds.specs.Meant.{meant}
+use Rattle.dcx_script_values.specs.Values.{items_of, and_then, done}
+use Rattle.dcx_script_values.specs.Meant.{meant}
 use Rattle.dcx_operators.specs.View.{evaluated}
 use Rattle.dcx_signature.specs.Firsts.{expr_place}
 use Rattle.dcx_signature.specs.View.{given_seen, through_seen}

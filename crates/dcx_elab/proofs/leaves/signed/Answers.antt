@@ -3,8 +3,8 @@ use Rattle.std.proofs.Common.{◌≡◌, ◌+◌, ◌-◌, ◌<◌, length, take
 use Rattle.std.proofs.lemmas.Result.{err_from_is_err_and}
 use Rattle.dcx_syntax.specs.declared.tree.Sign.TheVariants.{Plus}
 use Rattle.dcx_syntax.specs.declared.tree.Signed.{Signed}
-use Rattle.dcx_kinds.specs.Meant.{meant}
-use Rattle.dcx_kinds.proofs.Acts.{Fails-same}
+use Rattle.dcx_script_values.specs.Meant.{meant}
+use Rattle.dcx_script_values.proofs.Acts.{Fails-same}
 use Rattle.dcx_elab.specs.Expressions.{signed}
 use Rattle.dcx_elab.proofs.Signs.{signed-fault, signed-next}
 use Rattle.dcx_elab.proofs.leaves.signed.Goals as goal

@@ -1,6 +1,6 @@
 -- The signs that are left.
 use Rattle.std.proofs.Common.{◌≡◌, ◌≤◌, take, length}
-use Rattle.dcx_kinds.specs.Meant.{meant}
+use Rattle.dcx_script_values.specs.Meant.{meant}
 use Rattle.dcx_elab.specs.Expressions.{signed}
 use Rattle.dcx_elab.proofs.leaves.signed.Given as goal
 

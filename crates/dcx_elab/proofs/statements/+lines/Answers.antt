@@ -4,9 +4,9 @@ use Rattle.std.proofs.lemmas.Result.{err_from_is_err_and}
 use Rattle.dcx_syntax.specs.declared.tree.Line as code_line
 use Rattle.dcx_syntax.specs.Statements.{Line}
 use Rattle.dcx_syntax.specs.View.{line_view, lines_of, expr_view}
-use Rattle.dcx_kinds.specs.Meant.{meant}
-use Rattle.dcx_kinds.specs.View.{Fails, Gives}
-use Rattle.dcx_kinds.proofs.Acts.{Fails-same}
+use Rattle.dcx_script_values.specs.Meant.{meant}
+use Rattle.dcx_script_values.specs.View.{Fails, Gives}
+use Rattle.dcx_script_values.proofs.Acts.{Fails-same}
 use Rattle.dcx_signature.specs.declared.turns.Through.{Through}
 use Rattle.dcx_signature.specs.View.{through_seen}
 use Rattle.dcx_elab.specs.Statements.{line_means, lines_mean}

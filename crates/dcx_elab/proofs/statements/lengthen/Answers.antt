@@ -1,8 +1,8 @@
 -- What is bound last is bound alone.
 use Rattle.std.proofs.Common.{sym, subst, Result}
-use Rattle.dcx_kinds.specs.declared.fault.ElabFault.{ElabFault}
-use Rattle.dcx_kinds.specs.Values.{State}
-use Rattle.dcx_kinds.specs.View.{Gives}
+use Rattle.dcx_script_values.specs.declared.fault.ElabFault.{ElabFault}
+use Rattle.dcx_script_values.specs.Values.{State}
+use Rattle.dcx_script_values.specs.View.{Gives}
 use Rattle.dcx_elab.proofs.Lines.{lengthened}
 use Rattle.dcx_elab.proofs.statements.lengthen.Goals as goal
 

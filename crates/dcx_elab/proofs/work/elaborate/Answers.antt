@@ -3,8 +3,8 @@ use Rattle.std.proofs.Common.{◌≡◌, List, Some, Ok, map, subst, ap, sym, �
 use Rattle.dcx_syntax.specs.declared.tree.Line as code_line
 use Rattle.dcx_syntax.specs.Statements.{Lines}
 use Rattle.dcx_syntax.specs.View.{line_view, lines_of, script_view}
-use Rattle.dcx_kinds.specs.Values.{Asked, State}
-use Rattle.dcx_state.specs.Declarations.{start}
+use Rattle.dcx_script_values.specs.Values.{Asked, State}
+use Rattle.dcx_script_state.specs.Declarations.{start}
 use Rattle.dcx_elab.specs.Statements.{lines_mean}
 use Rattle.dcx_elab.specs.Meaning.{ended_with, ended, meaning}
 use Rattle.dcx_elab.proofs.work.elaborate.Goals as goal

@@ -4,10 +4,10 @@ use Rattle.std.specs.Option.{option_copied}
 use Rattle.std.proofs.lemmas.Result.{err_from_is_err_and}
 use Rattle.dcx_arena.specs.Nodes.{Node}
 use Rattle.dcx_call.specs.declared.call.Call.{Call}
-use Rattle.dcx_kinds.specs.declared.fault.ElabFault.{ElabFault}
-use Rattle.dcx_kinds.specs.Values.{Value, State}
-use Rattle.dcx_kinds.specs.Meant.{meant}
-use Rattle.dcx_kinds.specs.View.{Fails, Gives}
+use Rattle.dcx_script_values.specs.declared.fault.ElabFault.{ElabFault}
+use Rattle.dcx_script_values.specs.Values.{Value, State}
+use Rattle.dcx_script_values.specs.Meant.{meant}
+use Rattle.dcx_script_values.specs.View.{Fails, Gives}
 use Rattle.dcx_signature.specs.Table.{Row, row}
 use Rattle.dcx_signature.specs.Arguments.{Bound, arguments}
 use Rattle.dcx_signature.specs.View.{row_seen, given_seen}

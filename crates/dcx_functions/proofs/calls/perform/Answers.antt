@@ -4,8 +4,8 @@ use Rattle.std.proofs.Common.{sym, ap, ◌∙◌, subst}
 use Rattle.dcx_frac.specs.declared.fraction.Frac.{Frac}
 use Rattle.dcx_atom.specs.Formed.{zero_frac, frac_at}
 use Rattle.dcx_atom.proofs.FormedSums.{frac_at-value, zero_frac-unique}
-use Rattle.dcx_kinds.specs.Meant.{meant}
-use Rattle.dcx_kinds.specs.View.{Gives}
+use Rattle.dcx_script_values.specs.Meant.{meant}
+use Rattle.dcx_script_values.specs.View.{Gives}
 use Rattle.dcx_signature.specs.declared.table.Function.{Function}
 use Rattle.std.specs.Option.{option_copied}
 use Rattle.dcx_functions.specs.Calls.{one_frac, filled_with, perform}

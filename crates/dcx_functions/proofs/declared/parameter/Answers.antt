@@ -1,10 +1,10 @@
 -- What is declared is what is given.
 use Rattle.std.proofs.Common.{◌≡◌, Some, Result, option_map, ap, subst}
 use Rattle.std.specs.Option.{option_copied}
-use Rattle.dcx_kinds.specs.declared.fault.ElabFault.{ElabFault}
-use Rattle.dcx_kinds.specs.Values.{Value, State}
-use Rattle.dcx_kinds.specs.Meant.{meant}
-use Rattle.dcx_kinds.specs.View.{extent_sides, read_as, Gives}
+use Rattle.dcx_script_values.specs.declared.fault.ElabFault.{ElabFault}
+use Rattle.dcx_script_values.specs.Values.{Value, State}
+use Rattle.dcx_script_values.specs.Meant.{meant}
+use Rattle.dcx_script_values.specs.View.{extent_sides, read_as, Gives}
 use Rattle.dcx_functions.proofs.Declares.{parameter_given}
 use Rattle.dcx_functions.proofs.declared.parameter.Goals as goal
 

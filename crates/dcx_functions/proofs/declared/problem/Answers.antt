@@ -1,12 +1,12 @@
 -- The objective and the constraints are those that are given.
 use Rattle.std.proofs.Common.{◌≡◌, ◌∙◌, Bor, List, Option, Some, Result, option_map, sym, ap, ap₂, subst}
 use Rattle.std.specs.Option.{option_copied}
-use Rattle.dcx_kinds.specs.declared.value.Value as code_value
-use Rattle.dcx_kinds.specs.declared.fault.ElabFault.{ElabFault}
-use Rattle.dcx_kinds.specs.Values.{Value, objective, State}
-use Rattle.dcx_kinds.specs.Meant.{meant}
-use Rattle.dcx_kinds.specs.View.{Gives}
-use Rattle.dcx_state.specs.Declarations.{make_problem}
+use Rattle.dcx_script_values.specs.declared.value.Value as code_value
+use Rattle.dcx_script_values.specs.declared.fault.ElabFault.{ElabFault}
+use Rattle.dcx_script_values.specs.Values.{Value, objective, State}
+use Rattle.dcx_script_values.specs.Meant.{meant}
+use Rattle.dcx_script_values.specs.View.{Gives}
+use Rattle.dcx_script_state.specs.Declarations.{make_problem}
 use Rattle.dcx_signature.specs.Arguments.{or_nothing, value_for}
 use Rattle.dcx_signature.specs.Table.{objective_word}
 use Rattle.dcx_functions.proofs.declared.problem.Goals as goal

@@ -2,8 +2,8 @@
 use Rattle.std.proofs.Common.{[], ◌∷◌, ◌++◌, map, sym, ap, ap₂, ◌∙◌, arith, rules}
 use Rattle.std.proofs.lemmas.List.{map_more, take_all}
 use Rattle.std.proofs.lemmas.Result.{err_from_is_err_and}
-use Rattle.dcx_kinds.specs.Kinds.{Reading, reading}
-use Rattle.dcx_kinds.specs.Meant.{meant}
+use Rattle.dcx_script_values.specs.Kinds.{Reading, reading}
+use Rattle.dcx_script_values.specs.Meant.{meant}
 use Rattle.dcx_signature.specs.declared.matching.Argument.{Argument}
 use Rattle.dcx_functions.proofs.expressions.arguments_read.Goals as goal
 

@@ -1,7 +1,7 @@
 use Rattle.std.proofs.Common.{◌≡◌, map, take}
-use Rattle.dcx_kinds.specs.Kinds.{reading}
-use Rattle.dcx_kinds.specs.Meant.{meant}
-use Rattle.dcx_kinds.specs.View.{read_as}
+use Rattle.dcx_script_values.specs.Kinds.{reading}
+use Rattle.dcx_script_values.specs.Meant.{meant}
+use Rattle.dcx_script_values.specs.View.{read_as}
 use Rattle.dcx_functions.proofs.expressions.arguments_read.Given as goal
 
 abbrev pub invariant-loop-argument : goal.invariant-loop-argument

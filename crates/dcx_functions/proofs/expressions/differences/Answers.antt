@@ -1,7 +1,7 @@
 -- One difference more is taken of what is left to take.
 use Rattle.std.proofs.Common.{◌≡◌, ◌+◌, ◌-◌, suc, sym, ◌∙◌, arith}
 use Rattle.std.proofs.lemmas.Result.{err_from_is_err_and}
-use Rattle.dcx_kinds.proofs.Acts.{Fails-same}
+use Rattle.dcx_script_values.proofs.Acts.{Fails-same}
 use Rattle.dcx_functions.specs.Calls.{differences}
 use Rattle.dcx_functions.proofs.Differences.{differences-next, differences-fault}
 use Rattle.dcx_functions.proofs.Steps.{Gives-fault}

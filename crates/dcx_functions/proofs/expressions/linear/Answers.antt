@@ -1,13 +1,13 @@
 -- The operand comes first, and then the call of it.
 use Rattle.std.proofs.Common.{[], ◌∷◌, Result, sym, subst}
 use Rattle.dcx_call.specs.declared.call.Call.TheVariants.{Linear}
-use Rattle.dcx_kinds.specs.declared.fault.ElabFault.{ElabFault}
-use Rattle.dcx_kinds.specs.Values.{Value, State}
-use Rattle.dcx_kinds.specs.Nodes.{called}
-use Rattle.dcx_kinds.specs.Operands.{as_expression}
-use Rattle.dcx_kinds.specs.Meant.{meant}
-use Rattle.dcx_kinds.specs.View.{meant_operand, Gives}
-use Rattle.dcx_kinds.proofs.Acts.{then_is}
+use Rattle.dcx_script_values.specs.declared.fault.ElabFault.{ElabFault}
+use Rattle.dcx_script_values.specs.Values.{Value, State}
+use Rattle.dcx_script_values.specs.Nodes.{called}
+use Rattle.dcx_script_values.specs.Operands.{as_expression}
+use Rattle.dcx_script_values.specs.Meant.{meant}
+use Rattle.dcx_script_values.specs.View.{meant_operand, Gives}
+use Rattle.dcx_script_values.proofs.Acts.{then_is}
 use Rattle.dcx_functions.specs.Calls.{operand_for}
 use Rattle.dcx_functions.proofs.expressions.linear.Goals as goal
 

@@ -3,10 +3,10 @@ use Rattle.std.proofs.Common.{◌≡◌, [], ◌∷◌, map, ap, ap₂, ◌∙�
 use Rattle.std.proofs.lemmas.Result.{err_from_is_err_and}
 use Rattle.dcx_affine.specs.declared.pairing.Pairing.TheVariants.{Times}
 use Rattle.dcx_call.specs.declared.call.Call.TheVariants.{Pairing}
-use Rattle.dcx_kinds.specs.Nodes.{broadcast_called}
-use Rattle.dcx_kinds.specs.Kinds.{Reading}
-use Rattle.dcx_kinds.specs.Meant.{meant}
-use Rattle.dcx_kinds.specs.View.{read_as, meant_operand}
+use Rattle.dcx_script_values.specs.Nodes.{broadcast_called}
+use Rattle.dcx_script_values.specs.Kinds.{Reading}
+use Rattle.dcx_script_values.specs.Meant.{meant}
+use Rattle.dcx_script_values.specs.View.{read_as, meant_operand}
 use Rattle.dcx_signature.specs.Table.{a_word, b_word}
 use Rattle.dcx_functions.specs.Calls.{reading_of, of_two}
 use Rattle.dcx_functions.proofs.Steps.{Gives-fault, read_fault, made_fault, made_is}

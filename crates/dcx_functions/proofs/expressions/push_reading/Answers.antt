@@ -1,8 +1,8 @@
 -- What the value is comes behind the others.
 use Rattle.std.proofs.Common.{[], ◌∷◌, ◌++◌, map, ap, ◌∙◌}
 use Rattle.std.proofs.lemmas.List.{map-append}
-use Rattle.dcx_kinds.specs.Kinds.{Reading}
-use Rattle.dcx_kinds.specs.View.{read_as}
+use Rattle.dcx_script_values.specs.Kinds.{Reading}
+use Rattle.dcx_script_values.specs.View.{read_as}
 use Rattle.dcx_functions.proofs.expressions.push_reading.Goals as goal
 
 pub returns : goal.returns

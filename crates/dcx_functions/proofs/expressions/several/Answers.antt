@@ -2,10 +2,10 @@
 use Rattle.std.proofs.Common.{◌≡◌, map, ap, ◌∙◌}
 use Rattle.std.proofs.lemmas.Result.{err_from_is_err_and}
 use Rattle.dcx_call.specs.declared.call.Call.TheVariants.{Atom}
-use Rattle.dcx_kinds.specs.Nodes.{broadcast_called}
-use Rattle.dcx_kinds.specs.Kinds.{reading}
-use Rattle.dcx_kinds.specs.Meant.{meant}
-use Rattle.dcx_kinds.specs.View.{read_as, meant_operand}
+use Rattle.dcx_script_values.specs.Nodes.{broadcast_called}
+use Rattle.dcx_script_values.specs.Kinds.{reading}
+use Rattle.dcx_script_values.specs.Meant.{meant}
+use Rattle.dcx_script_values.specs.View.{read_as, meant_operand}
 use Rattle.dcx_functions.specs.Calls.{of_several}
 use Rattle.dcx_functions.proofs.ArgumentsSeen.{all-read}
 use Rattle.dcx_functions.proofs.Steps.{Gives-fault, read_fault, made_fault, made_is}

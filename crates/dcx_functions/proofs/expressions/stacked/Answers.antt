@@ -3,12 +3,12 @@ use Rattle.std.proofs.Common.{◌≡◌, ◌∙◌, ℕ, List, map, length, nat_
 use Rattle.std.proofs.lemmas.List.{length-map}
 use Rattle.std.proofs.lemmas.Result.{err_from_is_err_and}
 use Rattle.dcx_call.specs.declared.call.Call.TheVariants.{Linear}
-use Rattle.dcx_kinds.specs.Values.{Value}
-use Rattle.dcx_kinds.specs.Nodes.{called}
-use Rattle.dcx_kinds.specs.Kinds.{reading}
-use Rattle.dcx_kinds.specs.Meant.{meant}
-use Rattle.dcx_kinds.specs.View.{read_as, meant_operand}
-use Rattle.dcx_kinds.proofs.Acts.{Fails-same}
+use Rattle.dcx_script_values.specs.Values.{Value}
+use Rattle.dcx_script_values.specs.Nodes.{called}
+use Rattle.dcx_script_values.specs.Kinds.{reading}
+use Rattle.dcx_script_values.specs.Meant.{meant}
+use Rattle.dcx_script_values.specs.View.{read_as, meant_operand}
+use Rattle.dcx_script_values.proofs.Acts.{Fails-same}
 use Rattle.dcx_signature.specs.Table.{list_word}
 use Rattle.dcx_functions.specs.Calls.{items_for, stacked}
 use Rattle.dcx_functions.proofs.Steps.{Gives-fault, read_and_made, read_fault, made_fault, made_is, stacked_some}

@@ -2,8 +2,8 @@
 use Rattle.std.proofs.Common.{[], ◌∷◌, ◌++◌, map, take, sym, ap, ap₂, ◌∙◌, arith, rules}
 use Rattle.std.proofs.lemmas.List.{map_more, map-append, take_all}
 use Rattle.std.proofs.lemmas.Result.{err_from_is_err_and}
-use Rattle.dcx_kinds.specs.Kinds.{reading}
-use Rattle.dcx_kinds.specs.Meant.{meant}
+use Rattle.dcx_script_values.specs.Kinds.{reading}
+use Rattle.dcx_script_values.specs.Meant.{meant}
 use Rattle.dcx_functions.proofs.expressions.values_read.Goals as goal
 
 pub loop-value-smaller : goal.loop-value-smaller

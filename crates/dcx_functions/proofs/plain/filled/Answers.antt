@@ -5,11 +5,11 @@ use Rattle.dcx_atom.specs.declared.array.Array.{Array}
 use Rattle.dcx_array.specs.declared.fault.ArrayFault.{ArrayFault}
 use Rattle.dcx_array.specs.Answers as arrays
 use Rattle.dcx_array.specs.Arrays.{constant}
-use Rattle.dcx_kinds.specs.declared.fault.ElabFault.TheVariants.{BadArgument}
-use Rattle.dcx_kinds.specs.Values.{and_then, or_fault, or_array_fault}
-use Rattle.dcx_kinds.specs.Operands.{as_plain}
-use Rattle.dcx_kinds.specs.Meant.{meant}
-use Rattle.dcx_kinds.specs.View.{extent_sides, Gives}
+use Rattle.dcx_script_values.specs.declared.fault.ElabFault.TheVariants.{BadArgument}
+use Rattle.dcx_script_values.specs.Values.{and_then, or_fault, or_array_fault}
+use Rattle.dcx_script_values.specs.Operands.{as_plain}
+use Rattle.dcx_script_values.specs.Meant.{meant}
+use Rattle.dcx_script_values.specs.View.{extent_sides, Gives}
 use Rattle.dcx_functions.proofs.Told.{made-same}
 use Rattle.dcx_functions.proofs.plain.filled.Goals as goal
 

@@ -1,7 +1,7 @@
 -- The sides of the node are those of its shape.
 use Rattle.std.proofs.Common.{subst, sym, ◌∙◌}
 use Rattle.dcx_shape.specs.declared.shape.Sides.{Sides}
-use Rattle.dcx_kinds.specs.View.{Gives}
+use Rattle.dcx_script_values.specs.View.{Gives}
 use Rattle.dcx_operators.specs.Attributes.{node_turned}
 use Rattle.dcx_operators.proofs.attributes.transposed_node.Goals as goal
 

@@ -1,7 +1,7 @@
 -- A list has as many values as it has items.
 use Rattle.std.proofs.Common.{◌≡◌, map, length, sym, rules}
 use Rattle.std.proofs.lemmas.List.{length-map}
-use Rattle.dcx_kinds.specs.Meant.{meant}
+use Rattle.dcx_script_values.specs.Meant.{meant}
 use Rattle.dcx_operators.proofs.indices.index_list.Goals as goal
 
 pub returns-in-At : goal.returns-in-At

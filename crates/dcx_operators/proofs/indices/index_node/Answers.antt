@@ -1,6 +1,6 @@
 -- The shape of the node is that of its sides, and the call is the one that the definition makes.
 use Rattle.std.proofs.Common.{subst, sym}
-use Rattle.dcx_kinds.specs.View.{Gives, Fails}
+use Rattle.dcx_script_values.specs.View.{Gives, Fails}
 use Rattle.dcx_operators.specs.Indices.{index_node}
 use Rattle.dcx_operators.proofs.Indexed.{index_node-is, index_node-fails}
 use Rattle.dcx_operators.proofs.indices.index_node.Goals as goal

@@ -3,11 +3,11 @@ use Rattle.std.proofs.Common.{List, map, length, ◌≤◌, subst, sym}
 use Rattle.std.proofs.lemmas.List.{length-map}
 use Rattle.std.proofs.lemmas.Result.{err_from_is_err_and}
 use Rattle.dcx_shape.specs.declared.index.Pick.{Pick}
-use Rattle.dcx_kinds.specs.Meant.{meant}
-use Rattle.dcx_kinds.specs.View.{Gives}
+use Rattle.dcx_script_values.specs.Meant.{meant}
+use Rattle.dcx_script_values.specs.View.{Gives}
 use Rattle.dcx_operators.specs.Indices.{picks_of, index_list}
 use Rattle.dcx_operators.specs.View.{evaluated}
-use Rattle.dcx_kinds.proofs.Acts.{Gives-err}
+use Rattle.dcx_script_values.proofs.Acts.{Gives-err}
 use Rattle.dcx_operators.proofs.Indexed.{unpicked, list_picked}
 use Rattle.dcx_operators.proofs.indices.list_indexed.Goals as goal
 

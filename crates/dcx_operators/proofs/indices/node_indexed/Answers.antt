@@ -2,10 +2,10 @@
 use Rattle.std.proofs.Common.{List, map, subst, sym}
 use Rattle.std.proofs.lemmas.Result.{err_from_is_err_and}
 use Rattle.dcx_shape.specs.declared.index.Pick.{Pick}
-use Rattle.dcx_kinds.specs.View.{Gives}
+use Rattle.dcx_script_values.specs.View.{Gives}
 use Rattle.dcx_operators.specs.Indices.{picks_of, index_node}
 use Rattle.dcx_operators.specs.View.{evaluated}
-use Rattle.dcx_kinds.proofs.Acts.{Gives-err}
+use Rattle.dcx_script_values.proofs.Acts.{Gives-err}
 use Rattle.dcx_operators.proofs.Indexed.{unpicked, node_picked}
 use Rattle.dcx_operators.proofs.indices.node_indexed.Goals as goal
 

@@ -5,8 +5,8 @@ use Rattle.std.proofs.lemmas.Result.{err_from_is_err_and}
 use Rattle.std.specs.List.{All}
 use Rattle.dcx_shape.specs.Index.{HasStep}
 use Rattle.dcx_shape.specs.declared.index.Pick.{Pick}
-use Rattle.dcx_kinds.specs.declared.fault.ElabFault.TheVariants.{BadArgument}
-use Rattle.dcx_kinds.specs.Values.{or_fault}
+use Rattle.dcx_script_values.specs.declared.fault.ElabFault.TheVariants.{BadArgument}
+use Rattle.dcx_script_values.specs.Values.{or_fault}
 use Rattle.dcx_operators.proofs.Picked.{picked_by-next, picked_by-start, picked_by-none, picked_by-end}
 use Rattle.dcx_operators.proofs.indices.picks_of.Goals as goal
 

@@ -2,11 +2,11 @@
 use Rattle.std.proofs.Common.{List, map, subst, sym}
 use Rattle.std.proofs.lemmas.Result.{err_from_is_err_and}
 use Rattle.dcx_shape.specs.declared.index.Pick.{Pick}
-use Rattle.dcx_kinds.specs.Meant.{meant}
-use Rattle.dcx_kinds.specs.View.{Gives}
+use Rattle.dcx_script_values.specs.Meant.{meant}
+use Rattle.dcx_script_values.specs.View.{Gives}
 use Rattle.dcx_operators.specs.Indices.{picks_of, index_plain}
 use Rattle.dcx_operators.specs.View.{evaluated}
-use Rattle.dcx_kinds.proofs.Acts.{Gives-err}
+use Rattle.dcx_script_values.proofs.Acts.{Gives-err}
 use Rattle.dcx_operators.proofs.Indexed.{unpicked, plain_picked}
 use Rattle.dcx_operators.proofs.indices.plain_indexed.Goals as goal
 

@@ -1,7 +1,7 @@
 -- The choice between two values is that of the definition.
 use Rattle.std.proofs.Common.{◌≡◌, Bool, IfOk, if◌then◌else◌, subst, sym, ◌∙◌}
-use Rattle.dcx_kinds.specs.Kinds.{reading}
-use Rattle.dcx_kinds.specs.Meant.{meant}
+use Rattle.dcx_script_values.specs.Kinds.{reading}
+use Rattle.dcx_script_values.specs.Meant.{meant}
 use Rattle.dcx_operators.specs.Operators.{with_expression, alike}
 use Rattle.dcx_operators.specs.View.{pair_meant}
 use Rattle.dcx_operators.proofs.operators.beside.Goals as goal

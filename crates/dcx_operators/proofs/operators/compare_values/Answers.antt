@@ -1,9 +1,9 @@
 -- The comparison is offered, and the pair is that of the definition.
 use Rattle.std.proofs.Common.{Bool, subst, sym, ◌∙◌}
-use Rattle.dcx_kinds.specs.Meant.{meant}
-use Rattle.dcx_kinds.specs.View.{Gives}
-use Rattle.dcx_kinds.specs.Values.{◌>>◌, unless}
-use Rattle.dcx_kinds.specs.declared.fault.ElabFault.TheVariants.{NotOffered}
+use Rattle.dcx_script_values.specs.Meant.{meant}
+use Rattle.dcx_script_values.specs.View.{Gives}
+use Rattle.dcx_script_values.specs.Values.{◌>>◌, unless}
+use Rattle.dcx_script_values.specs.declared.fault.ElabFault.TheVariants.{NotOffered}
 use Rattle.dcx_operators.specs.Operators.{Pair, compared_pair, beside}
 use Rattle.dcx_operators.proofs.operators.compare_values.Goals as goal
 

@@ -1,7 +1,7 @@
 -- The pair is that of the definition.
 use Rattle.std.proofs.Common.{subst}
-use Rattle.dcx_kinds.specs.Meant.{meant}
-use Rattle.dcx_kinds.specs.View.{Gives}
+use Rattle.dcx_script_values.specs.Meant.{meant}
+use Rattle.dcx_script_values.specs.View.{Gives}
 use Rattle.dcx_operators.specs.Operators.{Pair, scaled_pair}
 use Rattle.dcx_operators.proofs.operators.scale_values.Goals as goal
 

@@ -7,7 +7,7 @@ use Rattle.dcx_shape.specs.Shape.{sides_of}
 use Rattle.dcx_shape.specs.Sides.{entries_of}
 use Rattle.dcx_atom.specs.declared.array.Array.{Array}
 use Rattle.dcx_call.specs.declared.attribute.Parameter.{Parameter}
-use Rattle.dcx_range.specs.Parameters.{place_of}
+use Rattle.dcx_right.specs.Ranges.{place_of}
 use Rattle.dcx_range.proofs.Named.{place_low, array_there, is_asked}
 use Rattle.dcx_range.proofs.finding.asked.Goals as goal
 

@@ -1,6 +1,6 @@
 -- The parameter stands at the position of its name.
 use Rattle.std.proofs.Common.{sym, ap, ◌∙◌}
-use Rattle.dcx_range.specs.Parameters.{place_of}
+use Rattle.dcx_right.specs.Ranges.{place_of}
 use Rattle.dcx_range.proofs.Named.{place_low, number_there, sides_there}
 use Rattle.dcx_range.proofs.told.number_at.Goals as goal
 

@@ -1,8 +1,8 @@
 -- What was passed over is fit.
 use Rattle.std.proofs.Common.{◌≡◌, map, drop}
 use Rattle.std.specs.List.{list_all}
-use Rattle.dcx_kinds.specs.Kinds.{is_fit, reading}
-use Rattle.dcx_kinds.specs.Meant.{meant}
+use Rattle.dcx_script_values.specs.Kinds.{is_fit, reading}
+use Rattle.dcx_script_values.specs.Meant.{meant}
 use Rattle.dcx_signature.proofs.fitting.are_fit.Given as goal
 
 abbrev pub invariant-loop-value : goal.invariant-loop-value

@@ -2,7 +2,7 @@
 use Rattle.std.proofs.Common.{◌≡◌, map, drop}
 use Rattle.std.specs.Prelude.{option_map}
 use Rattle.dcx_shape.specs.Shape.{sides_of}
-use Rattle.dcx_kinds.specs.Values.{State}
+use Rattle.dcx_script_values.specs.Values.{State}
 use Rattle.dcx_signature.specs.Arguments.{all_right}
 use Rattle.dcx_signature.specs.View.{assignment_seen}
 use Rattle.dcx_signature.proofs.matching.all_right.Given as goal

@@ -1,8 +1,8 @@
 use Rattle.std.proofs.Common.{◌≡◌, ◌⊎◌, refl, ap, arith, length, subst}
 use Rattle.dcx_host.specs.Faults.{Rose}
 use Rattle.dcx_words.specs.Commands.{migrate}
-use Rattle.dcx_sections.specs.declared.fault.CertFault.TheVariants as faults
-use Rattle.dcx_certificates.specs.Checking.{ArePassed, IsFirstRefused}
+use Rattle.dcx_answer.specs.declared.cert_fault.CertFault.TheVariants as faults
+use Rattle.dcx_cert_runs.specs.Checking.{ArePassed, IsFirstRefused}
 use Rattle.dcx_top.proofs.Reading.{few_sections}
 use Rattle.dcx_top.proofs.Causes.{files_end, section_told, migrated_told}
 use Rattle.dcx_top.proofs.certifying.migrate.Goals as goal

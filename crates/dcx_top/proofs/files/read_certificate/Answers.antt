@@ -1,6 +1,6 @@
 use Rattle.std.proofs.Common.{subst}
 use Rattle.dcx_cert_lines.specs.Forms.{IsTextOf}
-use Rattle.dcx_outline.specs.Drawn.{problem_outline}
+use Rattle.dcx_cert_outline.specs.Drawn.{problem_outline}
 use Rattle.dcx_top.proofs.Reading.{misread_ends}
 use Rattle.dcx_top.proofs.files.read_certificate.Goals as goal
 

@@ -1,6 +1,6 @@
 -- What stands against a range is that of a parameter that the problem reaches, but for its name.
 use Rattle.std.proofs.Common.{inr, subst}
-use Rattle.dcx_ranged.specs.declared.not_ranged.NotRanged.{NotRanged}
+use Rattle.dcx_answer.specs.declared.not_ranged.NotRanged.{NotRanged}
 use Rattle.dcx_outcomes.specs.Ranges.{LacksRange}
 use Rattle.dcx_top.proofs.Standing.{lacking_shape, lacking_map, lacking_coefficient}
 use Rattle.dcx_top.proofs.no_range.fault_place.Goals as goal

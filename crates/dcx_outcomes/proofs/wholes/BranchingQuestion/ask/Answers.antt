@@ -1,6 +1,6 @@
 -- How the run of nodes over the program ends.
 use Rattle.dcx_tree.specs.Meaning.{setting_of}
-use Rattle.dcx_branch.specs.Answers.{IsRightFor}
+use Rattle.dcx_right.specs.WholeAnswers.{IsRightFor}
 use Rattle.dcx_outcomes.proofs.Asked.{right_there}
 use Rattle.dcx_outcomes.proofs.WholeEnds.{unknowns_there}
 use Rattle.dcx_outcomes.proofs.wholes.BranchingQuestion.ask.Goals as goal

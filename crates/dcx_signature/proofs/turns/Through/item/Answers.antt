@@ -5,8 +5,8 @@ use Rattle.std.proofs.lemmas.List.{length-map}
 use mir.Syntax.{w128}
 use Rattle.dcx_frac.specs.declared.fraction.Frac.{Frac}
 use Rattle.dcx_array.specs.Arrays.{number}
-use Rattle.dcx_kinds.specs.Values.{Value, plain}
-use Rattle.dcx_kinds.specs.Meant.{meant}
+use Rattle.dcx_script_values.specs.Values.{Value, plain}
+use Rattle.dcx_script_values.specs.Meant.{meant}
 use Rattle.dcx_signature.specs.Turns.{whole_value}
 use Rattle.dcx_signature.specs.View.{through_seen}
 use Rattle.dcx_signature.proofs.Ranges.{range_items-length, range_item}

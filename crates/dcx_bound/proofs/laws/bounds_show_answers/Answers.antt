@@ -1,6 +1,0 @@
--- The total bounds the Lagrangian, or the penalty.
-use Rattle.dcx_bound.proofs.Shown.{bounds_show}
-use Rattle.dcx_bound.proofs.laws.bounds_show_answers.Goals as goal
-
-pub returns : goal.returns
-returns c = bounds_show

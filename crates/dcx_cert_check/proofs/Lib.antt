@@ -1,0 +1,11 @@
+-- The lemmas.
+pub mod Settled
+pub mod Shows
+pub mod Kept
+pub mod Steps
+pub mod Demands
+pub mod SingleSettled
+pub mod Sound
+pub mod Given
+pub mod Sides
+pub mod Below

@@ -1,0 +1,99 @@
+-- Checks one after the other, and the demands of which they are made.
+use Rattle.std.proofs.Common.{◌≡◌, ◌≢◌, ◌⊎◌, inl, inr, ℕ, ◌+◌, ◌<◌, ◌≤◌, List, length, Option, Some, None, Result, Ok, Err, OnOk, refl, sym, ◌∙◌, subst, arith}
+use Rattle.std.specs.List.{slice_get}
+use native.Mathlib.Decide.{dec_lt}
+use Rattle.std.proofs.lemmas.Option.{slice_get_within}
+use Rattle.dcx_point.specs.Pairs.{Pairs}
+use Rattle.dcx_tree.specs.declared.problem.Problem.{Problem}
+use Rattle.dcx_answer.specs.declared.stop.Stop.{Stop}
+use Rattle.dcx_answer.specs.declared.stop.Stop.TheVariants as stops
+use Rattle.dcx_fit.specs.Fit.{IsFirstMisfit}
+use Rattle.dcx_answer.specs.declared.cert_fault.CertFault.{CertFault}
+use Rattle.dcx_answer.specs.declared.cert_fault.CertFault.TheVariants.{Fit, Memory}
+use Rattle.dcx_cert_sections.specs.Checks.{Check, Checked, in_turn, each_below}
+use Rattle.dcx_cert_sections.specs.Laws.{IsSettled}
+use Rattle.dcx_cert_sections.proofs.Settled.{settled_together}
+use Rattle.dcx_cert_check.specs.Demands.{demand, check_if, each_in}
+use Rattle.dcx_cert_check.specs.SingleChecks.{parameters_fit}
+
+-- ---- each tells one thing
+-- a demand
+pub demand_settled : (met : Type 0) (fault : CertFault) → IsSettled (demand met fault)
+demand_settled met fault = record { apart = λ f p e. e.0 p; one = λ f g e h. e.1 ∙ sym h.1 }
+
+-- an item, where there is one
+if_settled : {X : Type 0} (check : X → Check) → ((x : X) → IsSettled (check x)) → (o : Option X) → IsSettled (check_if check o)
+if_settled check settled None = settled_together.none
+if_settled check settled (Some x) = settled x
+
+-- each item of a list
+pub in_settled : {X : Type 0} (xs : List X) (check : ℕ → X → Check) → ((k : ℕ) (x : X) → IsSettled (check k x)) → IsSettled (each_in xs check)
+in_settled xs check settled = settled_together.many (length xs) (λ k. check_if (check k) (slice_get xs k)) (λ k. if_settled (check k) (settled k) (slice_get xs k))
+
+-- ---- one check and then another
+-- the first one stops
+pub first_stops : (a b : Check) (f : CertFault) → (f ≡ Memory) ⊎ a.fails f → (f ≡ Memory) ⊎ (in_turn a b).fails f
+first_stops a b f (inl e) = inl e
+first_stops a b f (inr h) = inr (inl h)
+
+-- it passes, and the second one counts
+pub second_counts : (a b : Check) {T : Type 0} (r : Result T CertFault) → a.passes → Checked b r → Checked (in_turn a b) r
+second_counts a b (Ok x) p h = (p, h)
+second_counts a b (Err f) p (inl e) = inl e
+second_counts a b (Err f) p (inr h) = inr (inr (p, h))
+
+-- what holds in any case holds on success
+pub on_ok : {T E : Type 0} {P : Type 0} (r : Result T E) → P → OnOk r P
+on_ok (Ok x) p = p
+on_ok (Err e) p = tt
+
+-- ---- the checks so far
+-- the checks before this one pass
+abbrev pub PassBelow : (ℕ → Check) → ℕ → Type 0
+PassBelow check n = (k : ℕ) → k < n → (check k).passes
+
+module _ (check : ℕ → Check) where
+  -- one more
+  pub one_more : (n : ℕ) → (check n).passes → PassBelow check n → PassBelow check (n + 1)
+  one_more n p below k lt = by (dec_lt k n)
+    where
+      by : Dec (k < n) → (check k).passes
+      by (yes less) = below k less
+      by (no not) = subst (λ m. (check m).passes) (omega (arith, lt, not)) p
+
+  -- all of them
+  pub all_passed : (count n : ℕ) → count ≤ n → PassBelow check n → (each_below count check).passes
+  all_passed count n le below k lt = below k (omega (arith, le, lt))
+
+  -- the first that fails
+  pub first_fails : (count n : ℕ) (f : CertFault) → n < count → PassBelow check n → (f ≡ Memory) ⊎ (check n).fails f → (f ≡ Memory) ⊎ (each_below count check).fails f
+  first_fails count n f lt below (inl e) = inl e
+  first_fails count n f lt below (inr e) = inr (record { position = n; there = lt; before = below; here = e })
+
+module _ {X : Type 0} (xs : List X) (check : ℕ → X → Check) where
+  -- the check at a place
+  abbrev pub at_place : ℕ → Check
+  at_place k = check_if (check k) (slice_get xs k)
+
+  pub at_passes : (k : ℕ) (x : X) → slice_get xs k ≡ Some x → (check k x).passes → (at_place k).passes
+  at_passes k x at p = subst (λ o. (check_if (check k) o).passes) (sym at) p
+
+  pub at_fails : (k : ℕ) (x : X) (f : CertFault) → slice_get xs k ≡ Some x → (f ≡ Memory) ⊎ (check k x).fails f → (f ≡ Memory) ⊎ (at_place k).fails f
+  at_fails k x f at e = subst (λ o. (f ≡ Memory) ⊎ (check_if (check k) o).fails f) (sym at) e
+
+  -- what passes at each item
+  pub passed_at : (each_in xs check).passes → (k : ℕ) (x : X) → slice_get xs k ≡ Some x → (check k x).passes
+  passed_at p k x at = subst (λ o. (check_if (check k) o).passes) at (p k (slice_get_within xs k x at))
+
+  pub passed_each : ((k : ℕ) (x : X) → slice_get xs k ≡ Some x → (check k x).passes) → (each_in xs check).passes
+  passed_each h k lt = by (slice_get xs k) refl
+    where
+      by : (o : Option X) → slice_get xs k ≡ o → (check_if (check k) o).passes
+      by None e = tt
+      by (Some x) e = h k x e
+
+-- ---- the stop of a setting is its fault
+pub misfit : (p : Problem) (setting : Pairs) (stop : Stop) (f : CertFault) → IsFirstMisfit p.parameters setting stop →
+    ((stop ≡ stops.Memory) × (f ≡ Memory)) ⊎ ((stop ≢ stops.Memory) × (f ≡ Fit stop)) → (f ≡ Memory) ⊎ (parameters_fit p setting).fails f
+misfit p setting stop f first (inl e) = inl e.1
+misfit p setting stop f first (inr h) = inr (record { stop = stop; first = first; is_stop = h.0; told = h.1 })

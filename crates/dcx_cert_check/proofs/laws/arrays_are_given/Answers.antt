@@ -1,0 +1,6 @@
+-- The statement is proved.
+use Rattle.dcx_cert_check.proofs.Given.{arrays_given}
+use Rattle.dcx_cert_check.proofs.laws.arrays_are_given.Goals as goal
+
+pub returns : goal.returns
+returns c = arrays_given

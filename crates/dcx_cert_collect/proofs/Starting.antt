@@ -1,0 +1,81 @@
+-- Where nodes begin.
+use Rattle.std.proofs.Common.{◌≡◌, ℕ, zero, suc, ◌+◌, ◌<◌, ◌≤◌, arith, Bool, true, false, nat_lt, if◌then◌else◌, List, [], ◌∷◌, ◌++◌, length, get_or, refl, sym, ap, ap₂, ◌∙◌, Some, None}
+use Rattle.std.proofs.lemmas.Bool.{false≢true, lt-ltb, ltb-true}
+use Rattle.std.proofs.lemmas.List.{length-append}
+use Rattle.std.proofs.Math.Seq.{take-length}
+use Rattle.std.proofs.lemmas.List.Sums.{sum_by_more, sum_by-take-le}
+use Rattle.dcx_shape.specs.Sides.{entries_of}
+use Rattle.dcx_arena.specs.Nodes.{entries_in, sides_at}
+use Rattle.dcx_atom.specs.Arrays.{list_below}
+use Rattle.dcx_atom.proofs.BoundRows.{list_below-first}
+use Rattle.dcx_atom.proofs.Lists.{list_below-next}
+use Rattle.dcx_tree.specs.Nodes.{Node}
+use Rattle.dcx_cert_collect.specs.Starts.{start_of, AreStarts, place_of}
+
+-- the first begins at 0
+pub start_zero : (nodes : List Node) → start_of nodes 0 ≡ 0
+start_zero nodes = refl
+
+-- the sides of a node that is there
+sides_is : (nodes : List Node) (i : ℕ) (d : Node) → i < length nodes → sides_at nodes i ≡ (get_or nodes i d).sides
+sides_is [] i d b = absurd (omega arith)
+sides_is (n ∷ nodes) zero d b = refl
+sides_is (n ∷ nodes) (suc i) d b = sides_is nodes i d (omega arith)
+
+some_node : (nodes : List Node) (i : ℕ) → i < length nodes → Node
+some_node [] i b = absurd (omega arith)
+some_node (n ∷ nodes) i b = n
+
+-- the next begins where the one before it ends
+pub start_next : (nodes : List Node) (i : ℕ) → i < length nodes → start_of nodes (i + 1) ≡ start_of nodes i + entries_of (sides_at nodes i)
+start_next nodes i b =
+    let d = some_node nodes i b in
+    sum_by_more (λ n. entries_of n.sides) nodes i d b ∙ ap (λ s. start_of nodes i + entries_of s) (sym (sides_is nodes i d b))
+
+-- all begin within the entries
+pub start_within : (nodes : List Node) (i : ℕ) → start_of nodes i ≤ entries_in nodes
+start_within nodes i = sum_by-take-le (λ n. entries_of n.sides) nodes i
+
+-- behind the last is the end of the entries
+pub start_all : (nodes : List Node) → start_of nodes (length nodes) ≡ entries_in nodes
+start_all nodes = ap entries_in (take-length nodes)
+
+-- ---- the list of starts
+-- entry k of a list that is made so
+pub listed : {A : Type 0} (n : ℕ) (f : ℕ → A) (k : ℕ) (d : A) → k < n → get_or (list_below n f) k d ≡ f k
+listed zero f k d b = absurd (omega arith)
+listed (suc n) f zero d b = ap (λ xs. get_or xs 0 d) (list_below-first n f)
+listed (suc n) f (suc k) d b = ap (λ xs. get_or xs (suc k) d) (list_below-first n f) ∙ listed n (λ j. f (suc j)) k d (omega arith)
+
+pub many : {A : Type 0} (n : ℕ) (f : ℕ → A) → length (list_below n f) ≡ n
+many zero f = refl
+many (suc n) f = length-append (list_below n f) (f n ∷ []) ∙ omega (arith, many n f)
+
+pub start_there : (nodes : List Node) (starts : List ℕ) (i : ℕ) → AreStarts nodes starts → i < length nodes → i < length starts
+start_there nodes starts i are b = omega (arith, ap length are ∙ many (length nodes) (start_of nodes), b)
+
+pub start_is : (nodes : List Node) (starts : List ℕ) (i : ℕ) → AreStarts nodes starts → i < length nodes → get_or starts i 0 ≡ start_of nodes i
+start_is nodes starts i are b = ap (λ xs. get_or xs i 0) are ∙ listed (length nodes) (start_of nodes) i 0 b
+
+-- where an entry stands
+pub place_there : (nodes : List Node) (starts : List ℕ) (i e size : ℕ) → AreStarts nodes starts → i < length nodes → size ≡ entries_of (sides_at nodes i) → e < size →
+    Some (get_or starts i 0 + e) ≡ place_of nodes (Some i) e
+place_there nodes starts i e size are b same within =
+    let below : e < entries_of (sides_at nodes i) = omega (arith, within, same) in
+    ap (λ k. Some (k + e)) (start_is nodes starts i are b) ∙ by (nat_lt e (entries_of (sides_at nodes i))) (lt-ltb e _ below)
+  where
+    by : (t : Bool) → t ≡ true → Some (start_of nodes i + e) ≡ (if t then Some (start_of nodes i + e) else None)
+    by true h = refl
+    by false h = absurd (false≢true h)
+
+pub place_past : (nodes : List Node) (i e size : ℕ) → size ≡ entries_of (sides_at nodes i) → size ≤ e → None ≡ place_of nodes (Some i) e
+place_past nodes i e size same past = by (nat_lt e (entries_of (sides_at nodes i))) (λ h. absurd (omega (arith, ltb-true e _ h, past, same)))
+  where
+    by : (t : Bool) → (t ≡ true → ⊥) → None ≡ (if t then Some (start_of nodes i + e) else None)
+    by true h = absurd (h refl)
+    by false h = refl
+
+-- the starts with the next one
+pub start_item : (nodes : List Node) (i : ℕ) (before after : List ℕ) (next : ℕ) → after ≡ before ++ next ∷ [] → before ≡ list_below i (start_of nodes) → next ≡ start_of nodes i →
+    after ≡ list_below (i + 1) (start_of nodes)
+start_item nodes i before after next pushed so_far is = pushed ∙ ap₂ (λ xs x. xs ++ x ∷ []) so_far is ∙ sym (list_below-next i (start_of nodes))

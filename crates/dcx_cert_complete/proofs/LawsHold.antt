@@ -1,0 +1,7 @@
+-- The main statements hold.
+use Rattle.dcx_cert_complete.specs.Laws.{AtomsHaveDualGraphs}
+use Rattle.dcx_cert_complete.proofs.Atoms.{atom_dual}
+use Rattle.dcx_cert_complete.proofs.Fractions.{atom_fractions}
+
+pub atoms_have_dual_graphs : AtomsHaveDualGraphs
+atoms_have_dual_graphs = record { graphs = atom_dual; fractions = atom_fractions }

@@ -1,0 +1,6 @@
+-- Atoms have dual graphs.
+use Rattle.dcx_cert_complete.proofs.LawsHold.{atoms_have_dual_graphs}
+use Rattle.dcx_cert_complete.proofs.laws.atoms_have_dual_graphs.Goals as goal
+
+pub returns : goal.returns
+returns c = atoms_have_dual_graphs

@@ -1,5 +1,0 @@
--- The lemmas.
-pub mod Parts
-pub mod Bodies
-pub mod OneText
-pub mod Fronts

@@ -1,6 +1,0 @@
--- Fewer lines agree where more do.
-use Rattle.dcx_cert_laws.proofs.Fronts.{goes_on}
-use Rattle.dcx_cert_laws.proofs.refusals.fronts_go_on.Goals as goal
-
-pub returns : goal.returns
-returns c = goes_on

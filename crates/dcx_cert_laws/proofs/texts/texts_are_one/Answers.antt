@@ -1,6 +1,0 @@
--- The first line tells the format, and each section is read in one way.
-use Rattle.dcx_cert_laws.proofs.OneText.{one_text}
-use Rattle.dcx_cert_laws.proofs.texts.texts_are_one.Goals as goal
-
-pub returns : goal.returns
-returns c = one_text

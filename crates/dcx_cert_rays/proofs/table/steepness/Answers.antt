@@ -1,0 +1,31 @@
+-- A number of the array that is kept, or 0.
+use Rattle.std.proofs.Common.{◌≡◌, ◌<◌, inl, inr, List, length, Option, Some, None, IsSome, sym, ap, ◌∙◌, arith}
+use Rattle.dcx_frac.specs.declared.fraction.Frac.{Frac}
+use Rattle.dcx_atom.specs.Arrays.{number_at}
+use Rattle.dcx_tree.specs.Values.{array_at}
+use Rattle.dcx_cert_rays.proofs.Steep.{level}
+use Rattle.dcx_cert_rays.proofs.Tables.{read_at}
+use Rattle.dcx_cert_rays.proofs.table.steepness.Goals as goal
+
+none_some : {A : Type 0} (o : Option A) → o ≡ None → IsSome o → ⊥
+none_some None e h = cc
+none_some (Some x) e h = cc
+
+pub returns-in-Some : goal.returns-in-Some
+returns-in-Some c =
+    let arrays = c.args.arrays.now in
+    let i = c.args.node.0 in
+    let within : i < length arrays = let e = c.requires.kept.sized in omega (arith, e, c.requires.there) in
+    let there : array_at arrays i ≡ Some c.in-Some.array = read_at arrays i c.index-arrays-node.result within c.index-arrays-node.is ∙ c.in-Some.is in
+    c.number_at.ensures.exact ∙ ap (λ (xs : List Frac). number_at xs c.args.entry) c.as_slice.ensures ∙ (c.requires.kept.steep i c.in-Some.array there).numbers c.args.entry
+
+pub returns-in-None : goal.returns-in-None
+returns-in-None c =
+    let arrays = c.args.arrays.now in
+    let i = c.args.node.0 in
+    let within : i < length arrays = let e = c.requires.kept.sized in omega (arith, e, c.requires.there) in
+    let there : array_at arrays i ≡ None = read_at arrays i c.index-arrays-node.result within c.index-arrays-node.is ∙ c.in-None.is in
+    c.zero.ensures ∙ sym (elim c.requires.known [
+      | inl t ↦ level c.args.along.now.problem.now c.args.along.now.setting.now c.args.along.now.ray.now i c.requires.there t c.args.entry
+      | inr some ↦ absurd (none_some (array_at arrays i) there some)
+    ])

@@ -1,0 +1,75 @@
+-- What a certificate of an answer shows, and that it is one of the problem.
+use Rattle.std.proofs.Common.{◌≡◌, ℕ, [], List, sym, ap, ◌∙◌, subst, pos}
+use Rattle.dcx_math.specs.Rational.{ℚ, whole, ◌+ℚ◌, ◌*ℚ◌}
+use Rattle.dcx_math.proofs.Orders.{+ℚ_comm, +ℚ_idl, zero-*ℚ, ≤ℚ_refl}
+use Rattle.dcx_atom.specs.Signs.{shifted}
+use Rattle.dcx_point.specs.Pairs.{Pairs}
+use Rattle.dcx_tree.specs.declared.problem.Problem.{Problem}
+use Rattle.dcx_tree.specs.Meaning.{IsAccepted, IsFitting, IsInDomain, setting_of, point_of}
+use Rattle.dcx_convex.specs.Nodes.{Point}
+use Rattle.dcx_linear.specs.declared.row.UnknownKind.{UnknownKind}
+use Rattle.dcx_lp_answer.specs.declared.answer.LpAnswer.{LpAnswer}
+use Rattle.dcx_answer.specs.declared.answer.Answer.{Answer}
+use Rattle.dcx_answer.specs.declared.answer.Answer.TheVariants.{Optimal, Infeasible, Unbounded}
+use Rattle.dcx_cert_sections.specs.declared.cert.Cert.{Cert}
+use Rattle.dcx_cert_sections.specs.declared.section.Section.{Section}
+use Rattle.dcx_cert_sections.specs.declared.section.Section.TheVariants as sections
+use Rattle.dcx_cert_sections.specs.declared.section.Format.{Format}
+use Rattle.dcx_cert_sections.specs.declared.section.Format.TheVariants.{Two}
+use Rattle.dcx_cert_sections.specs.Formats.{IsSectionOfFormat, AreOfFormat}
+use Rattle.dcx_cert_sections.specs.Shown.{IsSectionOf}
+use Rattle.dcx_cert_outline.specs.Drawn.{problem_outline}
+use Rattle.dcx_graph.specs.declared.origin.Origin.{Origin}
+use Rattle.dcx_graph.specs.Answers.{IsRead}
+use Rattle.dcx_right.specs.Answers.{IsRightFor}
+use Rattle.dcx_cache.proofs.Answered.{answers_are_right}
+use Rattle.dcx_cert_build.specs.Built.{IsBuilt}
+use Rattle.dcx_cert_check.specs.Shown.{IsShown}
+use Rattle.dcx_cert_runs.specs.Sections.{IsSectionAt}
+use Rattle.dcx_cert_runs.specs.Checking.{IsSectionShown}
+use Rattle.dcx_cert_runs.specs.Laws.{SectionsAreShown, CertificatesAreOf}
+use Rattle.dcx_cert_runs.proofs.Lists.{each_beside}
+
+-- a ray begins at its point
+stays : (x d : ℚ) → x +ℚ whole (pos 0) *ℚ d ≡ x
+stays x d = ap (λ z. x +ℚ z) (zero-*ℚ d) ∙ +ℚ_comm x (whole (pos 0)) ∙ +ℚ_idl x
+
+start : (x d : Point) → shifted x (whole (pos 0)) d ≡ x
+start x d = λ i v j. stays (x v j) (d v j) i
+
+-- ---- what is shown
+module _ (p : Problem) (s : Pairs) (kinds : List UnknownKind) (from : List Origin) (lp : LpAnswer) where
+  shown : (a : Answer) (cert : Cert) → IsFitting p s → IsRightFor p (setting_of p s) a → IsRead p kinds lp a → IsBuilt p s from lp a cert → IsShown p s cert
+  shown (Optimal number point duals) cert fits right (e, n, at, are) (weights, h, is) =
+      subst (IsShown p s) (sym is) (fits, record { shaped = at.of_variables.shaped; domain = right.feasible.domain }, right)
+  shown (Infeasible duals gap) cert fits right read (weights, h, is) = subst (IsShown p s) (sym is) (fits, right)
+  shown (Unbounded point ray bound slope) cert fits right (e, b, t, at, along) is =
+      subst (IsShown p s) (sym is) (fits, record { shaped = at.of_variables.shaped; domain = subst (IsInDomain p) (start (point_of p point) (point_of p ray)) (right.feasible (whole (pos 0)) (≤ℚ_refl _)).domain }, right)
+
+section_shown : (p : Problem) (limit : ℕ) (s : Pairs) (x : Section) → IsAccepted p → IsSectionAt p limit s x → IsSectionShown p s x
+section_shown p limit s (sections.Cert cert) ok h =
+    let right = answers_are_right p s limit h.answer ok (h.program, h.solved, h.answered) in
+    shown p s h.program.kinds h.program.origins h.solved.answer h.answer cert right.0 right.1 h.answered.read h.built
+section_shown p limit s sections.None ok h = tt
+
+pub sections_are_shown : SectionsAreShown
+sections_are_shown p limit settings list ok h = record {
+  count = h.count;
+  each = λ k s x at here. section_shown p limit s x ok (h.each k s x at here);
+}
+
+-- ---- of the problem
+section_of : (p : Problem) (limit : ℕ) (s : Pairs) (x : Section) → IsSectionAt p limit s x → IsSectionOf (problem_outline p) x
+section_of p limit s (sections.Cert cert) h = h.of_problem
+section_of p limit s sections.None h = tt
+
+section_format : (p : Problem) (limit : ℕ) (s : Pairs) (x : Section) → IsSectionAt p limit s x → IsSectionOfFormat Two x
+section_format p limit s (sections.Cert cert) h = h.format
+section_format p limit s sections.None h = tt
+
+pub certificates_are_of : CertificatesAreOf
+certificates_are_of p limit settings c ok h = record {
+  counted = h.sections.count;
+  shown = each_beside (IsSectionOf (problem_outline p)) settings c.list [] sections.None h.sections.count (λ k s x at here. section_of p limit s x (h.sections.each k s x at here));
+  format = subst (λ (f : Format). AreOfFormat f c.list) (sym h.format) (each_beside (IsSectionOfFormat Two) settings c.list [] sections.None h.sections.count (λ k s x at here. section_format p limit s x (h.sections.each k s x at here)));
+}

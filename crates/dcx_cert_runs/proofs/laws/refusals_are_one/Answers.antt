@@ -1,0 +1,5 @@
+use Rattle.dcx_cert_runs.proofs.OneRefusal.{refusals_are_one}
+use Rattle.dcx_cert_runs.proofs.laws.refusals_are_one.Goals as goal
+
+pub returns : goal.returns
+returns c = refusals_are_one

@@ -1,0 +1,6 @@
+-- The statement is proved.
+use Rattle.dcx_cert_values.proofs.Settling.{settled_here}
+use Rattle.dcx_cert_values.proofs.laws.checks_are_settled.Goals as goal
+
+pub returns : goal.returns
+returns c = settled_here

@@ -1,5 +1,0 @@
-use Rattle.dcx_certificates.proofs.Migrated.{migrations_are_one}
-use Rattle.dcx_certificates.proofs.laws.migrations_are_one.Goals as goal
-
-pub returns : goal.returns
-returns c = migrations_are_one

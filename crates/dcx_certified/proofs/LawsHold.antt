@@ -1,7 +1,0 @@
--- The main statements hold.
-use Rattle.dcx_certified.specs.Laws.{AtomsHaveDualGraphs}
-use Rattle.dcx_certified.proofs.Atoms.{atom_dual}
-use Rattle.dcx_certified.proofs.Fractions.{atom_fractions}
-
-pub atoms_have_dual_graphs : AtomsHaveDualGraphs
-atoms_have_dual_graphs = record { graphs = atom_dual; fractions = atom_fractions }

@@ -1,6 +1,0 @@
--- Atoms have dual graphs.
-use Rattle.dcx_certified.proofs.LawsHold.{atoms_have_dual_graphs}
-use Rattle.dcx_certified.proofs.laws.atoms_have_dual_graphs.Goals as goal
-
-pub returns : goal.returns
-returns c = atoms_have_dual_graphs

@@ -1,6 +1,0 @@
--- What is built is certified.
-use Rattle.dcx_certified.proofs.Certified.{built_is_certified}
-use Rattle.dcx_certified.proofs.laws.built_is_certified.Goals as goal
-
-pub returns : goal.returns
-returns c = built_is_certified

@@ -1,6 +1,0 @@
--- Forms bound programs.
-use Rattle.dcx_certified.proofs.Bounded.{forms_bound_programs}
-use Rattle.dcx_certified.proofs.laws.forms_bound_programs.Goals as goal
-
-pub returns : goal.returns
-returns c = forms_bound_programs

@@ -1,4 +1,0 @@
--- The lemmas.
-pub mod Settled
-pub mod Shows
-pub mod Kept

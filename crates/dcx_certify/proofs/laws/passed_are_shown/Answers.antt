@@ -1,6 +1,0 @@
--- The statement is proved.
-use Rattle.dcx_certify.proofs.Shows.{passed_are_shown}
-use Rattle.dcx_certify.proofs.laws.passed_are_shown.Goals as goal
-
-pub returns : goal.returns
-returns c = passed_are_shown

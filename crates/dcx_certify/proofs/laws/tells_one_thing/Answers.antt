@@ -1,6 +1,0 @@
--- The statement is proved.
-use Rattle.dcx_certify.proofs.Settled.{tells_one_thing}
-use Rattle.dcx_certify.proofs.laws.tells_one_thing.Goals as goal
-
-pub returns : goal.returns
-returns c = tells_one_thing

@@ -1,4 +1,0 @@
--- What the contracts of this crate cite.
-pub mod Shown
-pub mod Checks
-pub mod Laws

@@ -1,7 +1,0 @@
--- Those so far pass.
-use Rattle.dcx_checks.specs.Checks.{multipliers_signed}
-use Rattle.dcx_checks.proofs.Steps.{PassBelow, at_place}
-use Rattle.dcx_checks.proofs.duals.check_each.Given as goal
-
-abbrev pub invariant-constraints : goal.invariant-constraints
-invariant-constraints l = PassBelow (at_place l.constraints (multipliers_signed l.duals)) l.k

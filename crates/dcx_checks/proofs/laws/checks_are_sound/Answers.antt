@@ -1,6 +1,0 @@
--- The statement is proved.
-use Rattle.dcx_checks.proofs.Sound.{checks_sound}
-use Rattle.dcx_checks.proofs.laws.checks_are_sound.Goals as goal
-
-pub returns : goal.returns
-returns c = checks_sound

@@ -1,6 +1,0 @@
--- What the total shows.
-use Rattle.dcx_collect.proofs.LawsHold.{answers_hold}
-use Rattle.dcx_collect.proofs.laws.totals_show_answers.Goals as goal
-
-pub returns : goal.returns
-returns c = answers_hold

@@ -1,7 +1,0 @@
--- The entries of the nodes so far.
-use Rattle.std.proofs.Common.{◌≡◌}
-use Rattle.dcx_collect.specs.Starts.{start_of}
-use Rattle.dcx_collect.proofs.multipliers.entry_count.Given as goal
-
-abbrev pub invariant-loop-i : goal.invariant-loop-i
-invariant-loop-i l = l.count ≡ start_of l.tree l.i

@@ -1,5 +1,0 @@
--- Lemmas of this crate.
-pub mod Fractions
-pub mod Summands
-pub mod Coefficients
-pub mod Exact

@@ -1,8 +1,0 @@
-use Rattle.std.proofs.Common.{◌≡◌, map, drop}
-use Rattle.std.specs.List.{list_all}
-use Rattle.dcx_kinds.specs.Meant.{meant}
-use Rattle.dcx_kinds.specs.Kinds.{is_number}
-use Rattle.dcx_kinds.proofs.reading.are_numbers.Given as goal
-
-abbrev pub invariant-loop-value : goal.invariant-loop-value
-invariant-loop-value l = list_all is_number (map meant (drop l.value-index l.values)) ≡ list_all is_number (map meant l.values)

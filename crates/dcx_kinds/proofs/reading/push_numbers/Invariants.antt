@@ -1,7 +1,0 @@
-use Rattle.std.proofs.Common.{◌≡◌, ◌++◌, map, take}
-use Rattle.dcx_kinds.specs.Meant.{meant}
-use Rattle.dcx_kinds.specs.Kinds.{number_of}
-use Rattle.dcx_kinds.proofs.reading.push_numbers.Given as goal
-
-abbrev pub invariant-loop-value : goal.invariant-loop-value
-invariant-loop-value l = l.numbers.items ≡ l.fn.numbers.items ++ map number_of (map meant (take l.value-index l.values))

@@ -1,7 +1,0 @@
-//! The names of what a script binds.
-ghost use Rattle.dcx_laws.specs.Names.{HoldsForNames};
-
-/// What a script stands for doesn't depend on the names of what it binds, but for the names themselves.
-pub fn renamed()
-    ensures { HoldsForNames }
-{}

@@ -1,0 +1,5 @@
+use Rattle.dcx_lp_solve.proofs.OneSolution as holds
+use Rattle.dcx_lp_solve.proofs.laws.few_pivots.Goals as goal
+
+pub returns : goal.returns
+returns c = holds.few_pivots

@@ -1,3 +1,0 @@
--- What the laws of this crate cite.
-pub mod Programs
-pub mod Laws

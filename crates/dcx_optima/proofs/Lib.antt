@@ -1,2 +1,0 @@
--- The lemmas by which the laws are proved.
-pub mod Optima

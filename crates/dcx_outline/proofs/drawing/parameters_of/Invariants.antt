@@ -1,7 +1,0 @@
--- Those so far are shown.
-use Rattle.std.proofs.Common.{◌≡◌, map, take}
-use Rattle.dcx_sections.specs.Outlines.{shown}
-use Rattle.dcx_outline.proofs.drawing.parameters_of.Given as goal
-
-abbrev pub invariant-loop-parameter : goal.invariant-loop-parameter
-invariant-loop-parameter l = map shown l.list.items ≡ map (λ x. (x.name, x.shape)) (take l.parameter-index l.parameters)

@@ -1,7 +1,0 @@
--- Those so far are shown.
-use Rattle.std.proofs.Common.{◌≡◌, map, take}
-use Rattle.dcx_sections.specs.Outlines.{shown}
-use Rattle.dcx_outline.proofs.drawing.variables_of.Given as goal
-
-abbrev pub invariant-loop-variable : goal.invariant-loop-variable
-invariant-loop-variable l = map shown l.list.items ≡ map (λ x. (x.name, x.shape)) (take l.variable-index l.variables)

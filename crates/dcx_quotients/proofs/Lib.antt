@@ -1,3 +1,0 @@
--- The lemmas.
-pub mod Divisors
-pub mod LawsHold

@@ -1,5 +1,0 @@
-use Rattle.dcx_quotients.proofs.LawsHold.{fracs_divide_by_no_zero}
-use Rattle.dcx_quotients.proofs.laws.fracs_divide_by_no_zero.Goals as goal
-
-pub returns : goal.returns
-returns c = fracs_divide_by_no_zero

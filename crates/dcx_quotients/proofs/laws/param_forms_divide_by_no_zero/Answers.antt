@@ -1,5 +1,0 @@
-use Rattle.dcx_quotients.proofs.LawsHold.{param_forms_divide_by_no_zero}
-use Rattle.dcx_quotients.proofs.laws.param_forms_divide_by_no_zero.Goals as goal
-
-pub returns : goal.returns
-returns c = param_forms_divide_by_no_zero

@@ -1,2 +1,0 @@
--- What the laws of this crate cite.
-pub mod Laws

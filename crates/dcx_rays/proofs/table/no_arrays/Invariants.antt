@@ -1,6 +1,0 @@
--- So many places.
-use Rattle.std.proofs.Common.{◌≡◌, None, replicate}
-use Rattle.dcx_rays.proofs.table.no_arrays.Given as goal
-
-abbrev pub invariant-loop : goal.invariant-loop
-invariant-loop l = l.arrays.items ≡ replicate l.counter None

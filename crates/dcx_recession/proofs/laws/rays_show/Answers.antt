@@ -1,6 +1,0 @@
--- Rays of a problem over a tree show that it is unbounded.
-use Rattle.dcx_recession.proofs.LawsHold.{rays_show}
-use Rattle.dcx_recession.proofs.laws.rays_show.Goals as goal
-
-pub returns : goal.returns
-returns c = rays_show

@@ -1,6 +1,0 @@
--- The side whose value counts reaches no variable.
-use Rattle.dcx_recession.proofs.LawsHold.{values_are_fixed}
-use Rattle.dcx_recession.proofs.laws.values_are_fixed.Goals as goal
-
-pub returns : goal.returns
-returns c = values_are_fixed

@@ -1,0 +1,6 @@
+-- The law of the lemma of its name.
+use Rattle.dcx_right.proofs.Trees.{root_has_all}
+use Rattle.dcx_right.proofs.laws.root_has_all.Goals as goal
+
+pub returns : goal.returns
+returns c = root_has_all

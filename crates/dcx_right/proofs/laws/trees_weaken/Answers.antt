@@ -1,0 +1,6 @@
+-- The law of the lemma of its name.
+use Rattle.dcx_right.proofs.Trees.{trees_weaken}
+use Rattle.dcx_right.proofs.laws.trees_weaken.Goals as goal
+
+pub returns : goal.returns
+returns c = trees_weaken

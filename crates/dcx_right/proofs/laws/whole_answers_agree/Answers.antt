@@ -1,0 +1,6 @@
+-- The law of the lemma of its name.
+use Rattle.dcx_right.proofs.Trees.{whole_answers_agree}
+use Rattle.dcx_right.proofs.laws.whole_answers_agree.Goals as goal
+
+pub returns : goal.returns
+returns c = whole_answers_agree

@@ -1,0 +1,8 @@
+use Rattle.std.proofs.Common.{◌≡◌, map, drop}
+use Rattle.std.specs.List.{list_any}
+use Rattle.dcx_script_values.specs.View.{read_as}
+use Rattle.dcx_script_values.specs.Kinds.{is_empty}
+use Rattle.dcx_script_values.proofs.operands.has_empty.Given as goal
+
+abbrev pub invariant-loop-reading : goal.invariant-loop-reading
+invariant-loop-reading l = list_any is_empty (map read_as (drop l.reading-index l.readings)) ≡ list_any is_empty (map read_as l.readings)

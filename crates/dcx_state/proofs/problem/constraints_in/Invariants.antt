@@ -1,7 +1,0 @@
-use Rattle.std.proofs.Common.{◌≡◌, map, take}
-use Rattle.dcx_kinds.specs.Meant.{meant}
-use Rattle.dcx_state.specs.Declarations.{constraint_list}
-use Rattle.dcx_state.proofs.problem.constraints_in.Given as goal
-
-abbrev pub invariant-loop-value : goal.invariant-loop-value
-invariant-loop-value l = l.constraints.items ≡ constraint_list (map meant (take l.value-index l.values))

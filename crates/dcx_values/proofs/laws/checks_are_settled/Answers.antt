@@ -1,6 +1,0 @@
--- The statement is proved.
-use Rattle.dcx_values.proofs.Settling.{settled_here}
-use Rattle.dcx_values.proofs.laws.checks_are_settled.Goals as goal
-
-pub returns : goal.returns
-returns c = settled_here

@@ -1,6 +1,0 @@
--- The statement is proved.
-use Rattle.dcx_values.proofs.Nonzero.{divisors_hold}
-use Rattle.dcx_values.proofs.laws.divisors_are_not_zero.Goals as goal
-
-pub returns : goal.returns
-returns c = divisors_hold

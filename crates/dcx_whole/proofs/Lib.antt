@@ -1,3 +1,0 @@
--- The lemmas.
-pub mod Boxes
-pub mod Trees

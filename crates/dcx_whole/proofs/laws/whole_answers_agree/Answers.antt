@@ -1,6 +1,0 @@
--- The law of the lemma of its name.
-use Rattle.dcx_whole.proofs.Trees.{whole_answers_agree}
-use Rattle.dcx_whole.proofs.laws.whole_answers_agree.Goals as goal
-
-pub returns : goal.returns
-returns c = whole_answers_agree
