@@ -2,6 +2,7 @@
 
     knapsack N          N things of which those that weigh half of all at the most are to be worth much
     shifts N            how many people begin at each of N slots of a day, so that each slot is covered; a shift has a third of the day
+    roster N D          who of N people works on which of D days, no three in a row, at their wishes
     commitment U T      which of U generators run in each of T hours, at costs for starting and for power
     makespan J M        which of J jobs go to which of M machines that are alike, so that all of them are done early
 
@@ -79,6 +80,30 @@ def shifts(n):
     )
 
 
+def roster(people, days):
+    wish = [[(3 * i * i + 5 * d + 7 * i * d) % 6 for d in range(days)] for i in range(people)]
+    need = [people // 2 + (d * d + d) % 3 % 2 for d in range(days)]
+    most = 5 * days // 7
+    program = Program("Maximize")
+    works = [[f"works{i}_{d}" for d in range(days)] for i in range(people)]
+    program.binary = sum(works, [])
+    program.objective = [(wish[i][d], works[i][d]) for i in range(people) for d in range(days)]
+    for d in range(days):
+        program.row([(1, works[i][d]) for i in range(people)], f"= {need[d]}")
+    for i in range(people):
+        program.row([(1, name) for name in works[i]], f"<= {most}")
+        for d in range(days - 2):
+            program.row([(1, name) for name in works[i][d : d + 3]], "<= 2")
+    return program, script(
+        f"wish = np.array({wish})",
+        f"need = np.array({need})",
+        f"works = cp.Variable(({people}, {days}), boolean=True)",
+        f"rules = [cp.sum(works, axis=0) == need, cp.sum(works, axis=1) <= {most}]",
+        "rules += [works[:, :-2] + works[:, 1:-1] + works[:, 2:] <= 2]",
+        "prob = cp.Problem(cp.Maximize(cp.sum(cp.multiply(wish, works))), rules)",
+    )
+
+
 def commitment(units, hours):
     least = [10 + 5 * u for u in range(units)]
     most = [40 + 20 * u for u in range(units)]
@@ -134,11 +159,12 @@ def makespan(jobs, machines):
     )
 
 
-KINDS = {"knapsack": knapsack, "shifts": shifts, "commitment": commitment, "makespan": makespan}
+KINDS = {"knapsack": knapsack, "shifts": shifts, "roster": roster, "commitment": commitment, "makespan": makespan}
 MEASURED = {
     "knapsack": [(20,), (30,), (40,), (60,)],
     "shifts": [(12,), (24,), (48,)],
-    "commitment": [(3, 8), (3, 12), (4, 12), (4, 24), (6, 24)],
+    "roster": [(6, 7), (10, 7), (8, 14)],
+    "commitment": [(3, 8), (3, 12), (4, 12), (4, 24)],
     "makespan": [(8, 2), (12, 2), (8, 3), (10, 3), (12, 3)],
 }
 
