@@ -6,13 +6,15 @@
     commitment U T      which of U generators run in each of T hours, at costs for starting and for power
     makespan J M        which of J jobs go to which of M machines that are alike, so that all of them are done early
 
-Each is written as a script for `dcx solve` and in CPLEX's LP format for `glpsol`, from the same numbers. SECONDS, 120 where it isn't given, limits each run.
+Each is written as a script for `dcx solve` and in CPLEX's LP format for `glpsol`, from the same numbers. SECONDS, 120 where it isn't given, is how many processor seconds each run may take.
 `nodes` and the end are those that dcx prints; where both have an optimum, their values are compared. `glpsol` calculates in floating point and has a
 tolerance of 1e-7, and its seconds are those that it takes with its own defaults.
 
     reach.py script KIND N ..   prints the script alone, and `reach.py lp KIND N ..` the other one.
 """
+import functools
 import os
+import resource
 import subprocess
 import sys
 import tempfile
@@ -165,20 +167,19 @@ MEASURED = {
     "shifts": [(12,), (24,), (48,)],
     "roster": [(6, 7), (10, 7), (8, 14)],
     "commitment": [(3, 8), (3, 12), (4, 12), (4, 24)],
-    "makespan": [(8, 2), (12, 2), (8, 3), (10, 3), (12, 3)],
+    "makespan": [(8, 2), (12, 2), (8, 3), (10, 3), (13, 3), (12, 4)],
 }
 
 
 # ---- the runs
 def timed(words, most):
-    """What a run prints, and its processor seconds; None where it takes longer than it may."""
+    """What a run prints, and its processor seconds; None where it takes more of them than it may."""
     begun = os.times()
-    try:
-        run = subprocess.run(words, stdout=subprocess.PIPE, stderr=subprocess.DEVNULL, text=True, timeout=most)
-    except subprocess.TimeoutExpired:
-        return None, most
+    limit = functools.partial(resource.setrlimit, resource.RLIMIT_CPU, (most, most))
+    run = subprocess.run(words, stdout=subprocess.PIPE, stderr=subprocess.DEVNULL, text=True, preexec_fn=limit)
     ended = os.times()
-    return run.stdout, ended.children_user - begun.children_user + ended.children_system - begun.children_system
+    seconds = ended.children_user - begun.children_user + ended.children_system - begun.children_system
+    return (None if run.returncode < 0 else run.stdout), seconds
 
 
 def dcx(text, most):
@@ -202,7 +203,7 @@ def glpsol(text, most):
         model, solution = os.path.join(folder, "model.lp"), os.path.join(folder, "solution.txt")
         with open(model, "w") as file:
             file.write(text)
-        report, seconds = timed(["glpsol", "--tmlim", str(most), "--lp", model, "-w", solution], most + 20)
+        report, seconds = timed(["glpsol", "--lp", model, "-w", solution], most)
         head = []
         if os.path.exists(solution):
             with open(solution) as file:
