@@ -1,5 +1,5 @@
 #!/usr/bin/env python3
-"""Draws the pictures of this folder: three answers, from the scripts and reports of examples/, and the architecture.
+"""Draws the pictures of this folder: five answers, from the scripts and reports of examples/ and of the guide, and the architecture.
 
 With --check nothing is written: it tells which pictures aren't what it would draw, and ends with status 1 if there is one.
 """
@@ -192,6 +192,102 @@ def flow():
     return picture
 
 
+class Sides:
+    """The linear expressions of a script over two variables, and the constraints and the objective that are made of them."""
+
+    def __init__(self, script, first, second):
+        self.names, self.bounds, self.objective = {}, [], None
+        self.first, self.second = first, second
+        for line in ast.parse((EXAMPLES / script).read_text()).body:
+            if isinstance(line, ast.Assign) and not isinstance(line.value, ast.Call):
+                self.names[line.targets[0].id] = self.weights(line.value)
+            for node in ast.walk(line):
+                if isinstance(node, ast.Compare):
+                    self.bounds.append((*self.weights(node.left), node.comparators[0].value))
+                elif isinstance(node, ast.Call) and ast.unparse(node.func) == "cp.Maximize":
+                    self.objective = self.weights(node.args[0])
+
+    def weights(self, expression):
+        """How often an expression counts each of the two variables."""
+        text = compile(ast.Expression(expression), "script", "eval")
+        units = ((1, 0), (0, 1))
+        return tuple(eval(text, {self.first: a, self.second: b, **{n: a * w[0] + b * w[1] for n, w in self.names.items()}}) for a, b in units)
+
+
+def shown(page, words):
+    """The lines `var` and `value` of the report that a page of docs/ shows below a command line."""
+    text = (HERE.parent / page).read_text()
+    report = text.split(f"$ ./dcx {words}\n")[1].split("```")[0]
+    return {line.split()[1 if line.startswith("var") else 0]: Fraction(line.split()[-1]) for line in report.splitlines() if line.startswith(("var", "value"))}
+
+
+def region():
+    """The plans of the guide's workshop, its best one, and the line of the plans that bring as much."""
+    sides = Sides("guide/workshop.py", "tables", "chairs")
+    best = shown("GUIDE.md", "solve examples/guide/workshop.py")
+    picture = Picture("The plans of a workshop, and the best of them", 720, 430)
+    plot = Plot(picture, 60, 50, 360, 320, 12, 0, 40)
+    plot.axes(2, 10, "tables", "chairs")
+    corners = [(0, 0)]
+    boards, hours = sides.bounds
+    corners.append((Fraction(boards[2], boards[0]), 0))
+    det = boards[0] * hours[1] - boards[1] * hours[0]
+    corners.append((Fraction(boards[2] * hours[1] - boards[1] * hours[2], det), Fraction(boards[0] * hours[2] - boards[2] * hours[0], det)))
+    corners.append((0, Fraction(hours[2], hours[1])))
+    picture.put("polygon", points=" ".join(f"{number(x)},{number(y)}" for x, y in (plot.at(*corner) for corner in corners)), fill="#ddf4ff", stroke="none")
+
+    def line(weights, end, colour, **more):
+        low = Fraction(end - weights[1] * 40, weights[0])
+        a = (low, 40) if low > 0 else (0, Fraction(end, weights[1]))
+        high = Fraction(end, weights[0])
+        b = (high, 0) if high < 12 else (12, Fraction(end - weights[0] * 12, weights[1]))
+        picture.line(plot.at(*a), plot.at(*b), colour, stroke_width=2, **more)
+
+    line(boards[:2], boards[2], COLOURS[0])
+    line(hours[:2], hours[2], COLOURS[2])
+    line(sides.objective, best["value"], COLOURS[1], stroke_dasharray="6 4")
+    x, y = plot.at(best["tables"], best["chairs"])
+    picture.put("circle", cx=x, cy=y, r=5, fill=COLOURS[1])
+    picture.words(x + 10, y - 8, f"{best['tables']} tables, {best['chairs']} chairs", "start", 13, COLOURS[1])
+    for row, (colour, told) in enumerate((
+        (COLOURS[0], f"boards: {boards[0]} tables + chairs = {boards[2]}"),
+        (COLOURS[2], f"hours: {hours[0]} tables + {hours[1]} chairs = {hours[2]}"),
+        (COLOURS[1], f"money: {sides.objective[0]} tables + {sides.objective[1]} chairs = {best['value']}"),
+    )):
+        picture.words(440, 90 + 22 * row, told, "start", 13, colour)
+    picture.words(*plot.at(2.2, 10), "plans", "middle", 13, GREY)
+    return picture
+
+
+def spans():
+    """What a day brings to the coffee stall, as the price next door moves: the spans of a report of `range`."""
+    told, infeasible = [], []
+    for line, setting in zip((EXAMPLES / "prices" / "range.txt").read_text().splitlines(), settings("prices")):
+        words = line.split()
+        price = Fraction(setting.split("=")[1].strip())
+        if words[2] != "range":
+            infeasible.append(price)
+            continue
+        low, high, value, slope = words[5], words[7], Fraction(words[9]), Fraction(words[11])
+        told.append((Fraction(low), 5 if high == "none" else Fraction(high), value, slope, price))
+    picture = Picture("What a day brings, along the price next door", 720, 430)
+    plot = Plot(picture, 60, 50, 420, 320, 5, 0, 500)
+    plot.axes(1, 100, "what the neighbour asks for a medium cup", "a day brings")
+    for (low, high, value, slope, price), colour in zip(told, COLOURS):
+        picture.line(plot.at(low, value + slope * low), plot.at(high, value + slope * high), colour, stroke_width=3)
+        x, y = plot.at(price, value + slope * price)
+        picture.put("circle", cx=x, cy=y, r=5, fill=colour)
+    for row, ((low, high, value, slope, price), colour) in enumerate(zip(told, COLOURS)):
+        end = "on" if high == 5 else f"to {float(high):.2f}"
+        picture.words(500, 120 + 44 * row, f"{float(low):.2f} {end}:", "start", 13, colour)
+        picture.words(500, 138 + 44 * row, f"{value} + {slope} times the price", "start", 13, colour)
+    for price in infeasible:
+        x, y = plot.at(price, 0)
+        picture.words(x, y - 6, "×", "middle", 18, GREY)
+        picture.words(x - 10, y - 10, "no prices at all", "end", 12, GREY)
+    return picture
+
+
 # ---- the architecture
 class Box:
     """A crate and what it does, in a rectangle."""
@@ -212,65 +308,94 @@ class Box:
 
 
 def architecture():
-    """The way of a script through the crates, and that of a certificate."""
-    picture = Picture("From a script to answers, and from certificates to a verdict", 910, 776)
-    top = Box(picture, 20, 46, 860, "dcx, dcx_top", "run: the words of the command line, the files of a library, and the report to a sink")
-    picture.words(170, 20, "words, files", "middle", 13)
+    """The way of a script through the crates, what is asked at each setting, and the way of a certificate."""
+    picture = Picture("From a script to answers, and from certificates to a verdict", 930, 846)
+    top = Box(picture, 20, 46, 880, "dcx, dcx_top", "run: a command line (dcx_words), the files of a library and a sink for the report (dcx_host)")
+    picture.words(170, 20, "command line, files", "middle", 13)
     picture.arrow((170, 26), (170, 46))
-    picture.words(730, 20, "report, status", "middle", 13)
-    picture.arrow((730, 46), (730, 26))
+    picture.words(750, 20, "report, status", "middle", 13)
+    picture.arrow((750, 46), (750, 26))
 
     picture.words(20, 122, "dcx_front", "start", 13, INK, font_weight="bold")
-    read = Box(picture, 20, 132, 240, "dcx_read", "bytes to a syntax tree,", "over the tokens of dcx_tokens")
-    elab = Box(picture, 330, 132, 240, "dcx_elab", "the script is carried out: its", "problem, the setting of each solve")
-    rules = Box(picture, 640, 132, 240, "dcx_rules", "whether the rules accept", "the problem, by curvatures")
-    picture.arrow(top.side("bottom", 0.14), read.side("top"))
+    read = Box(picture, 20, 132, 250, "dcx_read", "bytes to a syntax tree,", "over the tokens of dcx_tokens")
+    elab = Box(picture, 335, 132, 250, "dcx_elab", "the script is carried out: its", "problem, the setting of each solve")
+    rules = Box(picture, 650, 132, 250, "dcx_rules", "whether the rules accept", "the problem, by curvatures")
+    picture.arrow(top.side("bottom", 0.142), read.side("top"))
     picture.arrow(read.side("right"), elab.side("left"))
     picture.arrow(elab.side("right"), rules.side("left"))
 
     rail = 230
-    picture.put("rect", x=20, y=rail, width=860, height=30, rx=15, fill="#ddf4ff", stroke=COLOURS[0])
-    picture.words(450, rail + 20, "an accepted problem (dcx_tree), or the refusal of what is at fault first", "middle", 13)
-    picture.arrow(rules.side("bottom"), (760, rail))
+    picture.put("rect", x=20, y=rail, width=880, height=30, rx=15, fill="#ddf4ff", stroke=COLOURS[0])
+    picture.words(460, rail + 20, "an accepted problem (dcx_tree), or the refusal of what is at fault first", "middle", 13)
+    picture.arrow(rules.side("bottom"), (775, rail))
 
-    picture.words(150, 292, "at each setting", "middle", 13, GREY)
+    picture.words(145, 292, "a session, setting after setting (dcx_cache)", "middle", 13, GREY)
     chain = [
+        ("dcx_settings, dcx_overlay", "a line of the settings file, laid", "over the script's last values"),
         ("dcx_fit", "the setting fits the parameters"),
         ("dcx_graph", "reduce once, fix at a setting:", "rows with fractions"),
         ("dcx_std", "rows of whole numbers"),
-        ("dcx_simplex", "Bland's rule, over the linked", "tableau of dcx_chained"),
+        ("dcx_simplex, dcx_warm", "Bland's rule, or from an earlier", "basis: the tableau of dcx_chained"),
         ("dcx_graph, dcx_postsolve", "map_back: from the last basis", "to an answer of the problem"),
     ]
     boxes, y = [], 304
     for name, *does in chain:
-        boxes.append(Box(picture, 20, y, 260, name, *does))
-        y += boxes[-1].height + 26
-    picture.arrow((150, rail + 30), (150, 280))
+        boxes.append(Box(picture, 20, y, 250, name, *does))
+        y += boxes[-1].height + 24
+    picture.arrow((145, rail + 30), (145, 280))
     for above, below in zip(boxes, boxes[1:]):
         picture.arrow(above.side("bottom"), below.side("top"))
+    graph, std, simplex, back = boxes[2:]
+    report = Box(picture, 20, y + 6, 880, "dcx_report", "what is found of the problem, answers and stops, sections, faults: the lines of the report")
 
-    text = Box(picture, 330, 340, 240, "dcx_cert_text", "certificates written and read,", "line by line")
-    picture.words(450, 292, "certify, migrate: a file", "middle", 13, GREY)
-    picture.arrow((450, 298), text.side("top"))
-    build = Box(picture, 330, boxes[4].top, 190, "dcx_cert_build", "an answer's numbers, and", "the weights of its atoms")
-    picture.words(305, boxes[4].top + 78, "certificate", "middle", 13, GREY)
-    picture.arrow(boxes[4].side("right"), build.side("left"))
-    picture.arrow(build.side("top"), (425, text.top + text.height))
-    certify = Box(picture, 640, 330, 240, "dcx_cert_check", "the checks of a certificate, in", "order, on the problem's nodes:", "values, multipliers, weights, rays")
-    picture.arrow((760, rail + 30), certify.side("top"))
-    picture.arrow(text.side("right", 0.47), certify.side("left", 0.5))
-    picture.put("rect", x=626, y=318, width=268, height=140, rx=8, fill="none", stroke=COLOURS[2], stroke_dasharray="5 4")
-    picture.words(760, 432, "stands on neither the reduction", "middle", 12, COLOURS[2])
-    picture.words(760, 448, "nor the simplex", "middle", 12, COLOURS[2])
+    # What is asked at each setting in place of an answer: over the same rows, each program solved by dcx_lp_solve.
+    solved_top, solved_bottom = std.top - 10, simplex.top + simplex.height + 10
+    picture.put("rect", x=10, y=solved_top, width=270, height=solved_bottom - solved_top, rx=8, fill="none", stroke=GREY, stroke_dasharray="5 4")
+    picture.words(14, solved_top - 3, "dcx_lp_solve", "start", 12, GREY)
+    asked = [
+        ("dcx_branch", "whole numbers: one program", "for each node"),
+        ("dcx_iis", "constraints in the way: one", "program for each of them"),
+        ("dcx_range", "how far a parameter may move,", "read at the last basis"),
+    ]
+    picture.words(460, graph.top - 34, "asked at each setting (dcx_outcomes),", "middle", 13, GREY)
+    picture.words(460, graph.top - 16, "each program solved by dcx_lp_solve", "middle", 13, GREY)
+    fork, join, y = 312, 612, graph.top
+    first = None
+    for name, *does in asked:
+        box = Box(picture, 335, y, 250, name, *does)
+        middle = box.side("left")[1]
+        picture.arrow((fork, middle), box.side("left"))
+        picture.line(box.side("right"), (join, middle))
+        first = first or box
+        y += box.height + 26
+    last = box.side("left")[1]
+    picture.line(graph.side("right"), (fork, graph.side("right")[1]))
+    picture.line((fork, graph.side("right")[1]), (fork, last))
+    picture.arrow((join, first.side("right")[1]), (join, report.top))
 
-    report = Box(picture, 20, y + 10, 860, "dcx_report", "what is found of the problem, answers and stops, sections, faults: the lines of the report")
-    picture.arrow(boxes[4].side("bottom"), report.side("top", 0.151))
-    picture.arrow((545, text.top + text.height), (545, report.top))
-    picture.arrow((760, 458), (760, report.top))
+    certify = Box(picture, 650, 330, 250, "dcx_cert_check", "the checks of a certificate, in", "order, on the problem's nodes:", "values, multipliers, weights, rays")
+    picture.arrow((775, rail + 30), certify.side("top"))
+    picture.put("rect", x=638, y=318, width=274, height=140, rx=8, fill="none", stroke=COLOURS[2], stroke_dasharray="5 4")
+    picture.words(775, 432, "stands on neither the reduction", "middle", 12, COLOURS[2])
+    picture.words(775, 448, "nor the simplex", "middle", 12, COLOURS[2])
+    text = Box(picture, 650, 530, 250, "dcx_cert_text", "certificates written and read,", "line by line")
+    picture.words(690, 498, "certify, migrate:", "middle", 12, GREY)
+    picture.words(690, 512, "a file", "middle", 12, GREY)
+    picture.arrow((690, 516), (690, 530))
+    picture.arrow(text.side("top", 0.6), (800, 458))
+    build = Box(picture, 650, back.top, 250, "dcx_cert_build", "an answer's numbers, and", "the weights of its atoms")
+    picture.arrow(back.side("right"), build.side("left"))
+    picture.words(460, back.side("right")[1] - 8, "certificate", "middle", 13, GREY)
+    picture.arrow(build.side("top"), text.side("bottom"))
+    picture.arrow(back.side("bottom"), report.side("top", 0.142))
+    picture.line(certify.side("right"), (920, certify.side("right")[1]))
+    picture.line(text.side("right"), (920, text.side("right")[1]))
+    picture.line((920, certify.side("right")[1]), (920, report.top + report.height / 2))
+    picture.arrow((920, report.top + report.height / 2), (900, report.top + report.height / 2))
     return picture
 
 
-PICTURES = {"architecture": architecture, "flow": flow, "quantiles": quantiles, "trajectory": trajectory}
+PICTURES = {"architecture": architecture, "flow": flow, "quantiles": quantiles, "region": region, "spans": spans, "trajectory": trajectory}
 
 
 def main():

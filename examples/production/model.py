@@ -1,3 +1,4 @@
+# How many of two goods to make, which bring 3 and 2 a piece: there are four hours, one a piece, and buyers for three of the first.
 import cvxpy as cp
 import numpy as np
 x = cp.Variable(nonneg=True)

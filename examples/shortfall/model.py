@@ -8,6 +8,6 @@ kilos = cp.Variable(2, nonneg=True)
 
 prob = cp.Problem(
     cp.Minimize(3*kilos[0] + 4*kilos[1]),
-    [cp.sum(kilos) == need, kilos <= 600, power @ kilos <= 439.9999999],
+    [cp.sum(kilos) == need, kilos <= 600, power @ kilos <= 439.99999999],
 )
 prob.solve()

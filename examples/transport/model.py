@@ -1,10 +1,18 @@
+# What should two stores bring to three shops, so that the sales bring the most?
 import cvxpy as cp
 import numpy as np
-north_to_a = cp.Variable(nonneg=True)
-north_to_b = cp.Variable(nonneg=True)
-north_to_c = cp.Variable(nonneg=True)
-south_to_a = cp.Variable(nonneg=True)
-south_to_b = cp.Variable(nonneg=True)
-south_to_c = cp.Variable(nonneg=True)
-prob = cp.Problem(cp.Minimize(-9*north_to_a - 6*north_to_b - 4*north_to_c - 5*south_to_a - 7*south_to_b - 3*south_to_c), [north_to_a + north_to_b + north_to_c <= 10, south_to_a + south_to_b + south_to_c <= 12, north_to_a + south_to_a <= 8, north_to_b + south_to_b <= 7, north_to_c + south_to_c <= 9])
+
+gain = np.array([          # of a crate: a row for each store, a column for each shop
+    [9, 6, 4],
+    [5, 7, 3],
+])
+stock = np.array([10, 12])     # crates in each store
+wanted = np.array([8, 7, 9])   # crates that each shop can sell
+
+crates = cp.Variable((2, 3), nonneg=True)
+
+prob = cp.Problem(cp.Maximize(cp.sum(cp.multiply(gain, crates))), [
+    cp.sum(crates, axis=1) <= stock,   # 1: of each store
+    cp.sum(crates, axis=0) <= wanted,  # 2: of each shop
+])
 prob.solve()
