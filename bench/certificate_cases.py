@@ -5,11 +5,14 @@ answers. `drawn` writes those of scripts drawn at random, each of which passes i
 """
 import random
 import re
+import os
 import sys
 
+sys.path.insert(0, os.path.join(os.path.dirname(os.path.abspath(__file__)), "..", "python"))
+
 import random_cases
-from oracle.cases import IMPORTS
-from oracle.commands import run
+from dcx.exact.cases import IMPORTS
+from dcx.exact.commands import run
 
 MOST = 2**127 - 1
 

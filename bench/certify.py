@@ -7,11 +7,14 @@
 Reports and statuses are those of dcx. The parts are oracle/certificates.py (the text), oracle/checks.py (the checks, in their order) and
 oracle/slopes.py (the weights of atoms). A certificate is made from the run of oracle/simplex.py; checking it looks at no run.
 """
+import os
 import sys
+
+sys.path.insert(0, os.path.join(os.path.dirname(os.path.abspath(__file__)), "..", "python"))
 
 sys.setrecursionlimit(10_000)
 
-from oracle.commands import run
+from dcx.exact.commands import run
 from reference import fetch
 
 WORDS = ("certificate", "certify", "migrate")

@@ -8,10 +8,13 @@ The reference shows of each answer that it is right; the program of `crates/dcx_
 """
 import random
 import re
+import os
 import sys
 
-from oracle.cases import IMPORTS
-from oracle.commands import run
+sys.path.insert(0, os.path.join(os.path.dirname(os.path.abspath(__file__)), "..", "python"))
+
+from dcx.exact.cases import IMPORTS
+from dcx.exact.commands import run
 
 NUMBERS = ["0", "1", "1", "2", "3", "-1", "-2", "5", "1/2", "-3/4", "0.3", "10"]
 SCALING = ["2", "-1", "1/2", "3", "-2/3", "0"]

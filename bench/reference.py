@@ -3,12 +3,15 @@
     reference.py WORDS           runs the words `check`, `solve`, `resolve`, `trial`, `iis` and `range` as dcx does, with its report and its status
     reference.py --cases FILE..  runs files of worked cases, tells each one that differs, and last how many there were
 """
+import os
 import sys
+
+sys.path.insert(0, os.path.join(os.path.dirname(os.path.abspath(__file__)), "..", "python"))
 
 sys.setrecursionlimit(10_000)
 
-from oracle.cases import run_file
-from oracle.commands import ReadFault, run
+from dcx.exact.cases import run_file
+from dcx.exact.commands import ReadFault, run
 
 
 def fetch(name):
