@@ -1,0 +1,437 @@
+"""The forms of the report's lines: words and fields apart by one blank, each form read and written from one template.
+
+A template is the line with a field's name in braces where its value stands. What kind of value a field has stands in `KINDS`, once for all lines.
+"""
+from __future__ import annotations
+
+import re
+from dataclasses import dataclass
+from fractions import Fraction
+from typing import Callable, NamedTuple, Optional
+
+from .exact.faults import REFUSALS, STOPS
+
+LARGEST = 2**127 - 1
+COUNT = re.compile(r"0|[1-9][0-9]*")
+NUMBER = re.compile(r"0|(-?[1-9][0-9]*)(?:/([1-9][0-9]*))?")
+SHAPE = re.compile(r"\((?:([1-9][0-9]*)(?:,([1-9][0-9]*))?)?\)")
+PLACE = re.compile(r"([1-9][0-9]*):([1-9][0-9]*)")
+
+USAGE = (
+    "usage: dcx check SCRIPT | solve SCRIPT | resolve SCRIPT SETTINGS | certificate SCRIPT SETTINGS | certify SCRIPT SETTINGS CERT | "
+    "trial N | migrate SCRIPT SETTINGS CERT | range SCRIPT SETTINGS PARAM | iis SCRIPT SETTINGS"
+)
+
+
+class Misread(ValueError):
+    """A text that isn't what is wanted there; its message says what was wanted."""
+
+
+class Place(NamedTuple):
+    """A place in a script or a settings file, both counted from 1, columns in bytes."""
+
+    line: int
+    column: int
+
+
+@dataclass(frozen=True)
+class Entries:
+    """An array: its shape, of at most two sides, and its entries in row-major order."""
+
+    shape: tuple[int, ...]
+    entries: tuple[Fraction, ...]
+
+
+@dataclass(frozen=True)
+class Detail:
+    """What a refusal, a stop or a fault of a certificate carries. A field that it doesn't carry is None.
+
+    Places count from 1. Entries, rows, columns, parameters, variables, constraints and nodes of a problem count from 0, row by row; steps of `iis`
+    are the numbers of constraints, from 1 on, and 0 where all are there; nodes of branch and bound count from 1.
+    """
+
+    what: Optional[str] = None  # of 18: nodes, entries, items, steps or events
+    count: Optional[int] = None  # of 18 what was counted; of 27 and 32 the limit
+    rule: Optional[str] = None  # of 19: composition, minimize, maximize, equal or at_most
+    reason: Optional[str] = None  # of 35: unknown, shape, map or coefficient
+    name: Optional[str] = None  # of a parameter
+    declared: Optional[tuple[int, ...]] = None  # the parameter's shape
+    given: Optional[tuple[int, ...]] = None  # the value's shape
+    where: Optional[str] = None  # of 26: entry, row, map, pivot or answer
+    place: Optional[Place] = None  # of an expression
+    entry: Optional[int] = None
+    value: Optional[Fraction] = None
+    row: Optional[int] = None  # of the reduced program
+    column: Optional[int] = None
+    pivots: Optional[int] = None  # how many were done
+    rows: Optional[int] = None  # of 28: how many the program would have
+    columns: Optional[int] = None
+    op: Optional[str] = None  # the operation that passes 128 bits: add, sub, mul, div or lcm
+    left: Optional[Fraction] = None  # its operands; of a fault also what stands on both sides
+    right: Optional[Fraction] = None
+    node: Optional[int] = None  # of branch and bound; of a fault that of an expression
+    step: Optional[int] = None  # of 37
+    stop: Optional[Stop] = None  # of 33 and 37: the stop of the node or the step; of the fault Fit that of the setting
+    line: Optional[int] = None  # of the fault Form
+    parameter: Optional[int] = None
+    variable: Optional[int] = None
+    constraint: Optional[int] = None
+    stated: Optional[Fraction] = None  # what the certificate says
+    found: Optional[Fraction] = None  # what the check forms
+
+    def fields(self) -> dict[str, object]:
+        """The fields that are carried, by name."""
+        return {name: value for name, value in vars(self).items() if value is not None}
+
+
+@dataclass(frozen=True)
+class Stop:
+    """Why a setting has no answer."""
+
+    number: int
+    detail: Detail = Detail()
+
+    @property
+    def name(self) -> str:
+        """The name, as `PivotLimit`."""
+        return STOPS[self.number]
+
+    @property
+    def text(self) -> str:
+        """What stands behind `stopped`: number, name and what is carried."""
+        return filled(f"{self.number} {self.name}", STOP_FORMS[self.number], self.detail)
+
+
+@dataclass(frozen=True)
+class Refusal:
+    """Why a script, a settings file or the file of a certificate isn't taken, and where."""
+
+    of: str
+    number: int
+    line: int
+    column: int
+    detail: Detail = Detail()
+
+    @property
+    def name(self) -> str:
+        """The name, as `NotDcp`."""
+        return REFUSALS[self.number]
+
+    @property
+    def text(self) -> str:
+        """The line of the report, without its end."""
+        head = f"refused {self.of} {self.number} {self.name} at {self.line}:{self.column}"
+        return filled(head, REFUSAL_FORMS.get(self.number, ("",)), self.detail)
+
+
+@dataclass(frozen=True)
+class Fault:
+    """Why a certificate isn't taken: the section, 0 where the text is none, the name of the check that fails and its numbers."""
+
+    section: int
+    name: str
+    detail: Detail = Detail()
+
+    @property
+    def text(self) -> str:
+        """The line of the report, without its end."""
+        head = f"certificate refused section {self.section} {self.name}"
+        if self.detail.stop is not None:
+            return f"{head} {self.detail.stop.number} {self.detail.stop.name}"
+        return filled(head, FAULT_FORMS[self.name], self.detail)
+
+
+# Values of fields
+
+
+def read_count(text: str) -> int:
+    """A whole number from 0 on, without leading zeros."""
+    if not COUNT.fullmatch(text):
+        raise Misread(f"a count, and not {text!r}")
+    return int(text)
+
+
+def read_number(text: str) -> Fraction:
+    """A fraction in lowest terms, both parts of at most 127 bits."""
+    match = NUMBER.fullmatch(text)
+    if match is None:
+        raise Misread(f"a number, and not {text!r}")
+    over, under = match.groups()
+    if over is None:
+        return Fraction(0)
+    numerator = int(over)
+    if under is None:
+        value = Fraction(numerator)
+    else:
+        denominator = int(under)
+        value = Fraction(numerator, denominator)
+        if value.denominator != denominator or denominator == 1:
+            raise Misread(f"a number in lowest terms, and not {text!r}")
+    if abs(value.numerator) > LARGEST or value.denominator > LARGEST:
+        raise Misread(f"a number of 128 bits, and not {text!r}")
+    return value
+
+
+def number_text(value: Fraction) -> str:
+    """`n` or `n/d` in lowest terms."""
+    return str(value)
+
+
+def read_end(text: str) -> Optional[Fraction]:
+    """The end of a span, None where there is none."""
+    return None if text == "none" else read_number(text)
+
+
+def end_text(value: Optional[Fraction]) -> str:
+    """A number, or `none`."""
+    return "none" if value is None else number_text(value)
+
+
+def read_shape(text: str) -> tuple[int, ...]:
+    """The sides of `()`, `(n)` or `(m,n)`, each at least 1."""
+    match = SHAPE.fullmatch(text)
+    if match is None:
+        raise Misread(f"a shape, and not {text!r}")
+    return tuple(int(side) for side in match.groups() if side is not None)
+
+
+def shape_text(shape: tuple[int, ...]) -> str:
+    """`()`, `(n)` or `(m,n)`."""
+    return f"({','.join(str(side) for side in shape)})"
+
+
+def size(shape: tuple[int, ...]) -> int:
+    """How many entries an array of the shape has."""
+    count = 1
+    for side in shape:
+        count *= side
+    return count
+
+
+def read_place(text: str) -> Place:
+    """`LINE:COLUMN`."""
+    match = PLACE.fullmatch(text)
+    if match is None:
+        raise Misread(f"a place, and not {text!r}")
+    return Place(int(match.group(1)), int(match.group(2)))
+
+
+def place_text(place: Place) -> str:
+    """`LINE:COLUMN`."""
+    return f"{place[0]}:{place[1]}"
+
+
+def read_name(text: str) -> str:
+    """A name of the script."""
+    if not text or not text.isprintable():
+        raise Misread(f"a name, and not {text!r}")
+    return text
+
+
+def one_of(*words: str) -> Callable[[str], str]:
+    """Reads one of these words."""
+
+    def read(text: str) -> str:
+        if text not in words:
+            raise Misread(f"one of {', '.join(words)}, and not {text!r}")
+        return text
+
+    return read
+
+
+COUNTS = (read_count, str)
+NUMBERS = (read_number, number_text)
+SHAPES = (read_shape, shape_text)
+KINDS = {
+    "what": (one_of("nodes", "entries", "items", "steps", "events"), str),
+    "rule": (one_of("composition", "minimize", "maximize", "equal", "at_most"), str),
+    "reason": (one_of("unknown", "shape", "map", "coefficient"), str),
+    "op": (one_of("add", "sub", "mul", "div", "lcm"), str),
+    "of": (one_of("script", "settings", "certificate"), str),
+    "name": (read_name, str),
+    "place": (read_place, place_text),
+    "low": (read_end, end_text),
+    "high": (read_end, end_text),
+    "sense": (one_of("minimize", "maximize"), str),
+    "sign": (one_of("nonneg", "nonpos", "zero", "unknown"), str),
+    "curvature": (one_of("constant", "affine", "convex", "concave"), str),
+    "dpp": (lambda text: one_of("yes", "no")(text) == "yes", lambda value: "yes" if value else "no"),
+    **dict.fromkeys(("declared", "given", "shape"), SHAPES),
+    **dict.fromkeys(("value", "left", "right", "stated", "found", "slope", "number"), NUMBERS),
+    **dict.fromkeys(
+        (
+            "count", "entry", "entries", "row", "column", "pivots", "rows", "columns", "node", "step", "line", "parameter", "variable", "constraint",
+            "section", "index", "answered", "stopped", "size",
+        ),
+        COUNTS,
+    ),
+}
+
+
+# Forms
+
+
+def fields_of(template: str, words: list[str]) -> Optional[dict[str, object]]:
+    """The fields of a line that is split at its blanks, or None where it hasn't the template's words."""
+    pieces = template.split()
+    if len(pieces) != len(words):
+        return None
+    fields = {}
+    for piece, word in zip(pieces, words):
+        if piece[0] != "{":
+            if piece != word:
+                return None
+        else:
+            fields[piece[1:-1]] = KINDS[piece[1:-1]][0](word)
+    return fields
+
+
+def read_line(template: str, line: str) -> dict[str, object]:
+    """The fields of a line, which must be of the template's form."""
+    fields = fields_of(template, line.split(" "))
+    if fields is None:
+        raise Misread(f"{template!r}, and not {line!r}")
+    return fields
+
+
+def written(template: str, fields: dict[str, object]) -> str:
+    """The line of a form with these fields."""
+    return " ".join(piece if piece[0] != "{" else KINDS[piece[1:-1]][1](fields[piece[1:-1]]) for piece in template.split())
+
+
+PASSES = "{op} {left} {right}"
+REFUSAL_FORMS = {18: ("{what} {count}",), 19: ("rule {rule}",), 20: (PASSES,), 35: ("{reason}",)}
+# What a stop carries; of 26 the word that tells where is the first one, or `at` of an entry.
+WIDE_FORMS = {
+    "entry": "at {place} entry {entry} " + PASSES,
+    "row": "row {row} " + PASSES,
+    "map": "map {row} " + PASSES,
+    "pivot": "pivot {pivots} row {row} column {column}",
+    "answer": "answer {row} " + PASSES,
+}
+STOP_FORMS = {
+    21: ("{name}",),
+    22: ("{name}",),
+    23: ("{name} {declared} {given}",),
+    24: ("{name} entry {entry} value {value}",),
+    25: ("at {place} entry {entry}",),
+    26: WIDE_FORMS,
+    27: ("{count}",),
+    28: ("rows {rows} columns {columns}",),
+    30: ("",),
+    31: ("",),
+    32: ("{count}",),
+    33: ("node {node}",),
+    36: (PASSES,),
+    37: ("step {step}",),
+}
+INNER_STOPS = {33: (26, 27, 28), 37: (26, 27)}
+FAULT_FORMS = {
+    "Form": ("{line}",),
+    "Fit": ("",),
+    "Setting": ("{parameter} {entry} {stated} {found}",),
+    "Domain": ("{variable} {entry} {value}",),
+    "Constraint": ("{constraint} {entry} {left} {right}",),
+    "Value": ("{stated} {found}",),
+    "DualSign": ("{constraint} {entry} {value}",),
+    "Gap": ("{value}",),
+    "Slope": ("{node} {entry} {left} {right}",),
+    "Variable": ("{variable} {entry} {value}",),
+    "Bound": ("{stated} {found}",),
+    "Descent": ("{value}",),
+    "RayDomain": ("{variable} {entry} {value}",),
+    "RayConstraint": ("{constraint} {entry} {left} {right}",),
+    "RayValue": ("{stated} {found}",),
+    "Wide": (PASSES,),
+}
+FIT_STOPS = (21, 22, 23, 24, 25)
+
+
+def filled(head: str, forms, detail: Detail) -> str:
+    """The head with what is carried behind it, and the stop that stands behind that."""
+    template = forms[detail.where] if isinstance(forms, dict) else forms[0]
+    parts = [head, written(template, vars(detail))]
+    if detail.stop is not None:
+        parts.append(detail.stop.text)
+    return " ".join(part for part in parts if part)
+
+
+def read_detail(forms, words: list[str]) -> Detail:
+    """What is carried, of one of these forms."""
+    for where, template in forms.items() if isinstance(forms, dict) else [(None, forms[0])]:
+        fields = fields_of(template, words)
+        if fields is not None:
+            return Detail(where=where, **fields)
+    raise Misread(f"what is carried, and not {' '.join(words)!r}")
+
+
+def read_head(words: list[str], names: dict[int, str]) -> int:
+    """The number that the words begin with, behind which its name stands."""
+    number = read_count(words[0]) if words else 0
+    if len(words) < 2 or names.get(number) != words[1]:
+        raise Misread(f"a number with its name, and not {' '.join(words)!r}")
+    return number
+
+
+def read_stop(words: list[str], among: Optional[tuple[int, ...]] = None) -> Stop:
+    """The stop of these words: number, name and what is carried."""
+    number = read_head(words, STOPS)
+    if among is not None and number not in among:
+        raise Misread(f"another stop than {number}")
+    if number not in INNER_STOPS:
+        return Stop(number, read_detail(STOP_FORMS[number], words[2:]))
+    detail = read_detail(STOP_FORMS[number], words[2:4])
+    inner = read_stop(words[4:], INNER_STOPS[number])
+    return Stop(number, Detail(stop=inner, **detail.fields()))
+
+
+def read_refusal(line: str) -> Refusal:
+    """The refusal of a line."""
+    words = line.split(" ")
+    number = read_head(words[2:], REFUSALS)
+    place = read_line("refused {of} {number} {name} at {place}", " ".join(words[:6]))
+    detail = read_detail(REFUSAL_FORMS.get(number, ("",)), words[6:])
+    return Refusal(place["of"], number, *place["place"], detail)
+
+
+def read_fault(line: str) -> Fault:
+    """The fault of a certificate, of a line that begins with `certificate refused`."""
+    words = line.split(" ")
+    section = read_line("certificate refused section {section} {name}", " ".join(words[:5]))
+    number, name = section["section"], section["name"]
+    if name not in FAULT_FORMS or (number == 0) != (name == "Form"):
+        raise Misread(f"a fault of a section, and not {line!r}")
+    if name != "Fit":
+        return Fault(number, name, read_detail(FAULT_FORMS[name], words[5:]))
+    stop = read_head(words[5:], STOPS)
+    if stop not in FIT_STOPS or len(words) != 7:
+        raise Misread(f"a stop of a setting that doesn't fit, and not {line!r}")
+    return Fault(number, name, Detail(stop=Stop(stop)))
+
+
+# Arrays
+
+
+class Named(NamedTuple):
+    """A line of an array: its word, the name or number behind that, and the array."""
+
+    word: str
+    name: str
+    array: Entries
+
+
+def read_array(line: str) -> Named:
+    """`WORD NAME S = F F ..`, with as many numbers as the shape has entries."""
+    words = line.split(" ")
+    if len(words) < 4 or words[3] != "=":
+        raise Misread(f"a line of numbers, and not {line!r}")
+    shape = read_shape(words[2])
+    entries = tuple([read_number(word) for word in words[4:]])
+    if len(entries) != size(shape):
+        raise Misread(f"{size(shape)} numbers behind {words[2]}, and not {len(entries)}")
+    return Named(words[0], read_name(words[1]), Entries(shape, entries))
+
+
+def array_line(word: str, name: object, array: Entries) -> str:
+    """`WORD NAME S = F F ..`."""
+    return " ".join([word, str(name), shape_text(array.shape), "="] + [number_text(entry) for entry in array.entries])
