@@ -1,7 +1,8 @@
 """The package of `dcx`, an exact solver of CVXPY's piecewise-linear problems whose program is proved.
 
-`import dcx.cvxpy as cp` gives the names of CVXPY, `python3 -m dcx run model.py` runs a CVXPY script without a change, `dcx.read_report` reads what the
-program prints. What is proved is the program, over the script that it is handed; the package isn't, and shows what it hands over.
+`import dcx.cvxpy as cp` gives the names of CVXPY, `python3 -m dcx run model.py` runs a CVXPY script without a change,
+`dcx.read_report` reads what the program prints. What is proved is the program, over the script that it is handed; the
+package isn't, and shows what it hands over.
 """
 from __future__ import annotations
 

@@ -1,6 +1,7 @@
 """The forms of the report's lines: words and fields apart by one blank, each form read and written from one template.
 
-A template is the line with a field's name in braces where its value stands. What kind of value a field has stands in `KINDS`, once for all lines.
+A template is the line with a field's name in braces where its value stands. What kind of value a field has stands in
+`KINDS`, once for all lines.
 """
 from __future__ import annotations
 
@@ -11,18 +12,14 @@ from typing import Optional
 from .exact.faults import REFUSALS, STOPS
 from .values import KINDS, Misread, Place, read_count
 
-USAGE = (
-    "usage: dcx check SCRIPT | solve SCRIPT | resolve SCRIPT SETTINGS | certificate SCRIPT SETTINGS | certify SCRIPT SETTINGS CERT | "
-    "trial N | migrate SCRIPT SETTINGS CERT | range SCRIPT SETTINGS PARAM | iis SCRIPT SETTINGS"
-)
-
 
 @dataclass(frozen=True)
 class Detail:
     """What a refusal, a stop or a fault of a certificate carries. A field that it doesn't carry is None.
 
-    Places count from 1. Entries, rows, columns, parameters, variables, constraints and nodes of a problem count from 0, row by row; steps of `iis`
-    are the numbers of constraints, from 1 on, and 0 where all are there; nodes of branch and bound count from 1.
+    Places count from 1. Entries, rows, columns, parameters, variables, constraints and nodes of a problem count from 0,
+    row by row; steps of `iis` are the numbers of constraints, from 1 on, and 0 where all are there; nodes of branch and
+    bound count from 1.
     """
 
     what: Optional[str] = None  # of 18: nodes, entries, items, steps or events
@@ -101,7 +98,9 @@ class Refusal:
 
 @dataclass(frozen=True)
 class Fault:
-    """Why a certificate isn't taken: the section, 0 where the text is none, the name of the check that fails and its numbers."""
+    """Why a certificate isn't taken: the section, 0 where the text is none, the name of the check that fails and its
+    numbers.
+    """
 
     section: int
     name: str
@@ -144,7 +143,14 @@ def read_line(template: str, line: str) -> dict[str, object]:
 
 def written(template: str, fields: dict[str, object]) -> str:
     """The line of a form with these fields."""
-    return " ".join(piece if piece[0] != "{" else KINDS[piece[1:-1]][1](fields[piece[1:-1]]) for piece in template.split())
+
+    def word(piece: str) -> str:
+        if piece[0] != "{":
+            return piece
+        name = piece[1:-1]
+        return KINDS[name][1](fields[name])
+
+    return " ".join(word(piece) for piece in template.split())
 
 
 PASSES = "{op} {left} {right}"

@@ -1,4 +1,6 @@
-"""Reads the lines of a report one after the other, strictly: order, counts, shapes and names must be what the program prints."""
+"""Reads the lines of a report one after the other, strictly: order, counts, shapes and names must be what the program
+prints.
+"""
 from __future__ import annotations
 
 from fractions import Fraction
@@ -9,7 +11,8 @@ from .reports import DPP, OBJECTIVE, WORDS_ALONE, Answer, Range, Report, Section
 from .values import Entries, Misread, Named, read_array, read_count, read_number
 
 NUMBERS_BEHIND = {"optimal": ("value",), "infeasible": ("gap",), "unbounded": ("bound", "slope")}
-# Kinds of answers that stand in one report: those of `solve` and `resolve`, the same in whole numbers, those of `iis` and those of `range`.
+# The answers of a report are of one kind: those of `solve` and `resolve`, the same in whole numbers, those of `iis` or
+# those of `range`. Some stops are of one kind alone.
 STOPS_OF = {30: "whole", 32: "whole", 33: "whole", 36: "range", 37: "iis"}
 RANGE = "{name} from {low} to {high} value {value} slope {slope}"
 
@@ -168,7 +171,8 @@ class Reader:
             return Answer(word, index, status, variables=self.named("var")), "iis"
         if word == "setting" and status == "infeasible" and rest[:1] == ["constraints"]:
             members = rising([read_count(member) for member in rest[1:]])
-            return Answer(word, index, status, members=members, without=tuple(self.without(member) for member in members)), "iis"
+            without = tuple(self.without(member) for member in members)
+            return Answer(word, index, status, members=members, without=without), "iis"
         if status not in NUMBERS_BEHIND or rest:
             raise Misread(f"how the setting ends, and not {' '.join(words[2:])!r}")
         if word == "setting" and status != "optimal" and self.peek().partition(" ")[0] not in ("gap", "bound"):
@@ -225,7 +229,10 @@ class Reader:
         return found
 
     def arrays(self, word: str, test: Callable[[int, Named], None]) -> list[Named]:
-        """The lines that begin with the word. All of a report's lists of it have the same names and shapes; the ray has those of the variables."""
+        """The lines that begin with the word.
+
+        All of a report's lists of it have the same names and shapes; the ray has those of the variables.
+        """
         found = []
         while self.peek().startswith(f"{word} "):
             line = read_array(self.take())

@@ -1,7 +1,7 @@
 """Reads what the program prints, of each of its words, into objects, and writes these as the same bytes again.
 
-The form of each line is in docs/FORMATS.md and, of certificates, in docs/CERTIFICATES.md. The reader is strict: what the program can't have printed is
-refused with its line, as far as a report shows that without its script.
+The form of each line is in docs/FORMATS.md and, of certificates, in docs/CERTIFICATES.md. The reader is strict: what
+the program can't have printed is refused with its line, as far as a report shows that without its script.
 """
 from __future__ import annotations
 
@@ -9,10 +9,11 @@ from dataclasses import dataclass, field
 from fractions import Fraction
 from typing import Optional, Union
 
-from .lines import USAGE, Fault, Refusal, Stop, written
+from .exact.report import USAGE
+from .lines import Fault, Refusal, Stop, written
 from .values import Entries, Misread, array_line, end_text, number_text
 
-WORDS_ALONE = {"usage": USAGE, "fault": "fault read", "memory": "want of memory"}
+WORDS_ALONE = {"usage": USAGE.rstrip("\n"), "fault": "fault read", "memory": "want of memory"}
 OBJECTIVE = "objective {sense} sign {sign} curvature {curvature}"
 DPP = "dpp {dpp}"
 
@@ -28,7 +29,10 @@ class ReportError(ValueError):
 
 @dataclass(frozen=True)
 class Verdict:
-    """What `check` finds of a problem that the rules accept. Entries are those of all variables, parameters or constraints together."""
+    """What `check` finds of a problem that the rules accept.
+
+    Entries are those of all variables, parameters or constraints together.
+    """
 
     sense: str
     sign: str
@@ -43,8 +47,13 @@ class Verdict:
 
     def lines(self) -> list[str]:
         """The lines behind `accepted`."""
-        counts = [f"{word} {getattr(self, word)} entries {getattr(self, word[:-1] + '_entries')}" for word in ("variables", "parameters", "constraints")]
-        return [written(OBJECTIVE, vars(self)), written(DPP, vars(self)), *counts]
+        return [
+            written(OBJECTIVE, vars(self)),
+            written(DPP, vars(self)),
+            f"variables {self.variables} entries {self.variable_entries}",
+            f"parameters {self.parameters} entries {self.parameter_entries}",
+            f"constraints {self.constraints} entries {self.constraint_entries}",
+        ]
 
 
 @dataclass(frozen=True)
@@ -57,7 +66,9 @@ class Without:
 
 @dataclass(frozen=True)
 class Range:
-    """How far a parameter may move, None where that is without end, and the value of the objective there: `value` + `slope` times the parameter."""
+    """How far a parameter may move, None where that is without end, and the value of the objective there: `value` +
+    `slope` times the parameter.
+    """
 
     name: str
     low: Optional[Fraction]
@@ -70,9 +81,10 @@ class Range:
 class Answer:
     """How one solve or one setting ends.
 
-    `word` is `solve` or `setting`, `index` counts from 1. `status` is `optimal`, `infeasible`, `unbounded` or `stopped`; under `iis` also `feasible`,
-    under `range` `range`. `whole` is set where the answer is one in whole numbers, with the number of its `nodes`. Value and bound are those of the
-    script's own objective, `duals` the multipliers of the constraints, by number from 1. `members` are the numbers of constraints that no point keeps
+    `word` is `solve` or `setting`, `index` counts from 1. `status` is `optimal`, `infeasible`, `unbounded` or
+    `stopped`; under `iis` also `feasible`, under `range` `range`. `whole` is set where the answer is one in whole
+    numbers, with the number of its `nodes`. Value and bound are those of the script's own objective, `duals` the
+    multipliers of the constraints, by number from 1. `members` are the numbers of constraints that no point keeps
     together, and `without` a point for each of them. What an answer of this status doesn't have is None, or empty.
     """
 
@@ -120,9 +132,10 @@ class Answer:
 
 @dataclass(frozen=True)
 class Section:
-    """What a certificate has for one setting. Value and bound are those of the minimized objective, also where the script's is maximized.
+    """What a certificate has for one setting.
 
-    `params` are the setting's values, in the newer of the two formats; `weights` are those of atoms, by number of the node, from 0.
+    Value and bound are those of the minimized objective, also where the script's is maximized. `params` are the
+    setting's values, in the newer of the two formats; `weights` are those of atoms, by number of the node, from 0.
     """
 
     index: int
@@ -163,10 +176,11 @@ def arrays_of(answer: Union[Answer, Section]) -> list[str]:
 class Report:
     """A report, of any of the words. What a report of its kind doesn't have is None, or empty.
 
-    `kind` is `usage`, `refused`, `fault` (a file could not be read), `memory`, `check`, `solved` (of `solve` and `resolve`), `iis`, `range`, `trial`,
-    `certificate`, `certified` or `certificate refused`. Reports of `resolve`, `iis` and `range` in which each setting is stopped may look alike, and
-    then are `solved`. `answered` and `stopped` count settings, `warm` those that were answered from an earlier answer, under `--warm`.
-    `certified` is the number of sections that show an answer; `form` the format of a certificate; `size` that of a trial.
+    `kind` is `usage`, `refused`, `fault` (a file could not be read), `memory`, `check`, `solved` (of `solve` and
+    `resolve`), `iis`, `range`, `trial`, `certificate`, `certified` or `certificate refused`. Reports of `resolve`,
+    `iis` and `range` in which each setting is stopped may look alike, and then are `solved`. `answered` and `stopped`
+    count settings, `warm` those that were answered from an earlier answer, under `--warm`. `certified` is the number of
+    sections that show an answer; `form` the format of a certificate; `size` that of a trial.
     """
 
     kind: str

@@ -1,4 +1,6 @@
-"""The values that stand in the report's lines: counts, numbers, shapes, places, arrays; each read strictly and written again."""
+"""The values that stand in the report's lines: counts, numbers, shapes, places, arrays; each read strictly and written
+again.
+"""
 from __future__ import annotations
 
 import re
@@ -149,8 +151,8 @@ KINDS = {
     **dict.fromkeys(("value", "left", "right", "stated", "found", "slope", "number"), NUMBERS),
     **dict.fromkeys(
         (
-            "count", "entry", "entries", "row", "column", "pivots", "rows", "columns", "node", "step", "line", "parameter", "variable", "constraint",
-            "section", "index", "answered", "stopped", "size",
+            "count", "entry", "entries", "row", "column", "pivots", "rows", "columns", "node", "step", "line",
+            "parameter", "variable", "constraint", "section", "index", "answered", "stopped", "size",
         ),
         COUNTS,
     ),
