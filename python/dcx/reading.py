@@ -182,10 +182,10 @@ class Reader:
     def brief(self, word: str, index: int, status: str, rest: list[str]) -> Answer:
         """The answer of a line of `trial`."""
         if word == "setting" and status in ("infeasible", "unbounded") and not rest:
-            return Answer(word, index, status, brief=True)
+            return Answer(word, index, status)
         if word != "setting" or status != "optimal":
             raise Misread("how a setting of a trial ends")
-        return Answer(word, index, status, value=read_line("value {value}", " ".join(rest))["value"], brief=True)
+        return Answer(word, index, status, value=read_line("value {value}", " ".join(rest))["value"])
 
     def whole(self, word: str, index: int, status: str) -> Answer:
         fields = {}

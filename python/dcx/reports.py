@@ -104,7 +104,6 @@ class Answer:
     members: tuple[int, ...] = ()
     without: tuple[Without, ...] = ()
     range: Optional[Range] = None
-    brief: bool = False  # of `trial`, which tells the value in the first line and no arrays
 
     def lines(self) -> list[str]:
         """The lines of the report."""
@@ -115,8 +114,6 @@ class Answer:
             r = self.range
             course = f"value {number_text(r.value)} slope {number_text(r.slope)}"
             return [f"{head} range {r.name} from {end_text(r.low)} to {end_text(r.high)} {course}"]
-        if self.brief:
-            return [f"{head} {self.status}" + ("" if self.value is None else f" value {number_text(self.value)}")]
         if self.members:
             lines = [f"{head} {self.status} constraints {' '.join(str(member) for member in self.members)}"]
             for without in self.without:
@@ -212,7 +209,8 @@ class Report:
             return [f"certificate {self.form}", *(line for section in self.sections for line in section.lines())]
         lines = [] if self.size is None else [f"trial {self.size}"]
         for answer in self.answers:
-            lines.extend(answer.lines())
+            # A trial tells an answer on one line.
+            lines.extend(answer.lines() if self.size is None else [" ".join(answer.lines())])
         lines.append(f"answered {self.answered} stopped {self.stopped}")
         return lines if self.warm is None else [*lines, f"warm {self.warm}"]
 

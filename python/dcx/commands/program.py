@@ -1,0 +1,21 @@
+"""The words of the program itself: it runs in place of this process, so that its output and its status are its own."""
+from __future__ import annotations
+
+import os
+import sys
+from typing import Sequence
+
+from ..program import ProgramError, find
+
+NOT_FOUND = 70
+
+
+def run(words: Sequence[str]) -> int:
+    """Runs the program with these words. Comes back only where there is no program to run, with a status that it hasn't."""
+    try:
+        path = find()
+        sys.stdout.flush()
+        os.execv(path, [path, *words])
+    except (ProgramError, OSError) as error:
+        print(f"dcx: {error}", file=sys.stderr)
+    return NOT_FOUND

@@ -1,0 +1,98 @@
+"""`python3 -m dcx run MODEL.py ARGS..`: runs a CVXPY script as Python does, with `dcx.cvxpy` in the place of `cvxpy`."""
+from __future__ import annotations
+
+import argparse
+import os
+import runpy
+import sys
+import traceback
+from importlib import import_module
+from importlib.abc import MetaPathFinder
+from types import ModuleType
+
+PACKAGE = os.path.dirname(os.path.dirname(os.path.abspath(__file__)))
+# Files whose frames stand above the user's script in each traceback.
+ABOVE = {os.path.abspath(__file__), os.path.join(PACKAGE, "__main__.py"), os.path.abspath(runpy.__file__)}
+FAILED = 1
+INTERRUPTED = 130
+
+
+def add_arguments(parser: argparse.ArgumentParser) -> None:
+    """The script, and whatever stands behind it."""
+    parser.add_argument("script", metavar="MODEL.py", help="a script that imports cvxpy")
+    parser.add_argument("arguments", nargs=argparse.REMAINDER, metavar="ARGS", help="the script's own arguments")
+
+
+def run(arguments: argparse.Namespace) -> int:
+    """Runs the script under `__main__`, with its arguments and its folder on the path. What it exits with is its own."""
+    script = arguments.script
+    if not os.path.isfile(script):
+        print(f"dcx: {script} can't be read: no such file", file=sys.stderr)
+        return 3
+    stand_in()
+    sys.argv = [script, *arguments.arguments]
+    sys.path[0] = os.path.dirname(os.path.abspath(script))
+    sys.path.insert(1, os.path.join(PACKAGE, "instead"))
+    try:
+        runpy.run_path(script, run_name="__main__")
+    except Exception as error:
+        print_users(error)
+        return FAILED
+    except KeyboardInterrupt as error:
+        print_users(error)
+        return INTERRUPTED
+    return 0
+
+
+class OneModule(MetaPathFinder):
+    """Refuses what lies below the module `cvxpy`, which is one module here."""
+
+    @staticmethod
+    def find_spec(name: str, path: object = None, target: object = None) -> None:
+        if name.startswith("cvxpy."):
+            raise ModuleNotFoundError(f"dcx has no {name}: take the names from cvxpy itself, as `cp.norm1`", name=name)
+
+
+def stand_in() -> None:
+    """Lets `import cvxpy` and `from cvxpy import ..` find the recorder, and nothing below it but its `error`."""
+    recorder = import_module("dcx.cvxpy")
+    sys.modules["cvxpy"] = recorder
+    recorder.__path__ = []
+    if isinstance(vars(recorder).get("error"), ModuleType):
+        sys.modules["cvxpy.error"] = recorder.error
+    if OneModule not in sys.meta_path:
+        sys.meta_path.insert(0, OneModule)
+
+
+def print_users(error: BaseException) -> None:
+    """Prints a traceback of the user's own frames.
+
+    Left out are the frames that stand above the script, and, of an error that the package raises on purpose, its own.
+    """
+    told = traceback.TracebackException.from_exception(error, capture_locals=False)
+    waiting, seen = [(told, error)], set()
+    while waiting:
+        part, cause = waiting.pop()
+        if part is None or cause is None or id(part) in seen:
+            continue
+        seen.add(id(part))
+        is_meant = is_of_package(cause)
+        frames = [frame for frame in part.stack if not is_left_out(frame.filename, is_meant)]
+        part.stack = traceback.StackSummary.from_list(frames)
+        waiting += [(part.__cause__, cause.__cause__), (part.__context__, cause.__context__)]
+    sys.stdout.flush()
+    print("".join(told.format()), end="", file=sys.stderr)
+
+
+def is_of_package(error: BaseException) -> bool:
+    """Whether the package raises errors of this kind on purpose: its own, and those of shapes and indices as in CVXPY."""
+    from ..errors import DCXError
+
+    return isinstance(error, (DCXError, ValueError, IndexError))
+
+
+def is_left_out(filename: str, is_meant: bool) -> bool:
+    """Whether a frame of this file isn't shown."""
+    if filename in ABOVE or filename.startswith("<frozen "):
+        return True
+    return is_meant and os.path.abspath(filename).startswith(PACKAGE + os.sep)
