@@ -1,7 +1,6 @@
 """Coefficients: numbers, or affine numbers of the entries of parameters. And forms over unknowns with such coefficients."""
 from fractions import Fraction
 
-from .numbers import add, div, mul
 
 
 class Affine:
@@ -25,9 +24,12 @@ def numbers_of(constant, items):
 
 
 class Numbers:
-    """Numbers as coefficients."""
+    """Numbers as coefficients, with operations on them."""
 
     zero = Fraction(0)
+
+    def __init__(self, numbers):
+        self.add, self.scale, self.divide = numbers.add, numbers.mul, numbers.div
 
     @staticmethod
     def number(value):
@@ -37,21 +39,14 @@ class Numbers:
     def is_zero(value):
         return value == 0
 
-    add = staticmethod(add)
-
-    @staticmethod
-    def scale(by, value):
-        return mul(by, value)
-
-    @staticmethod
-    def divide(value, by):
-        return div(value, by)
-
 
 class Affines:
     """Affine numbers as coefficients."""
 
     zero = Affine(Fraction(0), {})
+
+    def __init__(self, numbers):
+        self.numbers = numbers
 
     @staticmethod
     def number(value):
@@ -61,19 +56,19 @@ class Affines:
     def is_zero(value):
         return value.is_zero()
 
-    @staticmethod
-    def add(a, b):
+    def add(self, a, b):
+        add = self.numbers.add
         keys = sorted(a.terms.keys() | b.terms.keys())
         constant = add(a.constant, b.constant)
         return numbers_of(constant, [(k, lambda k=k: add(a.terms.get(k, Fraction(0)), b.terms.get(k, Fraction(0)))) for k in keys])
 
-    @staticmethod
-    def scale(by, value):
+    def scale(self, by, value):
+        mul = self.numbers.mul
         constant = mul(by, value.constant)
         return numbers_of(constant, [(k, lambda k=k: mul(by, value.terms[k])) for k in sorted(value.terms)])
 
-    @staticmethod
-    def divide(value, by):
+    def divide(self, value, by):
+        div = self.numbers.div
         constant = div(value.constant, by)
         return numbers_of(constant, [(k, lambda k=k: div(value.terms[k], by)) for k in sorted(value.terms)])
 
@@ -117,10 +112,17 @@ class Forms:
         return self.mapped(form, lambda value: self.kind.scale(value.constant, affine))
 
     def sum(self, a, b):
-        kind = self.kind
-        result = Form(kind.add(a.constant, b.constant), {})
-        for u in sorted(a.terms.keys() | b.terms.keys()):
-            value = kind.add(a.terms.get(u, kind.zero), b.terms.get(u, kind.zero))
-            if not kind.is_zero(value):
-                result.terms[u] = value
-        return result
+        return self.total((a, b))
+
+    def total(self, forms):
+        """The sum from 0 on, in this order. (An unknown that the sum hasn't yet is added to 0, which forms nothing.)"""
+        kind, constant, terms = self.kind, self.kind.zero, {}
+        for form in forms:
+            constant = kind.add(constant, form.constant)
+            for u in sorted(form.terms):
+                value = kind.add(terms[u], form.terms[u]) if u in terms else form.terms[u]
+                if kind.is_zero(value):
+                    del terms[u]
+                else:
+                    terms[u] = value
+        return Form(constant, terms)

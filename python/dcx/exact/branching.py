@@ -5,8 +5,7 @@ from math import floor
 from . import shapes
 from .affine import Form
 from .faults import STOPS, Stopped
-from .reduce import MOST_COLUMNS, MOST_ROWS, Layout, Program, Row, TooLarge, Wide, stopped
-from .simplex import Tableau
+from .reduce import Layout, Program, Row, TooLarge, Wide, stopped
 from .verify import root_box, verify_whole
 
 MOST_NODES = 10_000
@@ -122,9 +121,9 @@ class Branching:
         rows = self.program.rows + [self.row(*bound) for bound in bounds(box)]
         program = Program(self.program.kinds, rows, self.program.objective)
         columns = sum(2 if kind == "free" else 1 for kind in program.kinds) + sum(not row.is_equal for row in rows)
-        if len(rows) > MOST_ROWS or columns > MOST_COLUMNS:
+        if not self.session.limits.hold(len(rows), columns):
             raise TooLarge(len(rows), columns)
-        return Tableau(program)
+        return self.session.tableau(program)
 
     def row(self, v, entry, is_upper, k):
         """An entry less its upper number, or its lower number less the entry, is at most 0."""

@@ -5,7 +5,6 @@ A call is a tuple of its word and its own fields. A sign is a pair: at least 0, 
 from fractions import Fraction
 
 from . import shapes
-from .numbers import add
 
 UNKNOWN = (False, False)
 ZERO = (True, True)
@@ -302,15 +301,8 @@ def graph_of(call, args):
 # Values of atoms
 
 
-def total(numbers):
-    sum_so_far = Fraction(0)
-    for n in numbers:
-        sum_so_far = add(sum_so_far, n)
-    return sum_so_far
-
-
-def atom_entry(call, args, shape, entry, total=total):
-    """Entry of an atom's value. Of the arguments the entries are given."""
+def atom_entry(call, args, shape, entry, total):
+    """Entry of an atom's value. Of the arguments the entries are given; `total` adds numbers up."""
     word = call[0]
     if word == "abs":
         return abs(args[0][entry])

@@ -4,7 +4,7 @@ from fractions import Fraction
 from math import gcd
 
 from . import calls, shapes
-from .numbers import is_fraction, number
+from .numbers import OF_LANGUAGE, number
 
 KINDS = {"1": ("optimal", "infeasible", "none"), "2": ("optimal", "infeasible", "unbounded", "none")}
 # No number has more than 39 digits.
@@ -38,7 +38,7 @@ def fraction(text):
         return Fraction(0)
     n, d = int(match.group(1)), int(match.group(2) or 1)
     is_lowest = match.group(2) is None or (d > 1 and gcd(n, d) == 1)
-    return Fraction(n, d) if is_lowest and is_fraction(Fraction(n, d)) else None
+    return Fraction(n, d) if is_lowest and OF_LANGUAGE.has(Fraction(n, d)) else None
 
 
 def row_count(problem, n):

@@ -2,10 +2,8 @@
 from .certificates import Misfit, Section, read, written
 from .checks import Fault, check
 from .faults import Refused, Stopped
-from .numbers import Passes, mul
+from .numbers import OF_LANGUAGE, Passes
 from .reduce import TooLarge, Wide, ZeroDivisor
-from .session import Session
-from .simplex import Tableau
 
 MOST_BYTES = 67_108_864
 
@@ -27,7 +25,7 @@ def weights_of(problem, reading):
     for r, row in enumerate(reading.tableau.program.rows):
         if row.origin[0] == "node" and problem.has_variable[row.origin[1]]:
             note = reading.tableau.notes[r]
-            result.setdefault(row.origin[1], []).append(mul(note.factor, reading.reduced_cost(note.slack)))
+            result.setdefault(row.origin[1], []).append(OF_LANGUAGE.mul(note.factor, reading.reduced_cost(note.slack)))
     return result
 
 
@@ -36,7 +34,7 @@ def solved(session, setting, limit):
     problem = session.problem
     try:
         session.fit(setting)
-        answer, reading = session.answer(Tableau(session.program(setting)), limit)
+        answer, reading = session.answer(session.tableau(session.program(setting)), limit)
     except (Stopped, TooLarge, ZeroDivisor, Wide):
         return Section("none"), True
     section = Section(answer.kind)
@@ -60,10 +58,9 @@ def show(problem, setting, section):
         assert fault.name == "Wide", fault.text()
 
 
-def certificate(accepted, settings, limit):
-    session = Session(accepted.problem, accepted.verdict)
+def certificate(session, settings, limit):
     ends = [solved(session, setting, limit) for setting in settings]
-    return 6 if any(stopped for _, stopped in ends) else 0, written(accepted.problem, "2", [section for section, _ in ends])
+    return 6 if any(stopped for _, stopped in ends) else 0, written(session.problem, "2", [section for section, _ in ends])
 
 
 def checked(problem, settings, data):

@@ -2,7 +2,7 @@
 from fractions import Fraction
 
 from . import calls, shapes
-from .numbers import Passes, add, div, mul, number
+from .numbers import OF_LANGUAGE, Passes, number
 from .slopes import Broken, slopes
 
 ZERO = Fraction(0)
@@ -34,7 +34,7 @@ def parts(problem, node):
     return (calls.pairs if node.call[0] in calls.PAIRING else calls.terms)(node.call, problem.arg_shapes(node))
 
 
-def formed(problem, node, args):
+def formed(problem, node, args, numbers):
     """The entries of a node that is no leaf, one after the other, from those of its arguments."""
     word = node.call[0]
     if word in calls.PAIRING:
@@ -43,25 +43,22 @@ def formed(problem, node, args):
             for left, right in pairs:
                 if word == "over" and args[1][right] == 0:
                     raise misfit(25)
-                result = add(result, (div if word == "over" else mul)(args[0][left], args[1][right]))
+                result = numbers.add(result, (numbers.div if word == "over" else numbers.mul)(args[0][left], args[1][right]))
             yield result
     elif word in calls.LINEAR:
         for terms in parts(problem, node):
-            result = ZERO
-            for arg, entry, coefficient in terms:
-                result = add(result, mul(coefficient, args[arg][entry]))
-            yield result
+            yield numbers.total(numbers.mul(coefficient, args[arg][entry]) for arg, entry, coefficient in terms)
     else:
         shape = problem.nodes[node.args[0]].shape
         for entry in range(shapes.size(node.shape)):
-            yield calls.atom_entry(node.call, args, shape, entry)
+            yield calls.atom_entry(node.call, args, shape, entry, numbers.total)
 
 
 class Table:
     """The numbers of nodes, formed as they are asked for: values at a point and a setting."""
 
-    def __init__(self, problem, setting, point):
-        self.problem, self.setting = problem, setting
+    def __init__(self, problem, setting, point, numbers):
+        self.problem, self.setting, self.numbers = problem, setting, numbers
         self.point = {n: entries for (_, n), entries in zip(problem.variables, point or [])}
         self.found = {}
 
@@ -84,14 +81,14 @@ class Table:
             return self.setting[node.call[1]].entries
         if word == "variable":
             return self.point[n]
-        return formed(self.problem, node, [self.found[a] for a in node.args])
+        return formed(self.problem, node, [self.found[a] for a in node.args], self.numbers)
 
 
 class Steepness(Table):
     """How fast nodes rise along a ray, at most, from a point whose values are formed."""
 
     def __init__(self, problem, ray, values):
-        super().__init__(problem, values.setting, ray)
+        super().__init__(problem, values.setting, ray, values.numbers)
         self.values = values
 
     def node(self, n, node):
@@ -100,13 +97,14 @@ class Steepness(Table):
             return [ZERO] * shapes.size(node.shape)
         if node.call[0] not in calls.PAIRING:
             return super().node(n, node)
-        return formed(self.problem, node, [self.found[a] if has_variable[a] else self.values.found[a] for a in node.args])
+        args = [self.found[a] if has_variable[a] else self.values.found[a] for a in node.args]
+        return formed(self.problem, node, args, self.numbers)
 
 
 class Checker:
-    def __init__(self, problem, setting, section):
-        self.problem, self.setting, self.section = problem, setting, section
-        self.values = Table(problem, setting, section.point)
+    def __init__(self, problem, setting, section, numbers):
+        self.problem, self.setting, self.section, self.numbers = problem, setting, section, numbers
+        self.values = Table(problem, setting, section.point, numbers)
         self.sense = Fraction(-1 if problem.sense == "maximize" else 1)
 
     def check(self):
@@ -211,11 +209,11 @@ class Checker:
         for n in reversed(range(len(problem.nodes))):
             self.hand_on(n, problem.nodes[n])
         for v, (_, n) in enumerate(problem.variables):
-            test_variable(v, problem.nodes[n], self.reach[n])
+            test_variable(v, problem.nodes[n], self.reach[n], self.numbers)
         test(self.total >= section.number, "Bound", section.number, self.total)
 
     def put(self, n, entry, value):
-        self.reach[n][entry] = add(self.reach[n][entry], value)
+        self.reach[n][entry] = self.numbers.add(self.reach[n][entry], value)
 
     def collect(self):
         if self.section.kind == "optimal":
@@ -230,7 +228,7 @@ class Checker:
         word = node.call[0]
         if not self.problem.has_variable[n]:
             for coefficient, value in zip(self.reach[n], self.values.found[n]):
-                self.total = add(self.total, mul(coefficient, value))
+                self.total = self.numbers.add(self.total, self.numbers.mul(coefficient, value))
         elif word in calls.PAIRING:
             for coefficient, pairs in zip(self.reach[n], parts(self.problem, node)):
                 for left, right in pairs:
@@ -238,22 +236,22 @@ class Checker:
         elif word in calls.LINEAR:
             for coefficient, terms in zip(self.reach[n], parts(self.problem, node)):
                 for arg, entry, by in terms:
-                    self.put(node.args[arg], entry, mul(coefficient, by))
+                    self.put(node.args[arg], entry, self.numbers.mul(coefficient, by))
         elif word != "variable":
             self.hand_on_slopes(n, node)
 
     def hand_on_pair(self, node, coefficient, left, right):
         a, b = node.args
         if node.call[0] == "over":
-            self.put(a, left, div(coefficient, self.values.found[b][right]))
+            self.put(a, left, self.numbers.div(coefficient, self.values.found[b][right]))
         elif self.problem.has_variable[a]:
-            self.put(a, left, mul(coefficient, self.values.found[b][right]))
+            self.put(a, left, self.numbers.mul(coefficient, self.values.found[b][right]))
         else:
-            self.put(b, right, mul(coefficient, self.values.found[a][left]))
+            self.put(b, right, self.numbers.mul(coefficient, self.values.found[a][left]))
 
     def hand_on_slopes(self, n, node):
         try:
-            found = slopes(node.call, self.problem.arg_shapes(node), self.reach[n], self.section.weights[n])
+            found = slopes(node.call, self.problem.arg_shapes(node), self.reach[n], self.section.weights[n], self.numbers)
         except Broken as broken:
             raise Fault("Slope", n, broken.entry, broken.stated, broken.found) from None
         for arg, entries in zip(node.args, found):
@@ -274,7 +272,7 @@ def is_in_domain(node, entries, entry):
     return not breaks_sign(attribute, value)
 
 
-def test_variable(v, node, reach):
+def test_variable(v, node, reach, numbers):
     attribute = node.call[2]
     for entry, value in enumerate(reach):
         if attribute in ("symmetric", "diag"):
@@ -283,16 +281,16 @@ def test_variable(v, node, reach):
             if i > j or (attribute == "diag" and i != j):
                 continue
             if i < j:
-                value = add(value, reach[j * n + i])
+                value = numbers.add(value, reach[j * n + i])
         fits = {"nonneg": value >= 0, "nonpos": value <= 0}.get(attribute, value == 0)
         test(fits, "Variable", v, entry, value)
 
 
-def check(problem, setting, section):
-    """Raises the first fault of a section at its setting."""
+def check(problem, setting, section, numbers=OF_LANGUAGE):
+    """Raises the first fault of a section at its setting, where numbers are formed by these operations."""
     if section.kind == "none":
         return
     try:
-        Checker(problem, setting, section).check()
+        Checker(problem, setting, section, numbers).check()
     except Passes as passes:
         raise Fault("Wide", passes.op, passes.left, passes.right) from None

@@ -8,6 +8,7 @@ from .elaborate import elaborate
 from .faults import Refused, Stopped
 from .filtering import Filter
 from .grammar import parse
+from .limits import OF_PROGRAM
 from .ranging import Ranging, test_ranged
 from .rules import Verdict
 from .session import Session
@@ -77,29 +78,25 @@ class Accepted:
         self.problem, self.events, self.last = elaborate(parse(tokens_of(text_of(data))))
         self.verdict = Verdict(self.problem)
 
-    def is_marked(self):
-        return bool(marked(self.problem))
-
     def test_unmarked(self):
         """Some words refuse a problem that reaches a variable whose entries are to be whole, at the first one that is declared."""
         for v, _ in marked(self.problem):
             raise Refused(34, self.problem.nodes[self.problem.variables[v][1]].place)
 
 
-def ends_of(accepted, settings, limit):
-    session = Session(accepted.problem, accepted.verdict)
+def ends_of(session, settings, limit):
+    is_marked = bool(marked(session.problem))
     ends = []
     for setting in settings:
         try:
-            ends.append(Branching(session, setting, limit).found() if accepted.is_marked() else session.solve(setting, limit))
+            ends.append(Branching(session, setting, limit).found() if is_marked else session.solve(setting, limit))
         except Stopped as stop:
             ends.append(stop)
     return ends
 
 
-def warm_ends_of(accepted, settings, limit):
+def warm_ends_of(session, settings, limit):
     """The ends where each answer is found from the one before it, if that goes, and how many were."""
-    session = Session(accepted.problem, accepted.verdict)
     ends, count = [], 0
     for setting in settings:
         try:
@@ -111,9 +108,8 @@ def warm_ends_of(accepted, settings, limit):
     return ends, count
 
 
-def filtered_of(accepted, settings, limit):
+def filtered_of(session, settings, limit):
     """What filtering the constraints finds at each setting, or what stops it."""
-    session = Session(accepted.problem, accepted.verdict)
     ends = []
     for setting in settings:
         try:
@@ -146,35 +142,35 @@ def status_of(ends):
     return 6 if any(isinstance(end, Stopped) for end in ends) else 0
 
 
-def run_command(command, operands, limit, warm, fetch):
+def run_command(command, operands, limit, warm, fetch, limits):
     if command == "trial":
-        return trial(operands[0], limit)
+        return trial(operands[0], limit, limits)
     accepted = Accepted(fetch(operands[0]))
     if command == "check":
         return 0, report.checked(accepted.problem, accepted.verdict)
     if warm or command not in ("solve", "resolve"):
         accepted.test_unmarked()
+    session = Session(accepted.problem, accepted.verdict, limits)
     if command == "solve":
-        ends = ends_of(accepted, accepted.events, limit)
+        ends = ends_of(session, accepted.events, limit)
         return status_of(ends), report.solved(accepted.problem, "solve", ends)
     if command == "range":
-        session = Session(accepted.problem, accepted.verdict)
         test_ranged(session, operands[2])
     settings = [laid_over(accepted.last, line) for line in settings_of(fetch(operands[1]))]
     if command == "range":
         ends = ranged_of(session, settings, operands[2], limit)
         return status_of(ends), report.ranged(accepted.problem, operands[2], ends)
     if command == "resolve" and warm:
-        ends, count = warm_ends_of(accepted, settings, limit)
+        ends, count = warm_ends_of(session, settings, limit)
         return status_of(ends), report.solved(accepted.problem, "setting", ends) + f"warm {count}\n"
     if command == "resolve":
-        ends = ends_of(accepted, settings, limit)
+        ends = ends_of(session, settings, limit)
         return status_of(ends), report.solved(accepted.problem, "setting", ends)
     if command == "iis":
-        ends = filtered_of(accepted, settings, limit)
+        ends = filtered_of(session, settings, limit)
         return status_of(ends), report.filtered(accepted.problem, ends)
     if command == "certificate":
-        return certificate(accepted, settings, limit)
+        return certificate(session, settings, limit)
     return with_certificate({"certify": certify, "migrate": migrate}[command], accepted.problem, settings, fetch(operands[2]))
 
 
@@ -200,19 +196,20 @@ def settings_of(data):
         raise SettingsRefused(refused.kind, refused.place, refused.carried) from None
 
 
-def trial(operand, limit):
+def trial(operand, limit, limits):
     if not re.fullmatch(r"[0-9]{1,4}", operand) or not 1 <= int(operand) <= 1000:
         raise Usage
     accepted = Accepted(trial_script(int(operand)))
     lines = settings_of(b"q = 0\nq = 10\n")
-    ends = ends_of(accepted, [laid_over(accepted.last, line) for line in lines], limit)
+    session = Session(accepted.problem, accepted.verdict, limits)
+    ends = ends_of(session, [laid_over(accepted.last, line) for line in lines], limit)
     return status_of(ends), report.tried(accepted.problem, int(operand), ends)
 
 
-def run(words, fetch):
+def run(words, fetch, limits=OF_PROGRAM):
     """The status and the report of the words over files, which `fetch` gives, or raises ReadFault."""
     try:
-        return run_command(*plain_form(words), fetch)
+        return run_command(*plain_form(words), fetch, limits)
     except Usage:
         return 2, report.USAGE
     except ReadFault:

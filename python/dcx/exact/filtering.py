@@ -5,7 +5,6 @@ from . import shapes
 from .affine import Form
 from .faults import STOPS, Stopped
 from .reduce import Program, Wide, stopped
-from .simplex import Tableau
 from .verify import verify_others, verify_point, verify_set
 
 
@@ -50,7 +49,7 @@ class Filter:
     def solved(self, step, kept):
         """The numbers at the last basis of the program with the rows of these constraints and those of atoms."""
         try:
-            reading = self.session.ended(Tableau(self.program_of(kept)), self.limit)
+            reading = self.session.ended(self.session.tableau(self.program_of(kept)), self.limit)
         except Wide as wide:
             raise self.stopped(step, stopped(self.problem, wide)) from None
         except Stopped as stop:

@@ -5,6 +5,7 @@ from .commands import Accepted
 from .elaborate import elaborate
 from .faults import Refused
 from .grammar import parse
+from .limits import OF_PROGRAM
 from .numbers import number
 from .reduce import TooLarge, Wide, ZeroDivisor, affine_map, fixed, reduced
 from .tokens import text_of, tokens_of
@@ -129,9 +130,9 @@ def program_lines(data, is_map):
     text = ""
     try:
         if not is_map:
-            return 0, program_text(problem, reduced(problem, setting))
-        program = affine_map(problem)
+            return 0, program_text(problem, reduced(problem, setting, OF_PROGRAM))
+        program = affine_map(problem, OF_PROGRAM)
         text = program_text(problem, program) + "at the setting\n"
-        return 0, text + program_text(problem, fixed(problem, program, setting))
+        return 0, text + program_text(problem, fixed(problem, program, setting, OF_PROGRAM.numbers))
     except (TooLarge, ZeroDivisor, Wide) as fault:
         return 0, text + fault_text(fault)

@@ -2,10 +2,9 @@
 from fractions import Fraction
 
 from .faults import Refused, Stopped
-from .numbers import Passes, add, div, mul, sub
+from .numbers import Passes
 from .reduce import Wide, stopped
 from .session import Answer
-from .simplex import Tableau
 from .values import Array
 from .verify import demand, verify
 
@@ -48,13 +47,14 @@ class Ranging:
 
     def __init__(self, session, setting, name, limit):
         self.session, self.problem, self.setting, self.name, self.limit = session, session.problem, setting, name, limit
+        self.numbers = session.limits.numbers
         self.key = key_of(self.problem, name)
         self.node = self.problem.nodes[dict(self.problem.parameters)[name]]
 
     def found(self):
         program = self.session.formed(self.setting)
         try:
-            self.tableau = Tableau(program)
+            self.tableau = self.session.tableau(program)
             self.first = list(self.tableau.basis)
             self.reading = self.session.ended(self.tableau, self.limit)
         except Wide as wide:
@@ -86,21 +86,21 @@ class Ranging:
             highs.append(ZERO)
         result.low, result.high = max(lows, default=None), min(highs, default=None)
         total = self.total(self.tableau.rows[self.tableau.count])
-        quotient = div(total, Fraction(self.reading.lead))
-        result.slope = add(quotient, self.coefficient(self.session.map.objective))
-        result.constant = sub(self.reading.number, mul(result.slope, self.at))
+        quotient = self.numbers.div(total, Fraction(self.reading.lead))
+        result.slope = self.numbers.add(quotient, self.coefficient(self.session.map.objective))
+        result.constant = self.numbers.sub(self.reading.number, self.numbers.mul(result.slope, self.at))
 
     def risen(self, r, row):
         """By how much the right side of the row of whole numbers rises with the parameter."""
         note = self.tableau.notes[r]
         factor = -note.factor if note.is_negated else note.factor
-        return mul(factor, -self.coefficient(row.form))
+        return self.numbers.mul(factor, -self.coefficient(row.form))
 
     def total(self, entries):
         """By how much the right side of a row of the tableau rises."""
         result = ZERO
         for h, column in zip(self.h, self.first):
-            result = add(result, mul(h, Fraction(entries.get(column, 0))))
+            result = self.numbers.add(result, self.numbers.mul(h, Fraction(entries.get(column, 0))))
         return result
 
     def put_ends(self, i, lows, highs):
@@ -112,7 +112,7 @@ class Ranging:
             highs.append(self.at)
             return
         right = Fraction(self.tableau.rows[i].get(self.tableau.right, 0))
-        (lows if d > 0 else highs).append(sub(self.at, div(right, d)))
+        (lows if d > 0 else highs).append(self.numbers.sub(self.at, self.numbers.div(right, d)))
 
 
 class Shown:

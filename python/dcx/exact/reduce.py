@@ -4,10 +4,7 @@ from fractions import Fraction
 from . import calls, shapes
 from .affine import Affine, Affines, Form, Forms, Numbers
 from .faults import Stopped
-from .numbers import Passes, add, div, mul
-
-MOST_ROWS = 600
-MOST_COLUMNS = 2400
+from .numbers import Passes
 
 
 class Wide(Exception):
@@ -76,10 +73,10 @@ class Layout:
 class Reduction:
     """Forms of the nodes that are reduced, values of the others, and the rows. The setting is None where parameters are affine."""
 
-    def __init__(self, problem, setting):
-        self.problem, self.setting = problem, setting
+    def __init__(self, problem, setting, limits):
+        self.problem, self.setting, self.limits, self.numbers = problem, setting, limits, limits.numbers
         self.is_affine = setting is None
-        self.kind = Affines if self.is_affine else Numbers
+        self.kind = (Affines if self.is_affine else Numbers)(limits.numbers)
         self.forms = Forms(self.kind)
         self.layout = Layout(problem)
         self.reached = [self.is_reduced(i) for i in range(len(problem.nodes))]
@@ -109,7 +106,7 @@ class Reduction:
         rows = sum(shapes.size(c.shape) for c in constraints) + graph_rows
         slacks = sum(shapes.size(c.shape) for c in constraints if c.kind == "at_most") + graph_rows
         columns = sum(2 if kind == "free" else 1 for kind in self.layout.kinds) + slacks
-        if rows > MOST_ROWS or columns > MOST_COLUMNS:
+        if not self.limits.hold(rows, columns):
             raise TooLarge(rows, columns)
 
     # Nodes. What is found of a node is the list of its entries: forms where it is reduced, and else numbers.
@@ -161,34 +158,22 @@ class Reduction:
     def linear(self, number, node, entry):
         terms = self.terms_of_node(number, node)[entry]
         if not self.reached[number]:
-            total = Fraction(0)
-            for arg, at, coefficient in terms:
-                total = add(total, mul(coefficient, self.found[node.args[arg]][at]))
-            return total
-        total = self.forms.zero
-        for arg, at, coefficient in terms:
-            total = self.forms.sum(total, self.forms.scaled(coefficient, self.form(node.args[arg], at)))
-        return total
+            return self.numbers.total(self.numbers.mul(coefficient, self.found[node.args[arg]][at]) for arg, at, coefficient in terms)
+        return self.forms.total(self.forms.scaled(coefficient, self.form(node.args[arg], at)) for arg, at, coefficient in terms)
 
     def pairing(self, number, node, entry):
         pairs = self.terms_of_node(number, node)[entry]
         if not self.reached[number]:
-            total = Fraction(0)
-            for left, right in pairs:
-                total = add(total, self.number_pair(number, node, entry, left, right))
-            return total
-        total = self.forms.zero
-        for left, right in pairs:
-            total = self.forms.sum(total, self.form_pair(number, node, entry, left, right))
-        return total
+            return self.numbers.total(self.number_pair(number, node, entry, left, right) for left, right in pairs)
+        return self.forms.total(self.form_pair(number, node, entry, left, right) for left, right in pairs)
 
     def number_pair(self, number, node, entry, left, right):
         a, b = self.found[node.args[0]][left], self.found[node.args[1]][right]
         if node.call[0] != "over":
-            return mul(a, b)
+            return self.numbers.mul(a, b)
         if b == 0:
             raise ZeroDivisor(number, entry)
-        return div(a, b)
+        return self.numbers.div(a, b)
 
     def form_pair(self, number, node, entry, left, right):
         a, b = node.args
@@ -208,7 +193,7 @@ class Reduction:
     def atom(self, number, node, entry):
         if not self.reached[number]:
             args = [self.found[a] for a in node.args]
-            return calls.atom_entry(node.call, args, self.problem.nodes[node.args[0]].shape, entry)
+            return calls.atom_entry(node.call, args, self.problem.nodes[node.args[0]].shape, entry, self.numbers.total)
         result = self.graphs[number].results[entry]
         base = self.bases[number]
         terms = {base + aux[1]: self.kind.number(Fraction(coefficient)) for aux, coefficient in result}
@@ -239,10 +224,8 @@ class Reduction:
         args = self.problem.nodes[number].args
         rows, place = [], {}
         for entry, parts in graph.rows:
-            form = self.forms.zero
-            for (kind, at), coefficient in parts:
-                part = self.forms.unknown(self.bases[number] + at) if kind == "aux" else self.form(args[kind], at)
-                form = self.forms.sum(form, self.forms.scaled(Fraction(coefficient), part))
+            listed = ((self.forms.unknown(self.bases[number] + at) if kind == "aux" else self.form(args[kind], at), by) for (kind, at), by in parts)
+            form = self.forms.total(self.forms.scaled(Fraction(by), part) for part, by in listed)
             place[entry] = place.get(entry, -1) + 1
             rows.append(Row(False, form, ("node", number, entry, place[entry])))
         return rows
@@ -252,24 +235,24 @@ def is_atom(node):
     return node.call[0] in calls.CONVEX or node.call[0] in calls.CONCAVE
 
 
-def reduced(problem, setting):
+def reduced(problem, setting, limits):
     """The program at a setting, with numbers."""
-    return Reduction(problem, setting).program()
+    return Reduction(problem, setting, limits).program()
 
 
-def affine_map(problem):
+def affine_map(problem, limits):
     """The program with coefficients affine in the parameters."""
-    return Reduction(problem, None).program()
+    return Reduction(problem, None, limits).program()
 
 
-def fixed(problem, program, setting):
+def fixed(problem, program, setting, numbers):
     """An affine program with the numbers of a setting put in."""
     names = [name for name, _ in problem.parameters]
 
     def at(value):
         total = value.constant
         for (position, entry), coefficient in sorted(value.terms.items()):
-            total = add(total, mul(coefficient, setting[names[position]].entries[entry]))
+            total = numbers.add(total, numbers.mul(coefficient, setting[names[position]].entries[entry]))
         return total
 
     def form(form, row):

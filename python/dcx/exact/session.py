@@ -1,6 +1,7 @@
 """A problem at one setting after the other: an answer each, or what stops it."""
 from . import shapes
 from .faults import Stopped
+from .limits import OF_PROGRAM
 from .numbers import number
 from .reduce import Layout, TooLarge, Wide, ZeroDivisor, affine_map, fixed, reduced, stopped
 from .simplex import Reading, Run, Tableau, WarmRun
@@ -22,12 +23,12 @@ class Answer:
 
 
 class Session:
-    def __init__(self, problem, verdict):
-        self.problem = problem
+    def __init__(self, problem, verdict, limits=OF_PROGRAM):
+        self.problem, self.limits = problem, limits
         self.map = self.columns = None
         if verdict.dpp:
             try:
-                self.map = affine_map(problem)
+                self.map = affine_map(problem, limits)
             except FAULTS:
                 self.map = None
 
@@ -50,8 +51,8 @@ class Session:
     def program(self, setting):
         """The program at a setting that fits."""
         if self.map is not None:
-            return fixed(self.problem, self.map, setting)
-        return reduced(self.problem, setting)
+            return fixed(self.problem, self.map, setting, self.limits.numbers)
+        return reduced(self.problem, setting, self.limits)
 
     def formed(self, setting):
         """The program at a setting, or what stops it."""
@@ -60,6 +61,10 @@ class Session:
             return self.program(setting)
         except FAULTS as fault:
             raise stopped(self.problem, fault) from None
+
+    def tableau(self, program):
+        """The first tableau of a program."""
+        return Tableau(program, self.limits.numbers)
 
     def ended(self, tableau, limit):
         """The numbers at the last basis of a run that comes to an end."""
@@ -85,7 +90,7 @@ class Session:
         return answer, reading
 
     def solve(self, setting, limit):
-        return self.solve_from(setting, limit, lambda program: self.answer(Tableau(program), limit))
+        return self.solve_from(setting, limit, lambda program: self.answer(self.tableau(program), limit))
 
     def solve_from(self, setting, limit, found):
         """The answer that is found to the program at the setting; the basic columns of an optimal one are kept."""
@@ -109,7 +114,7 @@ class Session:
             nonlocal warm
             answer = self.warmed(program, limit)
             warm = answer is not None
-            return answer or self.answer(Tableau(program), limit)
+            return answer or self.answer(self.tableau(program), limit)
 
         return self.solve_from(setting, limit, found), warm
 
@@ -118,7 +123,7 @@ class Session:
         if self.map is None or self.columns is None:
             return None
         try:
-            tableau = Tableau(program)
+            tableau = self.tableau(program)
             if max(self.columns, default=0) >= tableau.plain:
                 return None
             end = WarmRun(tableau, self.columns, limit).end

@@ -3,7 +3,7 @@ from fractions import Fraction
 
 from .faults import Refused
 from .grammar import Reader
-from .numbers import is_fraction
+from .numbers import OF_LANGUAGE
 from .tokens import is_digits, text_of, tokens_of
 
 MOST_SETTINGS = 1000
@@ -79,7 +79,7 @@ class SettingsReader(Reader):
             if not is_digits(self.token):
                 self.refuse()
             value = Fraction(value, self.next().value)
-            assert is_fraction(value)
+            assert OF_LANGUAGE.has(value)
         return -value if is_negative else value
 
 

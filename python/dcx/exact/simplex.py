@@ -2,7 +2,7 @@
 from fractions import Fraction
 from math import gcd
 
-from .numbers import LIMIT, Passes, add, lcm, mul, sub
+from .numbers import Passes
 from .reduce import Wide
 
 
@@ -18,13 +18,13 @@ class IntegerRow:
         self.slack = self.artificial = None
 
 
-def integers(terms, right, row):
+def integers(terms, right, row, numbers):
     """Terms and a right side times the least common multiple of their denominators, and that multiple."""
     try:
         multiple = Fraction(1)
         for value in [*terms.values(), right]:
-            multiple = Fraction(lcm(multiple, value.denominator))
-        return {u: int(mul(multiple, v)) for u, v in terms.items()}, int(mul(multiple, right)), int(multiple)
+            multiple = Fraction(numbers.lcm(multiple, value.denominator))
+        return {u: int(numbers.mul(multiple, v)) for u, v in terms.items()}, int(numbers.mul(multiple, right)), int(multiple)
     except Passes as passes:
         raise Wide(("row", row), passes) from None
 
@@ -32,8 +32,8 @@ def integers(terms, right, row):
 class Tableau:
     """Rows of whole numbers by column; behind the columns stand z, w and the right side."""
 
-    def __init__(self, program):
-        self.program = program
+    def __init__(self, program, numbers):
+        self.program, self.numbers = program, numbers
         self.column_of = self.unknown_columns(program.kinds)
         self.count = len(program.rows)
         self.notes = [self.integer_row(r, row) for r, row in enumerate(program.rows)]
@@ -59,7 +59,7 @@ class Tableau:
     # Rows
 
     def integer_row(self, number, row):
-        terms, right, multiple = integers(row.form.terms, -row.form.constant, number)
+        terms, right, multiple = integers(row.form.terms, -row.form.constant, number, self.numbers)
         shared = gcd(*terms.values(), right)
         if shared == 0:
             shared = 1
@@ -68,7 +68,7 @@ class Tableau:
 
     def objective(self):
         form = self.program.objective
-        terms, right, multiple = integers({u: -v for u, v in form.terms.items()}, form.constant, self.count)
+        terms, right, multiple = integers({u: -v for u, v in form.terms.items()}, form.constant, self.count, self.numbers)
         shared = gcd(*terms.values(), right, multiple)
         return {u: v // shared for u, v in self.spread(terms).items()}, right // shared, multiple // shared
 
@@ -115,7 +115,7 @@ class Tableau:
             total = Fraction(0)
             for r in with_artificial:
                 try:
-                    total = add(total, Fraction(self.rows[r].get(column, 0)))
+                    total = self.numbers.add(total, Fraction(self.rows[r].get(column, 0)))
                 except Passes as passes:
                     raise Wide(("row", self.count + 1), passes) from None
             if total:
@@ -135,7 +135,7 @@ class Tableau:
             a = row.get(c, 0)
             if i == r or a == 0:
                 continue
-            new = eliminated(row, pivot_row, p, a)
+            new = eliminated(row, pivot_row, p, a, self.numbers)
             if new is None:
                 return False
             changed[i] = new
@@ -146,7 +146,7 @@ class Tableau:
         return True
 
 
-def eliminated(row, pivot_row, p, a):
+def eliminated(row, pivot_row, p, a, numbers):
     """The row less a multiple of the pivot row, in lowest terms; None where a number passes."""
     shared = gcd(p, a)
     p, a = p // shared, a // shared
@@ -154,7 +154,7 @@ def eliminated(row, pivot_row, p, a):
     for column in row.keys() | pivot_row.keys():
         left, right = p * row.get(column, 0), a * pivot_row.get(column, 0)
         value = left - right
-        if max(abs(left), abs(right), abs(value)) > LIMIT:
+        if not numbers.fits(left, right, value):
             return None
         if value:
             result[column] = value
@@ -306,8 +306,8 @@ class Reading:
         value = self.reduced_cost(column)
         try:
             if note.is_equal and self.end.kind == "infeasible":
-                value = sub(value, Fraction(1))
-            value = mul(note.factor, value)
+                value = self.tableau.numbers.sub(value, Fraction(1))
+            value = self.tableau.numbers.mul(note.factor, value)
         except Passes as passes:
             raise Wide(("answer", r), passes) from None
         return -value if note.is_equal and note.is_negated else value

@@ -4,7 +4,7 @@ from fractions import Fraction
 from itertools import accumulate
 
 from .faults import Refused
-from .numbers import is_fraction
+from .numbers import OF_LANGUAGE
 
 MOST_BYTES = 1_048_576
 MOST_OPEN = 64
@@ -57,7 +57,7 @@ def value_of(text, place):
         raise Refused(3, place)
     decimals = len(mantissa.partition(".")[2])
     value = Fraction(int(digits)) * Fraction(10) ** (exponent - decimals)
-    if not is_fraction(value):
+    if not OF_LANGUAGE.has(value):
         raise Refused(3, place)
     return value
 

@@ -3,10 +3,10 @@ from fractions import Fraction
 
 from . import shapes
 from .faults import Refused
-from .numbers import Passes, add, div, mul, sub
+from .numbers import OF_LANGUAGE, Passes
 
 MOST_ITEMS = 20_000
-OPERATIONS = {"+": add, "-": sub, "*": mul, "/": div}
+OPERATIONS = {"+": OF_LANGUAGE.add, "-": OF_LANGUAGE.sub, "*": OF_LANGUAGE.mul, "/": OF_LANGUAGE.div}
 
 
 class Array:
@@ -136,13 +136,8 @@ def plain_operation(sign, a, b, place):
 
 def plain_entries(sign, a, b, shape):
     if sign == "@":
-        entries = []
-        for pairs in shapes.matmul_pairs(a.shape, b.shape):
-            total = Fraction(0)
-            for left, right in pairs:
-                total = add(total, mul(a.entries[left], b.entries[right]))
-            entries.append(total)
-        return entries
+        pairs = shapes.matmul_pairs(a.shape, b.shape)
+        return [OF_LANGUAGE.total(OF_LANGUAGE.mul(a.entries[left], b.entries[right]) for left, right in listed) for listed in pairs]
     lefts = shapes.promote_places(a.shape, shape)
     rights = shapes.promote_places(b.shape, shape)
     return [OPERATIONS[sign](a.entries[i], b.entries[j]) for i, j in zip(lefts, rights)]
