@@ -1,0 +1,157 @@
+"""Numbers as a person reads them: decimals in columns, fractions beside them, matrices as matrices."""
+from __future__ import annotations
+
+from decimal import Decimal, localcontext
+from fractions import Fraction
+from typing import Callable, NamedTuple, Sequence
+
+from .values import Entries, number_text, shape_text
+
+GAP = "  "
+
+
+class Look(NamedTuple):
+    """How tables look: significant digits of decimals, the width of a line, and whether colours are used."""
+
+    digits: int = 6
+    width: int = 120
+    is_coloured: bool = False
+
+    def bold(self, text: str) -> str:
+        """A head."""
+        return self.coloured("1", text)
+
+    def dim(self, text: str) -> str:
+        """What matters less."""
+        return self.coloured("2", text)
+
+    def red(self, text: str) -> str:
+        """What is wrong."""
+        return self.coloured("31", text)
+
+    def coloured(self, code: str, text: str) -> str:
+        """The text in a terminal's colour."""
+        return f"\x1b[{code}m{text}\x1b[0m" if self.is_coloured and text.strip() else text
+
+
+def decimals(value: Fraction, digits: int) -> str:
+    """A whole number as it is, and any other one rounded to significant digits, half to even; tiny and huge ones with an exponent."""
+    if value.denominator == 1:
+        return str(value.numerator)
+    with localcontext() as context:
+        # One rounding alone: the quotient of both parts.
+        context.prec = digits
+        rounded = Decimal(value.numerator) / Decimal(value.denominator)
+    if -5 <= rounded.adjusted() < max(digits, 1) + 9:
+        text = f"{rounded:f}"
+        return text.rstrip("0").rstrip(".") if "." in text else text
+    mantissa, _, exponent = f"{rounded:E}".partition("E")
+    mantissa = mantissa.rstrip("0").rstrip(".") if "." in mantissa else mantissa
+    return f"{mantissa}e{int(exponent):+03d}"
+
+
+def both(value: Fraction, digits: int) -> str:
+    """A number in a sentence: its fraction, and its decimals in brackets where it is none that is whole."""
+    return number_text(value) if value.denominator == 1 else f"{number_text(value)} ({decimals(value, digits)})"
+
+
+def at_points(texts: Sequence[str]) -> list[str]:
+    """Texts of decimals, filled with blanks so that their points stand below each other."""
+    split = [text.partition(".") for text in texts]
+    before = max((len(part[0]) for part in split), default=0)
+    behind = max((len(part[1] + part[2]) for part in split), default=0)
+    return [part[0].rjust(before) + (part[1] + part[2]).ljust(behind) for part in split]
+
+
+def to_right(texts: Sequence[str]) -> list[str]:
+    """Texts, filled with blanks in front."""
+    width = max(map(len, texts), default=0)
+    return [text.rjust(width) for text in texts]
+
+
+def to_left(texts: Sequence[str]) -> list[str]:
+    """Texts, filled with blanks behind."""
+    width = max(map(len, texts), default=0)
+    return [text.ljust(width) for text in texts]
+
+
+def number_columns(values: Sequence[Fraction], digits: int) -> list[list[str]]:
+    """The columns of a list of numbers: decimals, and the fractions of those that aren't whole, where there are any."""
+    columns = [at_points([decimals(value, digits) for value in values])]
+    if any(value.denominator != 1 for value in values):
+        columns.append(to_left(["" if value.denominator == 1 else number_text(value) for value in values]))
+    return columns
+
+
+def joined(columns: Sequence[Sequence[str]]) -> list[str]:
+    """Rows of columns that are filled already."""
+    return [GAP.join(row).rstrip() for row in zip(*columns)]
+
+
+def is_whole(values: Sequence[Fraction]) -> bool:
+    """Whether no number is a fraction."""
+    return all(value.denominator == 1 for value in values)
+
+
+def array_rows(arrays: Sequence[Entries], look: Look, width: int) -> list[str]:
+    """The rows of a vector or a matrix, or of several of one shape beside each other, with the indices in front."""
+    shape = arrays[0].shape
+    if len(shape) == 2:
+        return matrix_rows(arrays, look, width)
+    if len(arrays) == 1 and is_whole(arrays[0].entries):
+        return wrapped_rows(arrays[0].entries, look, width)
+    columns = [to_right([f"[{at}]" for at in range(shape[0])])]
+    for array in arrays:
+        columns.extend(number_columns(array.entries, look.digits))
+    return joined(columns)
+
+
+def wrapped_rows(entries: Sequence[Fraction], look: Look, width: int) -> list[str]:
+    """Whole numbers one behind the other, each row with the index of its first."""
+    cells = to_right([decimals(entry, look.digits) for entry in entries])
+    label = len(f"[{len(cells) - 1}]")
+    count = max(1, (width - label) // (len(cells[0]) + len(GAP)))
+    rows = range(0, len(cells), count)
+    return [GAP.join([f"[{at}]".rjust(label), *cells[at : at + count]]) for at in rows]
+
+
+def grid(array: Entries, write: Callable[[Fraction], str], fill: Callable[[Sequence[str]], list[str]]) -> list[str]:
+    """The rows of a matrix, each column filled by itself."""
+    rows, columns = array.shape
+    filled = [fill([write(array.entries[i * columns + j]) for i in range(rows)]) for j in range(columns)]
+    return joined([["["] * rows, *filled, ["]"] * rows])
+
+
+def matrix_rows(arrays: Sequence[Entries], look: Look, width: int) -> list[str]:
+    """Matrices as grids of decimals, each with its fractions beside it; below it where the line is too short."""
+    grids = []
+    for array in arrays:
+        grids.append(grid(array, lambda value: decimals(value, look.digits), at_points))
+        if not is_whole(array.entries):
+            grids.append(grid(array, number_text, to_right))
+    beside = joined([to_left(one) for one in grids])
+    if max(map(len, beside)) <= width:
+        return beside
+    return [row for one in grids for row in one]
+
+
+def named_rows(named: Sequence[tuple[str, Sequence[Entries]]], look: Look, heads: Sequence[str] = ()) -> list[str]:
+    """The rows of named arrays, several for each name where there are heads: numbers in columns, then each array below its name."""
+    rows = []
+    scalars = [(name, arrays) for name, arrays in named if not arrays[0].shape]
+    if scalars:
+        columns = [to_left([*[""] * bool(heads), *[name for name, _ in scalars]])]
+        for place in range(len(scalars[0][1])):
+            numbers = number_columns([arrays[place].entries[0] for _, arrays in scalars], look.digits)
+            if heads:
+                numbers = to_left([heads[place], *joined(numbers)])
+                columns.append(numbers)
+            else:
+                columns.extend(numbers)
+        rows.extend(joined(columns))
+    for name, arrays in named:
+        if arrays[0].shape:
+            behind = f"{GAP}({', '.join(heads)})" if heads else ""
+            rows.append(f"{name} {shape_text(arrays[0].shape)}{behind}")
+            rows.extend(GAP + row for row in array_rows(arrays, look, look.width - len(GAP) * 3))
+    return rows
