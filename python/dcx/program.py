@@ -23,7 +23,7 @@ try:
 except ImportError:  # a system without limits of this kind
     resource = None
 
-__all__ = ["ProgramError", "Run", "find", "run"]
+__all__ = ["ProgramError", "Run", "TimedOut", "find", "run"]
 
 _MEMORY = 4096  # MiB, where DCX_MEMORY says nothing
 _seen: dict[str, tuple[int, int]] = {}  # programs whose checksum was right: size and time of change
@@ -31,6 +31,10 @@ _seen: dict[str, tuple[int, int]] = {}  # programs whose checksum was right: siz
 
 class ProgramError(DCXError):
     """The program can't be found or started, or it ended in a way that is no report: by a signal, or after too long a time."""
+
+
+class TimedOut(ProgramError):
+    """The program was ended, since it took longer than it was given."""
 
 
 class Run(NamedTuple):
@@ -123,7 +127,7 @@ def run(
         try:
             report, said = process.communicate(timeout=timeout)
         except subprocess.TimeoutExpired:
-            raise ProgramError(f"the program had no answer after {timeout:g} s, and was ended (word {word!r})") from None
+            raise TimedOut(f"the program had no answer after {timeout:g} s, and was ended (word {word!r})") from None
         finally:
             if process.poll() is None:
                 process.kill()
