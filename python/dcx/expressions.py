@@ -364,6 +364,13 @@ def _method(name: str, expression, axis, keepdims, dtype, out):
     return getattr(atoms, name)(expression, axis=axis, keepdims=keepdims)
 
 
+class Compound(Expression):
+    """An expression that is made of others. Were it a plain `Expression`, Python would ask a variable on the right of a comparison
+    first, since that is of a subclass, and the sides of the constraint would be turned."""
+
+    __slots__ = ()
+
+
 class Constant(Expression):
     """Numbers that stand in a model: `array` holds them, exactly."""
 
@@ -434,7 +441,7 @@ def node(kind: str, args: Sequence[Expression], options: tuple, shape: Sequence[
     """A new expression. What has no entries is a constant, since nothing in it can vary."""
     if 0 in shape:
         return Constant(Array(shape, ()))
-    return Expression(kind, args, options, shape)
+    return Compound(kind, args, options, shape)
 
 
 def postorder(roots: Sequence[Expression]) -> Iterator[Expression]:
