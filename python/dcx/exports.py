@@ -21,8 +21,8 @@ COLUMNS = ("word", "index", "status", "what", "name", "row", "column", "exact", 
 def report_json(report: Report) -> str:
     """The report as JSON, fields that it doesn't have left out.
 
-    A number is `{"exact": "1/3", "decimal": 0.333..}`, an array `{"shape": [2], "exact": ["1/3", "1"], "decimal": [..]}`
-    with one list in another for a matrix. Names are keys; so are the numbers of constraints and nodes, as text.
+    A number is `{"exact": "1/3", "decimal": 0.333..}`, an array `{"shape": [2], "exact": ["1/3", "1"], "decimal": ..}`,
+    of a matrix with a list for each row. Names are keys; so are the numbers of constraints and nodes, as text.
     """
     return json.dumps(plain(report), indent=1, ensure_ascii=False)
 

@@ -35,7 +35,10 @@ class Look(NamedTuple):
 
 
 def decimals(value: Fraction, digits: int) -> str:
-    """A whole number as it is, and any other one rounded to significant digits, half to even; tiny and huge ones with an exponent."""
+    """A whole number as it is, any other one rounded to significant digits, half to even.
+
+    A tiny or a huge one has an exponent, as `1.5e-09`.
+    """
     if value.denominator == 1:
         return str(value.numerator)
     with localcontext() as context:
@@ -136,22 +139,29 @@ def matrix_rows(arrays: Sequence[Entries], look: Look, width: int) -> list[str]:
 
 
 def named_rows(named: Sequence[tuple[str, Sequence[Entries]]], look: Look, heads: Sequence[str] = ()) -> list[str]:
-    """The rows of named arrays, several for each name where there are heads: numbers in columns, then each array below its name."""
-    rows = []
-    scalars = [(name, arrays) for name, arrays in named if not arrays[0].shape]
-    if scalars:
-        columns = [to_left([*[""] * bool(heads), *[name for name, _ in scalars]])]
-        for place in range(len(scalars[0][1])):
-            numbers = number_columns([arrays[place].entries[0] for _, arrays in scalars], look.digits)
-            if heads:
-                numbers = to_left([heads[place], *joined(numbers)])
-                columns.append(numbers)
-            else:
-                columns.extend(numbers)
-        rows.extend(joined(columns))
+    """The rows of named arrays, in order: numbers in columns, others below their names.
+
+    Where there are heads, each name has as many arrays of one shape.
+    """
+    scalars = scalar_rows([(name, arrays) for name, arrays in named if not arrays[0].shape], look, heads)
+    rows = scalars[: len(scalars) - sum(not arrays[0].shape for _, arrays in named)]
+    scalars = scalars[len(rows) :]
     for name, arrays in named:
-        if arrays[0].shape:
-            behind = f"{GAP}({', '.join(heads)})" if heads else ""
-            rows.append(f"{name} {shape_text(arrays[0].shape)}{behind}")
-            rows.extend(GAP + row for row in array_rows(arrays, look, look.width - len(GAP) * 3))
+        if not arrays[0].shape:
+            rows.append(scalars.pop(0))
+            continue
+        behind = f"{GAP}({', '.join(heads)})" if heads else ""
+        rows.append(f"{name} {shape_text(arrays[0].shape)}{behind}")
+        rows.extend(GAP + row for row in array_rows(arrays, look, look.width - len(GAP) * 3))
     return rows
+
+
+def scalar_rows(named: Sequence[tuple[str, Sequence[Entries]]], look: Look, heads: Sequence[str]) -> list[str]:
+    """The rows of named numbers, behind one of the heads where there are any."""
+    if not named:
+        return []
+    columns = [to_left([*[""] * bool(heads), *[name for name, _ in named]])]
+    for place in range(len(named[0][1])):
+        numbers = joined(number_columns([arrays[place].entries[0] for _, arrays in named], look.digits))
+        columns.append(to_left([heads[place], *numbers] if heads else numbers))
+    return joined(columns)

@@ -55,7 +55,7 @@ class Sources:
     values: tuple[dict[str, Entries], ...]
 
     def of_row(self, row: int) -> Optional[tuple[int, int]]:
-        """The constraint, from 1, and its entry, from 0, that row `row` of the reduced program is; None of another row."""
+        """The constraint, from 1, and the entry, from 0, that a row of the reduced program is; None of another row."""
         for number, shape in self.shapes.items():
             if row < size(shape):
                 return number, row

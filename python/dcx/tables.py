@@ -1,8 +1,11 @@
-"""What `python3 -m dcx table` prints: answers as tables, each multiplier beside the constraint in the script that it is of,
-and refusals and stops with the line, a caret, their sentence and what to do.
+"""What `python3 -m dcx table` prints.
+
+Answers stand as tables, each multiplier beside the constraint of the script that it is of; refusals and stops with the
+line, a caret, their sentence and what to do.
 """
 from __future__ import annotations
 
+import textwrap
 from fractions import Fraction
 from typing import Optional
 
@@ -15,15 +18,16 @@ from .sources import Lines, Setting, Source, Sources, read_settings, read_source
 from .values import Entries, Place
 
 LONGEST = 60
-# Behind which operands of the program a refused file stands.
-ENDS = {"optimal": {"minimize": "the least", "maximize": "the greatest", "": "the"}, "unbounded": {"minimize": "falls", "maximize": "rises", "": "goes on"}}
+# What is told of the objective, by its sense; where that isn't known, the sense is empty.
+BEST = {"minimize": "the least objective", "maximize": "the greatest objective", "": "the objective"}
+GOES = {"minimize": "falls", "maximize": "rises", "": "goes on"}
 
 
 class Tables:
     """The tables of the report of a script, and of its settings where there are any.
 
-    The files are given as bytes, with the names under which they are told. With `by_multiplier` constraints stand by the
-    magnitude of their multipliers, the greatest first, else in the script's order.
+    The files are given as bytes, with the names under which they are told. With `by_multiplier` constraints stand by
+    the magnitude of their multipliers, the greatest first, else in the script's order.
     """
 
     def __init__(
@@ -45,7 +49,7 @@ class Tables:
         """The whole text."""
         if report.refusal is not None:
             return self.joined(self.refusal(report.refusal))
-        if report.kind not in ("solved",):
+        if report.kind != "solved":
             return report.text
         blocks = [self.answer(answer, len(report.answers)) for answer in report.answers]
         last = f"answered {report.answered}, stopped {report.stopped}"
@@ -76,7 +80,7 @@ class Tables:
         return rows
 
     def places(self, stop: Stop, index: int) -> list[tuple[str, Place]]:
-        """The files and places that a stop is about: an expression, the name in the setting, the declaration, a row's constraint."""
+        """The places that a stop is about: an expression, a name in the setting and its declaration, a constraint."""
         detail = stop.detail
         if detail.stop is not None:
             return [] if stop.number == 37 else self.places(detail.stop, index)
@@ -89,7 +93,7 @@ class Tables:
                 found.append(("settings", setting.names.get(detail.name, setting.place)))
             if self.sources is not None and detail.name in self.sources.parameters:
                 found.append(("script", self.sources.parameters[detail.name].place))
-        if detail.row is not None and self.sources is not None:
+        if detail.where in ("row", "map", "answer") and self.sources is not None:
             row = self.sources.of_row(detail.row)
             if row is not None:
                 found.append(("script", self.sources.constraints[row[0]].place))
@@ -108,7 +112,7 @@ class Tables:
 
     def told(self, message: Message) -> list[str]:
         """The sentence, and what to do."""
-        return [message.sentence, *([message.advice] if message.advice else [])]
+        return [row for text in message if text for row in textwrap.wrap(text, self.look.width, break_long_words=False)]
 
     # Answers
 
@@ -146,14 +150,16 @@ class Tables:
         whole = " in whole numbers" if answer.whole else ""
         nodes = "" if answer.nodes is None else f", shown by {answer.nodes} node" + "s" * (answer.nodes != 1)
         if answer.status == "optimal":
-            least = ENDS["optimal"][sense]
-            return f"optimal{whole}: {least} objective is {self.number(answer.value)}{nodes}"
+            return f"optimal{whole}: {BEST[sense]} is {self.number(answer.value)}{nodes}"
+        if answer.status == "infeasible" and answer.gap is None:
+            return f"infeasible{whole}: no point keeps the constraints{nodes}"
         if answer.status == "infeasible":
-            gap = "" if answer.gap is None else f"; the constraints, by their multipliers, miss it by {self.number(answer.gap)}"
-            return f"infeasible{whole}: no point keeps the constraints{gap}{nodes}"
-        falls = ENDS["unbounded"][sense]
+            return (
+                f"infeasible: no point keeps the constraints; left minus right, times these multipliers, is "
+                f"{self.number(answer.gap)} or more everywhere, and would be 0 or less there"
+            )
         return (
-            f"unbounded: the objective {falls} for ever, from {self.number(answer.bound)} at the point by "
+            f"unbounded: the objective {GOES[sense]} for ever, from {self.number(answer.bound)} at the point by "
             f"{self.number(answer.slope)} for each step along the ray"
         )
 
@@ -186,11 +192,11 @@ class Tables:
         if self.by_multiplier:
             order.sort(key=lambda number: -max(abs(entry) for entry in answer.duals[number].entries))
         heads = [self.constraint(number) for number in order]
-        columns = [to_right([head[0] for head in heads]), to_left([head[1] for head in heads]), to_left([head[2] for head in heads])]
-        fronts = joined([to_left(column) for column in columns])
-        fronts = to_left(fronts)
+        numbers, places, texts = zip(*heads)
+        fronts = to_left(joined([to_right(numbers), to_left(places), to_left(texts)]))
         scalars = [number for number in order if not answer.duals[number].shape]
-        values = dict(zip(scalars, joined(number_columns([answer.duals[n].entries[0] for n in scalars], self.look.digits))))
+        columns = number_columns([answer.duals[number].entries[0] for number in scalars], self.look.digits)
+        values = dict(zip(scalars, joined(columns)))
         rows = []
         for number, front in zip(order, fronts):
             dual = answer.duals[number]

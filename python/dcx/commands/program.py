@@ -11,7 +11,7 @@ NOT_FOUND = 70
 
 
 def run(words: Sequence[str]) -> int:
-    """Runs the program with these words. Comes back only where there is no program to run, with a status that it hasn't."""
+    """Runs the program with these words. Where there is none to run, it gives a status that the program hasn't."""
     try:
         path = find()
         sys.stdout.flush()

@@ -10,11 +10,11 @@ from ..reports import Report, ReportError, read_report
 
 def add_arguments(parser: argparse.ArgumentParser) -> None:
     """A report's file, which may be left out."""
-    parser.add_argument("report", nargs="?", default="-", metavar="REPORT", help="a file; standard input without one, or with `-`")
+    parser.add_argument("report", nargs="?", default="-", metavar="REPORT", help="a file; standard input without it")
 
 
 def rewritten(arguments: argparse.Namespace, form: Callable[[Report], str]) -> int:
-    """Writes the report in another form. The status is 0, 1 where it is no report, and 3 where the file can't be read."""
+    """Writes the report in another form. The status is 1 where it is none, 3 where it can't be read, else 0."""
     name = "standard input" if arguments.report == "-" else arguments.report
     try:
         if arguments.report == "-":

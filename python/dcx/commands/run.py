@@ -1,4 +1,4 @@
-"""`python3 -m dcx run MODEL.py ARGS..`: runs a CVXPY script as Python does, with `dcx.cvxpy` in the place of `cvxpy`."""
+"""`python3 -m dcx run MODEL.py ARGS..`: runs a CVXPY script as Python does, with `dcx.cvxpy` in place of `cvxpy`."""
 from __future__ import annotations
 
 import argparse
@@ -24,7 +24,7 @@ def add_arguments(parser: argparse.ArgumentParser) -> None:
 
 
 def run(arguments: argparse.Namespace) -> int:
-    """Runs the script under `__main__`, with its arguments and its folder on the path. What it exits with is its own."""
+    """Runs the script under `__main__`, with its arguments, its folder on the path and its own status."""
     script = arguments.script
     if not os.path.isfile(script):
         print(f"dcx: {script} can't be read: no such file", file=sys.stderr)
@@ -85,7 +85,7 @@ def print_users(error: BaseException) -> None:
 
 
 def is_of_package(error: BaseException) -> bool:
-    """Whether the package raises errors of this kind on purpose: its own, and those of shapes and indices as in CVXPY."""
+    """Whether the package raises such errors on purpose: its own, and those of shapes and indices, as CVXPY does."""
     from ..errors import DCXError
 
     return isinstance(error, (DCXError, ValueError, IndexError))

@@ -1,4 +1,4 @@
-"""`python3 -m dcx table SCRIPT [SETTINGS]`: answers a script of the program's language and prints the answers as tables."""
+"""`python3 -m dcx table SCRIPT [SETTINGS]`: answers a script of the program's language, and shows that as tables."""
 from __future__ import annotations
 
 import argparse
@@ -7,7 +7,7 @@ import shutil
 import sys
 import time
 from dataclasses import replace
-from typing import Optional, Sequence
+from typing import Callable, Sequence
 
 from ..exact.settings import MOST_SETTINGS
 from ..grids import Look
@@ -24,19 +24,23 @@ SECONDS = 0.3  # how long a part of the settings takes, where that can be chosen
 def add_arguments(parser: argparse.ArgumentParser) -> None:
     """The files, and how they are answered and shown."""
     parser.add_argument("script", metavar="SCRIPT", help="a script of the program's language")
-    parser.add_argument("settings", nargs="?", metavar="SETTINGS", help="a file with a setting of the parameters on each line")
+    parser.add_argument("settings", nargs="?", metavar="SETTINGS", help="a file with a setting of parameters a line")
     parser.add_argument("--warm", action="store_true", help="begin each setting at the answer before it")
-    parser.add_argument("--max-pivots", metavar="N", help="how many pivots a solve may take")
-    parser.add_argument("--digits", metavar="N", type=digits, default=6, help="significant digits of decimals, 1 to 40; 6 without it")
+    parser.add_argument("--max-pivots", metavar="N", type=up_to(10**9), help="how many pivots a solve may take")
+    parser.add_argument("--digits", metavar="N", type=up_to(40), default=6, help="digits of decimals; 6 without it")
     parser.add_argument("--no-color", action="store_true", help="no colours, also on a terminal")
     parser.add_argument("--sort", choices=["multiplier"], help="constraints with the greatest multipliers first")
 
 
-def digits(text: str) -> int:
-    """A number of digits from 1 to 40."""
-    if not text.isdigit() or not 1 <= int(text) <= 40:
-        raise argparse.ArgumentTypeError(f"a whole number from 1 to 40, and not {text!r}")
-    return int(text)
+def up_to(most: int) -> Callable[[str], int]:
+    """Reads a whole number from 1 to `most`."""
+
+    def read(text: str) -> int:
+        if not (text.isascii() and text.isdigit() and len(text) <= 10 and 1 <= int(text) <= most):
+            raise argparse.ArgumentTypeError(f"a whole number from 1 to {most}, and not {text!r}")
+        return int(text)
+
+    return read
 
 
 def run(arguments: argparse.Namespace) -> int:
@@ -64,7 +68,8 @@ def run(arguments: argparse.Namespace) -> int:
         print(f"dcx: {report.text.rstrip()}\n{' '.join(status_message(status))}", file=sys.stderr)
         return status
     names = (arguments.script, arguments.settings or "")
-    tables = Tables(files[0], files[1] if len(files) > 1 else None, names, look(arguments), arguments.sort == "multiplier")
+    settings = files[1] if len(files) > 1 else None
+    tables = Tables(files[0], settings, names, look(arguments), by_multiplier=arguments.sort == "multiplier")
     print_text(tables.text(report))
     return status
 
@@ -87,8 +92,8 @@ def print_text(text: str) -> None:
 def asked(files: Sequence[bytes], options: Sequence[str], is_shown: bool) -> tuple[Report, int]:
     """The report of the files and the program's status; how far it is goes to standard error, where that is shown.
 
-    A setting is answered as if no other one were asked, so settings may be handed over in parts, for which a report comes
-    each. Where each begins at the answer before it, they are handed over together.
+    A setting is answered as if no other one were asked, so settings may be handed over in parts, each of which has its
+    own report. Where each begins at the answer before it, they are handed over together.
     """
     if len(files) == 1:
         done = run_program("solve", *files, options=options)
@@ -129,7 +134,7 @@ def together(reports: Sequence[Report]) -> Report:
     return Report("solved", answers=numbered, answered=answered, stopped=len(answers) - answered)
 
 
-def show(text: Optional[str]) -> None:
+def show(text: str) -> None:
     """Shows how far it is, in place of what was shown before."""
     sys.stderr.write(f"\r\x1b[K{text}")
     sys.stderr.flush()
