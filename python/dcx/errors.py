@@ -45,3 +45,21 @@ class UnsupportedError(DCXError, NotImplementedError):
 
 class LimitError(DCXError):
     """A limit of the program is passed: the message says which, and by how much."""
+
+
+_warns = [True]
+
+
+def disable_warnings() -> None:
+    """From now on nothing warns that `*` is taken as the matrix product."""
+    _warns[0] = False
+
+
+def enable_warnings() -> None:
+    """From now on `*` warns again where it is taken as the matrix product."""
+    _warns[0] = True
+
+
+def warnings_enabled() -> bool:
+    """Whether `*` warns where it is taken as the matrix product."""
+    return _warns[0]

@@ -7,7 +7,7 @@ from typing import Sequence
 from . import arrays, indices, shapes, sites
 from .arrays import Array, Sparse
 from .constraints import Constraint
-from .errors import UnsupportedError
+from .errors import UnsupportedError, warnings_enabled
 from .expressions import Constant, Expression, as_expression, node
 from .numbers import exact
 
@@ -74,7 +74,8 @@ def multiplied(left, right) -> Expression:
         # ValueError before a warning where the shapes don't fit
         shapes.product(left.shape, right.shape)
         site = sites.here()
-        warnings.warn_explicit(_STAR, UserWarning, site.file, site.line)
+        if warnings_enabled():
+            warnings.warn_explicit(_STAR, UserWarning, site.file, site.line)
         return matrix_multiplied(left, right)
     return node("*", fitted(left, right), (), shapes.paired(left.shape, right.shape))
 
