@@ -38,7 +38,10 @@ def plain(value: object) -> object:
             "decimal": nested(value.shape, [float(entry) for entry in value.entries]),
         }
     if isinstance(value, Stop):
-        return {"number": value.number, "name": value.name, **plain(value.detail), "text": value.text}
+        carried = plain(value.detail)
+        if value.detail.name is not None:  # `name` is that of the stop
+            carried["parameter"] = carried.pop("name")
+        return {"number": value.number, "name": value.name, **carried, "text": value.text}
     if isinstance(value, Refusal):
         place = {"line": value.line, "column": value.column}
         return {"of": value.of, "number": value.number, "name": value.name, **place, **plain(value.detail)}
