@@ -68,14 +68,14 @@ REFUSALS = {
     ),
     12: (
         "This form is read, and has no meaning in the language.",
-        "docs/CVXPY.md says what to write instead: `cp.multiply(a, b)` or `a @ b` for a product of arrays, `<=`, "
-        "`>=` and `==` for constraints, two of them for a chain.",
+        "Write `cp.multiply(a, b)` or `a @ b` for a product of arrays, `<=`, `>=` or `==` for a constraint, and two of "
+        "them for a chain; docs/CVXPY.md says what to write in place of other forms.",
     ),
     13: (
         "The shapes don't fit the operation.",
         "Compare the shapes of its operands. A vector of n entries is no matrix of n rows and one column.",
     ),
-    14: ("An index lies outside of its side.", "n entries have the indices 0 to n - 1, and -1 to -n from the end."),
+    14: ("An index lies outside of its side.", "Of n entries the indices are 0 to n - 1, and -1 to -n from the end."),
     15: ("The slice, the list or the call would have no entry.", "Leave the line out where there is nothing."),
     16: ("The script ends without a problem.", "Add `prob = cp.Problem(objective, [..])`."),
     17: (
