@@ -21,7 +21,9 @@ _PLAIN = {"+", "-", "*", "/", "@", "minus", "T", "index"}
 
 
 class Part:
-    """One distinct expression. `source` is the user's expression that it was first made for, `uses` counts what it is an argument of."""
+    """One distinct expression. `source` is the user's expression that it was first made for, `uses` counts where it stands. `plain` tells whether it
+    is numbers alone, which the language works out at once, and counts only beside what isn't.
+    """
 
     __slots__ = ("kind", "args", "options", "shape", "source", "uses", "plain")
 
@@ -33,8 +35,6 @@ class Part:
         self.source = source
         self.uses = 0
         self.plain = kind == "constant" or (kind in _PLAIN and all(arg.plain for arg in args))
-        for arg in args:
-            arg.uses += 1
 
     @property
     def size(self) -> int:
@@ -63,6 +63,10 @@ class Graph:
         self.roots = [self._parts_of[id(root)] for root in roots]
         for root in self.roots:
             root.uses += 1
+        for part in reversed(self.parts):
+            if part.uses:
+                for arg in part.args:
+                    arg.uses += 1
 
     def part_of(self, expression: Any) -> Part:
         """The part that stands for an expression of the graph."""
@@ -105,6 +109,8 @@ class Graph:
         args = tuple(self._parts_of[id(arg)] for arg in expression.args)
         if kind == "T" and len(expression.shape) < 2:
             return args[0]
+        if kind == "hstack" and len(expression.shape) == 1:
+            args = tuple(self._unwrapped(arg) for arg in args)
         if kind == "@":
             left, right = expression.args
             if args[0].kind == "rows":
@@ -112,6 +118,14 @@ class Graph:
             if args[1].kind == "rows":
                 return self._by_columns(self._sparse[id(right)], args[0], expression)
         return self._part(kind, args, tuple(expression.options), expression.shape, expression)
+
+    def _unwrapped(self, part: Part) -> Part:
+        """The number of which a vector of one entry is made, which may stand in a stack of vectors by itself."""
+        if part.shape == (1,) and part.kind == "constant":
+            return self._number(part.array.entries[0], part.source)
+        if part.kind == "reshape" and part.shape == (1,) and part.args[0].shape == ():
+            return part.args[0]
+        return part
 
     # -- products with matrices in which most entries are 0
 

@@ -174,12 +174,12 @@ class _Writer:
 
     def fresh(self, stem: str, bare: bool = False) -> str:
         """A name that is free: the stem with the next number, or, with `bare`, the stem itself where it is free."""
-        while True:
-            count = self.counts[stem] = self.counts.get(stem, 0) + 1
-            name = stem if bare and count == 1 else f"{stem}{count}"
-            if name not in self.taken:
-                self.taken.add(name)
-                return name
+        name = stem if bare else ""
+        while not name or name in self.taken:
+            self.counts[stem] = self.counts.get(stem, 0) + 1
+            name = f"{stem}{self.counts[stem]}"
+        self.taken.add(name)
+        return name
 
     def to_name(self) -> list[Part]:
         """The parts that get a name and a line of their own: arrays, what stands twice, and what would stand in too many brackets."""
