@@ -76,9 +76,16 @@ class Graph:
         """The parts that something needs, arguments first."""
         return [part for part in self.parts if part.uses]
 
-    def counted(self) -> list[tuple[Part, int, int]]:
-        """For each part, in order, how many nodes and entries the language counts that no part before it has."""
-        return _Count().of(self.used())
+    def counted(self, constraints: Iterable[Any] = ()) -> list[tuple[Any, int, int]]:
+        """For each part that something needs, and each constraint, in order, how many nodes and entries the language counts that nothing before
+        has."""
+        count = _Count()
+        counted: list[tuple[Any, int, int]] = []
+        for part in self.used():
+            counted.append((part.source, *count.of_part(part)))
+        for constraint in constraints:
+            counted.append((constraint, *count.of_sides(map(self.part_of, constraint.args), constraint.shape)))
+        return counted
 
     # -- how parts are made
 
@@ -248,14 +255,20 @@ class _Count:
         self.nodes = 0
         self.entries = 0
 
-    def of(self, parts: list[Part]) -> list[tuple[Part, int, int]]:
-        counted = []
-        for part in parts:
-            self.nodes = self.entries = 0
-            if not part.plain:
-                self.count(part)
-            counted.append((part, self.nodes, self.entries))
-        return counted
+    def of_part(self, part: Part) -> tuple[int, int]:
+        """The new nodes and entries of a part."""
+        self.nodes = self.entries = 0
+        if not part.plain:
+            self.count(part)
+        return self.nodes, self.entries
+
+    def of_sides(self, sides: Iterable[Part], shape: tuple[int, ...]) -> tuple[int, int]:
+        """The new nodes and entries of a constraint of this shape."""
+        self.nodes = self.entries = 0
+        for side in sides:
+            self.node(("part", id(side)), side.size)
+            self.spread(side, shape)
+        return self.nodes, self.entries
 
     def count(self, part: Part) -> None:
         kind, args = part.kind, part.args

@@ -587,20 +587,19 @@ def _check_limits(graph: Graph, constraints: Sequence[Any]) -> None:
             f"the problem has {len(constraints):,} constraints, {len(constraints) - MOST:,} more than the {MOST:,} that the language takes",
             constraints[MOST].site,
         )
-    counted = graph.counted()
+    counted = graph.counted(constraints)
     for what, place in (("nodes", 1), ("entries", 2)):
         total = sum(count[place] for count in counted)
         if total <= MOST:
             continue
-        largest = max(counted, key=lambda count: count[2])[0]
+        largest = max(counted, key=lambda count: count[place])
         running = 0
         for count in counted:
             running += count[place]
             if running > MOST:
                 break
-        where = f"; the largest part, at {largest.source.site}, has {largest.size:,}" if what == "entries" else ""
         raise LimitError(
             f"the model has {total:,} {what}, {total - MOST:,} more than the {MOST:,} that the language takes, which counts each distinct expression "
-            f"with its entries{where}; the limit is passed here",
-            count[0].source.site,
+            f"with its entries; the largest part, of {largest[place]:,}, stands at {largest[0].site}; the limit is passed here",
+            count[0].site,
         )
