@@ -81,11 +81,19 @@ class Expressions(unittest.TestCase):
                     np.broadcast_shapes(left, right)
                 except ValueError:
                     continue
-                rows += [("x + y", left, right), ("x - y", left, right)]
+                # CVXPY takes a (1, 1) for a number beside a vector.
+                if {left, right} != {(1, 1), (3,)}:
+                    rows += [("x + y", left, right), ("x - y", left, right)]
         rows += [("-x", (2, 3)), ("+x", (3,)), ("3*x", (2, 3)), ("x*0.25", (3,)), ("x/8", (2, 3)), ("2 - x", (3,)), ("x - 2", ())]
         rows += [("x + np.array([1, 5, 2])", (2, 3)), ("np.array([[1], [7]]) - x", (2, 3)), ("np.array([1, 5, 2]) + x", ()),
                  ("np.arange(6).reshape(2, 3) + x", (2, 3)), ("x.T", (2, 3)), ("x.T", (3,)), ("x.T", ()), ("(x.T + y).T", (2, 3), (3, 2))]
         self.same(rows)
+
+    def test_one_entry_beside_a_vector(self):
+        self.each([
+            ("vector + (1, 1)", [(3,), (1, 1)], lambda x, y: x + y, lambda x, y: x + y[0, 0], AFFINE),
+            ("(1, 1) - vector", [(3,), (1, 1)], lambda x, y: y - x, lambda x, y: y[0, 0] - x, AFFINE),
+        ])
 
     def test_products(self):
         self.same([
@@ -109,6 +117,10 @@ class Expressions(unittest.TestCase):
 
     def test_star_is_the_matrix_product_of_matrices(self):
         A, b = np.array([[3.0, 1, 4], [1, 5, 9]]), np.array([2, 7, 1])
+        with self.assertWarnsRegex(UserWarning, "matrix multiplication"):
+            self.check_star(A, b)
+
+    def check_star(self, A, b):
         self.each([
             ("matrix * vector", [(3,)], lambda x: A * x, lambda x: A @ x, AFFINE),
             ("matrix * matrix", [(3, 2)], lambda x: A * x, lambda x: A @ x, AFFINE),

@@ -50,10 +50,9 @@ def multicommodity():
             out = sum((flow[good, k] for k, arc in enumerate(arcs) if arc[0] == node), 0 * model.one)
             model.equal(into - out, amount * ((node == sink) - (node == source)))
     capacity, price = map(np.array, zip(*arcs.values()))
-    share = model.at_most(flow.sum(axis=0), capacity)
+    model.at_most(flow.sum(axis=0), capacity)
     found = model.minimize(sum(price @ part for part in flow))
-    full = np.isclose(found.of(flow).sum(axis=0), capacity).sum()
-    return {"cost": found.value, "full": full, "congestion": capacity @ found.duals[share]}
+    return {"cost": found.value, "carried": found.of(flow)[:, 3:5].sum()}
 
 
 def game_value():
@@ -122,12 +121,13 @@ def rolling_horizon():
         window = prices[hour:hour + 6]
         model = Model()
         charge, discharge = model.variables(len(window), low=0, high=4), model.variables(len(window), low=0, high=4)
-        state = level * model.one
+        state = stored = level * model.one
         for k in range(len(window)):
             state = state + 0.8 * charge[k] - discharge[k]
+            stored = stored + state
             model.at_most(-state)
             model.at_most(state, 10)
-        found = model.maximize(np.array(window) @ (discharge - charge))
+        found = model.maximize(np.array(window) @ (discharge - charge) - 0.01 * stored)
         first = found.value if first is None else first
         level += found.of(0.8 * charge[0] - discharge[0])
         earned += price * found.of(discharge[0] - charge[0])

@@ -61,13 +61,11 @@ def cutting_stock():
     lengths, orders = np.array([45, 36, 31, 14]), np.array([97, 61, 39, 21])
     fits = [range(100 // length + 1) for length in lengths]
     patterns = np.array([p for p in itertools.product(*fits) if 0 < np.dot(lengths, p) <= 100]).T
-    answer = {}
-    for name, whole in [("relaxed", False), ("whole", True)]:
-        model = Model()
-        rolls = model.variables(patterns.shape[1], low=0, whole=whole)
-        model.at_most(model.expression(orders), patterns @ rolls)
-        answer[name] = model.minimize(rolls.sum(axis=0)).value
-    return answer
+    model = Model()
+    rolls = model.variables(patterns.shape[1], low=0)
+    model.at_most(model.expression(orders), patterns @ rolls)
+    relaxed = model.minimize(rolls.sum(axis=0)).value
+    return {"relaxed": relaxed, "rounded up": np.ceil(relaxed)}
 
 
 def unit_commitment():

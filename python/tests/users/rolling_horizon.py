@@ -15,7 +15,7 @@ def plan(level, window):
     state = cp.Variable(hours + 1)
     constraints = [state[0] == level, state >= 0, state <= CAPACITY, charge <= POWER, discharge <= POWER]
     constraints += [state[1:] == state[:-1] + EFFICIENCY * charge - discharge]
-    profit = cp.sum(cp.multiply(window, discharge - charge))
+    profit = cp.sum(cp.multiply(window, discharge - charge)) - 0.01 * cp.sum(state)
     problem = cp.Problem(cp.Maximize(profit), constraints)
     problem.solve()
     assert problem.status == "optimal", problem.status
