@@ -147,18 +147,14 @@ def array_of(data) -> Array | Sparse:
     if isinstance(data, (list, tuple)):
         array = _of_nested(data)
         return transposed(array) if isinstance(data, list) else array
-    if isinstance(data, (range, set, frozenset)) or hasattr(data, "__next__"):
-        if isinstance(data, range):
-            return _of_nested(tuple(data))
-        raise TypeError(f"{type(data).__name__} is no array of numbers: make a list of it")
+    if isinstance(data, range):
+        return _of_nested(tuple(data))
     if hasattr(data, "tocsr"):
         return _of_sparse(data)
     if type(data).__module__.startswith("numpy") and getattr(data, "shape", None):
         return _of_numpy(data)
     if hasattr(data, "entries") and hasattr(data, "shape"):
         return Array(data.shape, (exact(number) for number in data.entries))
-    if hasattr(data, "__array__") and not hasattr(type(data), "dtype") and "numpy" in sys.modules:
-        return array_of(sys.modules["numpy"].asarray(data))
     if hasattr(data, "__array__") and getattr(data, "shape", None):
         return array_of(sys.modules["numpy"].asarray(data))
     return Array((), (exact(data),))
@@ -172,9 +168,10 @@ def _limited(shape: Sequence[int]) -> tuple[int, ...]:
 
 def _of_numpy(data) -> Array:
     shape = _limited(data.shape)
-    if data.dtype.kind == "M" or data.dtype.kind == "m":
+    if data.dtype.kind in "mM":
         raise TypeError("dates and spans of time are no numbers: write how many days or hours they are")
-    return Array(shape, numbers_of(data.reshape(-1)))
+    # a matrix of NumPy's own class stays one under `reshape`
+    return Array(shape, numbers_of(sys.modules["numpy"].asarray(data).reshape(-1)))
 
 
 def numbers_of(flat) -> list[Fraction]:

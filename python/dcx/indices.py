@@ -82,6 +82,8 @@ def range_of(side) -> range:
 
 def slice_of(places: range) -> tuple:
     """The slice that takes these places."""
+    if not places:
+        return ("slice", 0, 0, 1)
     stop = places.stop if places.stop >= 0 else None
     return ("slice", places.start, stop, places.step)
 

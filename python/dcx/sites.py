@@ -7,6 +7,7 @@ import sys
 from typing import NamedTuple
 
 _PACKAGE = os.path.dirname(os.path.abspath(__file__)) + os.sep
+_INNER = ("<frozen", "<__array_function__")
 _FOREIGN = tuple(os.sep + name + os.sep for name in ("numpy", "scipy"))
 
 
@@ -33,7 +34,7 @@ def _is_passed(file: str) -> bool:
     known = _passed.get(file)
     if known is None:
         path = os.path.abspath(file)
-        known = path.startswith(_PACKAGE) or file.startswith("<frozen") or any(part in path for part in _FOREIGN)
+        known = path.startswith(_PACKAGE) or file.startswith(_INNER) or any(part in path for part in _FOREIGN)
         _passed[file] = known
     return known
 

@@ -34,7 +34,7 @@ _REASONS = {
     _QUASI: "ceil floor sign quasiconvex one_minus_pos diff_pos",
     _GEOMETRIC: "dgp2dcp Dgp2Dcp",
     _GRADIENTS: "derivative backward linearize grad",
-    _SOLVERS: "partial_optimize transforms reductions problems atoms interface utilities lin_ops performance_tests",
+    _SOLVERS: "partial_optimize transforms reductions interface utilities lin_ops performance_tests",
 }
 
 # what is told of one name alone
