@@ -1,4 +1,4 @@
-"""Messages against docs/MESSAGES.md and docs/CERTIFICATES.md: all names and numbers of the pages, and what is put in."""
+"""Messages against docs/MESSAGES.md and docs/CERTIFICATES.md: the pages' names and numbers, and what is put in."""
 from __future__ import annotations
 
 import re

@@ -1,4 +1,4 @@
-"""The reader of reports: each report of the examples and the worked cases is read and written again, broken ones refused."""
+"""The reader of reports: each one of the examples and worked cases is read and written again, broken ones refused."""
 from __future__ import annotations
 
 import csv
@@ -139,7 +139,8 @@ class Objects(unittest.TestCase):
         self.assertEqual(third.stop.detail.node, 4)
         inner = third.stop.detail.stop
         self.assertEqual((inner.number, inner.name), (26, "Wide"))
-        self.assertEqual(inner.detail, Detail(where="answer", row=2, op="add", left=Fraction(1, 2), right=Fraction(1, 3)))
+        detail = Detail(where="answer", row=2, op="add", left=Fraction(1, 2), right=Fraction(1, 3))
+        self.assertEqual(inner.detail, detail)
 
     def test_constraints_in_the_way_and_ranges(self):
         report = read_report(

@@ -31,8 +31,7 @@ def run(arguments: argparse.Namespace) -> int:
         return 3
     stand_in()
     sys.argv = [script, *arguments.arguments]
-    sys.path[0] = os.path.dirname(os.path.abspath(script))
-    sys.path.insert(1, os.path.join(PACKAGE, "instead"))
+    set_path(os.path.dirname(os.path.abspath(script)))
     try:
         runpy.run_path(script, run_name="__main__")
     except Exception as error:
@@ -42,6 +41,16 @@ def run(arguments: argparse.Namespace) -> int:
         print_users(error)
         return INTERRUPTED
     return 0
+
+
+def set_path(folder: str) -> None:
+    """Puts the script's folder on the path as Python does, and what processes need that the script starts."""
+    if getattr(sys.flags, "safe_path", False):
+        sys.path.insert(0, os.path.join(PACKAGE, "instead"))
+    else:
+        sys.path[:1] = [folder, os.path.join(PACKAGE, "instead")]
+    if os.path.dirname(PACKAGE) not in sys.path:
+        sys.path.append(os.path.dirname(PACKAGE))
 
 
 class OneModule(MetaPathFinder):
