@@ -50,6 +50,8 @@ def main(words: Optional[Sequence[str]] = None) -> int:
             return run(words)
         arguments = command_parser(chosen).parse_args(words)
         return arguments.action(arguments)
+    except KeyboardInterrupt:
+        return 130
     except BrokenPipeError:
         # Whoever reads the output has closed it. Nothing more is written, also not as Python ends.
         sys.stdout = None

@@ -11,6 +11,7 @@ from .arguments import pivots
 from .errors import DCXError, ParameterError, SolverError
 from .expressions import Expression
 from .refusals import read
+from .reports import ReportError
 from .results import Result
 from .scripts import Script
 
@@ -92,6 +93,8 @@ def _results(problem: Any, script: Script, settings: list, part: Part, outcome: 
         error: Optional[DCXError] = None if answers is not None else _failed(part, outcome)
     except SolverError as cause:  # the whole run ended without an answer
         answers, error = None, SolverError(f"{part.name}: {cause.reason}", problem.site, cause.stop)
+    except ReportError as cause:
+        answers, error = None, _failed(part, cause)
     if answers is not None and len(answers) != part.count:
         answers, error = None, SolverError(f"{part.name}: the report has {len(answers)} answers", problem.site)
     for place in places:
@@ -101,7 +104,7 @@ def _results(problem: Any, script: Script, settings: list, part: Part, outcome: 
 
 def _failed(part: Part, cause: Exception) -> SolverError:
     """What is told of a part that failed twice."""
-    error = SolverError(f"{part.name} have no answer: the worker died or failed, twice ({type(cause).__name__}: {cause})")
+    error = SolverError(f"{part.name}: no answer, since the worker died or failed twice ({type(cause).__name__}: {cause})")
     error.__cause__ = cause
     return error
 

@@ -6,6 +6,7 @@ from __future__ import annotations
 import re
 from dataclasses import dataclass
 from fractions import Fraction
+from functools import lru_cache
 from typing import Callable, NamedTuple, Optional
 
 LARGEST = 2**127 - 1
@@ -42,6 +43,7 @@ def read_count(text: str) -> int:
     return int(text)
 
 
+@lru_cache(maxsize=1 << 14)  # a report says most of its numbers more than once
 def read_number(text: str) -> Fraction:
     """A fraction in lowest terms, both parts of at most 127 bits."""
     match = NUMBER.fullmatch(text)

@@ -165,7 +165,7 @@ class SourcesOfScripts(unittest.TestCase):
         self.assertEqual([sources.of_row(row) for row in (0, 6, 7, 10, 11)], [(1, 0), (7, 0), (8, 0), (8, 3), None])
 
     def test_against_pythons_parser(self):
-        """Of scripts of the cases: the text of each constraint is the comparison that Python's parser has at its sign."""
+        """Of scripts of the cases: each constraint's text is the comparison that Python's parser has at its sign."""
         constraints = scripts = 0
         examples = [(str(path), path.read_bytes()) for path in sorted((TOP / "examples").rglob("*.py"))]
         for place, data in [*list(case_scripts())[::3], *examples]:
@@ -256,7 +256,8 @@ class Printed(unittest.TestCase):
         first, second, third, last = text.split("\n\n")
         self.assertTrue(first.startswith("solve 1 of 3, line 17\noptimal: the least objective is 3/2 (1.5)\n"))
         self.assertIn("parameters\n  p  0.3333  1/3\nvariables\n  X (2,2)\n", first)
-        self.assertIn("    [  0.3333  0.6667  ]  [  1/3  2/3  ]\n    [  1       1.5     ]  [    1  3/2  ]\n  y  -1\n", first)
+        self.assertIn("    [  0.3333  0.6667  ]  [  1/3  2/3  ]\n    [  1       1.5     ]  [    1  3/2  ]\n", first)
+        self.assertIn("]\n  y  -1\nconstraints and their multipliers\n", first)
         self.assertIn("  4  line 11  X[i, j] >= p*d[i, j]  (i = 1, j = 0)  1\n", first)
         self.assertIn("  7  line 12  X[k, 0] <= 10 + k  (k = 1)            0\n", first)
         self.assertIn("  8  line 16  X <= 40                               all 0", first)
@@ -358,7 +359,8 @@ class Printed(unittest.TestCase):
     def test_text_that_the_output_cannot_say(self):
         with tempfile.TemporaryDirectory() as folder:
             script = Path(folder, "m.py")
-            script.write_text("import cvxpy as cp\nx = cp.Variable()\nété = 4\np = cp.Problem(cp.Minimize(x), [x >= été])\n")
+            problem = "p = cp.Problem(cp.Minimize(x), [x >= été])"
+            script.write_text("\n".join(["import cvxpy as cp", "x = cp.Variable()", "été = 4", problem]))
             text, told, status = table(script, env={**os.environ, "PYTHONIOENCODING": "ascii"})
         self.assertEqual((told, status), ("", 0))
         self.assertIn("x >= \\xe9t\\xe9  1", text)
@@ -403,8 +405,8 @@ class Terminal(unittest.TestCase):
     def test_many_settings_are_handed_over_in_parts(self):
         with tempfile.TemporaryDirectory() as folder:
             script, settings = Path(folder, "m.py"), Path(folder, "s.txt")
-            lines = ["import cvxpy as cp", "p = cp.Parameter()", "x = cp.Variable()", "q = cp.Problem(cp.Minimize(x), [x >= p])"]
-            script.write_text("\n".join(lines))
+            problem = "q = cp.Problem(cp.Minimize(x), [x >= p])"
+            script.write_text("\n".join(["import cvxpy as cp", "p = cp.Parameter()", "x = cp.Variable()", problem]))
             settings.write_text("".join(f"p = {n}\n" if n % 7 else "r = 1\n" for n in range(60)))
             text, _, status = table(script, settings)
             self.assertEqual(self.on_terminal(script, settings)[::2], (text, status))
