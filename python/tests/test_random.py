@@ -7,13 +7,14 @@ at another's place is another value.
 from __future__ import annotations
 
 import random
+import re
 import unittest
 from fractions import Fraction
 
 import numpy as np
 
 import dcx.cvxpy as cp
-from dcx import program, read_report
+from dcx import atoms, program, read_report
 
 AFFINE, CONVEX, CONCAVE = "affine", "convex", "concave"
 
@@ -249,8 +250,66 @@ class Expressions(unittest.TestCase):
         ]
         self.each(rows)
 
+    def test_further_calls(self):
+        """Those that the language lacks, and the recorder composes."""
+        def largest(x, k):
+            """The sum of the k largest entries, of which the last may count in part."""
+            entries = np.sort(np.ravel(x))[::-1]
+            return entries[:int(k)].sum() + (k - int(k)) * (entries[int(k)] if k > int(k) else 0)
+
+        A, b = np.array([[3, 1], [0, 4]]), np.array([2.0, 0, 5])
+        upper = np.triu_indices(3, 1)
+        rows = [
+            ("kron of an array", [(2, 3)], lambda x: cp.kron(A, x), lambda x: np.kron(A, x), AFFINE),
+            ("kron by an array", [(2, 3)], lambda x: cp.kron(x, A), lambda x: np.kron(x, A), AFFINE),
+            ("convolve", [(4,)], lambda x: cp.convolve(b, x), lambda x: np.convolve(b, x), AFFINE),
+            ("outer", [(3,)], lambda x: cp.outer(x, [1, 7]), lambda x: np.outer(x, [1, 7]), AFFINE),
+            ("outer of an array", [(3,)], lambda x: cp.outer(b, x), lambda x: np.outer(b, x), AFFINE),
+            ("vdot", [(3,)], lambda x: cp.vdot(b, x), lambda x: b @ x, AFFINE),
+            ("scalar_product", [(3,)], lambda x: cp.scalar_product(x, b), lambda x: b @ x, AFFINE),
+            ("matmul", [(2, 3)], lambda x: cp.matmul(A, x), lambda x: A @ x, AFFINE),
+            ("upper_tri", [(3, 3)], cp.upper_tri, lambda x: x[upper].reshape(cp.upper_tri(np.eye(3)).shape), AFFINE),
+            ("diag of an order", [(3,)], lambda x: cp.diag(x, 1), lambda x: np.diag(x, 1), AFFINE),
+            ("diag of an order below", [(3,)], lambda x: cp.diag(x, k=-2), lambda x: np.diag(x, -2), AFFINE),
+            ("diagonal of an order", [(4, 4)], lambda x: cp.diag(x, -1), lambda x: np.diag(x, -1), AFFINE),
+            ("concatenate", [(2, 3), (1, 3)], lambda x, y: cp.concatenate([x, y]), lambda x, y: np.concatenate([x, y]), AFFINE),
+            ("concatenate of columns", [(2, 3), (2, 1)], lambda x, y: cp.concatenate([x, y], axis=1),
+             lambda x, y: np.concatenate([x, y], axis=1), AFFINE),
+            ("stack", [(3,), (3,)], lambda x, y: cp.stack([x, y]), lambda x, y: np.stack([x, y]), AFFINE),
+            ("stack of columns", [(3,), (3,)], lambda x, y: cp.stack([x, y], axis=1), lambda x, y: np.stack([x, y], axis=1), AFFINE),
+            ("swapaxes", [(2, 3)], lambda x: cp.swapaxes(x, 0, 1), lambda x: x.swapaxes(0, 1), AFFINE),
+            ("permute_dims", [(2, 3)], lambda x: cp.permute_dims(x, (1, 0)), lambda x: x.transpose(1, 0), AFFINE),
+            ("squeeze", [(1, 3)], cp.squeeze, np.squeeze, AFFINE),
+            ("expand_dims", [(3,)], lambda x: cp.expand_dims(x, 1), lambda x: np.expand_dims(x, 1), AFFINE),
+            ("ptp", [(2, 3)], cp.ptp, np.ptp, CONVEX),
+            ("mixed_norm", [(2, 3)], lambda x: cp.mixed_norm(x, 1, "inf"), lambda x: np.abs(x).sum(axis=1).max(), CONVEX),
+            ("mixed_norm of norms", [(2, 3)], lambda x: cp.mixed_norm(x, "inf", 1), lambda x: np.abs(x).max(axis=1).sum(), CONVEX),
+            ("pnorm", [(4,)], lambda x: cp.pnorm(x, 1), lambda x: np.abs(x).sum(), CONVEX),
+            ("dotsort", [(4,)], lambda x: cp.dotsort(x, [3, 1, 0, 2]), lambda x: np.sort(x) @ [0, 1, 2, 3], CONVEX),
+            ("dotsort of fewer", [(4,)], lambda x: cp.dotsort(x, [3, 1]), lambda x: np.sort(x) @ [0, 0, 1, 3], CONVEX),
+            ("cummax of a matrix", [(3, 2)], lambda x: cp.cummax(x, axis=0), lambda x: np.maximum.accumulate(x, axis=0), CONVEX),
+            ("cummax along a row", [(3, 2)], lambda x: cp.cummax(x, axis=1), lambda x: np.maximum.accumulate(x, axis=1), CONVEX),
+        ]
+        for beta in (0, 0.5, 0.8, 0.9):
+            rows.append((f"cvar {beta}", [(5,)], lambda x, b=beta: cp.cvar(x, b), lambda x, k=5 - 5 * beta: largest(x, k) / k, CONVEX))
+        for k in (0.5, 1.25, 3.75):
+            rows += [(f"sum_largest {k}", [(5,)], lambda x, k=k: cp.sum_largest(x, k), lambda x, k=k: largest(x, k), CONVEX),
+                     (f"sum_smallest {k}", [(5,)], lambda x, k=k: cp.sum_smallest(x, k), lambda x, k=k: -largest(-x, k), CONCAVE)]
+        for strict, size in ((False, 6), (True, 3)):
+            def matrix(x, strict=strict):
+                made = np.zeros((3, 3))
+                made[np.triu_indices(3, int(strict))] = x
+                return made
+            rows.append((f"vec_to_upper_tri {strict}", [(size,)], lambda x, s=strict: cp.vec_to_upper_tri(x, s), matrix, AFFINE))
+        self.each(rows)
+
+    def test_each_call_is_tried(self):
+        with open(__file__) as file:
+            tried = set(re.findall(r"\bcp\.(\w+)", file.read()))
+        self.assertEqual(set(atoms.__all__) - tried, {"conv", "norm2"}, "one is `convolve` under an older name, and one is refused")
+
     def test_compositions(self):
-        """Expressions of random depth."""
+        """Expressions of random depth, of variables and parameters."""
         for seed in range(120):
             with self.subTest(seed=seed):
                 case = Case(1000 + seed)
@@ -306,8 +365,10 @@ class Grown:
             longer.insert(axis, 2)
             a, at = self.affine(depth - 1, tuple(longer))
             return cp.sum(a, axis=axis), at.sum(axis=axis)
-        x, point = self.case.variable(shape)
-        return x, point
+        if self.random.random() < 0.2:
+            point = self.case.numbers(shape)
+            return cp.Parameter(shape, value=point), point
+        return self.case.variable(shape)
 
     def convex(self, depth, shape):
         """The expression, its value, and that it is convex."""
