@@ -229,8 +229,12 @@ def nested(array: Array, each) -> object:
 
 
 def to_floats(array: Array | Sparse):
-    """The entries as floats: a float where there is no side, else a NumPy array, or lists of rows where NumPy isn't there."""
-    return _out(array.dense(), float, float)
+    """The entries as floats: a NumPy array, or lists of rows where NumPy isn't there; where there is no side a float, that of
+    NumPy where it is there, which has the methods that an array has."""
+    array = array.dense()
+    if not array.shape and numpy() is not None:
+        return numpy().float64(float(array.entries[0]))
+    return _out(array, float, float)
 
 
 def to_fractions(array: Array | Sparse):

@@ -20,8 +20,9 @@ class Expression:
 
     __slots__ = ("kind", "args", "options", "shape", "site", "_known", "__weakref__")
 
-    # NumPy's operators leave the work to those below
+    # the operators of NumPy and of pandas leave the work to those below
     __array_priority__ = 10000
+    __pandas_priority__ = 10000
 
     def __init__(self, kind: str, args: Sequence[Expression] = (), options: tuple = (), shape: Sequence[int] = ()):
         self.kind = kind

@@ -8,7 +8,6 @@ from decimal import Decimal
 from fractions import Fraction
 
 import numpy as np
-import pandas
 from scipy import sparse
 
 import dcx.cvxpy as cp
@@ -20,6 +19,18 @@ def floats(array):
     return np.array([float(number) for number in array.entries]).reshape(array.shape)
 
 
+class Table:
+    """What holds an array and gives it where it is asked for one, as a table of pandas does."""
+
+    def __init__(self, rows):
+        self.rows = np.array(rows)
+        self.shape = self.rows.shape
+        self.dtype = self.rows.dtype
+
+    def __array__(self, *args, **options):
+        return self.rows
+
+
 class In(unittest.TestCase):
     """Data of each kind."""
 
@@ -28,7 +39,7 @@ class In(unittest.TestCase):
         for data, shape in [(3, ()), (np.float32(1.5), ()), (np.array(2), ()), ([1, 2], (2,)), ((1, 2), (2,)), (range(3), (3,)), (np.arange(3), (3,)),
                             (np.array(matrix), (2, 3)), (np.asfortranarray(matrix), (2, 3)), (np.array(matrix)[::-1, ::2], (2, 2)), (np.array(matrix).T, (3, 2)),
                             (np.ones((2, 2), bool), (2, 2)), (np.array([[Fraction(1, 3), 2]], dtype=object), (1, 2)), (np.array(matrix, dtype=np.float32), (2, 3)),
-                            (np.zeros((0, 3)), (0, 3)), ([], (0,)), (pandas.Series([1.5, 2]), (2,)), (pandas.DataFrame({"a": [1, 2], "b": [3.5, 4]}), (2, 2))]:
+                            (np.zeros((0, 3)), (0, 3)), ([], (0,)), (Table([1.5, 2]), (2,)), (Table([[1, 2], [3.5, 4]]), (2, 2))]:
             found = array_of(data)
             self.assertEqual(found.shape, shape)
             np.testing.assert_array_equal(floats(found), np.asarray(data, dtype=float))
@@ -83,7 +94,9 @@ class Out(unittest.TestCase):
         self.assertEqual(to_floats(array).dtype, float)
         np.testing.assert_array_equal(to_floats(array), [[0.1, 2], [3, 4]])
         self.assertEqual(to_fractions(array)[0, 0], Fraction(1, 10))
-        self.assertIs(type(to_floats(array_of(3))), float)
+        single = to_floats(array_of(0.5))
+        self.assertIsInstance(single, float)
+        self.assertEqual((single.item(), single.shape, single.tolist(), f"{single:.2f}"), (0.5, (), 0.5, "0.50"))
         self.assertIs(type(to_fractions(array_of(3))), Fraction)
         self.assertEqual(to_floats(array_of(np.zeros((0, 3)))).shape, (0, 3))
 
