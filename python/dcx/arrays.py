@@ -8,6 +8,7 @@ from typing import Iterable, Sequence
 from .numbers import exact
 
 ZERO = Fraction(0)
+_PLAIN = (int, float, Fraction)
 
 
 class Array:
@@ -142,6 +143,8 @@ def array_of(data) -> Array | Sparse:
     ValueError where the sides of nested lists differ, where there are more than two sides, or of NaN and the infinities;
     TypeError of what is no number.
     """
+    if type(data) in _PLAIN:
+        return Array((), (exact(data),))
     if isinstance(data, (Array, Sparse)):
         return data
     if isinstance(data, (list, tuple)):

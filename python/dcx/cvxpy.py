@@ -33,7 +33,7 @@ __all__ = [
 def __getattr__(name: str):
     if name in _unsupported.NAMES:
         return _unsupported.Refused(name)
-    raise AttributeError(f"module {__name__!r} has no attribute {name!r}: neither has CVXPY a name that is known here, nor is it offered")
+    raise AttributeError(f"module {__name__!r} has no attribute {name!r}; dir() of it has the names that are offered")
 
 
 def __dir__() -> list[str]:

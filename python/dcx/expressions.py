@@ -7,11 +7,13 @@ from typing import Iterator, Sequence
 from . import arrays, shapes, sites
 from .arrays import Array, Sparse
 from .errors import UnsupportedError
+from .questions import Questions
 
 _numbers = itertools.count(1)
+_COMPARED = "Python's own max, min and sorted compare so: in their place stand cp.maximum(a, b), cp.minimum(a, b), cp.max(x), cp.min(x)"
 
 
-class Expression:
+class Expression(Questions):
     """A node of the tree.
 
     `kind` names a form of the program's language, `args` are the expressions that it is made of, `options` what else it is
@@ -120,74 +122,6 @@ class Expression:
         from . import evaluation
         return evaluation.value_of(self)
 
-    # ---- what the rules find
-
-    def _verdict(self):
-        from . import verdicts
-        return verdicts.of(self)
-
-    @property
-    def curvature(self) -> str:
-        """CONSTANT, AFFINE, CONVEX, CONCAVE or UNKNOWN, as the program finds it."""
-        return self._verdict().curvature
-
-    @property
-    def sign(self) -> str:
-        """ZERO, NONNEGATIVE, NONPOSITIVE or UNKNOWN, as the program finds it."""
-        return self._verdict().sign
-
-    def is_constant(self) -> bool:
-        """Whether no variable stands in it."""
-        return not self.variables()
-
-    def is_affine(self) -> bool:
-        """Whether the rules find it affine, as what is constant is."""
-        return self._verdict().is_affine
-
-    def is_convex(self) -> bool:
-        """Whether the rules find it convex, as what is affine is."""
-        return self._verdict().is_convex
-
-    def is_concave(self) -> bool:
-        """Whether the rules find it concave, as what is affine is."""
-        return self._verdict().is_concave
-
-    def is_dcp(self, dpp: bool = False) -> bool:
-        """Whether the rules find it convex or concave; with `dpp` where parameters may vary too."""
-        return self._verdict().is_dpp if dpp else self._verdict().is_dcp
-
-    def is_dpp(self, context: str = "dcp") -> bool:
-        """Whether the rules find it convex or concave where parameters may vary too."""
-        if context != "dcp":
-            raise UnsupportedError(f"there are no rules of the name {context!r}: \"dcp\" is the one context", sites.here())
-        return self._verdict().is_dpp
-
-    def is_nonneg(self) -> bool:
-        """Whether the rules find no entry below 0."""
-        return self._verdict().is_nonneg
-
-    def is_nonpos(self) -> bool:
-        """Whether the rules find no entry above 0."""
-        return self._verdict().is_nonpos
-
-    def is_zero(self) -> bool:
-        """Whether the rules find every entry 0."""
-        return self._verdict().is_nonneg and self._verdict().is_nonpos
-
-    def is_pwl(self) -> bool:
-        """Whether it is piecewise linear: everything that is offered is."""
-        return True
-
-    def is_real(self) -> bool:
-        """True: there are no complex numbers."""
-        return True
-
-    def is_complex(self) -> bool:
-        """False: there are no complex numbers."""
-        return False
-
-    is_imag = is_complex
-
     # ---- operators: `operators` has what each of them means
 
     def __add__(self, other):
@@ -251,10 +185,10 @@ class Expression:
                                "the same object", sites.here())
 
     def __lt__(self, other):
-        raise UnsupportedError("Strict inequalities are not allowed: write `<=`", sites.here())
+        raise UnsupportedError(f"Strict inequalities are not allowed: write `<=`. {_COMPARED}", sites.here())
 
     def __gt__(self, other):
-        raise UnsupportedError("Strict inequalities are not allowed: write `>=`", sites.here())
+        raise UnsupportedError(f"Strict inequalities are not allowed: write `>=`. {_COMPARED}", sites.here())
 
     def __lshift__(self, other):
         raise UnsupportedError("a constraint on the eigenvalues of a matrix isn't piecewise linear, so `<<` isn't offered; `<=` "
@@ -424,6 +358,8 @@ def as_expression(value) -> Expression:
     """
     if isinstance(value, Expression):
         return value
+    if type(value) in (int, float):
+        return Constant(value)
     if isinstance(value, str) or value is None:
         raise TypeError(f"{value!r} stands where an expression or numbers are wanted")
     item = boxed_expression(value)

@@ -27,10 +27,10 @@ _METHODS = {"sum": "sum", "mean": "mean", "max": "max", "amax": "max", "min": "m
 # what to write for a function of NumPy, where its own name isn't that of a call
 _WRITE = {
     "absolute": "cp.abs", "fabs": "cp.abs", "negative": "-x", "positive": "x", "fmax": "cp.maximum", "fmin": "cp.minimum",
-    "dot": "A @ x", "inner": "x @ y", "tensordot": "A @ x", "ravel": "cp.vec", "append": "cp.hstack", "repeat": "cp.hstack",
-    "column_stack": "cp.hstack", "row_stack": "cp.vstack", "stack": "cp.vstack or cp.hstack", "tile": "cp.kron", "where": "cp.multiply",
+    "dot": "A @ x", "inner": "x @ y", "tensordot": "A @ x", "ravel": "cp.vec", "append": "cp.hstack", "repeat": "cp.hstack", "prod": "cp.multiply",
+    "column_stack": "cp.vstack([..]).T", "row_stack": "cp.vstack", "stack": "cp.vstack or cp.hstack", "tile": "cp.kron", "where": "cp.multiply",
     "clip": "cp.minimum and cp.maximum", "linalg.norm": "cp.norm1 or cp.norm_inf", "diagonal": "cp.diag", "block": "cp.bmat",
-    "triu": "cp.multiply", "tril": "cp.multiply", "square": "cp.abs", "sqrt": "cp.abs", "average": "cp.mean",
+    "triu": "cp.multiply", "tril": "cp.multiply", "average": "cp.mean",
 }
 
 
@@ -77,7 +77,10 @@ def function(function, arguments: tuple, options: dict):
 
 
 def _refusal(name: str) -> UnsupportedError:
-    from . import atoms
+    from . import atoms, unsupported
+    if name in unsupported.NAMES:
+        why, write = unsupported.NAMES[name]
+        return UnsupportedError(f"np.{name} is a function of NumPy and isn't defined on expressions, and {why}. Write {write}.", sites.here())
     write = _WRITE.get(name) or (f"cp.{name}" if hasattr(atoms, name) else None)
     return UnsupportedError(f"np.{name} is a function of NumPy and isn't defined on expressions"
                             + (f": write {write}" if write else ", which have no numbers before they are solved"), sites.here())

@@ -193,7 +193,7 @@ class Variable(Leaf):
     def _judge(self, word: str) -> None:
         low, high = self.bounds or (None, None)
         held = self.attributes
-        if not any(held.values()):
+        if not any(held[word] for word in _OF_LANGUAGE if word != "integer"):
             # bounds on one side of 0 give a sign, as they do in CVXPY
             held["nonneg"] = low is not None and all(end is not None and end >= 0 for end in low)
             held["nonpos"] = not held["nonneg"] and high is not None and all(end is not None and end <= 0 for end in high)
@@ -230,8 +230,7 @@ class Variable(Leaf):
         return made
 
     def _bounded(self, ends: list, sense: str, said: tuple) -> list:
-        implied = "nonneg" if sense == "low" else "nonpos"
-        if implied in said and all(end is not None and end == 0 for end in ends):
+        if self._is_implied(ends, sense, said):
             return []
         side, kept = self, ends
         if any(end is None for end in ends):
@@ -240,6 +239,14 @@ class Variable(Leaf):
             side, kept = operators.gathered(self, places, (len(places),)), [ends[place] for place in places]
         limit = Array((), kept[:1]) if len(set(kept)) == 1 else Array(side.shape, kept)
         return [Constraint("<=", limit, side, is_turned=True) if sense == "low" else Constraint("<=", side, limit)]
+
+
+    @staticmethod
+    def _is_implied(ends: list, sense: str, said: tuple) -> bool:
+        """Whether what a declaration says already keeps every entry within these ends."""
+        if sense == "low":
+            return ("nonneg" in said or "boolean" in said) and all(end is None or end <= 0 for end in ends)
+        return all(end is None or end >= 0 for end in ends) if "nonpos" in said else "boolean" in said and all(end is None or end >= 1 for end in ends)
 
 
 class Parameter(Leaf):

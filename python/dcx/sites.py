@@ -31,12 +31,8 @@ _passed: dict = {}
 
 
 def _is_passed(file: str) -> bool:
-    known = _passed.get(file)
-    if known is None:
-        path = os.path.abspath(file)
-        known = path.startswith(_PACKAGE) or file.startswith(_INNER) or any(part in path for part in _FOREIGN)
-        _passed[file] = known
-    return known
+    path = os.path.abspath(file)
+    return path.startswith(_PACKAGE) or file.startswith(_INNER) or any(part in path for part in _FOREIGN)
 
 
 def here() -> Site:
@@ -44,7 +40,10 @@ def here() -> Site:
     frame = sys._getframe(1)
     while frame is not None:
         file = frame.f_code.co_filename
-        if not _is_passed(file):
+        passed = _passed.get(file)
+        if passed is None:
+            passed = _passed[file] = _is_passed(file)
+        if not passed:
             return Site(file, frame.f_lineno)
         frame = frame.f_back
     return Site("<unknown>", 0)

@@ -59,8 +59,9 @@ def of(expression) -> Verdict:
 def _asked(expression) -> Verdict:
     from .atoms import sum
     from .objectives import Maximize, Minimize
+    total = expression if expression.size == 1 else sum(expression)
     for sense in (Minimize, Maximize):
-        accepted, found = _checked(sense(sum(expression)), [])
+        accepted, found = _checked(sense(total), [])
         if accepted:
             return Verdict(_CURVATURES[found.curvature], _SIGNS[found.sign], found.dpp)
     return UNKNOWN

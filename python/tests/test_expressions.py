@@ -385,7 +385,8 @@ class Leaves(unittest.TestCase):
         for given, said in [({}, ()), ({"nonneg": True}, ("nonneg",)), ({"pos": True}, ("nonneg",)), ({"neg": True}, ("nonpos",)), ({"boolean": True}, ("boolean",)),
                             ({"integer": True, "nonneg": True}, ("integer", "nonneg")), ({"symmetric": True}, ("symmetric",)),
                             ({"symmetric": True, "nonneg": True}, ("symmetric",)), ({"bounds": [0, 1]}, ("nonneg",)), ({"bounds": [-1, 0]}, ("nonpos",)),
-                            ({"bounds": [-1, 1]}, ()), ({"bounds": [None, None]}, ()), ({"bounds": [1, None], "integer": True}, ("integer",))]:
+                            ({"bounds": [-1, 1]}, ()), ({"bounds": [None, None]}, ()), ({"bounds": [1, None], "integer": True}, ("integer", "nonneg")),
+                            ({"bounds": [-1, 1], "boolean": True}, ("boolean",)), ({"boolean": True, "nonneg": True}, ("boolean",))]:
             x = cp.Variable((2, 2), **given)
             self.assertEqual(x.language_attributes(), said, given)
 
@@ -402,6 +403,11 @@ class Leaves(unittest.TestCase):
         self.assertEqual(own(3, bounds=[[1, None, 1], None]), ["x[0:3:2] >= 1"])
         self.assertEqual(own((2, 2), symmetric=True, nonneg=True), ["x >= 0"])
         self.assertEqual(own((2, 2), pos=True), [])
+        self.assertEqual(own(integer=True, bounds=[0, 5]), ["x <= 5"])
+        self.assertEqual(own(boolean=True, bounds=[0, 1]), [])
+        self.assertEqual(own(boolean=True, bounds=[1, 1]), ["x >= 1"])
+        self.assertEqual(own(2, boolean=True, bounds=[None, [0, 1]]), ["x <= [0, 1]"])
+        self.assertEqual(own(nonneg=True, bounds=[-1, 1]), ["x <= 1"])
         x = cp.Variable(2, bounds=[1, 2])
         self.assertIs(x.own_constraints()[0], x.own_constraints()[0])
         self.assertEqual(x.own_constraints()[0].site, x.site)
