@@ -3,7 +3,7 @@ from __future__ import annotations
 
 from decimal import Decimal, localcontext
 from fractions import Fraction
-from typing import Callable, NamedTuple, Sequence
+from typing import NamedTuple, Sequence
 
 from .values import Entries, number_text, shape_text
 
@@ -118,24 +118,49 @@ def wrapped_rows(entries: Sequence[Fraction], look: Look, width: int) -> list[st
     return [GAP.join([f"[{at}]".rjust(label), *cells[at : at + count]]) for at in rows]
 
 
-def grid(array: Entries, write: Callable[[Fraction], str], fill: Callable[[Sequence[str]], list[str]]) -> list[str]:
-    """The rows of a matrix, each column filled by itself."""
+def grids_of(array: Entries, look: Look) -> list[list[list[str]]]:
+    """The columns of a matrix in decimals, each filled by itself, and those of its fractions, where it has any."""
     rows, columns = array.shape
-    filled = [fill([write(array.entries[i * columns + j]) for i in range(rows)]) for j in range(columns)]
-    return joined([["["] * rows, *filled, ["]"] * rows])
+    entries = [[array.entries[i * columns + j] for i in range(rows)] for j in range(columns)]
+    grids = [[at_points([decimals(value, look.digits) for value in column]) for column in entries]]
+    if not is_whole(array.entries):
+        grids.append([to_right([number_text(value) for value in column]) for column in entries])
+    return grids
+
+
+def in_brackets(columns: Sequence[Sequence[str]]) -> list[str]:
+    """The rows of a matrix of these columns."""
+    rows = len(columns[0])
+    return joined([["["] * rows, *columns, ["]"] * rows])
 
 
 def matrix_rows(arrays: Sequence[Entries], look: Look, width: int) -> list[str]:
-    """Matrices as grids of decimals, each with its fractions beside it; below it where the line is too short."""
-    grids = []
-    for array in arrays:
-        grids.append(grid(array, lambda value: decimals(value, look.digits), at_points))
-        if not is_whole(array.entries):
-            grids.append(grid(array, number_text, to_right))
-    beside = joined([to_left(one) for one in grids])
+    """Matrices as decimals, each with its fractions beside it; below it where the line is too short for that.
+
+    Where it is too short for a matrix alone, its columns stand in parts, one below the other.
+    """
+    grids = [grid for array in arrays for grid in grids_of(array, look)]
+    whole = [in_brackets(grid) for grid in grids]
+    beside = joined([to_left(rows) for rows in whole])
     if max(map(len, beside)) <= width:
         return beside
-    return [row for one in grids for row in one]
+    if max(len(row) for rows in whole for row in rows) <= width:
+        return [row for rows in whole for row in rows]
+    rows, first = [], 0
+    while first < len(grids[0]):
+        last = first + 1
+        while last < len(grids[0]) and in_width(grids, first, last + 1, width):
+            last += 1
+        columns = f"column {first}" if last == first + 1 else f"columns {first} to {last - 1}"
+        rows += [columns, *joined([to_left(in_brackets(grid[first:last])) for grid in grids])]
+        first = last
+    return rows
+
+
+def in_width(grids: Sequence[Sequence[Sequence[str]]], first: int, last: int, width: int) -> bool:
+    """Whether these columns of all grids have room beside each other."""
+    parts = [sum(len(column[0]) + len(GAP) for column in grid[first:last]) + len("[  ]") for grid in grids]
+    return sum(parts) <= width
 
 
 def named_rows(named: Sequence[tuple[str, Sequence[Entries]]], look: Look, heads: Sequence[str] = ()) -> list[str]:

@@ -79,13 +79,18 @@ class Lines:
 
     def text(self, number: int) -> str:
         """The text of a line, from 1; an empty one behind the last."""
-        return self.lines[number - 1].decode("utf-8", "replace") if number <= len(self.lines) else ""
+        return printable(self.lines[number - 1].decode("utf-8", "replace")) if number <= len(self.lines) else ""
 
     def caret(self, place: Place) -> str:
         """Blanks up to a place of a line, as wide as what stands there, and a caret."""
         line = self.lines[place.line - 1] if place.line <= len(self.lines) else b""
         before = line[: place.column - 1].decode("utf-8", "replace")
         return "".join("\t" if char == "\t" else " " * width(char) for char in before) + "^"
+
+
+def printable(text: str) -> str:
+    """The text with a sign in place of each character that a terminal would take as a command."""
+    return "".join(char if char.isprintable() or char == "\t" else "\ufffd" for char in text)
 
 
 def width(char: str) -> int:
@@ -221,9 +226,16 @@ class Finder:
             at = Place(*place)
             first = self.edge(self.at[place], -1, CLOSING, OPENING)
             last = self.edge(self.at[place], 1, OPENING, CLOSING)
-            text = self.text[start_of(self.tokens[first]) : self.tokens[last].end]
-            self.known[place] = Source(at, self.lines.text(at.line), " ".join(text.split()))
+            self.known[place] = Source(at, self.lines.text(at.line), self.between(first, last))
         return replace(self.known[place], turn=turn)
+
+    def between(self, first: int, last: int) -> str:
+        """What these tokens say, on one line, with a blank for the blanks, line ends and comments between two."""
+        text, end = "", start_of(self.tokens[first])
+        for token in self.tokens[first : last + 1]:
+            text += " " * (start_of(token) > end) + token.text
+            end = token.end
+        return printable(text)
 
     def edge(self, at: int, step: int, deeper: set[str], higher: set[str]) -> int:
         """The last token in this direction that belongs to the expression."""

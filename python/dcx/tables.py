@@ -14,7 +14,7 @@ from .grids import GAP, Look, array_rows, both, joined, named_rows, number_colum
 from .lines import Refusal, Stop
 from .messages import Message
 from .reports import Answer, Report
-from .sources import Lines, Setting, Source, Sources, read_settings, read_sources
+from .sources import Lines, Setting, Source, Sources, printable, read_settings, read_sources
 from .values import Entries, Place
 
 LONGEST = 60
@@ -124,7 +124,7 @@ class Tables:
         """Which of how many it is, and what is asked there."""
         setting = self.setting(answer.index)
         if answer.word == "setting":
-            asked = "" if setting is None else f": {shortened(setting.text)}"
+            asked = "" if setting is None else f": {shortened(printable(' '.join(setting.text.split())))}"
             return [self.look.bold(f"setting {answer.index} of {count}{asked}")]
         if count == 1:
             return []
@@ -228,6 +228,5 @@ def turn_text(source: Source) -> str:
 
 
 def shortened(text: str, most: int = LONGEST) -> str:
-    """A text on one line, of so many characters at most; two points stand for what is left out."""
-    text = " ".join(text.split())
+    """A text of so many characters at most; two points stand for what is left out."""
     return text if len(text) <= most else text[: most - 3].rstrip() + " .."

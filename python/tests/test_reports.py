@@ -4,6 +4,7 @@ from __future__ import annotations
 import csv
 import io
 import json
+import random
 import re
 import subprocess
 import sys
@@ -295,6 +296,33 @@ class Refused(unittest.TestCase):
         with self.assertRaises(ReportError) as caught:
             read_report(b"solve 1 optimal\nvalue \xff\n")
         self.assertEqual(caught.exception.line, 2)
+
+    def test_bytes_that_are_changed(self):
+        """A report with some bytes changed is refused, or is another report, which is written again as it stands."""
+        draw = random.Random(53)
+        reports = [data for _, data in [*example_reports(), *list(case_reports())[::25]] if len(data) < 2000]
+        read = refused = 0
+        for _ in range(3000):
+            data = bytearray(draw.choice(reports))
+            for _ in range(draw.randint(1, 2)):
+                at = draw.randrange(len(data))
+                way = draw.randrange(3)
+                if way == 0:
+                    data[at] = draw.choice(b"0123456789/-+(),=: \n\r\taxSP\xc3\xff")
+                elif way == 1:
+                    del data[at]
+                else:
+                    data.insert(at, draw.choice(b"0123456789/-(),=: \nsolve"))
+                if not data:
+                    data = bytearray(b" ")
+            found = kind_of(bytes(data))
+            if isinstance(found, ReportError):
+                refused += 1
+            else:
+                read += 1
+                self.assertEqual(bytes(found), bytes(data))
+        self.assertGreater(read, 50)
+        self.assertGreater(refused, 2000)
 
     def test_each_front_is_refused(self):
         data = (TOP / "examples/certificates/report.txt").read_bytes()

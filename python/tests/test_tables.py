@@ -116,6 +116,15 @@ class Grids(unittest.TestCase):
         )
         narrow = matrix_rows([array], Look(digits=3), 30)
         self.assertEqual(narrow[2:], ["[  1/2    1  -3  ]", "[   10  7/3   0  ]"])
+        wide = matrix_rows([Entries((2, 40), fractions(*range(80)))], Look(), 60)
+        self.assertLessEqual(max(map(len, wide)), 60)
+        heads = [row for row in wide if row.startswith("columns ")]
+        ends = [tuple(map(int, re.findall(r"\d+", head))) for head in heads]
+        self.assertEqual([first for first, _ in ends], [0, *(last + 1 for _, last in ends[:-1])])
+        self.assertEqual(ends[-1][1], 39)
+        numbers = [int(number) for row in wide if row[0] == "[" for number in re.findall(r"\d+", row)]
+        self.assertEqual(sorted(numbers), list(range(80)))
+        self.assertEqual(wide[1].split()[1:4], ["0", "1", "2"])
         whole = Entries((2, 1), fractions(5, -10))
         self.assertEqual(matrix_rows([whole], Look(), 80), ["[    5  ]", "[  -10  ]"])
 
@@ -168,7 +177,7 @@ class SourcesOfScripts(unittest.TestCase):
         """Of scripts of the cases: each constraint's text is the comparison that Python's parser has at its sign."""
         constraints = scripts = 0
         examples = [(str(path), path.read_bytes()) for path in sorted((TOP / "examples").rglob("*.py"))]
-        for place, data in [*list(case_scripts())[::3], *examples]:
+        for place, data in [*list(case_scripts())[::6], *examples]:
             sources = read_sources(data)
             if sources is None:
                 with self.assertRaises(Refused):
@@ -191,11 +200,11 @@ class SourcesOfScripts(unittest.TestCase):
                     behind = sign_behind(text, node.left)
                     compared[behind] = " ".join(without_comments(ast.get_source_segment(text, node)).split())
             for source in sources.constraints.values():
-                self.assertEqual(without_comments(source.text), compared[source.place], place)
+                self.assertEqual(source.text.replace(" ", ""), compared[source.place].replace(" ", ""), place)
                 constraints += 1
             scripts += 1
-        self.assertGreater(scripts, 300)
-        self.assertGreater(constraints, 700)
+        self.assertGreater(scripts, 150)
+        self.assertGreater(constraints, 350)
 
     def test_settings(self):
         data = b"# first\np = 1; q = 1/2   # one\n\n{}\nA = [[1, 2],\n     [3, 4]]; p = 3\n"
@@ -212,6 +221,7 @@ class SourcesOfScripts(unittest.TestCase):
         self.assertEqual(lines.text(1), "é = 価格 + x")
         self.assertEqual(lines.caret(Place(2, 2)), "\t^")
         self.assertEqual((lines.text(9), lines.caret(Place(9, 3))), ("", "^"))
+        self.assertEqual(Lines(b"a\x1b[2J\tb").text(1), "a\ufffd[2J\tb")
 
 
 def sign_behind(text, left):
