@@ -51,6 +51,8 @@ class Tables:
             return self.joined(self.refusal(report.refusal))
         if report.kind != "solved":
             return report.text
+        if self.sources is not None and not all(is_of(answer, self.sources) for answer in report.answers):
+            self.sources = None
         blocks = [self.answer(answer, len(report.answers)) for answer in report.answers]
         last = f"answered {report.answered}, stopped {report.stopped}"
         if report.warm is not None:
@@ -220,6 +222,13 @@ class Tables:
     def block(self, head: str, rows: list[str]) -> list[str]:
         """Rows below a head."""
         return [self.look.bold(head), *(GAP + row for row in rows)]
+
+
+def is_of(answer: Answer, sources: Sources) -> bool:
+    """Whether the answer has the variables and the constraints of this script, as far as it has any."""
+    shapes = {number: dual.shape for number, dual in answer.duals.items()}
+    names = list(answer.variables)
+    return (not shapes or shapes == sources.shapes) and (not names or names == list(sources.variables))
 
 
 def turn_text(source: Source) -> str:

@@ -2,6 +2,8 @@
 from __future__ import annotations
 
 import ast
+import contextlib
+import io
 import os
 import pty
 import random
@@ -15,6 +17,7 @@ from fractions import Fraction
 from pathlib import Path
 
 from dcx import program
+from dcx.__main__ import main
 from dcx.exact import cases
 from dcx.exact.elaborate import elaborate
 from dcx.exact.faults import Refused
@@ -54,8 +57,22 @@ for value in [1, 0]:
 """
 
 
-def table(*words, **options):
-    """Standard output, standard error and the status of `python3 -m dcx table`."""
+def table(*words):
+    """Standard output, standard error and the status of the command, carried out here, in the top folder."""
+    out, told, before = io.StringIO(), io.StringIO(), os.getcwd()
+    os.chdir(TOP)
+    try:
+        with contextlib.redirect_stdout(out), contextlib.redirect_stderr(told):
+            status = main(["table", *map(str, words)])
+    except SystemExit as end:
+        status = end.code
+    finally:
+        os.chdir(before)
+    return out.getvalue(), told.getvalue(), status
+
+
+def table_process(*words, **options):
+    """Standard output, standard error and the status of `python3 -m dcx table`, a process of its own."""
     command = [sys.executable, "-m", "dcx", "table", *map(str, words)]
     done = subprocess.run(command, capture_output=True, text=True, cwd=TOP, **options)
     return done.stdout, done.stderr, done.returncode
@@ -244,8 +261,9 @@ def without_comments(text):
 class Printed(unittest.TestCase):
     def test_by_hand(self):
         """-3x - 2y under x + y <= 4 and x <= 3: x = 3, y = 1, and 2 times the first and 1 times the second show it."""
-        text, told, status = table("examples/production/model.py")
+        text, told, status = table_process("examples/production/model.py")
         self.assertEqual((told, status), ("", 0))
+        self.assertEqual(table("examples/production/model.py"), (text, told, status))
         self.assertEqual(
             text,
             "optimal: the least objective is -11\n"
@@ -304,6 +322,14 @@ class Printed(unittest.TestCase):
                     else:
                         self.assertEqual(decimal == "all 0", not any(dual.entries), path)
         self.assertGreater(rows, 60)
+
+    def test_the_report_of_another_script(self):
+        """No line of a script is told of what it didn't make."""
+        report = read_report((TOP / "examples/transport/report.txt").read_bytes())
+        text = Tables((TOP / "examples/production/model.py").read_bytes()).text(report)
+        self.assertNotIn("line ", text)
+        self.assertIn("  north_to_a  8\n", text)
+        self.assertIn("\n  1  4\n  2  3\n", text)
 
     def test_sorted_by_multiplier(self):
         text, _, _ = table("examples/transport/model.py", "--sort", "multiplier")
@@ -371,7 +397,7 @@ class Printed(unittest.TestCase):
             script = Path(folder, "m.py")
             problem = "p = cp.Problem(cp.Minimize(x), [x >= été])"
             script.write_text("\n".join(["import cvxpy as cp", "x = cp.Variable()", "été = 4", problem]))
-            text, told, status = table(script, env={**os.environ, "PYTHONIOENCODING": "ascii"})
+            text, told, status = table_process(script, env={**os.environ, "PYTHONIOENCODING": "ascii"})
         self.assertEqual((told, status), ("", 0))
         self.assertIn("x >= \\xe9t\\xe9  1", text)
 
