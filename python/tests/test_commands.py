@@ -196,6 +196,10 @@ class Words(Folder):
         out, told, status = run("solve", "examples/production/model.py", DCX=str(self.path / "nothing"))
         self.assertEqual((out, status), ("", 70))
         self.assertIn("DCX", told)
+        for word in ("solve", "table"):
+            out, told, status = run(word, "examples/production/model.py", DCX_MEMORY="few")
+            self.assertEqual((out, status), ("", 70))
+            self.assertIn("DCX_MEMORY", told)
 
 
 class Help(unittest.TestCase):
