@@ -3,7 +3,12 @@ and else what the program answers to the script itself.
 """
 from __future__ import annotations
 
+import contextlib
+import io
+import os
 import re
+import subprocess
+import sys
 import unittest
 from fractions import Fraction
 from pathlib import Path
@@ -16,18 +21,21 @@ from dcx.constraints import Constraint
 from dcx.expressions import Variable
 
 EXAMPLES = Path(__file__).resolve().parents[2] / "examples"
-SCRIPTS = sorted(EXAMPLES.glob("*/*.py"))
+FILES = sorted(EXAMPLES.glob("*/*.py"))
+SCRIPTS = [path for path in FILES if re.search(r"^import cvxpy as cp$", path.read_text(), re.M)]
+DRIVERS = [path for path in FILES if path not in SCRIPTS]  # those that import the package itself
 # Where the settings of a script have a name of their own; elsewhere they are settings.txt beside a model.py.
 SETTINGS = {
     "guide/hours": ["hours_settings.txt", "hours_weeks.txt"],
     "guide/shares": ["shares_settings.txt"],
+    "guide/worth": ["worth_settings.txt"],
     "messages/wide_range": ["wide_range.txt"],
     "messages/model": ["settings.txt"],
 }
 REFUSED = {"portfolio/too_little_turnover": ("rule at_most", 10), "guide/bonus": ("rule maximize", 8)}
-# Where Python and the language mean another thing by the same text, what Python's means, by hand: `raised += 1` changes the array that it was
-# bound to, and a float has no 25 digits behind the point.
-ANOTHER = {"cvxpy/in_place": 6, "messages/wide_pivot": 1}
+# Where Python and the language mean another thing by the same text, the value and the first multiplier that Python's has, by hand: `raised += 1`
+# changes the array that it was bound to, a float has no 25 digits behind the point, and `3 == x` is x == 3 to Python, with a multiplier of its sign.
+ANOTHER = {"cvxpy/in_place": (6, [1, 1, 1]), "messages/wide_pivot": (1, [-1.5]), "cvxpy/turned": (6, [-2])}
 # Where Python forms `1 - 0.9` first, which is a float that isn't quite a tenth, the numbers are those of the report to twelve digits.
 NEARLY = {"regression/model"}
 
@@ -66,7 +74,8 @@ def run_script(path):
     text, changed = re.subn(r"^import cvxpy as cp$", "import dcx.cvxpy as cp", path.read_text(), flags=re.M)
     assert changed == 1, path
     names = {"__name__": "__main__"}
-    exec(compile(text, str(path), "exec"), names)
+    with contextlib.redirect_stdout(io.StringIO()):
+        exec(compile(text, str(path), "exec"), names)
     return names
 
 
@@ -102,7 +111,14 @@ class Examples(unittest.TestCase):
 
     def test_every_script_is_here(self):
         self.assertGreaterEqual(len(SCRIPTS), 44)
-        self.assertLessEqual({*SETTINGS, *REFUSED, *ANOTHER, *NEARLY}, {name_of(path) for path in SCRIPTS})
+        self.assertLessEqual({*REFUSED, *NEARLY, "cvxpy/in_place"}, {name_of(path) for path in SCRIPTS})
+
+    def test_drivers(self):
+        """Scripts that import the package print what stands in `printed.txt` beside them."""
+        for path in DRIVERS:
+            environment = dict(os.environ, PYTHONPATH=str(EXAMPLES.parent / "python"), PYTHONDONTWRITEBYTECODE="1")
+            printed = subprocess.run([sys.executable, str(path)], env=environment, stdin=subprocess.DEVNULL, check=True, stdout=subprocess.PIPE)
+            self.assertEqual(printed.stdout.decode(), path.with_name("printed.txt").read_text(), path)
 
     def check_last(self, names, problem, answer, at):
         """What stands in the problem itself behind its last solve."""
@@ -191,7 +207,8 @@ def test_of(path):
             self.assertIn(rule, read_report(program.run("check", script).report).text.splitlines()[0])
             return
         if name in ANOTHER:
-            self.assertEqual(run_script(path)["prob"].solve(), ANOTHER[name])
+            problem = run_script(path)["prob"]
+            self.assertEqual((problem.solve(), np.ravel(problem.constraints[0].dual_value).tolist()), ANOTHER[name])
             return
         # The script's own solves, as far as they end.
         try:
