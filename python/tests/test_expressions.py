@@ -66,6 +66,16 @@ class Operators(unittest.TestCase):
                 self.same(cp.multiply(a, y), p * q)
                 self.same(cp.multiply(x, b), p * q, False)
 
+    def test_one_entry_of_two_sides_beside_a_vector(self):
+        s, x, a = variable_at([[2.5]]), variable_at([1, -2, 4]), np.array([3.0, 1, 2])
+        for made, wanted in [(s + x, 2.5 + x.value), (x + s, 2.5 + x.value), (s - x, 2.5 - x.value), (x - s, x.value - 2.5), (s * a, 2.5 * a), (a * s, 2.5 * a),
+                             (cp.multiply(a, s), 2.5 * a), (s / a, 2.5 / a), (x / np.array([[2]]), x.value / 2)]:
+            # a product with it has to be that of two vectors in the program's language too
+            self.same(made @ a, wanted @ a)
+            self.same(a @ made, wanted @ a)
+        for made in (s <= x, x <= s, s == x, x >= s):
+            self.assertEqual({side.ndim for side in made.args}, {0, 1})
+
     def test_products_and_quotients(self):
         rng = random.Random(2)
         for left, right in itertools.product(SHAPES, SHAPES):
@@ -310,6 +320,8 @@ class Indices(unittest.TestCase):
         x, X = cp.Variable(1000), cp.Variable((40, 50))
         self.assertEqual(x[list(range(10, 900))].kind, "index")
         self.assertEqual(x[np.arange(1000) % 3 == 0].kind, "index")
+        self.assertEqual(x[list(range(900, 3, -7))].kind, "index")
+        self.assertEqual([part.kind for part in x[[5, 1, 2, 3, 4, 9]].args], ["index"] * 3)
         self.assertEqual(len(x[np.arange(1000) != 500].args), 2)
         self.assertEqual(X[np.arange(40) % 2 == 1].kind, "index")
         self.assertEqual(sum(1 for _ in postorder([X[np.arange(40) != 7][:, np.arange(50) != 9]])), 7)
