@@ -13,6 +13,7 @@ _MODULES = {
     "read_report": "reports",
     "Report": "reports",
     "ReportError": "reports",
+    "float_digits": "numbers",
     "rounded": "numbers",
     "DCXError": "errors",
     "DCPError": "errors",

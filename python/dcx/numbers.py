@@ -14,6 +14,22 @@ GREATEST = 2**127 - 1
 DIGITS = 30
 EXPONENT = 30
 
+_significant: int | None = None  # how many digits of a float are read, where that was set
+
+
+def float_digits(count: int | None) -> None:
+    """Has each float that is read from now on rounded to `count` significant digits, 1 to 17, and with None, as it is
+    without a call, to none: then a float means the decimal that Python prints.
+
+    Sums and products of floats have errors in their last digits: `1 - 0.9` is 0.09999999999999998, which 12 or 15
+    digits make a tenth. Whole numbers, fractions and decimals stay what they are.
+    """
+    global _significant
+    if count is not None and not (isinstance(count, int) and 1 <= count <= 17):
+        raise ValueError(f"a float has 1 to 17 significant digits, and not {count!r}")
+    _significant = count
+    _of_float.cache_clear()
+
 
 def exact(value) -> Fraction:
     """The fraction that `value` means: a whole number, a `Fraction` and a `Decimal` mean themselves, a float the shortest
@@ -58,7 +74,7 @@ def _of_int(value: int) -> Fraction:
 def _of_float(value: float) -> Fraction:
     if not math.isfinite(value):
         raise ValueError(f"{_name_of(value)} is no number that a model may hold")
-    return Fraction(repr(value))
+    return Fraction(repr(value) if _significant is None else format(value, f".{_significant}g"))
 
 
 def _of_numpy(value) -> Fraction:
@@ -71,7 +87,8 @@ def _of_numpy(value) -> Fraction:
         if not math.isfinite(value):
             raise ValueError(f"{_name_of(value)} is no number that a model may hold")
         # `str` writes the shortest decimal at the width of the number, so a float32 of 0.1 is a tenth too
-        return Fraction(str(value.item() if value.dtype.itemsize == 8 else value[()]))
+        shown = str(value.item() if value.dtype.itemsize == 8 else value[()])
+        return Fraction(shown) if _significant is None else _of_float(float(shown))
     if kind == "O":
         return exact(value.item())
     if kind == "c":

@@ -10,6 +10,8 @@ from importlib import import_module
 from importlib.abc import MetaPathFinder
 from types import ModuleType
 
+from ..numbers import float_digits
+
 PACKAGE = os.path.dirname(os.path.dirname(os.path.abspath(__file__)))
 # Files whose frames stand above the user's script in each traceback.
 ABOVE = {os.path.abspath(__file__), os.path.join(PACKAGE, "__main__.py"), os.path.abspath(runpy.__file__)}
@@ -19,8 +21,16 @@ INTERRUPTED = 130
 
 def add_arguments(parser: argparse.ArgumentParser) -> None:
     """The script, and whatever stands behind it."""
+    parser.add_argument("--digits", metavar="N", type=digits, help="round each float of the models to N significant digits")
     parser.add_argument("script", metavar="MODEL.py", help="a script that imports cvxpy")
     parser.add_argument("arguments", nargs=argparse.REMAINDER, metavar="ARGS", help="the script's own arguments")
+
+
+def digits(text: str) -> int:
+    """How many significant digits a float keeps: 1 to 17."""
+    if not text.isdigit() or not 1 <= int(text) <= 17:
+        raise argparse.ArgumentTypeError(f"a whole number from 1 to 17, and not {text!r}")
+    return int(text)
 
 
 def run(arguments: argparse.Namespace) -> int:
@@ -30,6 +40,7 @@ def run(arguments: argparse.Namespace) -> int:
         print(f"dcx: {script} can't be read: no such file", file=sys.stderr)
         return 3
     stand_in()
+    float_digits(arguments.digits)
     sys.argv = [script, *arguments.arguments]
     set_path(os.path.dirname(os.path.abspath(script)))
     try:
