@@ -1,4 +1,5 @@
-"""What else the program answers of a problem at the present values of its parameters: certificates, constraints in the way, the range of a parameter."""
+"""What else the program answers of a problem at the present values of its parameters: certificates, constraints in
+the way, the range of a parameter."""
 
 from __future__ import annotations
 
@@ -25,9 +26,8 @@ class CertificateError(DCXError):
 
 
 class Shown(NamedTuple):
-    """What a certificate shows. `status` is `optimal`, where `value` is the problem's value; `infeasible`, where it is None; or `unbounded`, where
-    `value` is the objective at a feasible point from which it goes on for ever.
-    """
+    """What a certificate shows. `status` is `optimal`, where `value` is the problem's value; `infeasible`, where it
+    is None; or `unbounded`, where `value` is the objective at a feasible point from which it goes on for ever."""
 
     status: str
     value: Optional[Fraction]
@@ -36,7 +36,8 @@ class Shown(NamedTuple):
 class Certificate:
     """Numbers that show what the answer of a problem is, in the text of docs/CERTIFICATES.md.
 
-    `text` is the certificate, `script` and `settings` are the texts that it is one for, and `section` is what it says, read.
+    `text` is the certificate, `script` and `settings` are the texts that it is one for, and `section` is what it
+    says, read.
     """
 
     def __init__(self, text: str, script: str, settings: str, section: Section, maximized: bool):
@@ -47,7 +48,8 @@ class Certificate:
         self._maximized = maximized
 
     def check(self) -> Shown:
-        """Lets the program check the certificate, and returns what it shows. Raises `CertificateError` where it shows nothing."""
+        """Lets the program check the certificate, and returns what it shows. Raises `CertificateError` where it shows
+        nothing."""
         report = read_report(program.run("certify", self.script, self.settings, self.text).report)
         if report.fault is not None:
             raise CertificateError(f"{report.fault.text}: {' '.join(messages.fault(report.fault))}", report.fault)
@@ -65,11 +67,12 @@ class Certificate:
 
 
 class Irreducible(NamedTuple):
-    """Constraints that no point keeps together, and each of which is needed for that: `constraints`, and for each of them in `points` a point that
-    keeps all the others of them. Where all constraints can be kept there are none, and `point` keeps them.
+    """Constraints that no point keeps together, and each of which is needed for that: `constraints`, and for each of
+    them in `points` a point that keeps all the others of them. Where all constraints can be kept there are none, and
+    `point` keeps them.
 
-    A point has the variables' values in fractions, by variable. Constraints that attributes of variables stand for, as `bounds`, may be among them;
-    their `site` is the line of the variable.
+    A point has the variables' values in fractions, by variable. Constraints that attributes of variables stand for,
+    as `bounds`, may be among them; their `site` is the line of the variable.
     """
 
     constraints: tuple
@@ -78,9 +81,9 @@ class Irreducible(NamedTuple):
 
 
 class Span(NamedTuple):
-    """How far a parameter may move where the others stay. With the status `optimal` the problem has an optimal point at each value p from `low` to
-    `high` (None: without end), and its value there is `value` + `slope` * p. With `infeasible` or `unbounded` all else is None.
-    """
+    """How far a parameter may move where the others stay. With the status `optimal` the problem has an optimal point
+    at each value p from `low` to `high` (None: without end), and its value there is `value` + `slope` * p. With
+    `infeasible` or `unbounded` all else is None."""
 
     status: str
     low: Optional[Fraction] = None
@@ -90,7 +93,9 @@ class Span(NamedTuple):
 
     def at(self, number: Union[int, Fraction]) -> Fraction:
         """The problem's value at a value of the parameter. Raises `ValueError` where that is outside of the span."""
-        if self.status != "optimal" or not (self.low is None or self.low <= number) or not (self.high is None or number <= self.high):
+        above = self.low is None or self.low <= number
+        below = self.high is None or number <= self.high
+        if self.status != "optimal" or not (above and below):
             raise ValueError(f"{number} is outside of the span from {self.low} to {self.high}")
         return self.value + self.slope * number
 
@@ -116,18 +121,19 @@ def irreducible(problem: Any, max_iters: Optional[int] = None) -> Irreducible:
     answer = _answer(run, script)
     if not answer.members:
         return Irreducible((), {}, values_of(script, answer.variables))
-    points = {script.constraints[without.constraint]: values_of(script, without.variables) for without in answer.without}
-    return Irreducible(tuple(script.constraints[member] for member in answer.members), points, None)
+    members = tuple(script.constraints[member] for member in answer.members)
+    points = (values_of(script, without.variables) for without in answer.without)
+    return Irreducible(members, dict(zip(members, points)), None)
 
 
 def span(problem: Any, parameter: Any, max_iters: Optional[int] = None) -> Span:
     """How far a parameter of the problem may move, from its present value, and the problem's value along its way.
 
-    Raises as `Problem.solve`; `UnsupportedError` where variables are to be whole, the parameter isn't a single number, or it multiplies variables;
-    `KeyError` where it is no parameter of the problem.
+    Raises as `Problem.solve`; `UnsupportedError` where variables are to be whole, the parameter isn't a single
+    number, or it multiplies variables; `KeyError` where it is no parameter of the problem.
     """
     script = problem.written
-    if parameter not in script.names or parameter.kind != "parameter":
+    if script.parameters.get(script.names.get(parameter)) is not parameter:
         raise KeyError(f"{parameter!r} is no parameter that the problem reaches")
     answer = _answer(_run(problem, "range", max_iters, script.names[parameter])[2], script)
     found = answer.range
@@ -154,4 +160,6 @@ def _without(script: Script, settings: str, max_iters: Optional[int]) -> SolverE
     answer = read(program.run("resolve", script.text, settings, options=pivots(max_iters)), script).answers[0]
     if answer.stop is not None:
         return stopped(answer.stop, script)
-    return SolverError(f"the answer is {answer.status}, but the numbers that would show it pass 128 bits, so there is no certificate")
+    return SolverError(
+        f"the answer is {answer.status}, but the numbers that would show it pass 128 bits, so there is no certificate"
+    )

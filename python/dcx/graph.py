@@ -1,7 +1,8 @@
 """The distinct parts of a model: equal expressions become one part, in the order in which the language counts them.
 
-The language counts the parts of a script and their entries, and takes 20,000 of each. So a product with a matrix in which most entries
-are 0 is written out by rows where that has fewer entries than the matrix; all else is as the user wrote it.
+The language counts the parts of a script and their entries, and takes 20,000 of each. So a product with a matrix in
+which most entries are 0 is written out by rows where that has fewer entries than the matrix; all else is as the user
+wrote it.
 """
 
 from __future__ import annotations
@@ -21,9 +22,9 @@ _PLAIN = {"+", "-", "*", "/", "@", "minus", "T", "index"}
 
 
 class Part:
-    """One distinct expression. `source` is the user's expression that it was first made for, `uses` counts where it stands. `plain` tells whether it
-    is numbers alone, which the language works out at once, and counts only beside what isn't.
-    """
+    """One distinct expression. `source` is the user's expression that it was first made for, `uses` counts where it
+    stands. `plain` tells whether it is numbers alone, which the language works out at once, and counts only beside
+    what isn't."""
 
     __slots__ = ("kind", "args", "options", "shape", "source", "uses", "plain")
 
@@ -72,13 +73,18 @@ class Graph:
         """The part that stands for an expression of the graph."""
         return self._parts_of[id(expression)]
 
+    def leaves(self) -> list[Any]:
+        """The variables and parameters of the roots, in the order in which the user made them."""
+        leaves = [expression for expression in self._kept if expression.kind in ("variable", "parameter")]
+        return sorted(leaves, key=lambda leaf: leaf.id)
+
     def used(self) -> list[Part]:
         """The parts that something needs, arguments first."""
         return [part for part in self.parts if part.uses]
 
     def counted(self, constraints: Iterable[Any] = ()) -> list[tuple[Any, int, int]]:
-        """For each part that something needs, and each constraint, in order, how many nodes and entries the language counts that nothing before
-        has."""
+        """For each part that something needs, and each constraint, in order, how many nodes and entries the language
+        counts that nothing before has."""
         count = _Count()
         counted: list[tuple[Any, int, int]] = []
         for part in self.used():
@@ -89,7 +95,9 @@ class Graph:
 
     # -- how parts are made
 
-    def _part(self, kind: str, args: tuple[Part, ...], options: tuple, shape: tuple[int, ...], source: Any, key: Any = None) -> Part:
+    def _part(
+        self, kind: str, args: tuple[Part, ...], options: tuple, shape: tuple[int, ...], source: Any, key: Any = None
+    ) -> Part:
         """The part of this form: the one that is there already, or a new one."""
         key = (kind, tuple(map(id, args)), options, shape) if key is None else key
         part = self._known.get(key)
@@ -109,7 +117,7 @@ class Graph:
         kind = expression.kind
         if kind == "constant":
             if id(expression) in self._sparse:
-                return Part("rows", (), (), expression.shape, expression)  # stands in products alone, which don't look at it
+                return Part("rows", (), (), expression.shape, expression)  # in products alone, which don't look at it
             return self._constant(expression.array, expression)
         if kind in ("variable", "parameter"):
             return self._part(kind, (), (), expression.shape, expression, (kind, id(expression)))
@@ -194,7 +202,8 @@ def _in_order(roots: Iterable[Any]) -> list[Any]:
 
 
 def _written_by_rows(order: list[Any], roots: list[Any]) -> dict[int, Sparse]:
-    """The matrices, by the id of their constants, whose products have fewer entries when they are written out by rows."""
+    """The matrices, by the id of their constants, whose products have fewer entries when they are written out by
+    rows."""
     users: dict[int, list] = {}
     matrices: dict[int, Any] = {}
     for expression in order:
@@ -229,7 +238,8 @@ def _sparse(array: Union[Array, Sparse]) -> Sparse:
 
 
 def _entries_by_rows(matrix: Sparse, constant: Any, product: Any) -> int:
-    """How many entries the parts have by which a product is written out by rows, or by columns where the matrix stands on the right."""
+    """How many entries the parts have by which a product is written out by rows, or by columns where the matrix
+    stands on the right."""
     left, right = product.args
     columns = right is constant
     rows = transposed(matrix).rows if columns else matrix.rows
@@ -248,7 +258,8 @@ def _size(expression: Any) -> int:
 
 
 class _Count:
-    """What the language counts: beside the parts themselves what spreads an argument to a shape, and the negation in a difference."""
+    """What the language counts: beside the parts themselves what spreads an argument to a shape, and the negation in
+    a difference."""
 
     def __init__(self):
         self.seen: set = set()

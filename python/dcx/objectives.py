@@ -13,10 +13,11 @@ __all__ = ["Maximize", "Minimize", "Objective"]
 
 
 class Objective:
-    """An expression of one entry that is to be least or greatest. `args` holds the expression, `site` the user's line.
+    """An expression of one entry that is to be least or greatest. `args` holds the expression, `site` the user's
+    line.
 
-    Objectives may be added, negated, and scaled by numbers, as CVXPY has it. Raises `ValueError` where the expression has more entries
-    than one, `TypeError` where it is none.
+    Objectives may be added, negated, and scaled by numbers, as CVXPY has it. Raises `ValueError` where the expression
+    has more entries than one, `TypeError` where it is none.
     """
 
     __slots__ = ("args", "site")
@@ -29,7 +30,8 @@ class Objective:
         self.site = sites.here()
         if expression.size != 1:
             raise ValueError(
-                f"The '{self.NAME}' objective must resolve to a scalar: the expression has the shape {expression.shape}\n  {self.site}"
+                f"The '{self.NAME}' objective must resolve to a scalar: the expression has the shape "
+                f"{expression.shape}\n  {self.site}"
             )
         self.args = (expression,)
 

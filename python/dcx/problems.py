@@ -21,9 +21,8 @@ __all__ = ["Problem", "SizeMetrics", "Solution", "SolverStats"]
 
 
 class SolverStats(NamedTuple):
-    """How a solve went: the name of the one solver there is, the seconds that its run took, and of a search for whole numbers
-    `extra_stats["nodes"]`. What a run doesn't count is None.
-    """
+    """How a solve went: the name of the one solver there is, the seconds that its run took, and of a search for whole
+    numbers `extra_stats["nodes"]`. What a run doesn't count is None."""
 
     solver_name: str
     solve_time: Optional[float] = None
@@ -52,11 +51,13 @@ class SizeMetrics(NamedTuple):
 
 
 class Problem:
-    """An objective, `Minimize(..)` or `Maximize(..)`, and a list of constraints. Neither changes once the problem is made.
+    """An objective, `Minimize(..)` or `Maximize(..)`, and a list of constraints. Neither changes once the problem is
+    made.
 
-    After `solve()` the answer stands in `status`, `value` and `exact`, in the variables' `value` and `exact` and in the constraints'
-    `dual_value` and `exact_dual`. Where no point is feasible `farkas` has the multipliers that show it; where the objective goes on for ever
-    `ray` has the point and the direction. `report` has the bytes that the program printed.
+    After `solve()` the answer stands in `status`, `value` and `exact`, in the variables' `value` and `exact` and in
+    the constraints' `dual_value` and `exact_dual`. Where no point is feasible `farkas` has the multipliers that show
+    it; where the objective goes on for ever `ray` has the point and the direction. `report` has the bytes that the
+    program printed.
 
     Raises `DCPError` where the objective is none, `ValueError` where a constraint is none.
     """
@@ -127,7 +128,8 @@ class Problem:
     # -- what the rules say of it
 
     def is_dcp(self, dpp: bool = False) -> bool:
-        """Whether the rules accept the problem; with `dpp` also where its parameters may vary, so that a new value is put in fast."""
+        """Whether the rules accept the problem; with `dpp` also where its parameters may vary, so that a new value is
+        put in fast."""
         accepted, verdict = self._checked()
         return accepted and (verdict.dpp or not dpp)
 
@@ -158,37 +160,43 @@ class Problem:
 
     @property
     def written(self) -> Script:
-        """The script that is handed to the program, with what its names, numbers and places stand for; it is written once."""
+        """The script that is handed to the program, with what its names, numbers and places stand for; it is written
+        once."""
         if self._script is None:
             self._script = written(self._objective, self._constraints)
         return self._script
 
     def script(self) -> str:
-        """The text of the script that is handed to the program. Raises `LimitError` where the model passes a limit of the language."""
+        """The text of the script that is handed to the program. Raises `LimitError` where the model passes a limit of
+        the language."""
         return self.written.text
 
     def settings(self) -> str:
-        """The line of settings that is handed over with it: the parameters' values. Raises `ParameterError` where one has none."""
+        """The line of settings that is handed over with it: the parameters' values. Raises `ParameterError` where one
+        has none."""
         return self.written.settings_line()
 
     # -- answers
 
     def solve(self, solver: Optional[str] = None, verbose: bool = False, **arguments: Any) -> float:
-        """Solves the problem at the parameters' values, and returns its value: infinite where it is infeasible or unbounded.
+        """Solves the problem at the parameters' values, and returns its value: infinite where it is infeasible or
+        unbounded.
 
-        `max_iters` is the most pivots that a run may take, 200,000 by itself, and `time_limit` the seconds after which it is ended. The other
-        arguments of CVXPY's solve and of its solvers are taken and have no meaning here, since there is one solver and its answers are exact;
-        `verbose` says so, and what is done.
+        `max_iters` is the most pivots that a run may take, 200,000 by itself, and `time_limit` the seconds after
+        which it is ended. The other arguments of CVXPY's solve and of its solvers are taken and have no meaning here,
+        since there is one solver and its answers are exact; `verbose` says so, and what is done.
 
-        Raises `DCPError` where the rules refuse the problem, `ParameterError` where a parameter has no value, `LimitError` where the model
-        passes a limit of the language, `SolverError` where the program stops without an answer (then there are no values), `ProgramError`
-        where it can't be run, `UnsupportedError` where an argument asks for what isn't offered, `TypeError` where one isn't known.
+        Raises `DCPError` where the rules refuse the problem, `ParameterError` where a parameter has no value,
+        `LimitError` where the model passes a limit of the language, `SolverError` where the program stops without an
+        answer (then there are no values), `ProgramError` where it can't be run, `UnsupportedError` where an argument
+        asks for what isn't offered, `TypeError` where one isn't known.
         """
-        given = Arguments(solver, verbose, arguments)
+        given = Arguments(solver, arguments)
         script = self.written
         settings = script.settings_line()
         if given.enforce_dpp and not self.is_dpp():
-            raise DPPError("The problem is not DPP: the rules don't accept it where its parameters may vary.", self.site)
+            reason = "The problem is not DPP: the rules don't accept it where its parameters may vary."
+            raise DPPError(reason, self.site)
         if verbose:
             self._say(given)
         start = time.perf_counter()
@@ -201,7 +209,8 @@ class Problem:
         answer = read(run, script).answers[0]
         self._keep(Result(script, answer, self._maximized, seconds=time.perf_counter() - start))
         if verbose:
-            print(f"dcx: {self.status}" + ("" if self.exact is None else f", value {self.value:.10g}, exactly {self.exact}"))
+            value = "" if self.exact is None else f", value {self.value:.10g}, exactly {self.exact}"
+            print(f"dcx: {self.status}{value}")
         if self._result.error is not None:
             raise self._result.error
         return self._result.value
@@ -215,10 +224,11 @@ class Problem:
         chunk: Optional[int] = None,
         max_iters: Optional[int] = None,
     ) -> list[Result]:
-        """Answers the problem at each of these settings, and returns a `Result` for each, in order; see `dcx.runs.solve_at`."""
+        """Answers the problem at each of these settings, and returns a `Result` for each, in order; see
+        `dcx.runs.solve_at`."""
         from . import runs
 
-        return runs.solve_at(self, settings, warm=warm, executor=executor, progress=progress, chunk=chunk, max_iters=max_iters)
+        return runs.solve_at(self, settings, warm, executor, progress, chunk, max_iters)
 
     def certificate(self, max_iters: Optional[int] = None) -> Any:
         """A certificate of the answer at the parameters' values, as a `dcx.certificates.Certificate`."""
@@ -227,7 +237,8 @@ class Problem:
         return certificates.certificate(self, max_iters)
 
     def irreducible(self, max_iters: Optional[int] = None) -> Any:
-        """The constraints that are in each other's way at the parameters' values, as a `dcx.certificates.Irreducible`."""
+        """The constraints that are in each other's way at the parameters' values, as a
+        `dcx.certificates.Irreducible`."""
         from . import certificates
 
         return certificates.irreducible(self, max_iters)
@@ -254,7 +265,8 @@ class Problem:
 
     @property
     def value(self) -> Optional[float]:
-        """The value of the last answer as a float, infinite where the problem was infeasible or unbounded; None where there is none."""
+        """The value of the last answer as a float, infinite where the problem was infeasible or unbounded; None where
+        there is none."""
         return None if self._result is None else self._result.value
 
     @property
@@ -269,7 +281,8 @@ class Problem:
 
     @property
     def farkas(self) -> Optional[Farkas]:
-        """The multipliers that show that no point is feasible, in fractions; None where the last answer wasn't `infeasible`."""
+        """The multipliers that show that no point is feasible, in fractions; None where the last answer wasn't
+        `infeasible`."""
         return None if self._result is None else self._result.farkas
 
     @property
@@ -318,9 +331,10 @@ class Problem:
         return Problem(self._objective / divisor, self._constraints)
 
     def __str__(self) -> str:
-        lines = [str(self._objective)]
-        lines += [f"{'subject to' if not place else '          '} {item}" for place, item in enumerate(self._constraints)]
-        return "\n".join(lines)
+        lines = [f"{' ' * 10} {item}" for item in self._constraints]
+        if lines:
+            lines[0] = lines[0].replace(" " * 10, "subject to", 1)
+        return "\n".join([str(self._objective), *lines])
 
     def __repr__(self) -> str:
         return f"Problem({self._objective!r}, {self._constraints!r})"
@@ -333,8 +347,8 @@ class Problem:
         """Says what is handed over, and, once, which arguments have no meaning."""
         script = self.written
         print(
-            f"dcx: {len(script.variables)} variables, {len(script.parameters)} parameters, {len(script.constraints)} constraints, "
-            f"a script of {script.text.count(chr(10))} lines; problem.script() shows it"
+            f"dcx: {len(script.variables)} variables, {len(script.parameters)} parameters, "
+            f"{len(script.constraints)} constraints; problem.script() shows what is handed over"
         )
         if given.meaningless and not self._arguments_told:
             print(f"dcx: of no meaning here, where one solver gives exact answers: {', '.join(given.meaningless)}")

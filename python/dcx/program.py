@@ -1,7 +1,8 @@
 """Finds the program `dcx` and runs it: words and files go in, a status and a report come out.
 
-The program is the proved part. It reads files and writes a report to its standard output, and this module adds nothing to either.
-Files are handed over as open files without a name, so that nothing is left behind, however Python ends.
+The program is the proved part. It reads files and writes a report to its standard output, and this module adds
+nothing to either. Files are handed over as open files without a name, so that nothing is left behind, however Python
+ends.
 """
 
 from __future__ import annotations
@@ -30,7 +31,8 @@ _seen: dict[str, tuple[int, int]] = {}  # programs whose checksum was right: siz
 
 
 class ProgramError(DCXError):
-    """The program can't be found or started, or it ended in a way that is no report: by a signal, or after too long a time."""
+    """The program can't be found or started, or it ended in a way that is no report: by a signal, or after too long a
+    time."""
 
 
 class TimedOut(ProgramError):
@@ -46,10 +48,12 @@ class Run(NamedTuple):
 
 
 def find() -> str:
-    """The path of the program: what the variable `DCX` of the environment names, else the package's own, else that of the checkout.
+    """The path of the program: what the variable `DCX` of the environment names, else the package's own, else that of
+    the checkout.
 
-    Where a file `dcx.sha256` lies beside the package's own program or that of the checkout, the program's checksum has to be the one
-    that it states; that is looked at once a process. Raises `ProgramError` where there is no program, or another one than was made.
+    Where a file `dcx.sha256` lies beside the package's own program or that of the checkout, the program's checksum
+    has to be the one that it states; that is looked at once a process. Raises `ProgramError` where there is no
+    program, or another one than was made.
     """
     named = os.environ.get("DCX")
     if named:
@@ -90,14 +94,16 @@ def run(
 ) -> Run:
     """Runs the program with this word over these files.
 
-    `contents` are the files' contents, in the order of the word's operands (text is written as UTF-8). `options` stand behind them: the
-    name of a parameter, `--warm`, `--max-pivots=N`. `timeout` is in seconds; without it the program takes its time.
+    `contents` are the files' contents, in the order of the word's operands (text is written as UTF-8). `options`
+    stand behind them: the name of a parameter, `--warm`, `--max-pivots=N`. `timeout` is in seconds; without it the
+    program takes its time.
 
-    The program may use as many MiB of memory as the variable `DCX_MEMORY` says, 4096 where it says nothing, and never more than the hard
-    limit of the process; where that is too little it says `want of memory` or stops a setting.
+    The program may use as many MiB of memory as the variable `DCX_MEMORY` says, 4096 where it says nothing, and never
+    more than the hard limit of the process; where that is too little it says `want of memory` or stops a setting.
 
-    Raises `ProgramError` where the program isn't found, can't be started, is ended by a signal or by `timeout`, or says something else
-    than a report. A refusal or a stop is a report, and no error here. Where Python itself is interrupted, so is the program.
+    Raises `ProgramError` where the program isn't found, can't be started, is ended by a signal or by `timeout`, or
+    says something else than a report. A refusal or a stop is a report, and no error here. Where Python itself is
+    interrupted, so is the program.
     """
     program = find()
     limit = _memory()
@@ -115,10 +121,11 @@ def run(
                 stdout=subprocess.PIPE,
                 stderr=subprocess.PIPE,
                 pass_fds=numbers,
-                restore_signals=False,  # a file that may not grow is told as a write that fails, and ends nothing by a signal
+                restore_signals=False,  # a write that fails is told by its status, and ends nothing by a signal
             )
         except FileNotFoundError:
-            raise ProgramError(f"{program} isn't there, or what it is run by isn't (a loader, an interpreter)") from None
+            reason = f"{program} isn't there, or what it is run by isn't (a loader, an interpreter)"
+            raise ProgramError(reason) from None
         except PermissionError:
             raise ProgramError(f"{program} may not be run; `chmod +x {program}` lets it be") from None
         except OSError as error:
@@ -167,8 +174,8 @@ def _limit(pid: int, memory: int) -> None:
         _, hard = resource.prlimit(pid, resource.RLIMIT_AS)
         soft = memory if hard == resource.RLIM_INFINITY else min(memory, hard)
         resource.prlimit(pid, resource.RLIMIT_AS, (soft, hard))
-    except (ProcessLookupError, PermissionError):
-        pass  # it has ended already, or it isn't ours to limit
+    except OSError:
+        pass  # it has ended already, or the system doesn't let it be limited
 
 
 def _ended(word: str, number: int, memory: int) -> str:
@@ -181,7 +188,7 @@ def _ended(word: str, number: int, memory: int) -> str:
         return f"the program was interrupted ({name}, word {word!r})"
     if number == signal.SIGKILL:
         return (
-            f"the program was ended by {name} (word {word!r}): by another process, or by the system for want of memory; "
+            f"the program was ended by {name} (word {word!r}), by another process or by the system for want of memory: "
             f"it may use {memory >> 20} MiB, and the variable DCX_MEMORY of the environment sets another limit"
         )
     return f"the program was ended by {name} (word {word!r})"

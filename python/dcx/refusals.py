@@ -10,7 +10,6 @@ from .lines import Refusal, Stop
 from .program import Run
 from .reports import Report, read_report
 from .scripts import Script
-from .sites import Site
 
 __all__ = ["no_answer", "read", "refused", "stopped"]
 
@@ -22,8 +21,9 @@ _WHOLE, _RANGE, _RULES = 34, 35, 19
 def read(run: Run, script: Script) -> Report:
     """The report of a run over this script.
 
-    Raises `DCPError` where the rules refuse the problem, `LimitError` where it passes a limit of the language, `UnsupportedError` where
-    the word isn't for such a problem, and `SolverError` where there is no answer for want of memory.
+    Raises `DCPError` where the rules refuse the problem, `LimitError` where it passes a limit of the language,
+    `UnsupportedError` where the word isn't for such a problem, and `SolverError` where there is no answer for want of
+    memory.
     """
     report = read_report(run.report)
     if report.refusal is not None:
@@ -36,7 +36,10 @@ def read(run: Run, script: Script) -> Report:
 def no_answer(report: Report) -> SolverError:
     """What is told where the program has no answer at all."""
     if report.kind == "memory":
-        return SolverError("the program has no answer for want of memory; the variable DCX_MEMORY of the environment says how many MiB it may use, 4096 by itself")
+        return SolverError(
+            "the program has no answer for want of memory; the variable DCX_MEMORY of the environment says how many "
+            "MiB it may use, 4096 by itself"
+        )
     return SolverError(f"the program has no answer: {report.text.strip()}")
 
 
@@ -58,7 +61,8 @@ def refused(refusal: Refusal, script: Script) -> DCXError:
 
 
 def stopped(stop: Stop, script: Script) -> SolverError:
-    """The error of a stop, with its number, its name and its numbers, at the line of the user's file that it is about, if there is one."""
+    """The error of a stop, with its number, its name and its numbers, at the line of the user's file that it is
+    about, if there is one."""
     message = messages.stop(stop)
     found = _about(stop, script)
     reason = f"{stop.number} {stop.name}: {message.sentence} {message.advice}{_shown(found)}"
@@ -84,7 +88,8 @@ def _about(stop: Stop, script: Script) -> Any:
 
 
 def _of_row(row: int, script: Script) -> Optional[Any]:
-    """The constraint that a row of the reduced program is an entry of: rows count through the constraints' entries first."""
+    """The constraint that a row of the reduced program is an entry of: rows count through the constraints' entries
+    first."""
     for constraint in script.constraints.values():
         if row < constraint.size:
             return constraint
@@ -96,7 +101,3 @@ def _shown(found: Any) -> str:
     """The text of what is told of."""
     return "" if found is None else f" It is told of: {found}"
 
-
-def site_of(found: Any) -> Optional[Site]:
-    """The user's line of an expression or a constraint."""
-    return getattr(found, "site", None)

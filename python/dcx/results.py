@@ -5,22 +5,22 @@ from __future__ import annotations
 from fractions import Fraction
 from typing import Any, Mapping, NamedTuple, Optional
 
-from .arrays import Array, to_floats, to_fractions
+from .arrays import Array, filled, to_floats, to_fractions
 from .errors import DCXError
 from .refusals import stopped
 from .reports import Answer
 from .scripts import Script
+from .statuses import INFEASIBLE, OPTIMAL, SOLVER_ERROR, UNBOUNDED
 
 __all__ = ["Farkas", "Ray", "Result", "values_of"]
 
-OPTIMAL, INFEASIBLE, UNBOUNDED, SOLVER_ERROR = "optimal", "infeasible", "unbounded", "solver_error"
 _ENDS = {INFEASIBLE: float("inf"), UNBOUNDED: float("-inf")}
 
 
 class Ray(NamedTuple):
-    """Where an objective goes on for ever: `point` + k times `direction` is feasible for each k of at least 0, and the objective there is at
-    most `bound` - k times `slope` (at least `bound` + k times `slope` where it is maximized). Both hold fractions by variable, in its shape.
-    """
+    """Where an objective goes on for ever: `point` + k times `direction` is feasible for each k of at least 0, and
+    the objective there is at most `bound` - k times `slope` (at least `bound` + k times `slope` where it is
+    maximized). Both hold fractions by variable, in its shape."""
 
     point: dict[Any, Any]
     direction: dict[Any, Any]
@@ -29,21 +29,22 @@ class Ray(NamedTuple):
 
 
 class Farkas(NamedTuple):
-    """Why no point is feasible: `multipliers` (fractions by constraint, in its shape; at least 0 for `<=`) times left minus right sum to at
-    least `gap`, above 0, at each point of the variables' domain, where a feasible point would give at most 0.
-    """
+    """Why no point is feasible: `multipliers` (fractions by constraint, in its shape; at least 0 for `<=`) times left
+    minus right sum to at least `gap`, above 0, at each point of the variables' domain, where a feasible point would
+    give at most 0."""
 
     gap: Fraction
     multipliers: dict[Any, Any]
 
 
 class Result:
-    """How the problem ends at one setting. It is picklable as far as the user's objects are.
+    """How the problem ends at one setting.
 
-    `setting` is the setting as it was given, `index` its number from 0. `status` is `optimal`, `infeasible`, `unbounded` or `solver_error`,
-    where `error` says why there is no answer. `value` is the objective's value as a float, infinite where the problem is infeasible or
-    unbounded, None where there is no answer, and `exact` the fraction, None where there is none. `result[x]` is the value of a variable in
-    floats, None where it has none. `nodes` is how many nodes the search for whole numbers took, `seconds` how long the run took.
+    `setting` is the setting as it was given, `index` its number from 0. `status` is `optimal`, `infeasible`,
+    `unbounded` or `solver_error`, where `error` says why there is no answer. `value` is the objective's value as a
+    float, infinite where the problem is infeasible or unbounded, None where there is no answer, and `exact` the
+    fraction, None where there is none. `result[x]` is the value of a variable in floats, None where it has none.
+    `nodes` is how many nodes the search for whole numbers took, `seconds` how long the run took.
     """
 
     def __init__(
@@ -69,7 +70,8 @@ class Result:
 
     @property
     def value(self) -> Optional[float]:
-        """The value as a float: infinite where the problem is infeasible or unbounded, None where there is no answer."""
+        """The value as a float: infinite where the problem is infeasible or unbounded, None where there is no answer.
+        """
         if self.status == OPTIMAL:
             return float(self.answer.value)
         end = _ENDS.get(self.status)
@@ -95,8 +97,11 @@ class Result:
         return None if array is None else to_fractions(array)
 
     def array(self, variable: Any) -> Optional[Array]:
-        """The value of a variable as an exact array, None where the problem isn't optimal. Raises `KeyError` of what is no variable of it."""
-        name = self._names[variable]
+        """The value of a variable as an exact array, None where the problem isn't optimal. Raises `KeyError` of what
+        is no variable of it."""
+        if variable in self.script.idle:
+            return filled(variable.shape, 0) if self.status == OPTIMAL else None
+        name = self.script.names[variable]
         return _array(self.answer.variables[name]) if self.status == OPTIMAL else None
 
     def dual_value(self, constraint: Any) -> Any:
@@ -110,22 +115,26 @@ class Result:
         return None if array is None else to_fractions(array)
 
     def dual_array(self, constraint: Any) -> Optional[Array]:
-        """The multipliers of a constraint as an exact array, None where the problem isn't optimal or is one in whole numbers."""
-        number = self._numbers[constraint]
+        """The multipliers of a constraint as an exact array, None where the problem isn't optimal or is one in whole
+        numbers."""
+        number = self.script.numbers[constraint]
         found = self.answer.duals.get(number) if self.status == OPTIMAL else None
         return None if found is None else Array(constraint.shape, found.entries)
 
     @property
     def ray(self) -> Optional[Ray]:
-        """The point and the direction along which an unbounded objective goes on for ever, None where the problem isn't unbounded."""
+        """The point and the direction along which an unbounded objective goes on for ever, None where the problem
+        isn't unbounded."""
         if self.status != UNBOUNDED:
             return None
         answer = self.answer
-        return Ray(values_of(self.script, answer.variables), values_of(self.script, answer.ray), answer.bound, answer.slope)
+        point, direction = (values_of(self.script, entries) for entries in (answer.variables, answer.ray))
+        return Ray(point, direction, answer.bound, answer.slope)
 
     @property
     def farkas(self) -> Optional[Farkas]:
-        """The multipliers that show an infeasible problem to be one, None where it isn't, or where whole numbers are asked for."""
+        """The multipliers that show an infeasible problem to be one, None where it isn't, or where whole numbers are
+        asked for."""
         if self.status != INFEASIBLE or self.answer.gap is None:
             return None
         duals = self.answer.duals
@@ -136,19 +145,13 @@ class Result:
         return Farkas(self.answer.gap, multipliers)
 
     def save(self) -> None:
-        """Sets the values of the variables and the multipliers of the constraints, as `problem.solve()` does; None where there are none."""
-        for variable in self.script.variables.values():
+        """Sets the values of the variables and the multipliers of the constraints, as `problem.solve()` does; None
+        where there are none."""
+        idle = (leaf for leaf in self.script.idle if leaf.kind == "variable")
+        for variable in (*self.script.variables.values(), *idle):
             variable._set_value(self.array(variable))
         for constraint in self.script.constraints.values():
             constraint._set_dual(self.dual_array(constraint))
-
-    @property
-    def _names(self) -> dict[Any, str]:
-        return self.script.names
-
-    @property
-    def _numbers(self) -> dict[Any, int]:
-        return self.script.numbers
 
     def __repr__(self) -> str:
         told = f"value={self.value}" if self.error is None else f"error={self.error!r}"
@@ -157,7 +160,7 @@ class Result:
 
 def values_of(script: Script, entries: Mapping[str, Any]) -> dict[Any, Any]:
     """The values of the variables of a script in fractions, of what a report has by their names."""
-    return {variable: to_fractions(_array(entries[name])) for name, variable in script.variables.items() if name in entries}
+    return {script.variables[name]: to_fractions(_array(found)) for name, found in entries.items()}
 
 
 def _array(entries: Any) -> Array:

@@ -1,4 +1,5 @@
-"""Many settings: they are cut into parts, each of which is one run of the program, here or wherever an executor carries it."""
+"""Many settings: they are cut into parts, each of which is one run of the program, here or wherever an executor
+carries it."""
 
 from __future__ import annotations
 
@@ -36,7 +37,8 @@ class Part(NamedTuple):
 
 
 def run_part(script: str, lines: str, options: tuple[str, ...]) -> program.Run:
-    """Runs the program over a part. This is what an executor is handed, with texts alone, so that any kind of worker can carry it."""
+    """Runs the program over a part. This is what an executor is handed, with texts alone, so that any kind of worker
+    can carry it."""
     return program.run("resolve", script, lines, options=options)
 
 
@@ -51,21 +53,22 @@ def solve_at(
 ) -> list[Result]:
     """Answers a problem at each of the settings, and returns a `Result` for each, in order, with the setting in it.
 
-    A setting gives values to parameters, or to names of parameters; a parameter that it doesn't name keeps its own value. Variables and
-    constraints stay as they are; `result.save()` sets them to a result.
+    A setting gives values to parameters, or to names of parameters; a parameter that it doesn't name keeps its own
+    value. Variables and constraints stay as they are; `result.save()` sets them to a result.
 
-    The settings are cut into parts of at most `chunk` (1,000 at most), and each part is one run of the program. Within a part each setting begins
-    at the last answer, unless `warm` is false or variables are to be whole; the value is the same, and of several best points another may be told.
-    With an `executor`, of the kind of `concurrent.futures.Executor`, it carries the parts: a pool of processes, `Client.get_executor()` of
-    dask.distributed, an MPI pool. Its workers need the package, and the program where `dcx.program.find` finds it. `progress(done, total)` is
-    called here whenever a part is done.
+    The settings are cut into parts of at most `chunk` (1,000 at most), and each part is one run of the program.
+    Within a part each setting begins at the last answer, unless `warm` is false or variables are to be whole; the
+    value is the same, and of several best points another may be told. With an `executor`, of the kind of
+    `concurrent.futures.Executor`, it carries the parts: a pool of processes, `Client.get_executor()` of
+    dask.distributed, an MPI pool. Its workers need the package, and the program where `dcx.program.find` finds it.
+    `progress(done, total)` is called here whenever a part is done.
 
-    A part whose worker dies, or fails in another way, is asked again once: by the executor, or, where that takes nothing any more, by this process.
-    Where it fails again each of its results has the status `solver_error`, and an `error` that names the part; the others stay. A setting
-    at which the program stops has such a result as well.
+    A part whose worker dies, or fails in another way, is asked again once: by the executor, or, where that takes
+    nothing any more, by this process. Where it fails again each of its results has the status `solver_error`, and an
+    `error` that names the part; the others stay. A setting at which the program stops has such a result as well.
 
-    Raises `DCPError`, `LimitError` as `Problem.solve`; `ParameterError` where a setting leaves a parameter without a value; `KeyError` where it names
-    what is no parameter of the problem, `ValueError` where a value doesn't fit.
+    Raises `DCPError`, `LimitError` as `Problem.solve`; `ParameterError` where a setting leaves a parameter without a
+    value; `KeyError` where it names what is no parameter of the problem, `ValueError` where a value doesn't fit.
     """
     script = problem.written
     settings = list(settings)
@@ -84,7 +87,9 @@ def solve_at(
     return results
 
 
-def _results(problem: Any, script: Script, settings: list, part: Part, outcome: Union[program.Run, Exception]) -> Iterator[Result]:
+def _results(
+    problem: Any, script: Script, settings: list, part: Part, outcome: Union[program.Run, Exception]
+) -> Iterator[Result]:
     """The results of a part: from its report, or from what went wrong twice."""
     places = range(part.first, part.first + part.count)
     maximized = problem._maximized
@@ -104,7 +109,8 @@ def _results(problem: Any, script: Script, settings: list, part: Part, outcome: 
 
 def _failed(part: Part, cause: Exception) -> SolverError:
     """What is told of a part that failed twice."""
-    error = SolverError(f"{part.name}: no answer, since the worker died or failed twice ({type(cause).__name__}: {cause})")
+    told = f"{type(cause).__name__}: {cause}"
+    error = SolverError(f"{part.name}: no answer, since the worker died or failed twice ({told})")
     error.__cause__ = cause
     return error
 
@@ -164,7 +170,8 @@ class _Carrier:
 
 
 def _outcome(future: Future) -> Union[program.Run, Exception]:
-    """What a part gave: a run, or what it failed by. A worker's death and a future that was cancelled are failures too."""
+    """What a part gave: a run, or what it failed by. A worker's death and a future that was cancelled are failures
+    too."""
     try:
         run = future.result()
     except Exception as error:
@@ -206,11 +213,12 @@ def _cut(lines: list[str], chunk: int) -> Iterator[Part]:
 def _line(script: Script, setting: Mapping[Any, Any], number: int) -> str:
     """The line of a setting. What is wrong with it is told with its number."""
     if not isinstance(setting, Mapping):
-        raise TypeError(f"setting {number} is a {type(setting).__name__}, and not a dictionary of parameters with their values")
+        kind = type(setting).__name__
+        raise TypeError(f"setting {number} is a {kind}, and not a dictionary of parameters with their values")
     values = {}
     for key, value in setting.items():
         parameter = key if isinstance(key, Expression) else _by_name(script, key)
-        if parameter not in script.names or parameter.kind != "parameter":
+        if parameter not in script.names and parameter not in script.idle or parameter.kind != "parameter":
             raise KeyError(f"setting {number} names {key!r}, which is no parameter that the problem reaches")
         try:
             values[parameter] = parameter._tested(value)

@@ -1,4 +1,5 @@
-"""Certificates and their checks, constraints in the way, the range of a parameter: against brute force and what is worked out by hand."""
+"""Certificates and their checks, constraints in the way, the range of a parameter: against brute force and what is
+worked out by hand."""
 
 from __future__ import annotations
 
@@ -89,7 +90,8 @@ class Certificates(unittest.TestCase):
             found = problem.certificate().check()
             seen.add(found.status)
             largest = [[1, 1, 0], [1, 0, 1], [0, 1, 1]]
-            above = np.vstack([np.hstack([-A, np.zeros((4, 1))]), np.hstack([largest, np.zeros((3, 1))]), np.hstack([np.eye(3), -np.ones((3, 1))])])
+            most = np.hstack([np.eye(3), -np.ones((3, 1))])
+            above = np.vstack([np.hstack([-A, np.zeros((4, 1))]), np.hstack([largest, np.zeros((3, 1))]), most])
             best = linprog([*c, 1], above, [*-p.value, 30, 30, 30, 0, 0, 0], method="highs")
             if best.status == 0:
                 self.assertAlmostEqual(float(found.value), best.fun, places=6)
@@ -125,8 +127,9 @@ class InTheWay(unittest.TestCase):
         x, y = cp.Variable(2, name="x"), cp.Variable(name="y", bounds=[0, 3])  # the bounds of y
         rules = [x >= 1, y <= 9, cp.sum(x) <= y, x[0] - x[1] <= 4, cp.abs(y - 2) <= 5, x[1] >= 3]
         found = cp.Problem(cp.Maximize(y), rules).irreducible()
-        own = found.constraints[-1]
-        self.assertEqual((set(found.constraints) - {own}, own.site.line), ({rules[0], rules[2], rules[5]}, line_of("the bounds of y")))
+        *given, own = found.constraints
+        self.assertEqual(given, [rules[0], rules[2], rules[5]])
+        self.assertEqual(own.site.line, line_of("the bounds of y"))
         self.assertIsNone(found.point)
         for rule, point in found.points.items():
             self.assertTrue(self.keeps([other for other in found.constraints if other is not rule], point))
@@ -192,7 +195,8 @@ class Ranges(unittest.TestCase):
                 self.assertEqual(span.at(value), problem.exact)
 
     def test_where_there_is_none(self):
-        x, p, q, v = cp.Variable(), cp.Parameter(value=0), cp.Parameter(value=2, nonneg=True), cp.Parameter(2, value=[1, 2])
+        x, p, v = cp.Variable(), cp.Parameter(value=0), cp.Parameter(2, value=[1, 2])
+        q = cp.Parameter(value=2, nonneg=True)
         problem = cp.Problem(cp.Minimize(q * x), [x >= p, x >= cp.sum(v), x <= 2 + p])
         self.assertEqual(problem.range(p), ("infeasible", None, None, None, None))
         p.value = 2

@@ -1,4 +1,5 @@
-"""Problems: their values against SciPy's solvers, their multipliers, rays and reasons checked in fractions, and the surface that CVXPY has."""
+"""Problems: their values against SciPy's solvers, their multipliers, rays and reasons checked in fractions, and the
+surface that CVXPY has."""
 
 from __future__ import annotations
 
@@ -13,6 +14,7 @@ from pathlib import Path
 from unittest import mock
 
 import numpy as np
+import scipy.sparse as sparse
 from scipy.optimize import LinearConstraint, linprog, milp
 
 import dcx.cvxpy as cp
@@ -38,15 +40,18 @@ class Linear:
 
     def __init__(self, draw):
         def numbers(*shape):
-            return np.array([draw.choice([-3, -2, -1, 0, 0, 1, 2, 5]) for _ in range(int(np.prod(shape)))]).reshape(shape)
+            drawn = [draw.choice([-3, -2, -1, 0, 0, 1, 2, 5]) for _ in range(int(np.prod(shape)))]
+            return np.array(drawn).reshape(shape)
 
-        self.n, self.signed, rows, equal = draw.randint(3, 5), draw.randint(0, 2), draw.randint(1, 6), draw.randint(0, 2)
+        self.n, self.signed = draw.randint(3, 5), draw.randint(0, 2)
+        rows, equal = draw.randint(1, 6), draw.randint(0, 2)
         self.c, self.A, self.b = numbers(self.n), numbers(rows, self.n), numbers(rows) + draw.choice([0, 4])
         self.E, self.d = numbers(equal, self.n), numbers(equal)
 
     def by_scipy(self):
         bounds = [(0, None)] * self.signed + [(None, None)] * (self.n - self.signed)
-        return linprog(self.c, self.A, self.b, self.E if len(self.d) else None, self.d if len(self.d) else None, bounds, method="highs")
+        equal = (self.E, self.d) if len(self.d) else (None, None)
+        return linprog(self.c, self.A, self.b, *equal, bounds, method="highs")
 
     def problem(self, maximized):
         x, y = cp.Variable(max(self.signed, 1), nonneg=True), cp.Variable(self.n - self.signed)
@@ -85,7 +90,8 @@ class Answers(unittest.TestCase):
         self.assertGreater(min(seen.values()), 5, seen)
 
     def optimal(self, model, problem, sign, value, found):
-        """The value is that of HiGHS; the point is feasible, and the multipliers show that none is better: in fractions."""
+        """The value is that of HiGHS; the point is feasible, and the multipliers show that none is better: in
+        fractions."""
         self.assertAlmostEqual(value, sign * found.fun, places=6)
         self.assertEqual(value, float(problem.exact))
         x = [entry for leaf in model.leaves for entry in leaf.exact.tolist()]
@@ -104,7 +110,8 @@ class Answers(unittest.TestCase):
         self.assertIsNone(problem.farkas)
 
     def infeasible(self, model, problem, sign, value, found):
-        """Multipliers show that no point is feasible: left minus right sums to at least the gap at each x of the domain."""
+        """Multipliers show that no point is feasible: left minus right sums to at least the gap at each x of the
+        domain."""
         self.assertEqual(value, sign * INFINITY)
         self.assertEqual(problem.value, value)
         self.assertIsNone(problem.exact)
@@ -122,7 +129,8 @@ class Answers(unittest.TestCase):
         self.assertEqual(value, -sign * INFINITY)
         self.assertIsNone(model.leaves[0].value)
         ray = problem.ray
-        point, way = ([entry for leaf in model.leaves for entry in of[leaf].tolist()] for of in (ray.point, ray.direction))
+        both = (ray.point, ray.direction)
+        point, way = ([entry for leaf in model.leaves for entry in of[leaf].tolist()] for of in both)
         for x, right, equal in ((point, model.b, model.d), (way, [0] * len(model.b), [0] * len(model.d))):
             self.assertTrue(all(entry >= 0 for entry in x[: model.signed]))
             self.assertTrue(all(dot(row, x) <= bound for row, bound in zip(model.A, right)))
@@ -139,7 +147,8 @@ class Answers(unittest.TestCase):
             x = cp.Variable(6, boolean=True) if number % 2 else cp.Variable(6, integer=True, nonneg=True)
             rules = [weights @ x <= limits, x <= (1 if number % 2 else 3)]
             problem = cp.Problem(cp.Maximize(worth @ x), rules)
-            best = milp(-worth, constraints=LinearConstraint(weights, ub=limits), integrality=np.ones(6), bounds=(0, 1 if number % 2 else 3))
+            most, kept = 1 if number % 2 else 3, LinearConstraint(weights, ub=limits)
+            best = milp(-worth, constraints=kept, integrality=np.ones(6), bounds=(0, most))
             self.assertTrue(problem.is_mixed_integer())
             self.assertAlmostEqual(problem.solve(), -best.fun, places=6)
             self.assertTrue(np.all(weights @ x.value <= limits) and np.all(x.value == np.round(x.value)))
@@ -150,7 +159,8 @@ class Answers(unittest.TestCase):
     def test_no_whole_number(self):
         x = cp.Variable(integer=True)
         problem = cp.Problem(cp.Minimize(x), [2 * x == 3, x <= 4, x >= -4])
-        self.assertEqual((problem.solve(), problem.status, problem.farkas, x.value), (INFINITY, "infeasible", None, None))
+        found = (problem.solve(), problem.status, problem.farkas, x.value)
+        self.assertEqual(found, (INFINITY, "infeasible", None, None))
 
     def test_shapes_of_answers(self):
         x, y, z = cp.Variable((2, 2), symmetric=True), cp.Variable(), cp.Variable((1, 3))
@@ -158,7 +168,8 @@ class Answers(unittest.TestCase):
         problem = cp.Problem(cp.Minimize(cp.sum(x) + y + cp.sum(z)), rules)
         self.assertEqual(problem.solve(), 1 + 4 + 4 + 3 + 2 + 6)  # the greater of both sides of the diagonal, twice
         np.testing.assert_array_equal(x.value, [[1, 4], [4, 3]])
-        self.assertEqual((type(y.value), y.value, z.value.shape, rules[0].dual_value.shape), (float, 2, (1, 3), (2, 2)))
+        self.assertIsInstance(y.value, float)
+        self.assertEqual((y.value, z.value.shape, rules[0].dual_value.shape), (2, (1, 3), (2, 2)))
         self.assertEqual(rules[3].dual_value, 0)
 
     def test_multipliers_have_the_signs_of_cvxpy(self):
@@ -208,6 +219,20 @@ class Answers(unittest.TestCase):
         self.assertEqual(cp.Problem(cp.Minimize(x), [x >= 1, True, np.bool_(True)]).solve(), 1)
         self.assertEqual(cp.Problem(cp.Minimize(x), [x >= 1, False]).solve(), INFINITY)
 
+    def test_what_is_multiplied_by_zeros_alone(self):
+        """It doesn't stand in the script, and has the value 0, or one within its bounds."""
+        x, y, z = cp.Variable(2), cp.Variable(2, symmetric=False), cp.Variable(2, bounds=[3, 4])
+        p, zeros = cp.Parameter(2, name="p", value=[5, 6]), sparse.csr_matrix((30, 2))
+        rules = [x >= 1, zeros @ y <= 1, zeros @ z <= 1, zeros @ p <= 1]
+        problem = cp.Problem(cp.Minimize(cp.sum(x)), rules)
+        self.assertEqual((problem.solve(), y.value.tolist(), problem.written.names[x]), (2, [0, 0], "x1"))
+        self.assertTrue(all(3 <= entry <= 4 for entry in z.value))
+        self.assertNotIn("p", problem.settings())
+        (result,) = problem.solve_at([{p: [1, 2]}])
+        self.assertEqual(result[y].tolist(), [0, 0])
+        cp.Problem(cp.Minimize(cp.sum(x)), [*rules, x <= 0]).solve()
+        self.assertIsNone(y.value)
+
     def test_without_constraints_and_variables(self):
         self.assertEqual(cp.Problem(cp.Minimize(3)).solve(), 3)
         self.assertEqual(cp.Problem(cp.Maximize(cp.Constant([1, 2]) @ [3, 4]), []).solve(), 11)
@@ -219,7 +244,8 @@ class Answers(unittest.TestCase):
             "x = cp.Variable((2, 2)); r = x >= [[1, 2], [3, 0.5]]; q = cp.Problem(cp.Minimize(cp.sum(x)), [r])\n"
             "print(q.solve(), x.value, r.dual_value, q.exact)"
         )
-        done = subprocess.run([sys.executable, "-c", code, str(Path(__file__).parents[1])], capture_output=True, text=True)
+        words = [sys.executable, "-c", code, str(Path(__file__).parents[1])]
+        done = subprocess.run(words, capture_output=True, text=True)
         self.assertEqual(done.stdout, "6.5 [[1.0, 3.0], [2.0, 0.5]] [[1.0, 1.0], [1.0, 1.0]] 13/2\n", done.stderr)
 
 
@@ -236,8 +262,9 @@ class Surface(unittest.TestCase):
         self.assertEqual([float(item.value) for item in problem.constants()], [3, 9])
         self.assertEqual(set(problem.atoms()), {"max", "+", "sum", "norm1"})
         self.assertEqual(problem.size_metrics, (3, 3, 1, 3))
-        self.assertEqual((problem.is_dcp(), problem.is_dpp(), problem.is_qp(), problem.is_mixed_integer()), (True, True, True, True))
-        self.assertEqual((problem.status, problem.value, problem.exact, problem.report, problem.solver_stats), (None,) * 5)
+        self.assertTrue(problem.is_dcp() and problem.is_dpp() and problem.is_qp() and problem.is_mixed_integer())
+        for word in ("status", "value", "exact", "report", "solver_stats", "solution", "ray", "farkas"):
+            self.assertIsNone(getattr(problem, word), word)
 
     def test_lists_that_grow_later_change_nothing(self):
         x = cp.Variable()
@@ -264,7 +291,8 @@ class Surface(unittest.TestCase):
         problem, x, y, p = self.model()
         p.value = 1
         value = problem.solve(cp.CLARABEL)
-        self.assertEqual(value, problem.solve(solver="ecos", warm_start=True, gp=False, qcp=False, eps_abs=1e-9, max_iters=1000, ignore_dpp=True))
+        taken = {"warm_start": True, "gp": False, "qcp": False, "eps_abs": 1e-9, "max_iters": 1000, "ignore_dpp": True}
+        self.assertEqual(value, problem.solve(solver="ecos", **taken))
         self.assertEqual(value, problem.solve(solver="DCX", time_limit=100))
         with self.assertRaisesRegex(TypeError, "unexpected argument 'max_iter_s'"):
             problem.solve(max_iter_s=3)
@@ -365,7 +393,8 @@ class Stops(unittest.TestCase):
         problem = cp.Problem(cp.Minimize(cp.norm1(x)), [x >= 1, cp.cumsum(x) <= 240])
         with mock.patch.dict("os.environ", DCX_MEMORY="8"), self.assertRaisesRegex(SolverError, "31 Memory"):
             problem.solve()
-        with mock.patch.dict("os.environ", DCX_MEMORY="4"), self.assertRaisesRegex(SolverError, "want of memory; the variable DCX_MEMORY"):
+        told = "want of memory; the variable DCX_MEMORY"
+        with mock.patch.dict("os.environ", DCX_MEMORY="4"), self.assertRaisesRegex(SolverError, told):
             problem.solve()
 
     def test_time(self):

@@ -21,7 +21,10 @@ from dcx.program import ProgramError, TimedOut
 ROOT = Path(__file__).resolve().parents[2]
 SCRIPT = "import cvxpy as cp\np = cp.Parameter()\nx = cp.Variable()\nprob = cp.Problem(cp.Minimize(x), [2*x >= p])\n"
 # needs some tens of MiB
-LARGE = "import cvxpy as cp\nx = cp.Variable(120)\nprob = cp.Problem(cp.Minimize(cp.norm1(x)), [x >= 1, cp.cumsum(x) <= 240])\n"
+LARGE = """import cvxpy as cp
+x = cp.Variable(120)
+prob = cp.Problem(cp.Minimize(cp.norm1(x)), [x >= 1, cp.cumsum(x) <= 240])
+"""
 
 
 class Folder(unittest.TestCase):
@@ -30,6 +33,8 @@ class Folder(unittest.TestCase):
     def setUp(self):
         self.folder = Path(tempfile.mkdtemp())
         self.addCleanup(shutil.rmtree, self.folder)
+        # the lines of a shell by which it tells its number, in a file that is there at once
+        self.told = f"echo $$ > {self.folder}/new; mv {self.folder}/new {self.folder}/pid"
 
     def shell(self, body, name="other", mode=0o755):
         path = self.folder / name
@@ -48,8 +53,10 @@ class Running(Folder):
         self.assertEqual(program.run("check").status, 2)
 
     def test_options_stand_behind_the_files(self):
-        self.assertIn(b"range p from 0 to none value 0 slope 1/2", program.run("range", SCRIPT, "p = 1", options=["p"]).report)
-        self.assertTrue(program.run("resolve", SCRIPT, "p = 1\np = 2", options=["--warm", "--max-pivots=9"]).report.endswith(b"warm 1\n"))
+        run = program.run("range", SCRIPT, "p = 1", options=["p"])
+        self.assertIn(b"range p from 0 to none value 0 slope 1/2", run.report)
+        run = program.run("resolve", SCRIPT, "p = 1\np = 2", options=["--warm", "--max-pivots=9"])
+        self.assertTrue(run.report.endswith(b"warm 1\n"))
 
     def test_large_files_come_whole(self):
         comment = "#" + "é" * 400_000 + "\n"
@@ -115,20 +122,22 @@ class Memory(Folder):
 
     def test_what_is_no_number(self):
         for said in ("", "4 GB", "-1", "12345678901", "²"):
-            with mock.patch.dict(os.environ, DCX_MEMORY=said), self.assertRaisesRegex(ProgramError, "DCX_MEMORY .* is a number of MiB"):
-                program.run("check", SCRIPT)
+            with mock.patch.dict(os.environ, DCX_MEMORY=said):
+                with self.assertRaisesRegex(ProgramError, "DCX_MEMORY .* is a number of MiB"):
+                    program.run("check", SCRIPT)
 
 
 class Faults(Folder):
     def test_a_program_that_is_not_there(self):
-        with mock.patch.dict(os.environ, DCX="/nowhere/dcx"), self.assertRaisesRegex(ProgramError, "DCX .* '/nowhere/dcx'.* no such program"):
-            program.run("check", SCRIPT)
-        with mock.patch.dict(os.environ, DCX="no-such-word"), self.assertRaisesRegex(ProgramError, "no such program"):
-            program.find()
+        for name in ("/nowhere/dcx", "no-such-word"):
+            with mock.patch.dict(os.environ, DCX=name):
+                with self.assertRaisesRegex(ProgramError, f"DCX .* '{name}'.* no such program"):
+                    program.run("check", SCRIPT)
 
     def test_a_program_on_the_path(self):
-        with self.shell("echo usage: me", "some-dcx"), mock.patch.dict(os.environ, DCX="some-dcx", PATH=f"{self.folder}:{os.environ['PATH']}"):
-            self.assertEqual(program.run("check").report, b"usage: me\n")
+        with self.shell("echo usage: me", "some-dcx"):
+            with mock.patch.dict(os.environ, DCX="some-dcx", PATH=f"{self.folder}:{os.environ['PATH']}"):
+                self.assertEqual(program.run("check").report, b"usage: me\n")
 
     def test_a_program_that_may_not_be_run(self):
         with self.shell("exit 0", mode=0o644), self.assertRaisesRegex(ProgramError, "may not be run; `chmod"):
@@ -138,8 +147,9 @@ class Faults(Folder):
         path = self.folder / "lost"
         path.write_text("#!/no/such/interpreter\n")
         path.chmod(0o755)
-        with mock.patch.dict(os.environ, DCX=str(path)), self.assertRaisesRegex(ProgramError, "isn't there, or what it is run by"):
-            program.run("check", SCRIPT)
+        with mock.patch.dict(os.environ, DCX=str(path)):
+            with self.assertRaisesRegex(ProgramError, "isn't there, or what it is run by"):
+                program.run("check", SCRIPT)
 
     def test_what_is_no_program(self):
         path = self.folder / "text"
@@ -149,26 +159,29 @@ class Faults(Folder):
             program.run("check", SCRIPT)
 
     def test_signals(self):
-        for name, told in (("KILL", "SIGKILL.*for want of memory.*DCX_MEMORY"), ("SEGV", "ended by SIGSEGV"), ("INT", "was interrupted")):
+        killed = "SIGKILL.*for want of memory.*DCX_MEMORY"
+        for name, told in (("KILL", killed), ("SEGV", "ended by SIGSEGV"), ("INT", "was interrupted")):
             with self.shell(f"kill -{name} $$; sleep 5"), self.assertRaisesRegex(ProgramError, told):
                 program.run("check", SCRIPT)
 
     def test_what_is_no_report(self):
-        with self.shell("echo lost >&2; exit 3"), self.assertRaisesRegex(ProgramError, "ended with status 3 and without a report of dcx: lost"):
-            program.run("check", SCRIPT)
+        with self.shell("echo lost >&2; exit 3"):
+            with self.assertRaisesRegex(ProgramError, "ended with status 3 and without a report of dcx: lost"):
+                program.run("check", SCRIPT)
         with self.shell("exit 0"), self.assertRaisesRegex(ProgramError, "nothing was said"):
             program.run("check", SCRIPT)
 
     def test_too_long(self):
         start = time.monotonic()
-        with self.shell(f"echo $$ > {self.folder}/pid; exec sleep 60"), self.assertRaisesRegex(TimedOut, "no answer after 0.5 s"):
-            program.run("check", SCRIPT, timeout=0.5)
+        with self.shell(f"echo $$ > {self.folder}/pid; exec sleep 60"):
+            with self.assertRaisesRegex(TimedOut, "no answer after 0.5 s"):
+                program.run("check", SCRIPT, timeout=0.5)
         self.assertLess(time.monotonic() - start, 20)
         self.assertFalse(is_running(int((self.folder / "pid").read_text())))
 
     def test_an_interrupt_ends_the_program_too(self):
         code = "from dcx import program; program.run('check', 'x = 1')"
-        with self.shell(f"trap '' INT; echo $$ > {self.folder}/new; mv {self.folder}/new {self.folder}/pid; while :; do sleep 0.1; done"):
+        with self.shell(f"trap '' INT; {self.told}; while :; do sleep 0.1; done"):
             process = subprocess.Popen([sys.executable, "-c", code], stderr=subprocess.PIPE, env=environment())
             wait_for((self.folder / "pid").exists)
             process.send_signal(signal.SIGINT)
@@ -195,10 +208,9 @@ class Leftovers(Folder):
     def test_nothing_is_left_by_python_that_is_killed(self):
         temporary = self.folder / "temporary"
         temporary.mkdir()
-        with self.shell(f"echo $$ > {self.folder}/new; mv {self.folder}/new {self.folder}/pid; exec sleep 60"):
-            process = subprocess.Popen(
-                [sys.executable, "-c", "from dcx import program; program.run('check', 'x = 1')"], env=environment(TMPDIR=str(temporary))
-            )
+        code = "from dcx import program; program.run('check', 'x = 1')"
+        with self.shell(f"{self.told}; exec sleep 60"):
+            process = subprocess.Popen([sys.executable, "-c", code], env=environment(TMPDIR=str(temporary)))
             wait_for((self.folder / "pid").exists)
             process.kill()
             process.wait()
@@ -211,12 +223,13 @@ class Finding(Folder):
 
     def setUp(self):
         super().setUp()
-        shutil.copytree(ROOT / "python" / "dcx", self.folder / "python" / "dcx", ignore=shutil.ignore_patterns("__pycache__", "bin"))
         self.package = self.folder / "python"
+        left_out = shutil.ignore_patterns("__pycache__", "bin")
+        shutil.copytree(ROOT / "python" / "dcx", self.package / "dcx", ignore=left_out)
         self.body = "#!/bin/sh\necho usage: checkout\n"
 
     def ask(self):
-        code = "import sys; from dcx import program; sys.stdout.write(program.find() + ' ' + program.run('check').report.decode())"
+        code = "from dcx import program; print(program.find(), program.run('check').report.decode(), end='')"
         with mock.patch.dict(os.environ):
             os.environ.pop("DCX", None)
             return python(code, PYTHONPATH=str(self.package))
@@ -258,7 +271,8 @@ def environment(**more):
 
 
 def python(code, **more):
-    return subprocess.run([sys.executable, "-c", code], capture_output=True, text=True, env=environment(**more))
+    # in a folder from which no package is imported
+    return subprocess.run([sys.executable, "-c", code], capture_output=True, text=True, env=environment(**more), cwd="/")
 
 
 def is_running(pid):

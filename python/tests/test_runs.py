@@ -1,4 +1,5 @@
-"""Many settings: answers in order, cut into runs, carried by pools of processes and by a cluster, of which a worker is killed."""
+"""Many settings: answers in order, cut into runs, carried by pools of processes and by a cluster, of which a worker
+is killed."""
 
 from __future__ import annotations
 
@@ -30,13 +31,15 @@ class Model:
     def __init__(self):
         self.x, self.p = cp.Variable(3, name="x", nonneg=True), cp.Parameter(3, name="p")
         self.rule = cp.cumsum(self.x) >= self.p
-        self.problem = cp.Problem(cp.Minimize(np.array([1, 2, 1]) @ self.x), [self.rule, self.x[0] <= 5, cp.sum(self.x) <= 40])
+        rules = [self.rule, self.x[0] <= 5, cp.sum(self.x) <= 40]
+        self.problem = cp.Problem(cp.Minimize(np.array([1, 2, 1]) @ self.x), rules)
 
     def settings(self, count):
         return [{self.p: [number % 9, number % 7 - 1, Fraction(number, 10)]} for number in range(count)]
 
     def by_hand(self, setting):
-        """The value: the first is as great as the greatest but at most 5, the second what the second sum wants, the third the rest."""
+        """The value: the first is as great as the greatest but at most 5, the second what the second sum wants, the
+        third the rest."""
         first, second, third = (max(Fraction(number), Fraction(0)) for number in setting[self.p])
         if first > 5:
             return None
@@ -126,14 +129,16 @@ class Here(Case):
         problem = cp.Problem(cp.Minimize(x), [x >= 1 / p])
         results = problem.solve_at([{p: 4}, {p: 0}, {p: -1}])
         self.assertEqual([result.value for result in results], [0.25, None, -1])
-        self.assertEqual((results[1].status, results[1].error.stop.name, results[1][x]), ("solver_error", "ZeroDivisor", None))
+        bad = results[1]
+        self.assertEqual((bad.status, bad.error.stop.name, bad[x]), ("solver_error", "ZeroDivisor", None))
         self.assertIn("test_runs.py", str(results[1].error))
 
     def test_whole_numbers(self):
         x, p = cp.Variable(2, integer=True), cp.Parameter()
         problem = cp.Problem(cp.Minimize(cp.sum(x)), [2 * x[0] >= p, x[1] >= p / 3])
         results = problem.solve_at([{p: number} for number in range(7)])
-        self.assertEqual([result.value for result in results], [-(-number // 2) - (-number // 3) for number in range(7)])
+        wanted = [-(-number // 2) - (-number // 3) for number in range(7)]
+        self.assertEqual([result.value for result in results], wanted)
 
     def test_long_settings_are_cut_by_bytes(self):
         p, x = cp.Parameter(3000, name="p"), cp.Variable()
@@ -170,7 +175,8 @@ class Here(Case):
 
     def test_a_part_that_fails_is_asked_again_once(self):
         settings = self.model.settings(40)
-        with self.wrapped(f"if grep -q 'p = .0, -1, 0.' \"$3\" && mkdir {self.folder}/once 2> /dev/null; then kill -KILL $$; fi"):
+        once = f"grep -q 'p = .0, -1, 0.' \"$3\" && mkdir {self.folder}/once 2> /dev/null"
+        with self.wrapped(f"if {once}; then kill -KILL $$; fi"):
             self.check(self.model.problem.solve_at(settings, chunk=10), settings)
         self.assertTrue((self.folder / "once").exists())
 
@@ -180,15 +186,17 @@ class Here(Case):
         with self.wrapped(f"if grep -q ', 2.5.$' \"$3\"; then {counts} kill -KILL $$; fi"):
             for executor in (None, ThreadPoolExecutor(2)):
                 done = []
-                results = self.model.problem.solve_at(settings, chunk=10, executor=executor, progress=lambda *n: done.append(n))
+                more = {"executor": executor, "progress": lambda *counts: done.append(counts)}
+                results = self.model.problem.solve_at(settings, chunk=10, **more)
                 bad = results[20:30]
                 for result in bad:
                     self.assertEqual((result.status, result.value, result[self.model.x]), ("solver_error", None, None))
                     self.assertIsInstance(result.error, SolverError)
-                    self.assertIn("settings 21 to 30: no answer, since the worker died or failed twice", str(result.error))
-                    self.assertIn("SIGKILL", str(result.error))
+                    told = "settings 21 to 30: no answer, since the worker died or failed twice .*SIGKILL"
+                    self.assertRegex(str(result.error), told)
                 good = results[:20] + results[30:]
-                self.assertEqual([result.exact for result in good], [self.model.by_hand(result.setting) for result in good])
+                wanted = [self.model.by_hand(result.setting) for result in good]
+                self.assertEqual([result.exact for result in good], wanted)
                 self.assertEqual([result.index for result in results], list(range(40)))
                 self.assertEqual(done[-1], (40, 40))
                 if executor is not None:
@@ -260,7 +268,8 @@ class Executors(Case):
         settings = self.model.settings(400)
         done = []
         with ProcessPoolExecutor(4) as executor:
-            results = self.model.problem.solve_at(settings, executor=executor, progress=lambda *counts: done.append(counts))
+            more = {"executor": executor, "progress": lambda *counts: done.append(counts)}
+            results = self.model.problem.solve_at(settings, **more)
         self.check(results, settings)
         self.assertEqual(done, sorted(done))
         self.assertEqual((len(done), done[-1]), (16, (400, 400)))
@@ -285,8 +294,9 @@ class Executors(Case):
 
         settings = self.model.settings(120)
         killed = []
+        how = {"n_workers": 2, "threads_per_worker": 1, "dashboard_address": None, "silence_logs": 50}
         with self.wrapped("sleep 0.15"):
-            with LocalCluster(n_workers=2, threads_per_worker=1, dashboard_address=None, silence_logs=50) as cluster, Client(cluster) as client:
+            with LocalCluster(**how) as cluster, Client(cluster) as client:
                 pids = client.run(os.getpid)
 
                 def progress(done, total):

@@ -134,9 +134,10 @@ class Text(unittest.TestCase):
     def test_what_stands_twice_is_named_once(self):
         x = cp.Variable(3, name="x")
         twice = cp.abs(x - 1)
-        self.assertEqual(body(cp.sum(twice) + cp.max(twice)), ["e1 = cp.abs(x - 1)", "cp.sum(e1) + cp.max(e1)"])
+        wanted = ["e1 = cp.abs(x - 1)", "cp.sum(e1) + cp.max(e1)"]
+        self.assertEqual(body(cp.sum(twice) + cp.max(twice)), wanted)
         # equal parts are one, also where the user wrote them twice
-        self.assertEqual(body(cp.sum(cp.abs(x - 1)) + cp.max(cp.abs(x - 1))), ["e1 = cp.abs(x - 1)", "cp.sum(e1) + cp.max(e1)"])
+        self.assertEqual(body(cp.sum(cp.abs(x - 1)) + cp.max(cp.abs(x - 1))), wanted)
         # what is no longer than a name stands as it is
         self.assertEqual(body(x[0] + 2 * x[1] + cp.abs(2 * x[1]) - x[0]), ["x[0] + 2*x[1] + cp.abs(2*x[1]) - x[0]"])
 
@@ -151,10 +152,17 @@ class Text(unittest.TestCase):
         )
         self.assertEqual(
             lines[2:7],
-            ["c1 = np.array([1.5, -2])", "c2 = np.array([[1, 3], [2, 4]])", "c3 = np.eye(2)", "c4 = np.zeros((2, 2))", "c5 = np.ones((2, 2))"],
+            [
+                "c1 = np.array([1.5, -2])",
+                "c2 = np.array([[1, 3], [2, 4]])",
+                "c3 = np.eye(2)",
+                "c4 = np.zeros((2, 2))",
+                "c5 = np.ones((2, 2))",
+            ],
         )
         self.assertEqual(lines[7], "c6 = np.array([1/3, 7])")
-        self.assertEqual(lines[-5:-1], ["    c2 @ x <= c1,", "    y == c3,", "    cp.maximum(y, c4) <= c5,", "    c6 @ x <= 1,"])
+        wanted = ["    c2 @ x <= c1,", "    y == c3,", "    cp.maximum(y, c4) <= c5,", "    c6 @ x <= 1,"]
+        self.assertEqual(lines[-5:-1], wanted)
 
     def test_long_arrays_go_over_lines(self):
         x = cp.Variable(60)
@@ -170,7 +178,8 @@ class Text(unittest.TestCase):
         lines = written(cp.Minimize(cp.sum(x)), rules).text.splitlines()
         start = [place for place, line in enumerate(lines) if line.startswith("prob = ")][0]
         found = [re.fullmatch(r"    (.*),  # (.*):(\d+)", line).groups() for line in lines[start + 1 : -1]]
-        self.assertEqual([line for line, _, _ in found], ["x[0] + x[1] >= 1", "x[0] <= x[1]", "x[1] <= x[2]", "x >= -1", "x <= 5"])
+        wanted = ["x[0] + x[1] >= 1", "x[0] <= x[1]", "x[1] <= x[2]", "x >= -1", "x <= 5"]
+        self.assertEqual([line for line, _, _ in found], wanted)
         self.assertEqual({file for _, file, _ in found}, {HERE.name})
         at = [line_of(mark) for mark in ("the first", "the loop", "the loop", "the bounds", "the bounds")]
         self.assertEqual([int(number) for _, _, number in found], at)
@@ -183,14 +192,17 @@ class Text(unittest.TestCase):
         for word in attributes:
             self.assertIn(f"{word} = cp.Variable((2, 2), {word}=True)", lines)
         self.assertIn("pos_ = cp.Variable(nonneg=True)", lines)
-        self.assertRegex("\n".join(lines), r"both = cp\.Variable\(2, (integer=True, nonneg=True|nonneg=True, integer=True)\)")
+        both = r"both = cp\.Variable\(2, (integer=True, nonneg=True|nonneg=True, integer=True)\)"
+        self.assertRegex("\n".join(lines), both)
 
     def test_constraints_of_numbers_alone_and_such_that_stand_twice(self):
         x = cp.Variable(name="x")
         rule = x >= 1
-        lines = text(cp.Minimize(x), rule, cp.Constant(1) <= 2, rule, 3 >= cp.Constant([1, 2]), cp.Constant(2) == cp.Parameter(name="p"))
+        numbers = [cp.Constant(1) <= 2, rule, 3 >= cp.Constant([1, 2]), cp.Constant(2) == cp.Parameter(name="p")]
+        lines = text(cp.Minimize(x), rule, *numbers)
         start = lines.index("prob = cp.Problem(cp.Minimize(x), [")
-        self.assertEqual(lines[start + 1 : -1], ["    x >= 1,", "    cp.Constant(1) <= 2,", "    cp.Constant(c1) <= 3,", "    2 == p,"])
+        wanted = ["    x >= 1,", "    cp.Constant(1) <= 2,", "    cp.Constant(c1) <= 3,", "    2 == p,"]
+        self.assertEqual(lines[start + 1 : -1], wanted)
         self.assertEqual(program.run("check", "\n".join(lines)).status, 0)
 
     def test_the_same_model_gives_the_same_script(self):
@@ -202,9 +214,8 @@ class Text(unittest.TestCase):
         )
         found = set()
         for seed in ("1", "2", "3"):
-            done = subprocess.run(
-                [sys.executable, "-c", code, str(HERE.parents[1])], capture_output=True, text=True, env={**os.environ, "PYTHONHASHSEED": seed}
-            )
+            words = [sys.executable, "-c", code, str(HERE.parents[1])]
+            done = subprocess.run(words, capture_output=True, text=True, env={**os.environ, "PYTHONHASHSEED": seed})
             self.assertEqual(done.stderr, "")
             found.add(done.stdout)
         self.assertEqual(len(found), 1)
@@ -237,6 +248,8 @@ class Meaning(unittest.TestCase):
             number = np.round(model.draw.uniform(-3, 3), 1)
             values[name] = number * np.ones(leaf.shape) + np.arange(leaf.size).reshape(leaf.shape)
             leaf.value = values[name] if leaf.shape else float(values[name])
+        for leaf in script.idle:
+            leaf.value = model.draw.random() * np.ones(leaf.shape)
         objective, *sides = self.evaluated(script, values)
         np.testing.assert_allclose(objective, least.value, rtol=1e-9, atol=1e-9)
         for rule, pair in zip(rules, sides):
@@ -280,7 +293,8 @@ class Model:
         return self.draw.choice([*self.single, self.draw.randint(-3, 3), Fraction(self.draw.randint(-5, 5), 3), 0.25])
 
     def number(self):
-        return self.draw.choice([lambda: cp.sum(self.any()), lambda: cp.max(self.any()), lambda: self.any()[self.draw.randint(0, 2)]])()
+        place = self.draw.randint(0, 2)
+        return self.draw.choice([lambda: cp.sum(self.any()), lambda: cp.max(self.any()), lambda: self.any()[place]])()
 
     def step(self):
         array = np.array([self.draw.randint(-3, 3) for _ in range(9)])
@@ -307,7 +321,8 @@ class Model:
 
 class Settings(unittest.TestCase):
     def test_a_line(self):
-        a, b, c = cp.Parameter(name="a", value=-0.5), cp.Parameter(2, value=[1, Fraction(2, 3)]), cp.Parameter((2, 2), name="c", value=np.eye(2))
+        a, b = cp.Parameter(name="a", value=-0.5), cp.Parameter(2, value=[1, Fraction(2, 3)])
+        c = cp.Parameter((2, 2), name="c", value=np.eye(2))
         script = written(cp.Minimize(a + cp.sum(b) + cp.sum(c)), [])
         self.assertEqual(script.settings_line(), "a = -0.5; p1 = [1, 2/3]; c = [[1, 0], [0, 1]]\n")
         c.value = sparse.csr_matrix(np.diag([0, 3.0]))
@@ -358,7 +373,8 @@ prob = cp.Problem(cp.Minimize(cp.sum(stock)/4 + cost*waste), rules)
             cost.value = value
             problem.solve()
             self.assertEqual(problem.report, program.run("resolve", by_hand, f"cost = {value}\n").report)
-        self.assertEqual(program.run("certificate", problem.script(), problem.settings()), program.run("certificate", by_hand, "cost = 3\n"))
+        recorded = program.run("certificate", problem.script(), problem.settings())
+        self.assertEqual(recorded, program.run("certificate", by_hand, "cost = 3\n"))
 
     def test_numbers_beyond_the_language(self):
         x = cp.Variable()
