@@ -23,10 +23,12 @@ class Answer:
 
 
 class Session:
-    def __init__(self, problem, verdict, limits=OF_PROGRAM):
+    """A problem with the verdict of the rules. Without a verdict it is reduced anew at each setting."""
+
+    def __init__(self, problem, verdict=None, limits=OF_PROGRAM):
         self.problem, self.limits = problem, limits
         self.map = self.columns = None
-        if verdict.dpp:
+        if verdict is not None and verdict.dpp:
             try:
                 self.map = affine_map(problem, limits)
             except FAULTS:

@@ -148,13 +148,13 @@ class Tableau:
 
 def eliminated(row, pivot_row, p, a, numbers):
     """The row less a multiple of the pivot row, in lowest terms; None where a number passes."""
-    shared = gcd(p, a)
+    shared, greatest = gcd(p, a), numbers.greatest
     p, a = p // shared, a // shared
     result, divisor = {}, 0
     for column in row.keys() | pivot_row.keys():
         left, right = p * row.get(column, 0), a * pivot_row.get(column, 0)
         value = left - right
-        if not numbers.fits(left, right, value):
+        if greatest is not None and max(abs(left), abs(right), abs(value)) > greatest:
             return None
         if value:
             result[column] = value
