@@ -9,7 +9,7 @@ from typing import Any, Callable, Iterable, Mapping, NamedTuple, Optional
 from . import program, sites
 from .arguments import Arguments
 from .constraints import Constraint
-from .errors import DCPError, DPPError
+from .errors import DCPError, DPPError, SolverError, UnsupportedError
 from .expressions import Constant, leaves_of, postorder
 from .objectives import Maximize, Objective
 from .refusals import read
@@ -69,7 +69,7 @@ class Problem:
         if isinstance(constraints, Constraint):
             raise TypeError("the constraints are a list, and not a constraint: write [constraint]")
         self._objective = objective
-        self._constraints = [_constraint(item) for item in constraints or ()]
+        self._constraints = [_constraint(item) for item in (() if constraints is None else constraints)]
         self._script: Optional[Script] = None
         self._verdict: Optional[tuple[bool, Optional[Verdict]]] = None
         self._result: Optional[Result] = None
@@ -202,11 +202,12 @@ class Problem:
         start = time.perf_counter()
         try:
             run = program.run("resolve", script.text, settings, options=given.options, timeout=given.time_limit)
-        except program.TimedOut as error:
-            self._keep(Result(script, None, self._maximized, error=given.too_late(error, self.site)))
-            raise self._result.error from None
-        self._report = run.report
-        answer = read(run, script).answers[0]
+            self._report = run.report
+            answer = read(run, script).answers[0]
+        except (program.ProgramError, SolverError) as cause:
+            error = given.too_late(cause, self.site) if isinstance(cause, program.TimedOut) else cause
+            self._keep(Result(script, None, self._maximized, error=error))
+            raise error from None
         self._keep(Result(script, answer, self._maximized, seconds=time.perf_counter() - start))
         if verbose:
             value = "" if self.exact is None else f", value {self.value:.10g}, exactly {self.exact}"
@@ -353,6 +354,32 @@ class Problem:
         if given.meaningless and not self._arguments_told:
             print(f"dcx: of no meaning here, where one solver gives exact answers: {', '.join(given.meaningless)}")
             self._arguments_told = True
+
+
+# what a problem of CVXPY has and this one doesn't, with the reason
+_REFUSED = {
+    "get_problem_data": "there is no other solver's data: problem.script() and problem.settings() are what is handed over",
+    "unpack_results": "there are no other solver's results to take",
+    "unpack": "there are no other solver's results to take",
+    "register_solve": "call the function itself with the problem",
+    "backward": "derivatives aren't taken; problem.range(p) tells the value along a parameter",
+    "derivative": "derivatives aren't taken; problem.range(p) tells the value along a parameter",
+}
+
+
+def _refusing(name: str, reason: str) -> Callable[..., Any]:
+    """A method that says why it isn't offered."""
+
+    def method(self: Problem, *args: Any, **arguments: Any) -> Any:
+        raise UnsupportedError(f"problem.{name}(..) isn't offered: {reason}", sites.here())
+
+    method.__name__ = name
+    method.__doc__ = f"Not offered: {reason}."
+    return method
+
+
+for _name, _reason in _REFUSED.items():
+    setattr(Problem, _name, _refusing(_name, _reason))
 
 
 def _constraint(item: Any) -> Constraint:

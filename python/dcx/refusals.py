@@ -51,8 +51,9 @@ def refused(refusal: Refusal, script: Script) -> DCXError:
     found = script.at(refusal.line, refusal.column)
     site = getattr(found, "site", None)
     if refusal.number == _RULES:
-        return DCPError(f"Problem does not follow DCP rules. {message.sentence} {message.advice}{_shown(found)}", site)
-    reason = f"{message.sentence} {message.advice}{_shown(found)}"
+        reason = f"Problem does not follow DCP rules{_shown(found)}. {message.sentence} {message.advice}"
+        return DCPError(reason, site)
+    reason = f"{message.sentence} {message.advice}"
     if refusal.number in _LIMITS:
         return LimitError(reason, site)
     if refusal.number in (_WHOLE, _RANGE):
@@ -65,7 +66,7 @@ def stopped(stop: Stop, script: Script) -> SolverError:
     about, if there is one."""
     message = messages.stop(stop)
     found = _about(stop, script)
-    reason = f"{stop.number} {stop.name}: {message.sentence} {message.advice}{_shown(found)}"
+    reason = f"{stop.number} {stop.name}{_shown(found)}: {message.sentence} {message.advice}"
     inner = stop.detail.stop or stop
     if inner.detail.place is not None:
         reason += " Places are those of problem.script()."
@@ -98,6 +99,6 @@ def _of_row(row: int, script: Script) -> Optional[Any]:
 
 
 def _shown(found: Any) -> str:
-    """The text of what is told of."""
-    return "" if found is None else f" It is told of: {found}"
+    """Where something is told, in the user's words."""
+    return "" if found is None else f" at `{found}`"
 

@@ -346,6 +346,13 @@ class Surface(unittest.TestCase):
             low + cp.Problem(cp.Maximize(x))
         self.assertEqual(str(low), f"minimize {x}\nsubject to {low.constraints[0]}")
 
+    def test_what_is_not_offered(self):
+        problem, *_ = self.model()
+        for name in ("get_problem_data", "backward", "derivative", "register_solve", "unpack_results"):
+            with self.assertRaisesRegex(UnsupportedError, rf"problem.{name}\(..\) isn't offered: .*"):
+                getattr(problem, name)(cp.OSQP)
+        self.assertEqual(cp.Problem(cp.Minimize(0), np.array([cp.Variable() == 1, cp.Variable() == 2])).solve(), 0)
+
     def test_what_is_no_problem(self):
         x = cp.Variable(2)
         with self.assertRaisesRegex(DCPError, "must be Minimize or Maximize"):
@@ -379,6 +386,14 @@ class Stops(unittest.TestCase):
         self.assertEqual((problem.status, problem.value, x.value, rule.dual_value), ("solver_error", None, None, None))
         self.assertIn(b"stopped 27 PivotLimit 1", problem.report)
         self.assertEqual((problem.solve(), problem.status), (4, "optimal"))
+
+    def test_after_a_program_that_dies_there_are_no_values(self):
+        x = cp.Variable()
+        problem = cp.Problem(cp.Minimize(x), [x >= 1])
+        self.assertEqual((problem.solve(), x.value), (1, 1))
+        with mock.patch.dict("os.environ", DCX="/bin/false"), self.assertRaises(program.ProgramError):
+            problem.solve()
+        self.assertEqual((problem.status, problem.value, x.value), ("solver_error", None, None))
 
     def test_a_search_without_an_end(self):
         left, right = cp.Variable(integer=True), cp.Variable(integer=True, nonneg=True)
