@@ -358,7 +358,7 @@ class Problem:
 
 # what a problem of CVXPY has and this one doesn't, with the reason
 _REFUSED = {
-    "get_problem_data": "there is no other solver's data: problem.script() and problem.settings() are what is handed over",
+    "get_problem_data": "there is no other solver's data: problem.script() and problem.settings() are handed over",
     "unpack_results": "there are no other solver's results to take",
     "unpack": "there are no other solver's results to take",
     "register_solve": "call the function itself with the problem",

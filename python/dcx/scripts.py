@@ -1,15 +1,16 @@
 """The script that is handed to the program: a model in the program's language, readable by a person, and what its
 names, its constraints' numbers and its places stand for.
 
-Names are the user's where these are valid and free, else `x1`, `p1`. Arrays have names, `c1`, and so has what stands
-in two places, `e1`, unless it is no more than an entry, a slice or a multiple of something with a name. Each
-constraint has a line of its own, with the file and the line that made it. The same model gives the same script.
-Values of parameters stand in lines of settings, and not in the script.
+Names are the user's where these are valid and free (`flow[a,b]` is `flow_a_b`), else `x1`, `p1`. Arrays have names,
+`c1`, and so has what stands in two places, `e1`, unless it is no more than an entry, a slice or a multiple of something
+with a name. Each constraint has a line of its own, with the file and the line that made it. The same model gives the
+same script. Values of parameters stand in lines of settings, and not in the script.
 """
 
 from __future__ import annotations
 
 import keyword
+import re
 from contextlib import contextmanager
 from typing import Any, Iterable, Iterator, Mapping, NamedTuple, Optional, Sequence
 
@@ -29,10 +30,11 @@ _TAKEN = {*keyword.kwlist, "print", "cp", "np", "range"}
 class Script:
     """A script with what stands in it.
 
-    `text` is the script. `variables` and `parameters` give the user's object for each name, in the order of declaration,
-    and `constraints` for each number, from 1, by which the program tells multipliers; those that attributes of variables
-    add come last. `names` and `numbers` lead back, from the objects to their names and numbers. `idle` has the variables
-    and parameters of the model that are multiplied by zeros alone and don't stand in the script: any value will do.
+    `text` is the script. `variables` and `parameters` give the user's object for each name, in the order of
+    declaration, and `constraints` for each number, from 1, by which the program tells multipliers; those that
+    attributes of variables add come last. `names` and `numbers` lead back, from the objects to their names and numbers.
+    `idle` has the variables and parameters of the model that are multiplied by zeros alone and don't stand in the
+    script: any value will do.
     """
 
     def __init__(
@@ -309,15 +311,16 @@ class _Close(NamedTuple):
 
 
 def _named(leaves: list[Any]) -> dict[Any, str]:
-    """A name for each leaf: the user's where it is valid and free, else `x` or `p` with the next number that is free.
-    """
+    """A name for each leaf: the user's where it is valid and free, or is with `_` in place of what no name has, else
+    `x` or `p` with the next number that is free."""
     names: dict[Any, str] = {}
     taken = set(_TAKEN)
-    for leaf in leaves:
-        name = leaf.given_name
-        if name is not None and name.isidentifier() and name not in taken:
-            taken.add(name)
-            names[leaf] = name
+    for spelled in (str, lambda name: re.sub(r"\W+", "_", name).strip("_")):
+        for leaf in leaves:
+            name = spelled(leaf.given_name or "")
+            if leaf not in names and name.isidentifier() and name not in taken:
+                taken.add(name)
+                names[leaf] = name
     counts = {"variable": 0, "parameter": 0}
     for leaf in leaves:
         while leaf not in names:

@@ -52,10 +52,17 @@ class Names(unittest.TestCase):
         self.assertIn("\nprob1 = cp.Problem(cp.Minimize(total + x2 + x1 + prob))", script.text)
 
     def test_those_that_are_no_names(self):
-        bad = ["cp", "np", "print", "range", "lambda", "None", "two words", "1st", "", "a-b", "x[0]"]
+        bad = ["cp", "np", "print", "range", "lambda", "None", "1st", "", "$", "[]"]
         leaves = [cp.Variable(name=name) for name in bad]
         script = written(cp.Minimize(sum(leaves)), [])
         self.assertEqual(list(script.variables), [f"x{number}" for number in range(1, len(bad) + 1)])
+        self.assertEqual(program.run("check", script.text).status, 0)
+
+    def test_those_that_are_nearly_names(self):
+        names = ["two words", "flow[a,b]", "flow[a b]", "x-1", "x_1", " kg/m² ", "été (h)"]
+        leaves = [cp.Variable(name=name) for name in names]
+        script = written(cp.Minimize(sum(leaves)), [])
+        self.assertEqual(list(script.variables), ["two_words", "flow_a_b", "x1", "x2", "x_1", "x3", "été_h"])
         self.assertEqual(program.run("check", script.text).status, 0)
 
     def test_a_name_that_is_given_twice(self):
