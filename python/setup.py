@@ -1,4 +1,6 @@
-"""Puts the program of dist/ into the package that is built: dcx/bin/dcx, with its checksum. All else stands in pyproject.toml."""
+"""Puts the program of dist/ into the package that is built: dcx/bin/dcx, with its checksum. All else stands in
+pyproject.toml.
+"""
 import hashlib
 import shutil
 import sys
@@ -68,10 +70,12 @@ class Package(Distribution):
         return True
 
 
-# What a build makes on its way lies in a temporary folder: a checkout stays as it is, and no module of an earlier build gets into a wheel.
+# What a build makes on its way lies in a temporary folder: a checkout stays as it is, and no module of an earlier build
+# gets into a wheel.
 with tempfile.TemporaryDirectory(prefix="dcx-build-") as room:
     setup(
         distclass=Package,
         cmdclass={"build_py": WithProgram, "sdist": SourcesWithProgram, "bdist_wheel": Wheel},
-        options={"build": {"build_base": room}, "egg_info": {"egg_base": room}, "bdist_wheel": {"bdist_dir": f"{room}/wheel"}},
+        options={"build": {"build_base": room}, "egg_info": {"egg_base": room},
+                 "bdist_wheel": {"bdist_dir": f"{room}/wheel"}},
     )

@@ -14,21 +14,31 @@ GREATEST = 2**127 - 1
 DIGITS = 30
 EXPONENT = 30
 
-_significant: int | None = None  # how many digits of a float are read, where that was set
+_kept = (None, None)  # how many digits of a float are read, where that was set: significant ones, and decimals
 
 
-def float_digits(count: int | None) -> None:
-    """Has each float that is read from now on rounded to `count` significant digits, 1 to 17, and with None, as it is
-    without a call, to none: then a float means the decimal that Python prints.
+def float_digits(significant: int | None = None, decimals: int | None = None) -> None:
+    """Has each float that is read from now on rounded to so many `significant` digits, 1 to 17, or to so many
+    `decimals` behind the point, 0 to 30, or to both. Without either a float means the decimal that Python prints, as it
+    does by itself.
 
-    Sums and products of floats have errors in their last digits: `1 - 0.9` is 0.09999999999999998, which 12 or 15
-    digits make a tenth. Whole numbers, fractions and decimals stay what they are.
+    Sums and products of floats have errors in their last digits: `1 - 0.9` is 0.09999999999999998, which twelve digits
+    of either kind make a tenth, and `0.1 + 0.2 - 0.3` is 5.551115123125783e-17, which twelve decimals make 0. A Python
+    `int`, a `Fraction` and a `Decimal` stay what they are.
     """
-    global _significant
-    if count is not None and not (isinstance(count, int) and 1 <= count <= 17):
-        raise ValueError(f"a float has 1 to 17 significant digits, and not {count!r}")
-    _significant = count
+    for count, least, most in ((significant, 1, 17), (decimals, 0, 30)):
+        if count is not None and not (isinstance(count, int) and least <= count <= most):
+            raise ValueError(f"digits are {least} to {most}, and not {count!r}")
+    global _kept
+    _kept = (significant, decimals)
     _of_float.cache_clear()
+
+
+def _digits_of(value: float) -> Fraction:
+    """What a float means."""
+    significant, decimals = _kept
+    number = Fraction(repr(value) if significant is None else format(value, f".{significant}g"))
+    return number if decimals is None else Fraction(round(number, decimals))
 
 
 def exact(value) -> Fraction:
@@ -74,7 +84,7 @@ def _of_int(value: int) -> Fraction:
 def _of_float(value: float) -> Fraction:
     if not math.isfinite(value):
         raise ValueError(f"{_name_of(value)} is no number that a model may hold")
-    return Fraction(repr(value) if _significant is None else format(value, f".{_significant}g"))
+    return _digits_of(value)
 
 
 def _of_numpy(value) -> Fraction:
@@ -88,7 +98,7 @@ def _of_numpy(value) -> Fraction:
             raise ValueError(f"{_name_of(value)} is no number that a model may hold")
         # `str` writes the shortest decimal at the width of the number, so a float32 of 0.1 is a tenth too
         shown = str(value.item() if value.dtype.itemsize == 8 else value[()])
-        return Fraction(shown) if _significant is None else _of_float(float(shown))
+        return Fraction(shown) if _kept == (None, None) else _of_float(float(shown))
     if kind == "O":
         return exact(value.item())
     if kind == "c":

@@ -1,4 +1,4 @@
-"""Runs a user's script as `python3 -m dcx run` does, and prints the ANSWER that it leaves, as JSON on the last line: `dcx run answers.py SCRIPT ARGS..`."""
+"""`python3 -m dcx run answers.py SCRIPT ARGS..` runs a user's script, and prints the ANSWER that it leaves as JSON."""
 import json
 import os
 import runpy

@@ -1,5 +1,5 @@
-"""Every script of examples/ runs as Python with its import changed, and has the numbers of the report: those of `report.txt` where there is one,
-and else what the program answers to the script itself.
+"""Every script of examples/ runs as Python with its import changed, and has the numbers of the report: those of
+`report.txt` where there is one, and else what the program answers to the script itself.
 """
 from __future__ import annotations
 
@@ -33,10 +33,12 @@ SETTINGS = {
     "messages/model": ["settings.txt"],
 }
 REFUSED = {"portfolio/too_little_turnover": ("rule at_most", 10), "guide/bonus": ("rule maximize", 8)}
-# Where Python and the language mean another thing by the same text, the value and the first multiplier that Python's has, by hand: `raised += 1`
-# changes the array that it was bound to, a float has no 25 digits behind the point, and `3 == x` is x == 3 to Python, with a multiplier of its sign.
+# Where Python and the language mean another thing by the same text, the value and the first multiplier that Python's
+# has, by hand: `raised += 1` changes the array that it was bound to, a float has no 25 digits behind the point, and `3
+# == x` is x == 3 to Python, with a multiplier of its sign.
 ANOTHER = {"cvxpy/in_place": (6, [1, 1, 1]), "messages/wide_pivot": (1, [-1.5]), "cvxpy/turned": (6, [-2])}
-# Where Python forms `1 - 0.9` first, which is a float that isn't quite a tenth, the numbers are those of the report to twelve digits.
+# Where Python forms `1 - 0.9` first, which is a float that isn't quite a tenth, the numbers are those of the report to
+# twelve digits.
 NEARLY = {"regression/model"}
 
 
@@ -64,7 +66,8 @@ def read_settings(text):
     settings = []
     for line in filter(None, (line.strip() for line in joined.splitlines())):
         items = [] if line == "{}" else [item.split("=") for item in line.split(";")]
-        settings.append({name.strip(): [number(part) for part in value.strip(" []").split(",")] if "[" in value else number(value)
+        settings.append({name.strip(): [number(part) for part in value.strip(" []").split(",")]
+                         if "[" in value else number(value)
                          for name, value in items})
     return settings
 
@@ -88,13 +91,15 @@ class Examples(unittest.TestCase):
         """A result has the numbers of a report's answer. `result` tells values by variable and constraint."""
         if answer.status == "stopped":
             self.assertEqual(result.status, "solver_error", at)
-            self.assertEqual((result.error.stop.number, result.error.stop.name), (answer.stop.number, answer.stop.name), at)
+            self.assertEqual((result.error.stop.number, result.error.stop.name), (answer.stop.number, answer.stop.name),
+                             at)
             return
         self.assertEqual(result.status, answer.status, at)
         if at in NEARLY:
             self.assertAlmostEqual(result.value, float(answer.value), delta=1e-12 * abs(result.value))
             for name, wanted in answer.variables.items():
-                np.testing.assert_allclose(np.ravel(result[names[name]]), [float(entry) for entry in wanted.entries], rtol=1e-12)
+                np.testing.assert_allclose(np.ravel(result[names[name]]), [float(entry) for entry in wanted.entries],
+                                           rtol=1e-12)
             return
         self.assertEqual(result.exact, answer.value, at)
         variables = {name: value for name, value in names.items() if isinstance(value, Variable)}
@@ -117,7 +122,8 @@ class Examples(unittest.TestCase):
         """Scripts that import the package print what stands in `printed.txt` beside them."""
         for path in DRIVERS:
             environment = dict(os.environ, PYTHONPATH=str(EXAMPLES.parent / "python"), PYTHONDONTWRITEBYTECODE="1")
-            printed = subprocess.run([sys.executable, str(path)], env=environment, stdin=subprocess.DEVNULL, check=True, stdout=subprocess.PIPE)
+            printed = subprocess.run([sys.executable, str(path)], env=environment, stdin=subprocess.DEVNULL, check=True,
+                                     stdout=subprocess.PIPE)
             self.assertEqual(printed.stdout.decode(), path.with_name("printed.txt").read_text(), path)
 
     def check_last(self, names, problem, answer, at):
@@ -180,7 +186,8 @@ class Examples(unittest.TestCase):
             for key, value in setting.items():
                 names[key].value = value
             found = problem.irreducible()
-            numbers = [place for place, constraint in enumerate(problem.constraints, start=1) if any(constraint is one for one in found.constraints)]
+            told = {id(constraint) for constraint in found.constraints}
+            numbers = [place for place, constraint in enumerate(problem.constraints, start=1) if id(constraint) in told]
             self.assertEqual(numbers, list(answer.members))
             self.assertTrue(all(isinstance(one, Constraint) for one in found.constraints))
 
@@ -191,9 +198,11 @@ class Examples(unittest.TestCase):
         for setting, answer in zip(read_settings((folder / "settings.txt").read_text()), wanted):
             names["neighbour"].value = setting["neighbour"]
             span = names["prob"].range(names["neighbour"])
-            self.assertEqual(span.status if answer.status == "infeasible" else "optimal", "infeasible" if answer.status == "infeasible" else "optimal")
+            self.assertEqual(span.status if answer.status == "infeasible" else "optimal",
+                             "infeasible" if answer.status == "infeasible" else "optimal")
             if answer.range:
-                self.assertEqual((span.low, span.high, span.value, span.slope), (answer.range.low, answer.range.high, answer.range.value, answer.range.slope))
+                self.assertEqual((span.low, span.high, span.value, span.slope),
+                                 (answer.range.low, answer.range.high, answer.range.value, answer.range.slope))
 
 
 def test_of(path):

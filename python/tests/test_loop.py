@@ -1,4 +1,6 @@
-"""A closed loop of model predictive control: fifty steps take under a second of processor time beside what Python itself takes."""
+"""A closed loop of model predictive control: fifty steps take under a second of processor time beside what Python
+itself takes.
+"""
 from __future__ import annotations
 
 import os
@@ -23,7 +25,7 @@ def processor_time():
 
 
 def slowness():
-    """How much longer than a second a loop of Python takes here that takes a second on a machine with nothing else to do, but 1 at the least."""
+    """How many times as long as on an idle machine a loop of Python takes here, but 1 at the least."""
     started = time.process_time()
     for _ in range(5_000_000):
         pass
@@ -81,12 +83,12 @@ class Loop(unittest.TestCase):
         package, programs = processor_time() - started
         for start, value in zip(states[::7], values[::7]):
             self.assertAlmostEqual(value, least(start), delta=1e-7)
-        parts = f"{package:.2f} s of the package and {programs:.2f} s of the program, where this machine is {slow:.1f} times as slow as an idle one"
+        parts = f"{package:.2f} s of the package, {programs:.2f} s of the program, {slow:.1f} times as slow as if idle"
         self.assertLess(package + programs, slow, parts)
         self.assertLess(package, 0.4 * slow, parts)
 
     def test_answers_go_back_in(self):
-        """`measured.value = state.value[1]` ends at rest; the values in between are those of one plan after the other."""
+        """`measured.value = state.value[1]` ends at rest, by way of the values of one plan after the other."""
         problem, measured, force, state = plan()
         measured.value = np.array([3, 0])
         costs, used = [], []

@@ -1,4 +1,6 @@
-"""`pip install ./python` puts the program of dist/ into the package, out of a checkout whose path has blanks, without a network."""
+"""`pip install ./python` puts the program of dist/ into the package, out of a checkout whose path has blanks, without a
+network.
+"""
 from __future__ import annotations
 
 import os
@@ -53,7 +55,8 @@ class Packaging(unittest.TestCase):
     def copy(cls, name):
         """A checkout with the package and dist/."""
         checkout = cls.room / name
-        shutil.copytree(TOP / "python", checkout / "python", ignore=shutil.ignore_patterns("tests", "__pycache__", "build", "*.egg-info", "bin"))
+        shutil.copytree(TOP / "python", checkout / "python",
+                        ignore=shutil.ignore_patterns("tests", "__pycache__", "build", "*.egg-info", "bin"))
         shutil.copytree(TOP / "dist", checkout / "dist")
         return checkout
 

@@ -1,7 +1,8 @@
 """Every run that docs/PYTHON.md shows is run, and says what stands there.
 
-The blocks of a section are one script. Behind a block stands what it prints; where that begins with `$`, it is what the command prints of the block
-as `model.py`, or of a file of the checkout. `python3 -m tests.test_page --write` writes what they print into the page.
+The blocks of a section are one script. Behind a block stands what it prints; where that begins with `$`, it is what the
+command prints of the block as `model.py`, or of a file of the checkout. `python3 -m tests.test_page --write` writes
+what they print into the page.
 """
 from __future__ import annotations
 
@@ -75,8 +76,9 @@ class Page(unittest.TestCase):
         self.assertEqual([language for language, _ in blocks if language not in ("", "python")], [])
 
     def test_instead(self):
-        """The table of what isn't offered: each line of its left column is refused, and each of its right column runs."""
-        head = ("import dcx.cvxpy as cp\nimport numpy as np\nx = cp.Variable(3)\nX = cp.Variable((3, 3))\nA = np.eye(3)\n"
+        """Of the table of what isn't offered the left column is refused, and the right one runs."""
+        head = ("import dcx.cvxpy as cp\nimport numpy as np\n"
+                "x = cp.Variable(3)\nX = cp.Variable((3, 3))\nA = np.eye(3)\n"
                 "prob = cp.Problem(cp.Minimize(cp.sum(x)), [x >= 0])\n")
         rows = re.findall(r"^\| `([^|`]*)` \| (.*) \|$", PAGE.read_text(), re.M)
         self.assertGreater(len(rows), 15)

@@ -1,20 +1,20 @@
-"""Random expressions have NumPy's values, through the recorder and the program, and random programs the answers of scripts written by hand.
+"""Random expressions have NumPy's values, through the recorder and the program, and random programs the answers of
+scripts written by hand.
 
-Each expression is formed twice, by `dcx.cvxpy` and by NumPy, at a random point. The program is asked for its weighted sum where equalities fix all
-variables: the least one where it is convex, the greatest where it is concave, both where it is affine. Weights are all different, so that an entry
-at another's place is another value.
+Each expression is formed twice, by `dcx.cvxpy` and by NumPy, at a random point. The program is asked for its weighted
+sum where equalities fix all variables: the least one where it is convex, the greatest where it is concave, both where
+it is affine. Weights are all different, so that an entry at another's place is another value.
 """
 from __future__ import annotations
 
 import random
 import re
 import unittest
-from fractions import Fraction
 
 import numpy as np
 
 import dcx.cvxpy as cp
-from dcx import atoms, program, read_report
+from dcx import atoms
 
 AFFINE, CONVEX, CONCAVE = "affine", "convex", "concave"
 
@@ -66,11 +66,13 @@ class Expressions(unittest.TestCase):
             with self.subTest(name):
                 case = Case(seed)
                 pairs = [case.variable(shape) for shape in shapes]
-                self.check(case, formed(*[x for x, _ in pairs]), wanted(*[point for _, point in pairs]), curvature, name)
+                self.check(case, formed(*[x for x, _ in pairs]), wanted(*[point for _, point in pairs]), curvature,
+                           name)
 
     def same(self, rows):
         """As `each`, for affine forms that are written with the same text for arrays and for expressions."""
-        self.each([(text, shapes, eval("lambda x, y=None: " + text, {"np": np, "cp": cp}), eval("lambda x, y=None: " + text, {"np": np}), AFFINE)
+        self.each([(text, shapes, eval("lambda x, y=None: " + text, {"np": np, "cp": cp}),
+                    eval("lambda x, y=None: " + text, {"np": np}), AFFINE)
                    for text, *shapes in rows])
 
     def test_operators(self):
@@ -85,9 +87,13 @@ class Expressions(unittest.TestCase):
                 # CVXPY takes a (1, 1) for a number beside a vector.
                 if {left, right} != {(1, 1), (3,)}:
                     rows += [("x + y", left, right), ("x - y", left, right)]
-        rows += [("-x", (2, 3)), ("+x", (3,)), ("3*x", (2, 3)), ("x*0.25", (3,)), ("x/8", (2, 3)), ("2 - x", (3,)), ("x - 2", ())]
-        rows += [("x + np.array([1, 5, 2])", (2, 3)), ("np.array([[1], [7]]) - x", (2, 3)), ("np.array([1, 5, 2]) + x", ()),
-                 ("np.arange(6).reshape(2, 3) + x", (2, 3)), ("x.T", (2, 3)), ("x.T", (3,)), ("x.T", ()), ("(x.T + y).T", (2, 3), (3, 2))]
+        rows += [
+            ("-x", (2, 3)), ("+x", (3,)), ("3*x", (2, 3)), ("x*0.25", (3,)), ("x/8", (2, 3)), ("2 - x", (3,)),
+            ("x - 2", ()), ("x + np.array([1, 5, 2])", (2, 3)), ("np.array([[1], [7]]) - x", (2, 3)),
+            ("np.array([1, 5, 2]) + x", ()), ("np.arange(6).reshape(2, 3) + x", (2, 3)), ("x.T", (2, 3)), ("x.T", (3,)),
+            ("x.T", ()),
+            ("(x.T + y).T", (2, 3), (3, 2)),
+        ]
         self.same(rows)
 
     def test_one_entry_beside_a_vector(self):
@@ -101,7 +107,8 @@ class Expressions(unittest.TestCase):
             ("np.array([3, 1, 4]) @ x", (3,)), ("np.array([3, 1, 4]) @ x", (3, 2)), ("x @ np.array([3, 1, 4])", (3,)),
             ("x @ np.array([3, 1, 4])", (2, 3)), ("np.array([[3, 1, 4], [1, 5, 9]]) @ x", (3,)),
             ("np.array([[3, 1, 4], [1, 5, 9]]) @ x", (3, 2)), ("x @ np.array([[3, 1, 4], [1, 5, 9]])", (2,)),
-            ("x @ np.array([[3, 1, 4], [1, 5, 9]])", (3, 2)), ("np.array([[2, 7]]) @ x @ np.array([[1], [8], [2]])", (2, 3)),
+            ("x @ np.array([[3, 1, 4], [1, 5, 9]])", (3, 2)), ("np.array([[2, 7]]) @ x @ np.array([[1], [8], [2]])",
+                                                               (2, 3)),
             ("np.eye(3)[[2, 0]] @ x", (3,)), ("np.kron(np.eye(2), np.array([[1, 2]])) @ x", (4, 2)),
         ])
         with self.subTest("sparse"):
@@ -114,7 +121,8 @@ class Expressions(unittest.TestCase):
             self.check(case, S @ X, S @ at, AFFINE)
             self.check(case, X.T @ S.T, at.T @ S.T, AFFINE)
             self.check(case, x @ sp.coo_matrix(S.T), point @ S.T.toarray(), AFFINE)
-            self.check(case, cp.multiply(sp.csc_matrix(S.T), cp.vstack([X.T, X.T[0]]).T), S.T.toarray() * np.vstack([at.T, at.T[0]]).T, AFFINE)
+            self.check(case, cp.multiply(sp.csc_matrix(S.T), cp.vstack([X.T, X.T[0]]).T),
+                       S.T.toarray() * np.vstack([at.T, at.T[0]]).T, AFFINE)
 
     def test_star_is_the_matrix_product_of_matrices(self):
         A, b = np.array([[3.0, 1, 4], [1, 5, 9]]), np.array([2, 7, 1])
@@ -130,12 +138,18 @@ class Expressions(unittest.TestCase):
         ])
 
     def test_indices(self):
-        vector = ["x[2]", "x[-1]", "x[1:]", "x[:-2]", "x[::2]", "x[::-1]", "x[4:1:-2]", "x[1:99]", "x[[0, 3]]", "x[[2, 2, -1]]",
-                  "x[np.array([4, 1])]", "x[np.array([True, False, True, False, True])]", "x[:, None]", "x[None, :]", "x[np.newaxis, 1:4]",
-                  "x[...]", "x[range(1, 4)]", "x[np.int64(3)]", "x[np.array([[0, 1], [4, 2]])]"]
-        matrix = ["x[1]", "x[-1]", "x[1, 2]", "x[:, 1]", "x[0, :]", "x[1:, ::2]", "x[::-1, -2:]", "x[[2, 0]]", "x[:, [3, 1]]", "x[[0, 2], [1, 3]]",
-                  "x[np.ix_([0, 2], [1, 3])]", "x[x_mask]", "x[1, [0, 3]]", "x[[True, False, True]]", "x[:, np.array([True, False, False, True])]",
-                  "x[1:2, 1:2]", "x[..., 1]", "x[[2], :]", "x[np.triu_indices(3)]", "x[:, None, 1]", "x[2][1:3]", "x[1:][0, ::-1]"]
+        vector = [
+            "x[2]", "x[-1]", "x[1:]", "x[:-2]", "x[::2]", "x[::-1]", "x[4:1:-2]", "x[1:99]", "x[[0, 3]]",
+            "x[[2, 2, -1]]", "x[np.array([4, 1])]", "x[np.array([True, False, True, False, True])]", "x[:, None]",
+            "x[None, :]", "x[...]", "x[np.newaxis, 1:4]", "x[range(1, 4)]", "x[np.int64(3)]",
+            "x[np.array([[0, 1], [4, 2]])]",
+        ]
+        matrix = [
+            "x[1]", "x[-1]", "x[1, 2]", "x[:, 1]", "x[0, :]", "x[1:, ::2]", "x[::-1, -2:]", "x[[2, 0]]", "x[:, [3, 1]]",
+            "x[[0, 2], [1, 3]]", "x[np.ix_([0, 2], [1, 3])]", "x[x_mask]", "x[1, [0, 3]]", "x[[True, False, True]]",
+            "x[:, np.array([True, False, False, True])]", "x[1:2, 1:2]", "x[..., 1]", "x[[2], :]",
+            "x[np.triu_indices(3)]", "x[:, None, 1]", "x[2][1:3]", "x[1:][0, ::-1]",
+        ]
         mask = "np.array([[1, 0, 0, 1], [0, 1, 0, 0], [1, 1, 0, 1]], dtype=bool)"
         self.same([(text, (5,)) for text in vector] + [(text.replace("x_mask", mask), (3, 4)) for text in matrix])
 
@@ -148,18 +162,23 @@ class Expressions(unittest.TestCase):
                     rows += [
                         (f"sum {shape} {axis} {keep}", [shape], lambda x, a=axis, k=keep: cp.sum(x, axis=a, keepdims=k),
                          lambda x, a=axis, k=keep: x.sum(axis=a, keepdims=k), AFFINE),
-                        (f"mean {shape} {axis} {keep}", [shape], lambda x, a=axis, k=keep: cp.mean(x, axis=a, keepdims=k),
+                        (f"mean {shape} {axis} {keep}", [shape], lambda x, a=axis,
+                         k=keep: cp.mean(x, axis=a, keepdims=k),
                          lambda x, a=axis, k=keep: x.mean(axis=a, keepdims=k), AFFINE),
                     ]
             for axis in range(len(shape)):
-                rows.append((f"cumsum {shape} {axis}", [shape], lambda x, a=axis: cp.cumsum(x, a), lambda x, a=axis: x.cumsum(axis=a), AFFINE))
+                rows.append((f"cumsum {shape} {axis}", [shape], lambda x, a=axis: cp.cumsum(x, a), lambda x,
+                             a=axis: x.cumsum(axis=a), AFFINE))
             for order in "FC":
-                rows.append((f"vec {shape} {order}", [shape], lambda x, o=order: cp.vec(x, order=o), lambda x, o=order: x.flatten(o), AFFINE))
+                rows.append((f"vec {shape} {order}", [shape], lambda x, o=order: cp.vec(x, order=o), lambda x,
+                             o=order: x.flatten(o), AFFINE))
         for order in "FC":
-            for old, new in [((2, 3), (3, 2)), ((6,), (2, 3)), ((2, 3), (6,)), ((2, 3), 6), ((4, 3), (2, -1)), ((2, 3), (1, 6)), ((6,), (6, 1))]:
+            for old, new in [((2, 3), (3, 2)), ((6,), (2, 3)), ((2, 3), (6,)), ((2, 3), 6), ((4, 3), (2, -1)),
+                             ((2, 3), (1, 6)), ((6,), (6, 1))]:
                 rows.append((f"reshape {old} {new} {order}", [old], lambda x, s=new, o=order: cp.reshape(x, s, order=o),
                              lambda x, s=new, o=order: x.reshape(s, order=o), AFFINE))
-            rows.append((f"flatten {order}", [(2, 3)], lambda x, o=order: x.flatten(order=o), lambda x, o=order: x.flatten(order=o), AFFINE))
+            rows.append((f"flatten {order}", [(2, 3)], lambda x, o=order: x.flatten(order=o), lambda x,
+                         o=order: x.flatten(order=o), AFFINE))
         for k in (1, 2, 3):
             rows.append((f"diff {k}", [(5,)], lambda x, k=k: cp.diff(x, k), lambda x, k=k: np.diff(x, k), AFFINE))
             for axis in (0, 1):
@@ -171,25 +190,34 @@ class Expressions(unittest.TestCase):
             ("diag of a vector", [(3,)], cp.diag, np.diag, AFFINE),
             ("diag of a matrix", [(3, 3)], cp.diag, np.diag, AFFINE),
             ("transpose", [(2, 3)], cp.transpose, np.transpose, AFFINE),
-            ("hstack of vectors", [(3,), (2,)], lambda x, y: cp.hstack([x, y, 7]), lambda x, y: np.hstack([x, y, 7]), AFFINE),
-            ("hstack of matrices", [(2, 3), (2, 1)], lambda x, y: cp.hstack([y, x]), lambda x, y: np.hstack([y, x]), AFFINE),
-            ("hstack of a tuple", [(), ()], lambda x, y: cp.hstack((x, 1, y)), lambda x, y: np.hstack((x, 1, y)), AFFINE),
-            ("vstack of vectors", [(3,), (3,)], lambda x, y: cp.vstack([x, y, [1, 2, 3]]), lambda x, y: np.vstack([x, y, [1, 2, 3]]), AFFINE),
-            ("vstack of matrices", [(2, 3), (3,)], lambda x, y: cp.vstack([x, y]), lambda x, y: np.vstack([x, y]), AFFINE),
+            ("hstack of vectors", [(3,), (2,)], lambda x, y: cp.hstack([x, y, 7]), lambda x, y: np.hstack([x, y, 7]),
+             AFFINE),
+            ("hstack of matrices", [(2, 3), (2, 1)], lambda x, y: cp.hstack([y, x]), lambda x, y: np.hstack([y, x]),
+             AFFINE),
+            ("hstack of a tuple", [(), ()], lambda x, y: cp.hstack((x, 1, y)), lambda x, y: np.hstack((x, 1, y)),
+             AFFINE),
+            ("vstack of vectors", [(3,), (3,)], lambda x, y: cp.vstack([x, y, [1, 2, 3]]), lambda x,
+             y: np.vstack([x, y, [1, 2, 3]]), AFFINE),
+            ("vstack of matrices", [(2, 3), (3,)], lambda x, y: cp.vstack([x, y]), lambda x, y: np.vstack([x, y]),
+             AFFINE),
             ("vstack of numbers", [(), ()], lambda x, y: cp.vstack([x, y]), lambda x, y: np.vstack([x, y]), AFFINE),
             ("bmat", [(2, 2), (2, 1)], lambda x, y: cp.bmat([[x, y], [y.T, np.array([[7]])]]),
              lambda x, y: np.block([[x, y], [y.T, np.array([[7]])]]), AFFINE),
             ("sum of a list", [(2, 3)], lambda x: cp.sum([x[0], x[1], 1]), lambda x: x[0] + x[1] + 1, AFFINE),
             ("Python's sum", [(4,)], lambda x: sum(x), lambda x: sum(x), AFFINE),
             ("Python's sum of rows", [(2, 3)], lambda x: sum(x[i] for i in range(2)), lambda x: x.sum(axis=0), AFFINE),
-            ("methods", [(2, 3)], lambda x: x.sum(axis=0) + x.mean(axis=0), lambda x: x.sum(axis=0) + x.mean(axis=0), AFFINE),
+            ("methods", [(2, 3)], lambda x: x.sum(axis=0) + x.mean(axis=0), lambda x: x.sum(axis=0) + x.mean(axis=0),
+             AFFINE),
             ("in place", [(3,)], lambda x: sum_in_place(x), lambda x: 1 + 3 * x, AFFINE),
         ]
-        for left, right in [((2, 3), (2, 3)), ((2, 3), (3,)), ((2, 3), (2, 1)), ((), (3,)), ((3,), ()), ((1, 3), (2, 1)), ((2, 1), (3,))]:
+        for left, right in [((2, 3), (2, 3)), ((2, 3), (3,)), ((2, 3), (2, 1)), ((), (3,)), ((3,), ()),
+                            ((1, 3), (2, 1)), ((2, 1), (3,))]:
             numbers = np.arange(1, 1 + int(np.prod(left))).reshape(left) / 2
             rows += [
-                (f"multiply {left} {right}", [right], lambda x, n=numbers: cp.multiply(n, x), lambda x, n=numbers: n * x, AFFINE),
-                (f"multiply {right} {left}", [right], lambda x, n=numbers: cp.multiply(x, n), lambda x, n=numbers: n * x, AFFINE),
+                (f"multiply {left} {right}", [right], lambda x, n=numbers: cp.multiply(n, x), lambda x,
+                 n=numbers: n * x, AFFINE),
+                (f"multiply {right} {left}", [right], lambda x, n=numbers: cp.multiply(x, n), lambda x,
+                 n=numbers: n * x, AFFINE),
                 (f"divide {right} {left}", [right], lambda x, n=numbers: x / n, lambda x, n=numbers: x / n, AFFINE),
             ]
         self.each(rows)
@@ -205,14 +233,17 @@ class Expressions(unittest.TestCase):
                 (f"Python's abs {shape}", [shape], abs, np.abs, CONVEX),
                 (f"pos {shape}", [shape], cp.pos, lambda x: np.maximum(x, 0), CONVEX),
                 (f"neg {shape}", [shape], cp.neg, lambda x: np.maximum(-x, 0), CONVEX),
-                (f"maximum {shape}", [shape, ()], lambda x, y: cp.maximum(x, y, 1), lambda x, y: np.maximum(np.maximum(x, y), 1), CONVEX),
+                (f"maximum {shape}", [shape, ()], lambda x, y: cp.maximum(x, y, 1), lambda x,
+                 y: np.maximum(np.maximum(x, y), 1), CONVEX),
                 (f"minimum {shape}", [shape, shape], lambda x, y: cp.minimum(x, y), np.minimum, CONCAVE),
             ]
             size = int(np.prod(shape))
             for k in range(1, size + 1):
                 rows += [
-                    (f"sum_largest {shape} {k}", [shape], lambda x, k=k: cp.sum_largest(x, k), lambda x, k=k: largest(x, k), CONVEX),
-                    (f"sum_smallest {shape} {k}", [shape], lambda x, k=k: cp.sum_smallest(x, k), lambda x, k=k: -largest(-x, k), CONCAVE),
+                    (f"sum_largest {shape} {k}", [shape], lambda x, k=k: cp.sum_largest(x, k), lambda x,
+                     k=k: largest(x, k), CONVEX),
+                    (f"sum_smallest {shape} {k}", [shape], lambda x, k=k: cp.sum_smallest(x, k), lambda x,
+                     k=k: -largest(-x, k), CONCAVE),
                 ]
             axes = [None] + list(range(len(shape))) + [-1] * (len(shape) > 0)
             for axis in axes:
@@ -231,9 +262,12 @@ class Expressions(unittest.TestCase):
         for p in (1, "inf", np.inf):
             q = np.inf if p == "inf" else p
             rows += [
-                (f"norm of a vector {p}", [(4,)], lambda x, p=p: cp.norm(x, p), lambda x, q=q: np.linalg.norm(x, q), CONVEX),
-                (f"norm of a matrix {p}", [(2, 3)], lambda x, p=p: cp.norm(x, p), lambda x, q=q: np.linalg.norm(x, q), CONVEX),
-                (f"norm of a column {p}", [(3, 1)], lambda x, p=p: cp.norm(x, p=p), lambda x, q=q: np.linalg.norm(x, q), CONVEX),
+                (f"norm of a vector {p}", [(4,)], lambda x, p=p: cp.norm(x, p), lambda x, q=q: np.linalg.norm(x, q),
+                 CONVEX),
+                (f"norm of a matrix {p}", [(2, 3)], lambda x, p=p: cp.norm(x, p), lambda x, q=q: np.linalg.norm(x, q),
+                 CONVEX),
+                (f"norm of a column {p}", [(3, 1)], lambda x, p=p: cp.norm(x, p=p), lambda x, q=q: np.linalg.norm(x, q),
+                 CONVEX),
             ]
             for axis in (0, 1):
                 rows.append((f"norm {p} {axis}", [(2, 3)], lambda x, p=p, a=axis: cp.norm(x, p, axis=a),
@@ -244,7 +278,8 @@ class Expressions(unittest.TestCase):
             ("maximum of many", [(3,), (3,)], lambda x, y: cp.maximum(x, y, -x, 2 * y, np.array([1, 0, 2])),
              lambda x, y: np.max([x, y, -x, 2 * y, np.array([1, 0, 2])], axis=0), CONVEX),
             ("maximum that broadcasts", [(2, 1), (3,)], lambda x, y: cp.maximum(x, y), np.maximum, CONVEX),
-            ("scalene", [(4,)], lambda x: cp.scalene(x, 2, 0.5), lambda x: 2 * np.maximum(x, 0) + 0.5 * np.maximum(-x, 0), CONVEX),
+            ("scalene", [(4,)], lambda x: cp.scalene(x, 2, 0.5),
+             lambda x: 2 * np.maximum(x, 0) + 0.5 * np.maximum(-x, 0), CONVEX),
             ("max as a method", [(2, 3)], lambda x: x.max(axis=1), lambda x: x.max(axis=1), CONVEX),
             ("min as a method", [(2, 3)], lambda x: x.min(), lambda x: x.min(), CONCAVE),
         ]
@@ -272,41 +307,52 @@ class Expressions(unittest.TestCase):
             ("diag of an order", [(3,)], lambda x: cp.diag(x, 1), lambda x: np.diag(x, 1), AFFINE),
             ("diag of an order below", [(3,)], lambda x: cp.diag(x, k=-2), lambda x: np.diag(x, -2), AFFINE),
             ("diagonal of an order", [(4, 4)], lambda x: cp.diag(x, -1), lambda x: np.diag(x, -1), AFFINE),
-            ("concatenate", [(2, 3), (1, 3)], lambda x, y: cp.concatenate([x, y]), lambda x, y: np.concatenate([x, y]), AFFINE),
+            ("concatenate", [(2, 3), (1, 3)], lambda x, y: cp.concatenate([x, y]), lambda x, y: np.concatenate([x, y]),
+             AFFINE),
             ("concatenate of columns", [(2, 3), (2, 1)], lambda x, y: cp.concatenate([x, y], axis=1),
              lambda x, y: np.concatenate([x, y], axis=1), AFFINE),
             ("stack", [(3,), (3,)], lambda x, y: cp.stack([x, y]), lambda x, y: np.stack([x, y]), AFFINE),
-            ("stack of columns", [(3,), (3,)], lambda x, y: cp.stack([x, y], axis=1), lambda x, y: np.stack([x, y], axis=1), AFFINE),
+            ("stack of columns", [(3,), (3,)], lambda x, y: cp.stack([x, y], axis=1), lambda x,
+             y: np.stack([x, y], axis=1), AFFINE),
             ("swapaxes", [(2, 3)], lambda x: cp.swapaxes(x, 0, 1), lambda x: x.swapaxes(0, 1), AFFINE),
             ("permute_dims", [(2, 3)], lambda x: cp.permute_dims(x, (1, 0)), lambda x: x.transpose(1, 0), AFFINE),
             ("squeeze", [(1, 3)], cp.squeeze, np.squeeze, AFFINE),
             ("expand_dims", [(3,)], lambda x: cp.expand_dims(x, 1), lambda x: np.expand_dims(x, 1), AFFINE),
             ("ptp", [(2, 3)], cp.ptp, np.ptp, CONVEX),
-            ("mixed_norm", [(2, 3)], lambda x: cp.mixed_norm(x, 1, "inf"), lambda x: np.abs(x).sum(axis=1).max(), CONVEX),
-            ("mixed_norm of norms", [(2, 3)], lambda x: cp.mixed_norm(x, "inf", 1), lambda x: np.abs(x).max(axis=1).sum(), CONVEX),
+            ("mixed_norm", [(2, 3)], lambda x: cp.mixed_norm(x, 1, "inf"), lambda x: np.abs(x).sum(axis=1).max(),
+             CONVEX),
+            ("mixed_norm of norms", [(2, 3)], lambda x: cp.mixed_norm(x, "inf", 1),
+             lambda x: np.abs(x).max(axis=1).sum(), CONVEX),
             ("pnorm", [(4,)], lambda x: cp.pnorm(x, 1), lambda x: np.abs(x).sum(), CONVEX),
             ("dotsort", [(4,)], lambda x: cp.dotsort(x, [3, 1, 0, 2]), lambda x: np.sort(x) @ [0, 1, 2, 3], CONVEX),
             ("dotsort of fewer", [(4,)], lambda x: cp.dotsort(x, [3, 1]), lambda x: np.sort(x) @ [0, 0, 1, 3], CONVEX),
-            ("cummax of a matrix", [(3, 2)], lambda x: cp.cummax(x, axis=0), lambda x: np.maximum.accumulate(x, axis=0), CONVEX),
-            ("cummax along a row", [(3, 2)], lambda x: cp.cummax(x, axis=1), lambda x: np.maximum.accumulate(x, axis=1), CONVEX),
+            ("cummax of a matrix", [(3, 2)], lambda x: cp.cummax(x, axis=0), lambda x: np.maximum.accumulate(x, axis=0),
+             CONVEX),
+            ("cummax along a row", [(3, 2)], lambda x: cp.cummax(x, axis=1), lambda x: np.maximum.accumulate(x, axis=1),
+             CONVEX),
         ]
         for beta in (0, 0.5, 0.8, 0.9):
-            rows.append((f"cvar {beta}", [(5,)], lambda x, b=beta: cp.cvar(x, b), lambda x, k=5 - 5 * beta: largest(x, k) / k, CONVEX))
+            rows.append((f"cvar {beta}", [(5,)], lambda x, b=beta: cp.cvar(x, b), lambda x,
+                         k=5 - 5 * beta: largest(x, k) / k, CONVEX))
         for k in (0.5, 1.25, 3.75):
-            rows += [(f"sum_largest {k}", [(5,)], lambda x, k=k: cp.sum_largest(x, k), lambda x, k=k: largest(x, k), CONVEX),
-                     (f"sum_smallest {k}", [(5,)], lambda x, k=k: cp.sum_smallest(x, k), lambda x, k=k: -largest(-x, k), CONCAVE)]
+            rows += [(f"sum_largest {k}", [(5,)], lambda x, k=k: cp.sum_largest(x, k), lambda x, k=k: largest(x, k),
+                      CONVEX),
+                     (f"sum_smallest {k}", [(5,)], lambda x, k=k: cp.sum_smallest(x, k), lambda x, k=k: -largest(-x, k),
+                      CONCAVE)]
         for strict, size in ((False, 6), (True, 3)):
             def matrix(x, strict=strict):
                 made = np.zeros((3, 3))
                 made[np.triu_indices(3, int(strict))] = x
                 return made
-            rows.append((f"vec_to_upper_tri {strict}", [(size,)], lambda x, s=strict: cp.vec_to_upper_tri(x, s), matrix, AFFINE))
+            rows.append((f"vec_to_upper_tri {strict}", [(size,)], lambda x, s=strict: cp.vec_to_upper_tri(x, s), matrix,
+                         AFFINE))
         self.each(rows)
 
     def test_each_call_is_tried(self):
         with open(__file__) as file:
             tried = set(re.findall(r"\bcp\.(\w+)", file.read()))
-        self.assertEqual(set(atoms.__all__) - tried, {"conv", "norm2"}, "one is `convolve` under an older name, and one is refused")
+        self.assertEqual(set(atoms.__all__) - tried, {"conv", "norm2"},
+                         "one is `convolve` under an older name, and one is refused")
 
     def test_compositions(self):
         """Expressions of random depth, of variables and parameters."""
@@ -336,7 +382,8 @@ class Grown:
     def affine(self, depth, shape):
         choice = self.random.choice(["leaf", "sum", "scaled", "product", "index", "reduce"]) if depth else "leaf"
         if choice == "sum":
-            (a, at_a), (b, at_b) = self.affine(depth - 1, shape), self.affine(depth - 1, self.random.choice([shape, ()]))
+            (a, at_a), (b, at_b) = self.affine(depth - 1, shape), self.affine(depth - 1,
+                                                                              self.random.choice([shape, ()]))
             return (a + b, at_a + at_b) if self.random.random() < 0.5 else (b - a, at_b - at_a)
         if choice == "scaled":
             a, at = self.affine(depth - 1, shape)
@@ -372,7 +419,8 @@ class Grown:
 
     def convex(self, depth, shape):
         """The expression, its value, and that it is convex."""
-        choice = self.random.choice(["abs", "pos", "maximum", "sum", "scaled", "max", "norm", "largest", "row"]) if depth else "abs"
+        choice = self.random.choice(["abs", "pos", "maximum", "sum", "scaled", "max", "norm", "largest",
+                                     "row"]) if depth else "abs"
         broader = (*shape, 3) if len(shape) < 2 else None
         if choice == "pos":
             a, at, _ = self.convex(depth - 1, shape)
@@ -406,123 +454,6 @@ class Grown:
             return a[1], at[1], CONVEX
         a, at = self.affine(2, shape)
         return cp.abs(a), np.abs(at), CONVEX
-
-
-def words(value):
-    """An array as the language writes it."""
-    array = np.asarray(value)
-    if array.ndim == 0:
-        return str(array)
-    return "[" + ", ".join(words(part) for part in array) + "]"
-
-
-def array(value):
-    return f"np.array({words(value)})"
-
-
-class Programs(unittest.TestCase):
-    """Each problem is recorded, and written by hand in the language. Both have the same value, points and multipliers, as fractions."""
-
-    def compare(self, problem, variables, script, seed):
-        problem.solve()
-        run = program.run("solve", "import cvxpy as cp\nimport numpy as np\n" + script + "prob.solve()\n")
-        (answer,) = read_report(run.report).answers
-        self.assertEqual(problem.status, answer.status, seed)
-        if answer.status != "optimal":
-            return answer.status
-        self.assertEqual(problem.exact, answer.value)
-        for name, x in variables.items():
-            self.assertEqual(fractions(x.exact), list(answer.variables[name].entries), name)
-        self.assertEqual(len(answer.duals), len(problem.constraints))
-        for number, constraint in enumerate(problem.constraints, start=1):
-            self.assertEqual(fractions(constraint.exact_dual), list(answer.duals[number].entries), (seed, number))
-        return answer.status
-
-    def test_bounded_below(self):
-        """min c x where A x <= b and x is at least 0: answers of each kind."""
-        kinds = set()
-        for seed in range(25):
-            draw = np.random.default_rng(seed)
-            A, b, c = draw.integers(-9, 10, (4, 5)), draw.integers(-40, 99, 4), draw.integers(-9, 40, 5)
-            x = cp.Variable(5, nonneg=True)
-            problem = cp.Problem(cp.Minimize(c @ x), [A @ x <= b])
-            script = f"x = cp.Variable(5, nonneg=True)\nprob = cp.Problem(cp.Minimize({array(c)} @ x), [{array(A)} @ x <= {array(b)}])\n"
-            kinds.add(self.compare(problem, {"x": x}, script, seed))
-        self.assertEqual(kinds, {"optimal", "infeasible", "unbounded"})
-
-    def test_equalities_and_greatest(self):
-        for seed in range(15):
-            draw = np.random.default_rng(100 + seed)
-            A, c = draw.integers(0, 10, (3, 6)), draw.integers(1, 40, 6)
-            b = A @ draw.integers(0, 9, 6)
-            x = cp.Variable(6)
-            problem = cp.Problem(cp.Maximize(c @ x), [A @ x == b, 0 <= x, 12.5 >= x])
-            script = ("x = cp.Variable(6)\n"
-                      f"prob = cp.Problem(cp.Maximize({array(c)} @ x), [{array(A)} @ x == {array(b)}, 0 <= x, 12.5 >= x])\n")
-            self.compare(problem, {"x": x}, script, seed)
-
-    def test_matrices(self):
-        """Transport problems in a matrix, with rows and columns."""
-        for seed in range(10):
-            draw = np.random.default_rng(200 + seed)
-            cost, have = draw.integers(1, 99, (3, 4)), draw.integers(30, 60, 3)
-            need = draw.integers(5, 22, 4)
-            X = cp.Variable((3, 4), nonneg=True)
-            problem = cp.Problem(cp.Minimize(cp.sum(cp.multiply(cost, X))), [cp.sum(X, axis=1) <= have, cp.sum(X, axis=0) >= need])
-            script = (f"X = cp.Variable((3, 4), nonneg=True)\nprob = cp.Problem(cp.Minimize(cp.sum(cp.multiply({array(cost)}, X))), "
-                      f"[cp.sum(X, axis=1) <= {array(have)}, cp.sum(X, axis=0) >= {array(need)}])\n")
-            self.compare(problem, {"X": X}, script, seed)
-
-    def test_pieces(self):
-        """A fit by weighted distances, pieces and the greatest coefficient."""
-        for seed in range(10):
-            draw = np.random.default_rng(300 + seed)
-            A, b, w = draw.integers(-9, 10, (6, 3)), draw.integers(-50, 51, 6), draw.integers(1, 9, 6)
-            x = cp.Variable(3)
-            y = A @ x - b
-            problem = cp.Problem(cp.Minimize(w @ cp.abs(y) + 7 * cp.max(y) + cp.norm(x, "inf")), [cp.sum(x) >= 1, cp.norm1(x) <= 20])
-            script = (f"x = cp.Variable(3)\ny = {array(A)} @ x - {array(b)}\n"
-                      f"prob = cp.Problem(cp.Minimize({array(w)} @ cp.abs(y) + 7*cp.max(y) + cp.norm_inf(x)), [cp.sum(x) >= 1, cp.norm1(x) <= 20])\n")
-            self.compare(problem, {"x": x}, script, seed)
-
-    def test_whole_numbers(self):
-        for seed in range(10):
-            draw = np.random.default_rng(400 + seed)
-            gain, size = draw.integers(5, 60, 6), draw.integers(4, 30, (2, 6))
-            take, many = cp.Variable(3, boolean=True), cp.Variable(3, integer=True)
-            both = cp.hstack([take, many])
-            problem = cp.Problem(cp.Maximize(gain @ both), [size @ both <= 60, many >= 0, many <= 3])
-            script = (f"take = cp.Variable(3, boolean=True)\nmany = cp.Variable(3, integer=True)\nboth = cp.hstack([take, many])\n"
-                      f"prob = cp.Problem(cp.Maximize({array(gain)} @ both), [{array(size)} @ both <= 60, many >= 0, many <= 3])\n")
-            problem.solve()
-            (answer,) = read_report(program.run("solve", "import cvxpy as cp\nimport numpy as np\n" + script).report).answers
-            self.assertEqual((problem.status, problem.exact), ("optimal", answer.value))
-            self.assertEqual(fractions(take.exact) + fractions(many.exact),
-                             list(answer.variables["take"].entries + answer.variables["many"].entries))
-
-    def test_parameters(self):
-        """Settings in one run, beside a script and a settings file by hand."""
-        for seed in range(5):
-            draw = np.random.default_rng(500 + seed)
-            A = draw.integers(1, 10, (3, 4))
-            x, c, b = cp.Variable(4, nonneg=True), cp.Parameter(4), cp.Parameter(3, nonneg=True)
-            problem = cp.Problem(cp.Maximize(c @ x), [A @ x <= b])
-            settings = [{c: draw.integers(-5, 20, 4), b: draw.integers(0, 90, 3) / 2} for _ in range(6)]
-            script = ("import cvxpy as cp\nimport numpy as np\nx = cp.Variable(4, nonneg=True)\nc = cp.Parameter(4)\nb = cp.Parameter(3, nonneg=True)\n"
-                      f"prob = cp.Problem(cp.Maximize(c @ x), [{array(A)} @ x <= b])\n")
-            lines = "".join(f"c = {words(s[c])}; b = {words(s[b])}\n" for s in settings)
-            wanted = read_report(program.run("resolve", script, lines).report).answers
-            for setting, answer in zip(settings, wanted):
-                c.value, b.value = setting[c], setting[b]
-                problem.solve()
-                self.assertEqual((problem.status, problem.exact), (answer.status, answer.value))
-                self.assertEqual(fractions(x.exact), list(answer.variables["x"].entries))
-                self.assertEqual(fractions(problem.constraints[0].exact_dual), list(answer.duals[1].entries))
-
-
-def fractions(value):
-    """The entries of an exact answer in row-major order."""
-    return [Fraction(entry) for entry in np.asarray(value, dtype=object).ravel()]
 
 
 if __name__ == "__main__":

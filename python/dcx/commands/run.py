@@ -21,15 +21,26 @@ INTERRUPTED = 130
 
 def add_arguments(parser: argparse.ArgumentParser) -> None:
     """The script, and whatever stands behind it."""
-    parser.add_argument("--digits", metavar="N", type=digits, help="round each float of the models to N significant digits")
+    parser.add_argument("--digits", metavar="N", type=digits, help="round each float to N significant digits")
+    parser.add_argument("--decimals", metavar="N", type=decimals, help="round each float to N digits behind the point")
     parser.add_argument("script", metavar="MODEL.py", help="a script that imports cvxpy")
     parser.add_argument("arguments", nargs=argparse.REMAINDER, metavar="ARGS", help="the script's own arguments")
 
 
 def digits(text: str) -> int:
     """How many significant digits a float keeps: 1 to 17."""
-    if not text.isdigit() or not 1 <= int(text) <= 17:
-        raise argparse.ArgumentTypeError(f"a whole number from 1 to 17, and not {text!r}")
+    return whole(text, 1, 17)
+
+
+def decimals(text: str) -> int:
+    """How many digits a float keeps behind the point: 0 to 30."""
+    return whole(text, 0, 30)
+
+
+def whole(text: str, least: int, most: int) -> int:
+    """A whole number within these limits."""
+    if not (text.isascii() and text.isdigit()) or not least <= int(text) <= most:
+        raise argparse.ArgumentTypeError(f"a whole number from {least} to {most}, and not {text!r}")
     return int(text)
 
 
@@ -40,7 +51,7 @@ def run(arguments: argparse.Namespace) -> int:
         print(f"dcx: {script} can't be read: no such file", file=sys.stderr)
         return 3
     stand_in()
-    float_digits(arguments.digits)
+    float_digits(arguments.digits, arguments.decimals)
     sys.argv = [script, *arguments.arguments]
     set_path(os.path.dirname(os.path.abspath(script)))
     try:

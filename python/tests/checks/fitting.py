@@ -14,7 +14,8 @@ def lad_regression():
     line = [start + slope * time for time in t]
     misses = model.absolute(model.expression(y) - line)
     found = model.minimize(misses.sum(axis=0))
-    return {"loss": found.value, "intercept": found.of(start), "slope": found.of(slope), "found": (found.of(misses) > 2).sum()}
+    return {"loss": found.value, "intercept": found.of(start), "slope": found.of(slope),
+            "found": (found.of(misses) > 2).sum()}
 
 
 def quantile_regression():
@@ -54,7 +55,8 @@ def tv_denoise():
         # Some best signal takes the values of the readings alone, so that a table from left to right finds it.
         best = np.zeros(len(levels))
         for reading in noisy:
-            best = np.min(best[:, np.newaxis] + weight * np.abs(levels[:, np.newaxis] - levels), axis=0) + np.abs(levels - reading)
+            best = np.min(best[:, np.newaxis] + weight * np.abs(levels[:, np.newaxis] - levels),
+                          axis=0) + np.abs(levels - reading)
         answer[f"objective {weight}"] = best.min()
     return answer
 
@@ -76,12 +78,14 @@ def obstacle_sparse():
     obstacle = np.zeros((n, n))
     obstacle[1:4, 1:4] = 1
     obstacle[2, 2] = 2
-    # The least membrane above is found by lifting each point to the mean of its neighbours, or to the obstacle, until nothing moves.
+    # The least membrane above is found by lifting each point to the mean of its neighbours, or to the obstacle, until
+    # nothing moves.
     u = obstacle.copy()
     for _ in range(2000):
         for i in range(n):
             for j in range(n):
-                around = sum(u[a, b] for a, b in [(i - 1, j), (i + 1, j), (i, j - 1), (i, j + 1)] if 0 <= a < n and 0 <= b < n)
+                around = sum(u[a, b] for a, b in [(i - 1, j), (i + 1, j), (i, j - 1),
+                                                  (i, j + 1)] if 0 <= a < n and 0 <= b < n)
                 u[i, j] = max(obstacle[i, j], around / 4)
     return {"volume": u.sum(), "corner": u[0, 0], "edge": u[0, 2], "contact": np.isclose(u, obstacle).sum()}
 
@@ -145,7 +149,8 @@ def isotonic_convex():
 
 
 def minimax_polynomial():
-    """Of |t| the even polynomials are the best; its error has the same size, with signs in turn, at one point more than there are coefficients."""
+    """Of |t| the even polynomials are the best; its error has the same size, with signs in turn, at one point more than
+    there are coefficients."""
     grid = np.arange(11) / 10
     best = (0, None)
     for i in range(11):
@@ -166,6 +171,7 @@ def ranking_pairs():
     model = Model()
     strength = model.variables(5)
     model.equal(strength.sum(axis=0))
-    misfit = sum((0.5 if abs(margin) > 4 else 1) * model.absolute(strength[i] - strength[j] - margin * model.one) for i, j, margin in pairs)
+    misfit = sum((0.5 if abs(margin) > 4 else 1) * model.absolute(strength[i] - strength[j] - margin * model.one) for i,
+                 j, margin in pairs)
     greatest = model.above(*strength, *-strength)
     return {"misfit": model.minimize(misfit + 0.01 * greatest).value, "sum": 1}

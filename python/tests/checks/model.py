@@ -1,7 +1,7 @@
 """Linear programs for SciPy's HiGHS, written row by row: the second way of knowing what the scripts of users/ answer.
 
-An expression is a vector of coefficients whose last entry is its constant, so that NumPy's own arithmetic adds and scales expressions; an array of
-expressions has one axis more than what it stands for.
+An expression is a vector of coefficients whose last entry is its constant, so that NumPy's own arithmetic adds and
+scales expressions; an array of expressions has one axis more than what it stands for.
 """
 from __future__ import annotations
 

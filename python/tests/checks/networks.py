@@ -8,7 +8,8 @@ from .model import Model
 
 def max_flow_sparse():
     """The least capacity of a cut, over all cuts."""
-    edges = [(0, 1, 16), (0, 2, 13), (1, 2, 10), (2, 1, 4), (1, 3, 12), (3, 2, 9), (2, 4, 14), (4, 3, 7), (3, 5, 20), (4, 5, 4)]
+    edges = [(0, 1, 16), (0, 2, 13), (1, 2, 10), (2, 1, 4), (1, 3, 12), (3, 2, 9), (2, 4, 14), (4, 3, 7), (3, 5, 20),
+             (4, 5, 4)]
     cuts = []
     for chosen in itertools.product([True, False], repeat=4):
         inside = {0, *(node for node, is_in in zip([1, 2, 3, 4], chosen) if is_in)}

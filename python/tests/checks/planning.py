@@ -43,7 +43,8 @@ def production_classes():
     paint = model.at_most(2 * table + 0.75 * chair + shelf + 0.5 * lamp, 45.5)
     found = model.maximize(90 * table + 35 * chair + 40 * shelf + 22 * lamp)
     return {
-        "profit": found.value, "table": found.of(table), "chair": found.of(chair), "shelf": found.of(shelf), "lamp": found.of(lamp),
+        "profit": found.value, "table": found.of(table), "chair": found.of(chair), "shelf": found.of(shelf),
+        "lamp": found.of(lamp),
         "saw": found.duals[saw][0], "lathe": found.duals[lathe][0], "paint": found.duals[paint][0],
     }
 
@@ -96,7 +97,8 @@ def goals_groupby():
     for part in work:
         model.at_most(part, most)
         model.at_most(least, part)
-    found = model.minimize(np.array([goal[2] for goal in goals]) @ lacking + 0.1 * beyond.sum(axis=0) + 5 * (most - least))
+    priority = np.array([goal[2] for goal in goals])
+    found = model.minimize(priority @ lacking + 0.1 * beyond.sum(axis=0) + 5 * (most - least))
     return {"value": found.value, "lacking": found.of(lacking).sum()}
 
 

@@ -17,7 +17,8 @@ def facility_location():
         model.equal(share.sum(axis=0), np.ones(customers))
         model.at_most(share, np.repeat(opened, customers).reshape(4, customers))
         model.at_most(share.sum(axis=1), 4 * np.ones(4))
-        found = model.minimize((3 * distance[..., np.newaxis] * share).sum(axis=(0, 1)) + np.dot(rents, opened) * model.one)
+        found = model.minimize((3 * distance[..., np.newaxis] * share).sum(axis=(0, 1)) + np.dot(rents,
+                                                                                                 opened) * model.one)
         if found is not None:
             best = min(best, (found.value, opened))
     return {"cost": best[0], "fixed": np.dot(rents, best[1]), "count": sum(best[1])}

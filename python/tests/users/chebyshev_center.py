@@ -16,4 +16,5 @@ problem.solve()
 slacks = [c.args[1].value - c.args[0].value for c in constraints[1:]]
 touching = [i for i, slack in enumerate(slacks) if slack < 1e-8]
 print(f"The center is {center.value} and the radius {radius.value}; it touches {touching}")
-ANSWER = {"radius": problem.value, "x": float(center.value[0]), "y": float(center.value[1]), "touching": float(len(touching))}
+ANSWER = {"radius": problem.value, "x": float(center.value[0]), "y": float(center.value[1]),
+          "touching": float(len(touching))}

@@ -17,4 +17,5 @@ column.solve()
 
 print("row side", row.value, np.round(p.value, 3))
 print("column side", column.value, np.round(q.value, 3))
-ANSWER = {"row": row.value, "column": column.value, "sure win": float((A.T @ p.value).min()), "weight of the rows": float(beats.dual_value.sum())}
+ANSWER = {"row": row.value, "column": column.value, "sure win": float((A.T @ p.value).min()),
+          "weight of the rows": float(beats.dual_value.sum())}

@@ -26,4 +26,5 @@ prob.solve()
 
 for row, a, b, s in zip(table, normal.value, overtime.value, stock.value):
     print("{month}: demand {demand:4d}".format(**row), f"normal {a:7.2f} overtime {b:6.2f} stock {s:6.2f}")
-ANSWER = {"cost": prob.value, "stock costs": float(0.25 * sum(stock.value)) + 0 * months, "least stock": float(stock.value.min())}
+ANSWER = {"cost": prob.value, "stock costs": float(0.25 * sum(stock.value)) + 0 * months,
+          "least stock": float(stock.value.min())}

@@ -21,4 +21,5 @@ flagged = np.where(np.abs(residuals.value) > 2)[0]
 print("beta:", beta.value)
 print("outliers found:", sorted(flagged.tolist()), "planted:", sorted(outliers.tolist()))
 
-ANSWER = {"loss": result, "intercept": float(beta.value[0]), "slope": float(beta.value[1]), "found": float(len(flagged))}
+ANSWER = {"loss": result, "intercept": float(beta.value[0]), "slope": float(beta.value[1]),
+          "found": float(len(flagged))}

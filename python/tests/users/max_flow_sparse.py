@@ -3,7 +3,8 @@ import cvxpy as cp
 import numpy as np
 import scipy.sparse as sp
 
-edges = [(0, 1, 16), (0, 2, 13), (1, 2, 10), (2, 1, 4), (1, 3, 12), (3, 2, 9), (2, 4, 14), (4, 3, 7), (3, 5, 20), (4, 5, 4)]
+edges = [(0, 1, 16), (0, 2, 13), (1, 2, 10), (2, 1, 4), (1, 3, 12), (3, 2, 9), (2, 4, 14), (4, 3, 7), (3, 5, 20),
+         (4, 5, 4)]
 nodes = 1 + max(max(a, b) for a, b, _ in edges)
 tails = [e[0] for e in edges]
 heads = [e[1] for e in edges]

@@ -14,4 +14,5 @@ prob.solve()
 
 worst = np.flatnonzero(np.isclose(np.abs(error.value), prob.value))
 print("coefficients", c.value, "error", prob.value, "at", grid[worst])
-ANSWER = {"error": prob.value, "square": float(c.value[2]), "constant": float(c.value[0]), "alternates": float(len(worst))}
+ANSWER = {"error": prob.value, "square": float(c.value[2]), "constant": float(c.value[0]),
+          "alternates": float(len(worst))}

@@ -25,6 +25,7 @@ share = sum(flow.values()) <= capacity
 
 prob = cp.Problem(cp.Minimize(sum(price @ f for f in flow.values())), balance + [share])
 prob.solve()
-full = [arc for arc, k in zip(arcs, range(len(arcs))) if abs(sum(f.value[k] for f in flow.values()) - capacity[k]) < 1e-7]
+full = [arc for arc, k in zip(arcs,
+                              range(len(arcs))) if abs(sum(f.value[k] for f in flow.values()) - capacity[k]) < 1e-7]
 print("cost", prob.value, "full", full, "prices", share.dual_value)
 ANSWER = {"cost": prob.value, "carried": float(sum(f.value[4] + f.value[3] for f in flow.values()))}

@@ -32,5 +32,6 @@ problem = cp.Problem(cp.Minimize(running + starting), constraints)
 problem.solve(solver="SCIP")
 print(problem.status, problem.value)
 for i, plant in enumerate(plants):
-    print(f"{plant['name']:>5}", " ".join(f"{p:6.1f}" if o > 0.5 else "     -" for p, o in zip(power.value[:, i], on.value[:, i])))
+    print(f"{plant['name']:>5}", " ".join(f"{p:6.1f}" if o > 0.5 else "     -" for p,
+                                          o in zip(power.value[:, i], on.value[:, i])))
 ANSWER = {"cost": float(problem.value), "energy": float(power.value.sum())}
