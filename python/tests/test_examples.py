@@ -16,7 +16,7 @@ from pathlib import Path
 import numpy as np
 
 import dcx.cvxpy as cp
-from dcx import DCPError, SolverError, program, read_report
+from dcx import DCPError, SolverError, float_digits, program, read_report
 from dcx.constraints import Constraint
 from dcx.expressions import Variable
 
@@ -37,9 +37,8 @@ REFUSED = {"portfolio/too_little_turnover": ("rule at_most", 10), "guide/bonus":
 # has, by hand: `raised += 1` changes the array that it was bound to, a float has no 25 digits behind the point, and `3
 # == x` is x == 3 to Python, with a multiplier of its sign.
 ANOTHER = {"cvxpy/in_place": (6, [1, 1, 1]), "messages/wide_pivot": (1, [-1.5]), "cvxpy/turned": (6, [-2])}
-# Where Python forms `1 - 0.9` first, which is a float that isn't quite a tenth, the numbers are those of the report to
-# twelve digits.
-NEARLY = {"regression/model"}
+# Where Python forms `1 - 0.9` first, which is a float that isn't quite a tenth, floats are read to twelve decimals.
+ROUNDED = {"regression/model"}
 
 
 def name_of(path):
@@ -95,12 +94,6 @@ class Examples(unittest.TestCase):
                              at)
             return
         self.assertEqual(result.status, answer.status, at)
-        if at in NEARLY:
-            self.assertAlmostEqual(result.value, float(answer.value), delta=1e-12 * abs(result.value))
-            for name, wanted in answer.variables.items():
-                np.testing.assert_allclose(np.ravel(result[names[name]]), [float(entry) for entry in wanted.entries],
-                                           rtol=1e-12)
-            return
         self.assertEqual(result.exact, answer.value, at)
         variables = {name: value for name, value in names.items() if isinstance(value, Variable)}
         for name, wanted in answer.variables.items():
@@ -116,7 +109,7 @@ class Examples(unittest.TestCase):
 
     def test_every_script_is_here(self):
         self.assertGreaterEqual(len(SCRIPTS), 44)
-        self.assertLessEqual({*REFUSED, *NEARLY, "cvxpy/in_place"}, {name_of(path) for path in SCRIPTS})
+        self.assertLessEqual({*REFUSED, *ROUNDED, "cvxpy/in_place"}, {name_of(path) for path in SCRIPTS})
 
     def test_drivers(self):
         """Scripts that import the package print what stands in `printed.txt` beside them."""
@@ -208,6 +201,9 @@ class Examples(unittest.TestCase):
 def test_of(path):
     def test(self):
         script, name = path.read_text(), name_of(path)
+        if name in ROUNDED:
+            float_digits(decimals=12)
+            self.addCleanup(float_digits)
         if name in REFUSED:
             with self.assertRaises(DCPError) as caught:
                 run_script(path)["prob"].solve()
