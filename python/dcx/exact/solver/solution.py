@@ -5,7 +5,8 @@ from fractions import Fraction
 from math import gcd, lcm
 from typing import Optional
 
-from .arithmetic import Floats, Whole
+from . import starts
+from .arithmetic import Whole
 from .run import Run
 from .standard import Standard
 
@@ -32,24 +33,14 @@ class Solution:
 def solved(program, use_floats: bool = True, basis: Optional[list] = None) -> Solution:
     """The answer to a reduced program, from a basis of an earlier one where there is one of its size."""
     form = Standard(program)
-    if basis is None or len(basis) != form.size or max(basis, default=0) >= len(form.kinds):
-        basis = [form.count + i for i in range(form.size)]
+    if basis is not None and (len(basis) != form.size or max(basis, default=0) >= len(form.kinds)):
+        basis = None
     if use_floats:
-        basis = guessed(form, basis)
+        basis = starts.found(form, basis)
     numbers = Whole(form)
-    run = Run(form, numbers, basis)
+    run = Run(form, numbers, basis or starts.first(form))
     end = run.found()
     return Reading(program, form, numbers, run, end).solution()
-
-
-def guessed(form, basis):
-    """A basis that is optimal, or near it, as far as floating-point numbers tell."""
-    try:
-        run = Run(form, Floats(form), basis, most=2000 + 20 * len(form.kinds))
-        run.found()
-        return run.basis
-    except (OverflowError, ZeroDivisionError, ValueError):
-        return basis
 
 
 class Reading:
