@@ -8,6 +8,7 @@ import io
 import random
 import subprocess
 import sys
+import tempfile
 import unittest
 from fractions import Fraction
 from pathlib import Path
@@ -413,12 +414,21 @@ class Stops(unittest.TestCase):
             problem.solve()
 
     def test_time(self):
-        x = cp.Variable(110, nonneg=True)
-        draw = np.random.default_rng(1)
-        problem = cp.Problem(cp.Minimize(cp.sum(x)), [draw.integers(0, 9, (110, 110)) @ x >= draw.integers(1, 99, 110)])
-        with self.assertRaisesRegex(SolverError, "no answer after 0.05 s.*time_limit"):
-            problem.solve(time_limit=0.05)
-        self.assertEqual((problem.status, problem.value), ("solver_error", None))
+        """A program that sleeps stands in for one that has much to do."""
+        x = cp.Variable()
+        problem = cp.Problem(cp.Minimize(x), [x >= 1])
+        problem.solve()
+        with tempfile.TemporaryDirectory() as folder:
+            path = Path(folder, "slow")
+            path.write_text("#!/bin/sh\nexec sleep 30\n")
+            path.chmod(0o755)
+            for name in ("time_limit", "TimeLimit"):
+                with mock.patch.dict("os.environ", DCX=str(path)):
+                    with self.assertRaisesRegex(SolverError, "no answer after 0.2 s.*time_limit"):
+                        problem.solve(**{name: 0.2})
+                self.assertEqual((problem.status, problem.value, x.value), ("solver_error", None, None))
+        with self.assertRaises(ValueError):
+            problem.solve(time_limit=0)
 
     def test_a_program_that_is_not_there_is_no_stop(self):
         with mock.patch.dict("os.environ", DCX="/nowhere"), self.assertRaises(program.ProgramError) as caught:
