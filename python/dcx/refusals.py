@@ -11,7 +11,7 @@ from .program import Run
 from .reports import Report, read_report
 from .scripts import Script
 
-__all__ = ["no_answer", "read", "refused", "stopped"]
+__all__ = ["no_answer", "read", "refused", "stopped", "taken"]
 
 # the refusals that tell a limit, and those of a word that doesn't take the problem
 _LIMITS = (8, 18, 20)
@@ -25,7 +25,11 @@ def read(run: Run, script: Script) -> Report:
     `UnsupportedError` where the word isn't for such a problem, and `SolverError` where there is no answer for want of
     memory.
     """
-    report = read_report(run.report)
+    return taken(read_report(run.report), script)
+
+
+def taken(report: Report, script: Script) -> Report:
+    """The report itself, where it has answers; else it raises as `read` does."""
     if report.refusal is not None:
         raise refused(report.refusal, script)
     if report.kind in ("usage", "fault", "memory"):

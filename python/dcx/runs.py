@@ -9,10 +9,10 @@ from typing import Any, Callable, Iterable, Iterator, Mapping, NamedTuple, Optio
 
 from . import program
 from .arguments import pivots
-from .errors import DCXError, ParameterError, SolverError
+from .errors import ParameterError, SolverError
 from .expressions import Expression
-from .refusals import read
-from .reports import ReportError
+from .refusals import taken
+from .reports import Report, read_report
 from .results import Result
 from .scripts import Script
 
@@ -75,10 +75,10 @@ def solve_at(
     lines = [_line(script, setting, number) for number, setting in enumerate(settings)]
     options = [*pivots(max_iters), *(["--warm"] if warm and not problem.is_mixed_integer() else [])]
     parts = list(_cut(lines, _chunk(chunk, len(lines), executor)))
-    carry = _Carrier(script.text, tuple(options), executor)
+    carrier = _Carrier(script.text, tuple(options), executor)
     results: list[Optional[Result]] = [None] * len(settings)
     done = 0
-    for part, outcome in carry.all(parts):
+    for part, outcome in carrier.all(parts):
         for result in _results(problem, script, settings, part, outcome):
             results[result.index] = result
         done += part.count
@@ -88,23 +88,20 @@ def solve_at(
 
 
 def _results(
-    problem: Any, script: Script, settings: list, part: Part, outcome: Union[program.Run, Exception]
+    problem: Any, script: Script, settings: list, part: Part, outcome: Union[Report, Exception]
 ) -> Iterator[Result]:
     """The results of a part: from its report, or from what went wrong twice."""
-    places = range(part.first, part.first + part.count)
-    maximized = problem._maximized
-    try:
-        answers = None if isinstance(outcome, Exception) else read(outcome, script).answers
-        error: Optional[DCXError] = None if answers is not None else _failed(part, outcome)
-    except SolverError as cause:  # the whole run ended without an answer
-        answers, error = None, SolverError(f"{part.name}: {cause.reason}", problem.site, cause.stop)
-    except ReportError as cause:
-        answers, error = None, _failed(part, cause)
-    if answers is not None and len(answers) != part.count:
-        answers, error = None, SolverError(f"{part.name}: the report has {len(answers)} answers", problem.site)
-    for place in places:
-        answer = None if answers is None else answers[place - part.first]
-        yield Result(script, answer, maximized, settings[place], place, error)
+    answers: tuple = (None,) * part.count
+    error: Optional[SolverError] = None
+    if isinstance(outcome, Exception):
+        error = _failed(part, outcome)
+    else:
+        try:
+            answers = taken(outcome, script).answers
+        except SolverError as cause:  # the whole run ended without an answer
+            error = SolverError(f"{part.name}: {cause.reason}", problem.site)
+    for place, answer in enumerate(answers, part.first):
+        yield Result(script, answer, problem._maximized, settings[place], place, error)
 
 
 def _failed(part: Part, cause: Exception) -> SolverError:
@@ -123,8 +120,8 @@ class _Carrier:
         self.options = options
         self.executor = executor
 
-    def all(self, parts: list[Part]) -> Iterator[tuple[Part, Union[program.Run, Exception]]]:
-        """Each part with its run, or with what it failed by the second time, as they are done."""
+    def all(self, parts: list[Part]) -> Iterator[tuple[Part, Union[Report, Exception]]]:
+        """Each part with its report, or with what it failed by the second time, as they are done."""
         if self.executor is None:
             program.find()
             for part in parts:
@@ -146,7 +143,7 @@ class _Carrier:
                 done, _ = wait(waiting, return_when=FIRST_COMPLETED)
                 for future in done:
                     part, again = waiting.pop(future)
-                    outcome = _outcome(future)
+                    outcome = _outcome(part, future.result)
                     if isinstance(outcome, Exception) and not again:
                         todo.append((part, True))
                     else:
@@ -157,32 +154,31 @@ class _Carrier:
             if local is not None:
                 local.shutdown(wait=True)
 
-    def _twice(self, part: Part) -> Union[program.Run, Exception]:
-        """The run of a part in this process; a second one where the first one fails."""
-        try:
-            return run_part(self.script, part.lines, self.options)
-        except program.ProgramError:
-            pass
-        try:
-            return run_part(self.script, part.lines, self.options)
-        except program.ProgramError as error:
-            return error
+    def _twice(self, part: Part) -> Union[Report, Exception]:
+        """The report of a part that is run in this process; that of a second run where the first one fails."""
+
+        def ask() -> Union[Report, Exception]:
+            return _outcome(part, lambda: run_part(self.script, part.lines, self.options))
+
+        outcome = ask()
+        return ask() if isinstance(outcome, Exception) else outcome
 
 
-def _outcome(future: Future) -> Union[program.Run, Exception]:
-    """What a part gave: a run, or what it failed by. A worker's death and a future that was cancelled are failures
-    too."""
+def _outcome(part: Part, ask: Callable[[], program.Run]) -> Union[Report, Exception]:
+    """The report of a part, or what it failed by: a worker's death, a future that was cancelled, what is no report, or
+    one of other settings."""
     try:
-        run = future.result()
+        run = ask()
+        report = read_report(run.report)
+    except (KeyboardInterrupt, SystemExit):
+        raise
     except Exception as error:
         return error
-    except BaseException as error:  # in some versions a cancelled future tells of it by what is no Exception
-        if isinstance(error, (KeyboardInterrupt, SystemExit)):
-            raise
+    except BaseException as error:  # some libraries tell of a cancelled future by what is no Exception
         return RuntimeError(f"{type(error).__name__}: {error}")
-    if not isinstance(run, tuple) or len(run) != 3:
-        return TypeError(f"a worker gave {type(run).__name__} in place of a run")
-    return run
+    if report.kind == "solved" and len(report.answers) != part.count:
+        return RuntimeError(f"the report has {len(report.answers)} answers to {part.count} settings")
+    return report
 
 
 def _chunk(chunk: Optional[int], count: int, executor: Any) -> int:

@@ -249,14 +249,33 @@ class Executors(Case):
         self.assertEqual(len(executor.asked), 7)
 
     def test_what_goes_wrong_twice(self):
+        def broken(run):
+            return run._replace(report=run.report[:40])
+
+        def of_others(run):
+            return run._replace(report=b"setting 1 stopped 31 Memory\nanswered 0 stopped 1\n")
+
+        for change, told in ((broken, "ReportError"), (of_others, "1 answers to 10 settings")):
+
+            def gives(executor, function, args, change=change):
+                run = function(*args)
+                return change(run) if executor.asked[0] == args[1] else run
+
+            settings, executor = self.model.settings(20), Odd(gives)
+            results = self.model.problem.solve_at(settings, executor=executor, chunk=10)
+            self.assertRegex(str(results[3].error), f"settings 1 to 10: no answer, .* twice .*{told}")
+            self.assertEqual(results[13].exact, self.model.by_hand(settings[13]))
+            self.assertEqual(len(executor.asked), 3)
+
+    def test_want_of_memory_costs_its_part(self):
         def gives(executor, function, args):
             run = function(*args)
-            return run._replace(report=run.report[:40]) if executor.asked[0] == args[1] else run
+            return run._replace(status=5, report=b"want of memory\n") if len(executor.asked) == 2 else run
 
-        settings = self.model.settings(20)
+        settings = self.model.settings(30)
         results = self.model.problem.solve_at(settings, executor=Odd(gives), chunk=10)
-        self.assertIn("settings 1 to 10: no answer", str(results[3].error))
-        self.assertEqual(results[13].exact, self.model.by_hand(settings[13]))
+        self.assertIn("settings 11 to 20: the program has no answer for want of memory", str(results[15].error))
+        self.assertEqual([result.error is None for result in results[::10]], [True, False, True])
 
     def test_an_executor_that_takes_nothing_any_more(self):
         executor = ThreadPoolExecutor(1)
