@@ -271,8 +271,9 @@ def environment(**more):
 
 
 def python(code, **more):
+    words = [sys.executable, "-c", code]
     # in a folder from which no package is imported
-    return subprocess.run([sys.executable, "-c", code], capture_output=True, text=True, env=environment(**more), cwd="/")
+    return subprocess.run(words, capture_output=True, text=True, env=environment(**more), cwd="/")
 
 
 def is_running(pid):
