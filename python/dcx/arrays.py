@@ -1,4 +1,5 @@
-"""Exact arrays in plain Python: of no side, one or two, dense or sparse; what data they are made of, and what they give back."""
+"""Exact arrays in plain Python: of no side, one or two, dense or sparse; what data they are made of, and what they give
+back."""
 from __future__ import annotations
 
 import sys
@@ -52,7 +53,8 @@ class Array:
 
 
 class Sparse:
-    """A matrix of which only the entries that aren't 0 are held: for each row its pairs of a column and a number, in order."""
+    """A matrix of which only the entries that aren't 0 are held: for each row its pairs of a column and a number, in
+    order."""
 
     __slots__ = ("shape", "rows", "_dense", "_hash")
 
@@ -136,12 +138,12 @@ _modules: dict = {}
 
 
 def array_of(data) -> Array | Sparse:
-    """The exact array of a number, a NumPy array, a sparse matrix of SciPy, a table of pandas, an `Array`, the entries of a
-    report, or nested lists and tuples. A list of lists is read as CVXPY reads it, each inner list as a column; a tuple of
-    tuples, or any other nesting that begins with a tuple, has rows.
+    """The exact array of a number, a NumPy array, a sparse matrix of SciPy, a table of pandas, an `Array`, the entries
+    of a report, or nested lists and tuples. A list of lists is read as CVXPY reads it, each inner list as a column; a
+    tuple of tuples, or any other nesting that begins with a tuple, has rows.
 
-    ValueError where the sides of nested lists differ, where there are more than two sides, or of NaN and the infinities;
-    TypeError of what is no number.
+    ValueError where the sides of nested lists differ, where there are more than two sides, or of NaN and the
+    infinities; TypeError of what is no number.
     """
     if type(data) in _PLAIN:
         return Array((), (exact(data),))
@@ -232,8 +234,8 @@ def nested(array: Array, each) -> object:
 
 
 def to_floats(array: Array | Sparse):
-    """The entries as floats: a NumPy array, or lists of rows where NumPy isn't there; where there is no side a float, that of
-    NumPy where it is there, which has the methods that an array has."""
+    """The entries as floats: a NumPy array, or lists of rows where NumPy isn't there; where there is no side a float,
+    that of NumPy where it is there, which has the methods that an array has."""
     array = array.dense()
     if not array.shape and numpy() is not None:
         return numpy().float64(float(array.entries[0]))
@@ -268,7 +270,8 @@ def transposed(array: Array | Sparse) -> Array | Sparse:
             for column, number in row:
                 rows[column].append((place, number))
         return Sparse((width, height), rows)
-    return Array((width, height), (array.entries[row * width + column] for column in range(width) for row in range(height)))
+    entries = array.entries
+    return Array((width, height), (number for column in range(width) for number in entries[column::width]))
 
 
 def filled(shape: Sequence[int], number) -> Array:

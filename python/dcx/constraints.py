@@ -8,8 +8,8 @@ from .arrays import Array
 from .errors import UnsupportedError
 from .expressions import Expression, as_expression, leaves_of, next_number
 
-_TRUTH = ("Cannot evaluate the truth value of a constraint or chain constraints, e.g., 1 >= x >= 0: write two constraints, "
-          "[x >= 0, x <= 1]")
+_TRUTH = ("Cannot evaluate the truth value of a constraint or chain constraints, e.g., 1 >= x >= 0: write two "
+          "constraints, [x >= 0, x <= 1]")
 
 
 class Constraint:
@@ -114,7 +114,8 @@ class Constraint:
 
     @property
     def residual(self):
-        """By how much each entry breaks the constraint, in floats, 0 where it is kept; None where a value is missing."""
+        """By how much each entry breaks the constraint, in floats, 0 where it is kept; None where a value is missing.
+        """
         found = self._residual()
         return None if found is None else arrays.to_floats(found)
 

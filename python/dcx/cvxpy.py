@@ -24,8 +24,10 @@ from .statuses import *  # noqa: F401,F403  (words of answers and names of solve
 from .statuses import installed_solvers
 
 __all__ = [
-    "Constant", "Constraint", "DCPError", "DPPError", "Expression", "Maximize", "Minimize", "NonNeg", "NonPos", "Parameter",
-    "ParameterError", "Problem", "SolverError", "Variable", "Zero", "constraints", "disable_warnings", "enable_warnings", "error",
+    "Constant", "Constraint", "DCPError", "DPPError", "Expression", "Maximize", "Minimize", "NonNeg", "NonPos",
+    "Parameter",
+    "ParameterError", "Problem", "SolverError", "Variable", "Zero", "constraints", "disable_warnings",
+    "enable_warnings", "error",
     "installed_solvers", "settings", "warnings_enabled", *atoms.__all__, *settings.__all__,
 ]
 

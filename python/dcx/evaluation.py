@@ -103,7 +103,8 @@ def _product(left, right, shape: tuple) -> Array:
         width = dense.shape[-1]
         rows = [list(enumerate(dense.entries[start:start + width])) for start in range(0, dense.size, width)]
     right = right.dense()
-    columns = [right.entries] if right.ndim == 1 else [right.entries[column::right.shape[1]] for column in range(right.shape[1])]
+    count = 1 if right.ndim == 1 else right.shape[1]
+    columns = [right.entries[column::count] for column in range(count)]
     scaled_rows = [_scaled_pairs(row) for row in rows]
     scaled_columns = [_scaled(column) for column in columns]
     return Array(shape, (_dot(row, column) for row in scaled_rows for column in scaled_columns))
@@ -214,7 +215,8 @@ _MEANINGS: dict = {
     "pos": _entrywise(lambda a: max(a, ZERO)),
     "neg": _entrywise(lambda a: max(-a, ZERO)),
     "T": lambda shape, options, arg: transposed(arg),
-    "index": lambda shape, options, arg: Array(shape, (arg.entries[place] for place in indices.places_of(arg.shape, options))),
+    "index": lambda shape, options, arg: Array(shape,
+                                               (arg.entries[place] for place in indices.places_of(arg.shape, options))),
     "sum": _folding(total),
     "mean": _folding(lambda line: total(line) / len(line)),
     "max": _folding(max),

@@ -10,14 +10,15 @@ from .errors import UnsupportedError
 from .questions import Questions
 
 _numbers = itertools.count(1)
-_COMPARED = "Python's own max, min and sorted compare so: in their place stand cp.maximum(a, b), cp.minimum(a, b), cp.max(x), cp.min(x)"
+_COMPARED = ("Python's own max, min and sorted compare so: in their place stand cp.maximum(a, b), cp.minimum(a, b), "
+             "cp.max(x), cp.min(x)")
 
 
 class Expression(Questions):
     """A node of the tree.
 
-    `kind` names a form of the program's language, `args` are the expressions that it is made of, `options` what else it is
-    given, `shape` the sides of its value, and `site` the user's line that made it. None of these ever changes.
+    `kind` names a form of the program's language, `args` are the expressions that it is made of, `options` what else it
+    is given, `shape` the sides of its value, and `site` the user's line that made it. None of these ever changes.
     """
 
     __slots__ = ("kind", "args", "options", "shape", "site", "_known", "__weakref__")
@@ -72,7 +73,8 @@ class Expression(Questions):
         return True
 
     def __contains__(self, item) -> bool:
-        raise UnsupportedError("whether an expression holds something isn't known before it is solved: ask its value", sites.here())
+        raise UnsupportedError("whether an expression holds something isn't known before it is solved: ask its value",
+                               sites.here())
 
     # ---- what it is made of
 
@@ -113,8 +115,8 @@ class Expression(Questions):
 
     @property
     def value(self):
-        """The value in floats, evaluated in fractions first: a NumPy array, lists where NumPy isn't there, a float where
-        there is no side; None where a variable or a parameter in it has none."""
+        """The value in floats, evaluated in fractions first: a NumPy array, lists where NumPy isn't there, a float
+        where there is no side; None where a variable or a parameter in it has none."""
         array = self._array()
         return None if array is None else arrays.to_floats(array)
 
@@ -181,8 +183,8 @@ class Expression(Questions):
         return _operator("equal", self, other)
 
     def __ne__(self, other):
-        raise UnsupportedError("a constraint `!=` isn't convex and isn't offered; `is not` tells whether two expressions are "
-                               "the same object", sites.here())
+        raise UnsupportedError("a constraint `!=` isn't convex and isn't offered; `is not` tells whether two "
+                               "expressions are the same object", sites.here())
 
     def __lt__(self, other):
         raise UnsupportedError(f"Strict inequalities are not allowed: write `<=`. {_COMPARED}", sites.here())
@@ -191,18 +193,19 @@ class Expression(Questions):
         raise UnsupportedError(f"Strict inequalities are not allowed: write `>=`. {_COMPARED}", sites.here())
 
     def __lshift__(self, other):
-        raise UnsupportedError("a constraint on the eigenvalues of a matrix isn't piecewise linear, so `<<` isn't offered; `<=` "
-                               "compares entry by entry", sites.here())
+        raise UnsupportedError("a constraint on the eigenvalues of a matrix isn't piecewise linear, so `<<` isn't "
+                               "offered; `<=` compares entry by entry", sites.here())
 
     def __rshift__(self, other):
-        raise UnsupportedError("a constraint on the eigenvalues of a matrix isn't piecewise linear, so `>>` isn't offered; `>=` "
-                               "compares entry by entry", sites.here())
+        raise UnsupportedError("a constraint on the eigenvalues of a matrix isn't piecewise linear, so `>>` isn't "
+                               "offered; `>=` compares entry by entry", sites.here())
 
     __rlshift__ = __lshift__
     __rrshift__ = __rshift__
 
     def __floordiv__(self, other):
-        raise UnsupportedError("`//` and `%` of an expression aren't convex; an integer variable takes whole numbers", sites.here())
+        raise UnsupportedError("`//` and `%` of an expression aren't convex; an integer variable takes whole numbers",
+                               sites.here())
 
     __rfloordiv__ = __mod__ = __rmod__ = __floordiv__
 
@@ -214,7 +217,8 @@ class Expression(Questions):
         return operators.indexed(self, key)
 
     def __setitem__(self, key, value):
-        raise UnsupportedError("an expression never changes: make a new one, or add the constraint `x[key] == value`", sites.here())
+        raise UnsupportedError("an expression never changes: make a new one, or add the constraint `x[key] == value`",
+                               sites.here())
 
     def __array_ufunc__(self, ufunc, method, *inputs, **options):
         from . import foreign
@@ -300,8 +304,8 @@ def _method(name: str, expression, axis, keepdims, dtype, out):
 
 
 class Compound(Expression):
-    """An expression that is made of others. Were it a plain `Expression`, Python would ask a variable on the right of a comparison
-    first, since that is of a subclass, and the sides of the constraint would be turned."""
+    """An expression that is made of others. Were it a plain `Expression`, Python would ask a variable on the right of a
+    comparison first, since that is of a subclass, and the sides of the constraint would be turned."""
 
     __slots__ = ()
 
@@ -345,8 +349,8 @@ def refuse_lists_of_expressions(value) -> None:
         return
     for item in items:
         if isinstance(item, Expression):
-            raise ValueError("The input must be a single expression, not a list. Combine expressions using atoms such as bmat, "
-                             "hstack, and vstack.")
+            raise ValueError("The input must be a single expression, not a list. Combine expressions using atoms such "
+                             "as bmat, hstack, and vstack.")
         if isinstance(item, (list, tuple)):
             refuse_lists_of_expressions(item)
 

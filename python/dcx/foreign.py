@@ -18,18 +18,24 @@ _OPERATORS = {
     "greater_equal": "at_least",
     "equal": "equal",
 }
-_COMPARISONS = {"less": "__lt__", "greater": "__gt__", "not_equal": "__ne__", "left_shift": "__lshift__", "right_shift": "__rshift__"}
+_COMPARISONS = {"less": "__lt__", "greater": "__gt__", "not_equal": "__ne__", "left_shift": "__lshift__",
+                "right_shift": "__rshift__"}
 
 # functions of NumPy that ask an expression for what it tells itself, or for one of its methods
 _ASKED = {"shape": "shape", "ndim": "ndim", "size": "size"}
-_METHODS = {"sum": "sum", "mean": "mean", "max": "max", "amax": "max", "min": "min", "amin": "min", "transpose": "transpose"}
+_METHODS = {"sum": "sum", "mean": "mean", "max": "max", "amax": "max", "min": "min", "amin": "min",
+            "transpose": "transpose"}
 
 # what to write for a function of NumPy, where its own name isn't that of a call
 _WRITE = {
-    "absolute": "cp.abs", "fabs": "cp.abs", "negative": "-x", "positive": "x", "fmax": "cp.maximum", "fmin": "cp.minimum",
-    "dot": "A @ x", "inner": "x @ y", "tensordot": "A @ x", "ravel": "cp.vec", "append": "cp.hstack", "repeat": "cp.hstack", "prod": "cp.multiply",
-    "column_stack": "cp.vstack([..]).T", "row_stack": "cp.vstack", "stack": "cp.vstack or cp.hstack", "tile": "cp.kron", "where": "cp.multiply",
-    "clip": "cp.minimum and cp.maximum", "linalg.norm": "cp.norm1 or cp.norm_inf", "diagonal": "cp.diag", "block": "cp.bmat",
+    "absolute": "cp.abs", "fabs": "cp.abs", "negative": "-x", "positive": "x", "fmax": "cp.maximum",
+    "fmin": "cp.minimum",
+    "dot": "A @ x", "inner": "x @ y", "tensordot": "A @ x", "ravel": "cp.vec", "append": "cp.hstack",
+    "repeat": "cp.hstack", "prod": "cp.multiply",
+    "column_stack": "cp.vstack([..]).T", "row_stack": "cp.vstack", "stack": "cp.vstack or cp.hstack",
+    "tile": "cp.kron", "where": "cp.multiply",
+    "clip": "cp.minimum and cp.maximum", "linalg.norm": "cp.norm1 or cp.norm_inf", "diagonal": "cp.diag",
+    "block": "cp.bmat",
     "triu": "cp.multiply", "tril": "cp.multiply", "average": "cp.mean",
 }
 
@@ -45,7 +51,8 @@ def boxed(expression):
 
 
 def ufunc(expression, function, method: str, inputs: tuple, options: dict):
-    """What an operator between an array and an expression gives. Where `a += x` stands, with an array a, a new expression.
+    """What an operator between an array and an expression gives. Where `a += x` stands, with an array a, a new
+    expression.
 
     UnsupportedError for every other function, with what to write.
     """
@@ -62,7 +69,8 @@ def ufunc(expression, function, method: str, inputs: tuple, options: dict):
 
 
 def function(function, arguments: tuple, options: dict):
-    """What one of NumPy's functions of arrays gives of an expression: its shape, or its sum, mean, greatest or least entry.
+    """What one of NumPy's functions of arrays gives of an expression: its shape, or its sum, mean, greatest or least
+    entry.
 
     UnsupportedError for every other one, with what to write.
     """
@@ -80,7 +88,9 @@ def _refusal(name: str) -> UnsupportedError:
     from . import atoms, unsupported
     if name in unsupported.NAMES:
         why, write = unsupported.NAMES[name]
-        return UnsupportedError(f"np.{name} is a function of NumPy and isn't defined on expressions, and {why}. Write {write}.", sites.here())
+        return UnsupportedError(f"np.{name} is a function of NumPy and isn't defined on expressions, and {why}. Write "
+                                f"{write}.", sites.here())
     write = _WRITE.get(name) or (f"cp.{name}" if hasattr(atoms, name) else None)
     return UnsupportedError(f"np.{name} is a function of NumPy and isn't defined on expressions"
-                            + (f": write {write}" if write else ", which have no numbers before they are solved"), sites.here())
+                            + (f": write {write}" if write else ", which have no numbers before they are solved"),
+                            sites.here())

@@ -1,8 +1,9 @@
-"""Indices as NumPy means them: whole numbers, slices, `...`, `None`, lists, arrays and masks, of expressions of at most two sides.
+"""Indices as NumPy means them: whole numbers, slices, `...`, `None`, lists, arrays and masks, of expressions of at most
+two sides.
 
-An index is read as one of two things. A `Basic` one is what the program's language says too: for each side a whole number or
-`('slice', start, stop, step)`, with all of them told, and `stop` None where it goes down past the first. A `Gathered` one is a
-list of places, counted row by row.
+An index is read as one of two things. A `Basic` one is what the program's language says too: for each side a whole
+number or `('slice', start, stop, step)`, with all of them told, and `stop` None where it goes down past the first. A
+`Gathered` one is a list of places, counted row by row.
 """
 from __future__ import annotations
 
@@ -12,7 +13,8 @@ from . import shapes
 
 
 class Basic(NamedTuple):
-    """A whole number or a slice for each side; `left` is the shape that these leave, and `shape` has what `None` adds."""
+    """A whole number or a slice for each side; `left` is the shape that these leave, and `shape` has what `None` adds.
+    """
 
     sides: tuple
     left: tuple

@@ -11,8 +11,10 @@ from .expressions import Expression, next_number
 
 # attributes of CVXPY that no constraint of linear pieces means
 _REFUSED = {
-    "PSD": "a constraint on the eigenvalues of a matrix isn't piecewise linear; symmetric=True and diag=True are offered",
-    "NSD": "a constraint on the eigenvalues of a matrix isn't piecewise linear; symmetric=True and diag=True are offered",
+    "PSD": "a constraint on the eigenvalues of a matrix isn't piecewise linear; symmetric=True and diag=True are "
+           "offered",
+    "NSD": "a constraint on the eigenvalues of a matrix isn't piecewise linear; symmetric=True and diag=True are "
+           "offered",
     "complex": "there are no complex numbers: write the real and the imaginary part as two variables",
     "imag": "there are no complex numbers: write the imaginary part as a variable of its own",
     "hermitian": "there are no complex numbers: symmetric=True is what is left of it",
@@ -54,8 +56,8 @@ class Leaf(Expression):
             if key not in _OFFERED and key not in _REFUSED:
                 raise TypeError(f"{word} has no argument {key!r}")
             if key in ("boolean", "integer") and not isinstance(setting, bool) and setting is not None:
-                raise UnsupportedError(f"{word}(.., {key}=..) takes True or False, and no places: declare two variables, one of "
-                                       f"them with {key}=True, and join them by hstack", sites.here())
+                raise UnsupportedError(f"{word}(.., {key}=..) takes True or False, and no places: declare two "
+                                       f"variables, one of them with {key}=True, and join them by hstack", sites.here())
         is_set = {key: bool(given.get(key)) for key in _OFFERED if key != "bounds"}
         self.attributes = {key: is_set[key] for key in _OF_LANGUAGE}
         self.attributes["nonneg"] |= is_set["pos"]
@@ -68,7 +70,8 @@ class Leaf(Expression):
         held = [key for key in _OF_LANGUAGE if self.attributes[key]]
         if self.attributes["nonneg"] and self.attributes["nonpos"]:
             raise ValueError(f"Cannot set more than one special attribute in {word}: nonneg and nonpos leave 0 alone")
-        if (self.attributes["symmetric"] or self.attributes["diag"]) and (self.ndim != 2 or self.shape[0] != self.shape[1]):
+        is_square = self.ndim == 2 and self.shape[0] == self.shape[1]
+        if (self.attributes["symmetric"] or self.attributes["diag"]) and not is_square:
             raise ValueError(f"Invalid dimensions {self.shape}. Must be a square matrix.")
         shapely = [key for key in held if key in ("symmetric", "diag", "boolean", "integer")]
         if len(shapely) > 1:
@@ -92,7 +95,8 @@ class Leaf(Expression):
         found = _open_ended(item, sign)
         shape = getattr(found, "shape", ())
         if shape not in ((), self.shape):
-            raise ValueError(f"Bounds should be None, a number, or an array of the shape {self.shape}, and not of {shape}.")
+            raise ValueError(f"Bounds should be None, a number, or an array of the shape {self.shape}, and not of "
+                             f"{shape}.")
         ends = list(found.entries) if shape else [found.entries[0]] * self.size
         return None if all(end is None for end in ends) else ends
 
@@ -100,7 +104,9 @@ class Leaf(Expression):
 
     def name(self) -> str:
         """The user's name, or one that is made of a number."""
-        return self.given_name if self.given_name is not None else f"{'var' if self.kind == 'variable' else 'param'}{self.id}"
+        if self.given_name is not None:
+            return self.given_name
+        return f"{'var' if self.kind == 'variable' else 'param'}{self.id}"
 
     def __repr__(self) -> str:
         return f"{type(self).__name__}({self.shape}, {self.name()})"
@@ -112,7 +118,8 @@ class Leaf(Expression):
 
     @property
     def value(self):
-        """The value in floats: a NumPy array, lists where NumPy isn't there, a float where there is no side; None before."""
+        """The value in floats: a NumPy array, lists where NumPy isn't there, a float where there is no side; None
+        before."""
         return None if self._value is None else arrays.to_floats(self._value)
 
     @value.setter
@@ -139,7 +146,8 @@ class Leaf(Expression):
             array = arrays.array_of(value)
         if array.shape == self.shape:
             return array
-        raise ValueError(f"Invalid dimensions {array.shape} for {type(self).__name__} value: {self.name()} has the shape {self.shape}.")
+        raise ValueError(f"Invalid dimensions {array.shape} for {type(self).__name__} value: {self.name()} has the "
+                         f"shape {self.shape}.")
 
     def _tested(self, value) -> Array | Sparse:
         array = self._shaped(value)
@@ -171,7 +179,8 @@ class Leaf(Expression):
 
     def project(self, value):
         """Not offered: what is near to a value is a question of its own."""
-        raise UnsupportedError("project isn't offered: minimize cp.norm1(x - value) under the constraints", sites.here())
+        raise UnsupportedError("project isn't offered: minimize cp.norm1(x - value) under the constraints",
+                               sites.here())
 
     project_and_assign = project
 
@@ -179,8 +188,8 @@ class Leaf(Expression):
 class Variable(Leaf):
     """What is solved for: `Variable(shape=(), name=None, **attributes)`.
 
-    Attributes are nonneg, nonpos, pos and neg (which are nonneg and nonpos, as in CVXPY), symmetric, diag, boolean, integer,
-    and bounds=[l, u] with numbers, arrays, None and infinities as open ends.
+    Attributes are nonneg, nonpos, pos and neg (which are nonneg and nonpos, as in CVXPY), symmetric, diag, boolean,
+    integer, and bounds=[l, u] with numbers, arrays, None and infinities as open ends.
     """
 
     __slots__ = ()
@@ -196,19 +205,20 @@ class Variable(Leaf):
         if not any(held[word] for word in _OF_LANGUAGE if word != "integer"):
             # bounds on one side of 0 give a sign, as they do in CVXPY
             held["nonneg"] = low is not None and all(end is not None and end >= 0 for end in low)
-            held["nonpos"] = not held["nonneg"] and high is not None and all(end is not None and end <= 0 for end in high)
+            is_below = high is not None and all(end is not None and end <= 0 for end in high)
+            held["nonpos"] = is_below and not held["nonneg"]
         super()._judge(word)
 
     def own_constraints(self) -> list:
-        """The constraints that its attributes mean beyond what the program's language says at a declaration, always the same
-        objects. Their multipliers aren't among those of the user's constraints."""
+        """The constraints that its attributes mean beyond what the program's language says at a declaration, always the
+        same objects. Their multipliers aren't among those of the user's constraints."""
         if self._own is None:
             self._own = self._made()
         return self._own
 
     def language_attributes(self) -> tuple:
-        """The attributes that a declaration in the program's language has: at most one of its first four, or boolean, or
-        integer with a sign. What the language can't say beside another is one of the own constraints."""
+        """The attributes that a declaration in the program's language has: at most one of its first four, or boolean,
+        or integer with a sign. What the language can't say beside another is one of the own constraints."""
         held = self.attributes
         for word in ("symmetric", "diag", "boolean"):
             if held[word]:
@@ -246,12 +256,13 @@ class Variable(Leaf):
         """Whether what a declaration says already keeps every entry within these ends."""
         if sense == "low":
             return ("nonneg" in said or "boolean" in said) and all(end is None or end <= 0 for end in ends)
-        return all(end is None or end >= 0 for end in ends) if "nonpos" in said else "boolean" in said and all(end is None or end >= 1 for end in ends)
+        most = 0 if "nonpos" in said else 1 if "boolean" in said else None
+        return most is not None and all(end is None or end >= most for end in ends)
 
 
 class Parameter(Leaf):
-    """Numbers that may vary: `Parameter(shape=(), name=None, value=None, **attributes)`. The attributes nonneg and nonpos
-    are what the rules know of it; every attribute is tested where a value is set."""
+    """Numbers that may vary: `Parameter(shape=(), name=None, value=None, **attributes)`. The attributes nonneg and
+    nonpos are what the rules know of it; every attribute is tested where a value is set."""
 
     __slots__ = ()
 

@@ -9,7 +9,8 @@ from fractions import Fraction
 
 from .errors import LimitError
 
-# the greatest numerator or denominator of the program's numbers, the most digits of one of its tokens and the greatest exponent
+# the greatest numerator or denominator of the program's numbers, the most digits of one of its tokens, and the greatest
+# exponent
 GREATEST = 2**127 - 1
 DIGITS = 30
 EXPONENT = 30
@@ -42,8 +43,8 @@ def _digits_of(value: float) -> Fraction:
 
 
 def exact(value) -> Fraction:
-    """The fraction that `value` means: a whole number, a `Fraction` and a `Decimal` mean themselves, a float the shortest
-    decimal that is read as that float, which is the one that Python prints, so `0.1` is a tenth.
+    """The fraction that `value` means: a whole number, a `Fraction` and a `Decimal` mean themselves, a float the
+    shortest decimal that is read as that float, which is the one that Python prints, so `0.1` is a tenth.
 
     ValueError of NaN and the infinities; TypeError of what is no real number.
     """
@@ -122,8 +123,8 @@ def text(number: Fraction) -> str:
     else:
         body = _decimal(top, bottom) or _quotient(top, bottom)
     if body is None:
-        raise LimitError(f"{number} has more than {DIGITS} digits, which is more than a number of the language may have; "
-                         "dcx.rounded(data, digits) rounds data, and another unit makes numbers shorter")
+        raise LimitError(f"{number} has more than {DIGITS} digits, which is more than a number of the language may "
+                         "have; dcx.rounded(data, digits) rounds data, and another unit makes numbers shorter")
     return sign + body
 
 
@@ -195,7 +196,8 @@ def rounded(data, digits: int | None = None, *, significant: int | None = None):
     A number gives a `Fraction`, a list or a tuple one of the same nesting, a NumPy array an array of fractions, and a
     sparse matrix of SciPy a sparse matrix of floats, each of which is read as the rounded decimal.
 
-    TypeError where neither or both of the two are given; ValueError where digits don't fit into a float of a sparse matrix.
+    TypeError where neither or both of the two are given; ValueError where digits don't fit into a float of a sparse
+    matrix.
     """
     if (digits is None) == (significant is None):
         raise TypeError("rounded(data, digits) or rounded(data, significant=count): one of the two, and not both")

@@ -1,4 +1,5 @@
-"""What Python's operators and indices make of expressions, with CVXPY's meaning, recorded in the forms of the program's language."""
+"""What Python's operators and indices make of expressions, with CVXPY's meaning, recorded in the forms of the program's
+language."""
 from __future__ import annotations
 
 import warnings
@@ -11,14 +12,15 @@ from .errors import UnsupportedError, warnings_enabled
 from .expressions import Constant, Expression, as_expression, node
 from .numbers import exact
 
-_STAR = ("This use of ``*`` has resulted in matrix multiplication. Using ``*`` for matrix multiplication has been deprecated since "
-         "CVXPY 1.1. Use ``*`` for matrix-scalar and vector-scalar multiplication, ``@`` for matrix-matrix and matrix-vector "
-         "multiplication, and ``multiply`` for elementwise multiplication.")
+_STAR = ("This use of ``*`` has resulted in matrix multiplication. Using ``*`` for matrix multiplication has been "
+         "deprecated since "
+         "CVXPY 1.1. Use ``*`` for matrix-scalar and vector-scalar multiplication, ``@`` for matrix-matrix and "
+         "matrix-vector multiplication, and ``multiply`` for elementwise multiplication.")
 
 
 def fitted(left: Expression, right: Expression) -> tuple[Expression, Expression]:
-    """Two operands that broadcast in the program's language to the shape that CVXPY gives them: there one entry takes the
-    other's shape, also where its own has more sides."""
+    """Two operands that broadcast in the program's language to the shape that CVXPY gives them: there one entry takes
+    the other's shape, also where its own has more sides."""
     if left.ndim > right.ndim and left.is_scalar() and not right.is_scalar():
         return single(left), right
     if right.ndim > left.ndim and right.is_scalar() and not left.is_scalar():
@@ -39,7 +41,8 @@ def _is_plain_zero(value: Expression) -> bool:
 
 
 def added(left, right) -> Expression:
-    """`left + right`; what is added to zeros of no greater shape is itself, so that `sum` of a list begins without one."""
+    """`left + right`; what is added to zeros of no greater shape is itself, so that `sum` of a list begins without one.
+    """
     left, right = as_expression(left), as_expression(right)
     shape = shapes.paired(left.shape, right.shape)
     for one, other in ((left, right), (right, left)):
@@ -68,7 +71,8 @@ def negated(value) -> Expression:
 
 
 def multiplied(left, right) -> Expression:
-    """`left * right`: where one side has one entry the product with it, else the matrix product, with CVXPY's warning."""
+    """`left * right`: where one side has one entry the product with it, else the matrix product, with CVXPY's warning.
+    """
     left, right = as_expression(left), as_expression(right)
     if not (left.is_scalar() or right.is_scalar()):
         # ValueError before a warning where the shapes don't fit
@@ -113,7 +117,8 @@ def raised(base, power) -> Expression:
             return base
         if base.kind == "constant" and exponent.denominator == 1 and (exponent >= 0 or all(base.array.entries)):
             return Constant(Array(base.shape, (number**exponent.numerator for number in base.array.entries)))
-    raise UnsupportedError("a power isn't piecewise linear, so it has no exact answer in fractions: for least squares write "
+    raise UnsupportedError("a power isn't piecewise linear, so it has no exact answer in fractions: for least squares "
+                           "write "
                            "cp.norm1(x) or cp.norm_inf(x), for a smooth cost cp.maximum of its tangents", sites.here())
 
 
@@ -170,7 +175,8 @@ def indexed(value: Expression, key) -> Expression:
 
 
 def _basic(value: Expression, sides: tuple, shape: tuple) -> Expression:
-    if shape == value.shape and all(isinstance(side, tuple) and side[1:] == (0, length, 1) for side, length in zip(sides, value.shape)):
+    if shape == value.shape and all(isinstance(side, tuple) and side[1:] == (0, length, 1) for side,
+                                    length in zip(sides, value.shape)):
         return value
     if value.kind == "constant":
         entries = value.array.entries
@@ -219,8 +225,10 @@ def _runs(places: Sequence[int]) -> list:
         while step and last + 1 < len(places) and places[last + 1] - places[last] == step:
             last += 1
         # two places are one slice where nothing longer begins at the second
-        if last == first + 1 and last + 2 < len(places) and places[last + 2] - places[last + 1] == places[last + 1] - places[last] != 0:
-            last = first
+        if last == first + 1 and last + 2 < len(places):
+            after = places[last + 1] - places[last]
+            if after and places[last + 2] - places[last + 1] == after:
+                last = first
         step = step if last > first else 1
         runs.append(range(places[first], places[last] + (1 if step > 0 else -1), step))
         first = last + 1
@@ -228,14 +236,15 @@ def _runs(places: Sequence[int]) -> list:
 
 
 def _lines(pairs: list) -> list:
-    """Places of a matrix cut into pieces of rows and of columns: for each its row and its column, one of them a range where
-    there is more than one entry."""
+    """Places of a matrix cut into pieces of rows and of columns: for each its row and its column, one of them a range
+    where there is more than one entry."""
     lines, first = [], 0
     while first < len(pairs):
         last, (row, column) = first, pairs[first]
         step = (pairs[first + 1][0] - row, pairs[first + 1][1] - column) if first + 1 < len(pairs) else (0, 0)
         if (step[0] == 0) != (step[1] == 0):
-            while last + 1 < len(pairs) and (pairs[last + 1][0] - pairs[last][0], pairs[last + 1][1] - pairs[last][1]) == step:
+            while last + 1 < len(pairs) and (pairs[last + 1][0] - pairs[last][0],
+                                             pairs[last + 1][1] - pairs[last][1]) == step:
                 last += 1
         if last == first:
             lines.append((row, column))

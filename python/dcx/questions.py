@@ -1,4 +1,5 @@
-"""What may be asked of an expression by the rules of convexity: its curvature, its sign, and whether these are known."""
+"""What may be asked of an expression by the rules of convexity: its curvature, its sign, and whether these are known.
+"""
 from __future__ import annotations
 
 from . import sites
@@ -47,7 +48,8 @@ class Questions:
     def is_dpp(self, context: str = "dcp") -> bool:
         """Whether the rules find it convex or concave where parameters may vary too."""
         if context != "dcp":
-            raise UnsupportedError(f"there are no rules of the name {context!r}: \"dcp\" is the one context", sites.here())
+            raise UnsupportedError(f"there are no rules of the name {context!r}: \"dcp\" is the one context",
+                                   sites.here())
         return self._verdict().is_dpp
 
     def is_nonneg(self) -> bool:

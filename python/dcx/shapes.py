@@ -16,7 +16,9 @@ def show(*shapes: Sequence[int]) -> str:
 
 def is_whole(value) -> bool:
     """Whether a value is a whole number, of Python or of NumPy, and no truth value."""
-    return isinstance(value, numbers.Integral) and not isinstance(value, bool) and type(value).__name__ not in ("bool_", "bool")
+    return isinstance(value, numbers.Integral) and not isinstance(value,
+                                                                  bool) and type(value).__name__ not in ("bool_",
+                                                                                                         "bool")
 
 
 def declared(shape) -> Shape:
@@ -60,7 +62,8 @@ def broadcast(*shapes: Sequence[int]) -> Shape:
 
 
 def paired(left: Sequence[int], right: Sequence[int]) -> Shape:
-    """The shape of two operands beside each other as CVXPY has it: one entry takes the other's shape, whatever its own is.
+    """The shape of two operands beside each other as CVXPY has it: one entry takes the other's shape, whatever its own
+    is.
 
     ValueError where they don't fit.
     """
@@ -87,10 +90,11 @@ def axis_of(axis, shape: Sequence[int]) -> int | None:
 
     ValueError where the shape has no such axis, TypeError where it is no whole number.
     """
-    if isinstance(axis, tuple) and len(axis) == len(shape) and sorted(place % len(shape) for place in axis) == list(range(len(shape))):
-        return None
-    if isinstance(axis, tuple) and len(axis) == 1:
-        axis = axis[0]
+    if isinstance(axis, tuple):
+        named = {axis_of(place, shape) for place in axis}
+        if len(named) < len(axis) or len(axis) not in (1, len(shape)):
+            raise ValueError(f"Invalid argument for axis: {axis} of the shape {tuple(shape)}")
+        axis = axis[0] if len(axis) < len(shape) else None
     if axis is None:
         return None
     if not is_whole(axis):

@@ -67,7 +67,8 @@ def _of_constant(item) -> str:
     if item.ndim == 1:
         return f"[{', '.join(entries)}]"
     width = item.shape[1]
-    return "[" + ", ".join(f"[{', '.join(entries[row * width:(row + 1) * width])}]" for row in range(item.shape[0])) + "]"
+    rows = (", ".join(entries[row * width:(row + 1) * width]) for row in range(item.shape[0]))
+    return "[" + ", ".join(f"[{row}]" for row in rows) + "]"
 
 
 def _number(number) -> str:

@@ -1,4 +1,5 @@
-"""Words: how a solve ends, in CVXPY's spelling, and the names of CVXPY's solvers, which are taken for the one that there is."""
+"""Words: how a solve ends, in CVXPY's spelling, and the names of CVXPY's solvers, which are taken for the one that
+there is."""
 from __future__ import annotations
 
 OPTIMAL = "optimal"

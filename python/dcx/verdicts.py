@@ -1,5 +1,6 @@
-"""What the rules of convexity find of an expression or a constraint. The program is asked, whose rules are the only ones: of the
-sum of an expression's entries, which has the expression's curvature and sign, whether it may be minimized or maximized."""
+"""What the rules of convexity find of an expression or a constraint. The program is asked, whose rules are the only
+ones: of the sum of an expression's entries, which has the expression's curvature and sign, whether it may be minimized
+or maximized."""
 from __future__ import annotations
 
 from typing import NamedTuple

@@ -1,4 +1,5 @@
-"""What tests of expressions share: points whose floats are exact, and two ways of evaluating that know nothing of each other."""
+"""What tests of expressions share: points whose floats are exact, and two ways of evaluating that know nothing of each
+other."""
 from __future__ import annotations
 
 import random
@@ -7,7 +8,6 @@ from fractions import Fraction
 import numpy as np
 
 import dcx.cvxpy as cp
-from dcx.arrays import Array
 
 # parts by which a float is exact, so that NumPy's sums and products of few of them are exact too
 _PARTS = (1, 2, 4)
@@ -27,9 +27,9 @@ def variable(rng: random.Random, shape: tuple) -> cp.Variable:
     return x
 
 
-def program_value(expression, constant: bool = False) -> Fraction:
-    """A weighted sum of an expression's entries as the program finds it: with its variables fixed at their values, the least
-    value of the sum where it is convex, and else the greatest. The weights are 1, 2, 3, .."""
+def program_value(expression) -> Fraction:
+    """A weighted sum of an expression's entries as the program finds it: with its variables fixed at their values, the
+    least value of the sum where it is convex, and else the greatest. The weights are 1, 2, 3, .."""
     weights = weights_of(expression.shape)
     total = cp.sum(cp.multiply(weights, expression))
     fixed = [x == cp.Constant(x._array()) for x in expression.variables()]
@@ -45,8 +45,3 @@ def weights_of(shape: tuple) -> np.ndarray:
     """The numbers 1, 2, 3, .. in a shape."""
     size = int(np.prod(shape)) if shape else 1
     return np.arange(1, size + 1).reshape(shape)
-
-
-def as_array(value) -> np.ndarray:
-    """An exact value as an array of floats."""
-    return np.array(value, dtype=float) if not isinstance(value, Array) else np.array([float(n) for n in value.entries]).reshape(value.shape)

@@ -1,4 +1,5 @@
-"""Random compositions of calls, operators and indices: by NumPy, by the package, and by the program with all variables fixed."""
+"""Random compositions of calls, operators and indices: by NumPy, by the package, and by the program with all variables
+fixed."""
 from __future__ import annotations
 
 import random
@@ -55,13 +56,15 @@ class Maker:
             axis = rng.choice([None, *range(v.ndim)])
             keepdims = rng.random() < 0.5
             name = rng.choice(["sum", "mean"])
-            return getattr(cp, name)(e, axis=axis, keepdims=keepdims), np.asarray(getattr(np, name)(v, axis=axis, keepdims=keepdims))
+            return getattr(cp, name)(e, axis=axis,
+                                     keepdims=keepdims), np.asarray(getattr(np, name)(v, axis=axis, keepdims=keepdims))
         if kind == 8 and v.ndim:
             axis = rng.randrange(v.ndim)
             return cp.cumsum(e, axis), np.cumsum(v, axis)
         if kind == 9 and v.ndim:
             f, w = (e + 1, v + 1) if rng.random() < 0.5 else (-e, -v)
-            return (cp.hstack([e, f]), np.hstack([v, w])) if rng.random() < 0.5 else (cp.vstack([e, f]), np.vstack([v, w]))
+            return (cp.hstack([e, f]), np.hstack([v, w])) if rng.random() < 0.5 else (cp.vstack([e, f]),
+                                                                                      np.vstack([v, w]))
         if kind == 10 and v.ndim and v.shape[0] > 1:
             return cp.diff(e, axis=0), np.diff(v, axis=0)
         if kind == 11:
@@ -87,7 +90,8 @@ class Maker:
     def key(self, shape):
         parts = []
         for side in shape:
-            parts.append(self.rng.choice([slice(None), self.rng.randrange(-side, side), slice(None, None, -1), slice(self.rng.randrange(side), None)]))
+            parts.append(self.rng.choice([slice(None), self.rng.randrange(-side, side), slice(None, None, -1),
+                                          slice(self.rng.randrange(side), None)]))
         if self.rng.random() < 0.3:
             return [self.rng.randrange(-shape[0], shape[0]) for _ in range(3)]
         return tuple(parts)
@@ -144,7 +148,8 @@ class Compositions(unittest.TestCase):
                 self.assertEqual(e.shape, v.shape, str(e))
                 np.testing.assert_allclose(np.asarray(e.value, dtype=float), v, rtol=1e-9, atol=1e-9, err_msg=str(e))
                 weighted = float((weights_of(v.shape) * v).sum())
-                self.assertAlmostEqual(float(program_value(e)) / max(1, abs(weighted)), weighted / max(1, abs(weighted)), 9, str(e))
+                self.assertAlmostEqual(float(program_value(e)) / max(1, abs(weighted)),
+                                       weighted / max(1, abs(weighted)), 9, str(e))
         self.assertGreater(len(kinds), 8)
 
 

@@ -19,9 +19,12 @@ class Sides(unittest.TestCase):
         x = cp.Variable(3, "x")
         a = np.array([1, 2, 3])
         for made, op, left_is_x, text in [
-            (x <= 2, "<=", True, "x <= 2"), (x >= 2, "<=", False, "x >= 2"), (2 <= x, "<=", False, "x >= 2"), (2 >= x, "<=", True, "x <= 2"),
-            (x == 2, "==", True, "x == 2"), (2 == x, "==", True, "x == 2"), (x <= a, "<=", True, "x <= [1, 2, 3]"), (x >= a, "<=", False, "x >= [1, 2, 3]"),
-            (a <= x, "<=", False, "[1, 2, 3] <= x"), (a >= x, "<=", True, "[1, 2, 3] >= x"), (np.int64(2) <= x, "<=", False, "2 <= x"),
+            (x <= 2, "<=", True, "x <= 2"), (x >= 2, "<=", False, "x >= 2"), (2 <= x, "<=", False, "x >= 2"),
+            (2 >= x, "<=", True, "x <= 2"),
+            (x == 2, "==", True, "x == 2"), (2 == x, "==", True, "x == 2"), (x <= a, "<=", True, "x <= [1, 2, 3]"),
+            (x >= a, "<=", False, "x >= [1, 2, 3]"),
+            (a <= x, "<=", False, "[1, 2, 3] <= x"), (a >= x, "<=", True, "[1, 2, 3] >= x"),
+            (np.int64(2) <= x, "<=", False, "2 <= x"),
             (np.float64(2) >= x, "<=", True, "2 >= x"), (x == a, "==", True, "x == [1, 2, 3]"),
         ]:
             with self.subTest(text):
@@ -63,7 +66,8 @@ class Sides(unittest.TestCase):
 
     def test_no_truth_value(self):
         x = cp.Variable()
-        for ask in [lambda: bool(x <= 1), lambda: 1 >= x >= 0, lambda: 0 <= x <= 1, lambda: (x <= 1) <= 2, lambda: (x <= 1) == 2 or (x >= 1) > 1,
+        for ask in [lambda: bool(x <= 1), lambda: 1 >= x >= 0, lambda: 0 <= x <= 1, lambda: (x <= 1) <= 2,
+                    lambda: (x <= 1) == 2 or (x >= 1) > 1,
                     lambda: not x == 1, lambda: 1 if x >= 0 else 2, lambda: (x >= 0) and (x <= 1)]:
             with self.assertRaisesRegex(UnsupportedError, "truth value"):
                 ask()
@@ -126,8 +130,10 @@ class Rules(unittest.TestCase):
     def test_curvatures(self):
         x, p = cp.Variable(2), cp.Parameter(nonneg=True)
         for made, is_dcp, is_dpp in [
-            (cp.abs(x) <= 1, True, True), (cp.abs(x) >= 1, False, False), (cp.minimum(x, 0) >= p, True, True), (x == 1, True, True), (cp.abs(x) == 1, False, False),
-            (p * cp.abs(x) <= 1, True, True), (p * p * x <= 1, True, False), (cp.abs(x) <= cp.minimum(x, 1), True, True), (cp.abs(x) - 1 <= cp.max(x), False, False),
+            (cp.abs(x) <= 1, True, True), (cp.abs(x) >= 1, False, False), (cp.minimum(x, 0) >= p, True, True),
+            (x == 1, True, True), (cp.abs(x) == 1, False, False),
+            (p * cp.abs(x) <= 1, True, True), (p * p * x <= 1, True, False),
+            (cp.abs(x) <= cp.minimum(x, 1), True, True), (cp.abs(x) - 1 <= cp.max(x), False, False),
         ]:
             with self.subTest(str(made)):
                 self.assertEqual((made.is_dcp(), made.is_dpp(), made.is_dcp(dpp=True)), (is_dcp, is_dpp, is_dpp))

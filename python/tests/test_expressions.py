@@ -19,7 +19,7 @@ from dcx.constraints import Constraint
 from dcx.errors import UnsupportedError
 from dcx.expressions import Expression, postorder
 
-from .recorded import point, program_value, variable, weights_of
+from .recorded import program_value, variable, weights_of
 
 SHAPES = [(), (1,), (3,), (1, 1), (1, 3), (2, 1), (2, 3)]
 
@@ -40,9 +40,11 @@ class Operators(unittest.TestCase):
         wanted = np.asarray(wanted, dtype=float)
         self.assertIsInstance(expression, Expression)
         self.assertEqual(expression.shape, wanted.shape, str(expression))
-        np.testing.assert_allclose(np.asarray(expression.value, dtype=float), wanted, rtol=0, atol=1e-12, err_msg=str(expression))
+        np.testing.assert_allclose(np.asarray(expression.value, dtype=float), wanted, rtol=0, atol=1e-12,
+                                   err_msg=str(expression))
         if by_program:
-            self.assertAlmostEqual(float(program_value(expression)), float((weights_of(wanted.shape) * wanted).sum()), 9, str(expression))
+            self.assertAlmostEqual(float(program_value(expression)), float((weights_of(wanted.shape) * wanted).sum()),
+                                   9, str(expression))
 
     def test_sums_of_all_shapes(self):
         rng = random.Random(1)
@@ -68,7 +70,8 @@ class Operators(unittest.TestCase):
 
     def test_one_entry_of_two_sides_beside_a_vector(self):
         s, x, a = variable_at([[2.5]]), variable_at([1, -2, 4]), np.array([3.0, 1, 2])
-        for made, wanted in [(s + x, 2.5 + x.value), (x + s, 2.5 + x.value), (s - x, 2.5 - x.value), (x - s, x.value - 2.5), (s * a, 2.5 * a), (a * s, 2.5 * a),
+        for made, wanted in [(s + x, 2.5 + x.value), (x + s, 2.5 + x.value), (s - x, 2.5 - x.value),
+                             (x - s, x.value - 2.5), (s * a, 2.5 * a), (a * s, 2.5 * a),
                              (cp.multiply(a, s), 2.5 * a), (s / a, 2.5 / a), (x / np.array([[2]]), x.value / 2)]:
             # a product with it has to be that of two vectors in the program's language too
             self.same(made @ a, wanted @ a)
@@ -124,7 +127,8 @@ class Operators(unittest.TestCase):
     def test_numbers_of_each_kind(self):
         x = cp.Variable(2)
         x.value = [4, 6]
-        for number in [3, 3.0, Fraction(3), np.float64(3), np.int32(3), np.float32(3), np.array(3), np.array([[3]]), True + 2]:
+        for number in [3, 3.0, Fraction(3), np.float64(3), np.int32(3), np.float32(3), np.array(3), np.array([[3]]),
+                       True + 2]:
             self.same(x + number, [7, 9], False)
             self.same(number + x, [7, 9], False)
             self.same(number - x, [-1, -3], False)
@@ -156,8 +160,10 @@ class Operators(unittest.TestCase):
         self.same(np.sum([x[0], x[1]]), 3, False)
         self.same(np.array([x[0], x[1]]) @ np.array([2, 3]), 8, False)
         self.same(cp.hstack(np.array([x[0], x[1]])), [1, 2], False)
-        for ask in [lambda: np.abs(x), lambda: np.exp(x), lambda: np.dot(a, x), lambda: np.linalg.norm(x), lambda: np.maximum(x, 0), lambda: np.vstack([x, x]),
-                    lambda: np.concatenate([x, x]), lambda: np.add.reduce(x), lambda: np.less(a, x), lambda: np.cumsum(x)]:
+        for ask in [lambda: np.abs(x), lambda: np.exp(x), lambda: np.dot(a, x), lambda: np.linalg.norm(x),
+                    lambda: np.maximum(x, 0), lambda: np.vstack([x, x]),
+                    lambda: np.concatenate([x, x]), lambda: np.add.reduce(x), lambda: np.less(a, x),
+                    lambda: np.cumsum(x)]:
             with self.assertRaises(UnsupportedError) as caught:
                 ask()
         with self.assertRaisesRegex(UnsupportedError, "cp.maximum"):
@@ -215,17 +221,21 @@ class Operators(unittest.TestCase):
         self.assertIs(x ** 1, x)
         self.assertEqual((cp.Constant([1, 2, Fraction(1, 3)]) ** 2).exact.tolist(), [1, 4, Fraction(1, 9)])
         self.assertEqual((cp.Constant(2) ** -1).value, 0.5)
-        for ask in [lambda: x ** 2, lambda: x ** 0.5, lambda: 2 ** x, lambda: x ** x, lambda: x // 2, lambda: x % 2, lambda: cp.Constant(2) ** 0.5]:
+        for ask in [lambda: x ** 2, lambda: x ** 0.5, lambda: 2 ** x, lambda: x ** x, lambda: x // 2, lambda: x % 2,
+                    lambda: cp.Constant(2) ** 0.5]:
             self.assertRaises(UnsupportedError, ask)
 
     def test_faults(self):
         x = cp.Variable(3)
-        for ask in [lambda: x @ 2, lambda: 2 @ x, lambda: x @ np.ones((2, 3)), lambda: x + np.ones(2), lambda: x + [1, 2], lambda: x + float("nan"),
-                    lambda: x + np.inf, lambda: x <= np.array([1, np.nan, 2]), lambda: x + [x, x, x], lambda: cp.Constant([[1, 2], [3]])]:
+        for ask in [lambda: x @ 2, lambda: 2 @ x, lambda: x @ np.ones((2, 3)), lambda: x + np.ones(2),
+                    lambda: x + [1, 2], lambda: x + float("nan"),
+                    lambda: x + np.inf, lambda: x <= np.array([1, np.nan, 2]), lambda: x + [x, x, x],
+                    lambda: cp.Constant([[1, 2], [3]])]:
             self.assertRaises(ValueError, ask)
         for ask in [lambda: x / 0, lambda: x / np.array([1, 0, 2])]:
             self.assertRaises(ZeroDivisionError, ask)
-        for ask in [lambda: x + "1", lambda: x + None, lambda: x + 1j, lambda: x + {1, 2, 3}, lambda: x + object(), lambda: len(x[0]), lambda: list(x[0])]:
+        for ask in [lambda: x + "1", lambda: x + None, lambda: x + 1j, lambda: x + {1, 2, 3}, lambda: x + object(),
+                    lambda: len(x[0]), lambda: list(x[0])]:
             self.assertRaises(TypeError, ask)
         with self.assertRaises(UnsupportedError):
             x[0] = 3
@@ -243,16 +253,26 @@ def variable_at(value):
 class Indices(unittest.TestCase):
     """Indices, against NumPy's."""
 
-    VECTOR = [0, -1, np.int64(2), slice(None), slice(1, 4), slice(None, None, -1), slice(5, 0, -2), slice(-3, None), slice(0, 100), slice(4, 2, -1),
-              [0, 2], [2, 0, 1], [1, 1, 4], [-1, 0], (), ..., None, (None, slice(None)), (slice(None), None), (slice(1, 4), None), (..., None),
-              np.array([3, 1, 0, 5]), np.array([[0, 1], [3, 5]]), [[0, 1, 2], [3, 4, 5]], [True, False, True, True, False, False],
-              np.array([False, True, False, True, False, True]), range(1, 6, 2), [0, 1, 2, 3, 5], ([1, 2],), [4], [0, 3, 1, 2, 4, 5]]
-    MATRIX = [0, -1, (1, 2), (-1, -4), (slice(None), 0), (0, slice(None)), (slice(1, None), slice(None, None, 2)), (slice(None, None, -1), slice(3, 0, -1)),
-              slice(1, 3), ..., (..., 1), (1, ...), (slice(0, 2),), (1, None), (None, 2), [0, 2], [2, 0, 1], (slice(None), [3, 1]), (slice(None), [0, 1, 3]),
-              ([0, 1], slice(1, 3)), ([0, 2], [1, 3]), ([0, 1, 2], [0, 1, 2]), (1, [0, 3]), ([2, 0], 1), (slice(0, 2), [1, 2]), ([1, 0], slice(None, None, -1)),
-              np.ix_([0, 2], [1, 2]), np.ix_([2, 1, 0], [3, 0]), np.ix_([0, 1], [0, 1, 3]), (np.array([[0, 1], [2, 0]]), np.array([[1, 1], [3, 0]])),
-              (np.array([[0], [1]]), np.array([1, 3])), np.array([True, False, True]), (slice(None), np.array([True, False, False, True])),
-              (np.array([True, False, True]), 2), ([0, 0, 1], [0, 0, 3]), ([0, 0, 0, 1], [0, 1, 2, 2]), (), (slice(None), slice(None)), np.array([1, 2]),
+    VECTOR = [0, -1, np.int64(2), slice(None), slice(1, 4), slice(None, None, -1), slice(5, 0, -2), slice(-3, None),
+              slice(0, 100), slice(4, 2, -1),
+              [0, 2], [2, 0, 1], [1, 1, 4], [-1, 0], (), ..., None, (None, slice(None)), (slice(None), None),
+              (slice(1, 4), None), (..., None),
+              np.array([3, 1, 0, 5]), np.array([[0, 1], [3, 5]]), [[0, 1, 2], [3, 4, 5]],
+              [True, False, True, True, False, False],
+              np.array([False, True, False, True, False, True]), range(1, 6, 2), [0, 1, 2, 3, 5], ([1, 2],), [4],
+              [0, 3, 1, 2, 4, 5]]
+    MATRIX = [0, -1, (1, 2), (-1, -4), (slice(None), 0), (0, slice(None)), (slice(1, None), slice(None, None, 2)),
+              (slice(None, None, -1), slice(3, 0, -1)),
+              slice(1, 3), ..., (..., 1), (1, ...), (slice(0, 2),), (1, None), (None, 2), [0, 2], [2, 0, 1],
+              (slice(None), [3, 1]), (slice(None), [0, 1, 3]),
+              ([0, 1], slice(1, 3)), ([0, 2], [1, 3]), ([0, 1, 2], [0, 1, 2]), (1, [0, 3]), ([2, 0], 1),
+              (slice(0, 2), [1, 2]), ([1, 0], slice(None, None, -1)),
+              np.ix_([0, 2], [1, 2]), np.ix_([2, 1, 0], [3, 0]), np.ix_([0, 1], [0, 1, 3]),
+              (np.array([[0, 1], [2, 0]]), np.array([[1, 1], [3, 0]])),
+              (np.array([[0], [1]]), np.array([1, 3])), np.array([True, False, True]),
+              (slice(None), np.array([True, False, False, True])),
+              (np.array([True, False, True]), 2), ([0, 0, 1], [0, 0, 3]), ([0, 0, 0, 1], [0, 1, 2, 2]), (),
+              (slice(None), slice(None)), np.array([1, 2]),
               ([True, False, True], [1, 2]), ([-1, 0], [-1, 0])]
 
     def same(self, x, key, by_program=True):
@@ -291,7 +311,8 @@ class Indices(unittest.TestCase):
             self.same(x, rng.integers(-20, 20, count), False)
             self.same(x, np.sort(rng.integers(0, 20, count)), False)
             rows, columns = rng.integers(-7, 7, count), rng.integers(-8, 8, count)
-            for key in [rows, (slice(None), columns), (rows, columns), (rows[0], columns), (rows, columns[0]), np.ix_(rows, columns),
+            for key in [rows, (slice(None), columns), (rows, columns), (rows[0], columns), (rows, columns[0]),
+                        np.ix_(rows, columns),
                         (slice(5, None, -2), columns), (np.sort(rows), 3)]:
                 self.same(X, key, False)
             self.same(X, (rng.integers(0, 7, (2, 3)), rng.integers(0, 8, (2, 3))), False)
@@ -310,7 +331,8 @@ class Indices(unittest.TestCase):
             if not wanted.size:
                 self.assertEqual(X[outer].shape, wanted.shape)
                 continue
-            inner = rng.choice([(part(wanted.shape[0]), 0), (-1, part(wanted.shape[1])), (0, -1), part(wanted.shape[0])])
+            inner = rng.choice([(part(wanted.shape[0]), 0), (-1, part(wanted.shape[1])), (0, -1),
+                                part(wanted.shape[0])])
             found = X[outer][inner]
             np.testing.assert_array_equal(np.asarray(found.value), wanted[inner])
             self.assertIn(found.kind, ("index", "constant"))
@@ -336,7 +358,8 @@ class Indices(unittest.TestCase):
     def test_what_has_no_entries(self):
         x, X = cp.Variable(3), cp.Variable((2, 3))
         mask = np.array([False, False, False])
-        for empty, shape in [(x[3:], (3,)), (x[mask], (0,)), (x[:0], (0,)), (X[2:], (0, 3)), (X[:, mask], (2, 0)), (x[[]], (0,)), (X[X.shape[0]:, 1], (0,))]:
+        for empty, shape in [(x[3:], (3,)), (x[mask], (0,)), (x[:0], (0,)), (X[2:], (0, 3)), (X[:, mask], (2, 0)),
+                             (x[[]], (0,)), (X[X.shape[0]:, 1], (0,))]:
             if shape != (3,):
                 self.assertEqual(empty.shape, shape)
             self.assertEqual(empty.size, 0)
@@ -359,9 +382,12 @@ class Indices(unittest.TestCase):
 
     def test_refused(self):
         x, X = cp.Variable(3), cp.Variable((2, 3))
-        for ask in [lambda: x[3], lambda: x[-4], lambda: x[0, 0], lambda: X[2], lambda: X[0, 3], lambda: X[0, 0, 0], lambda: x[[0, 3]], lambda: x[1.0],
-                    lambda: x["a"], lambda: x[True], lambda: x[[True, False]], lambda: X[np.ones((3, 2), bool)], lambda: X[..., ..., 0], lambda: x[x],
-                    lambda: X[:, :, None], lambda: x[[0.5]], lambda: X[[0, 1], [0, 1, 2]], lambda: cp.Variable()[0], lambda: x[None, None, :],
+        for ask in [lambda: x[3], lambda: x[-4], lambda: x[0, 0], lambda: X[2], lambda: X[0, 3], lambda: X[0, 0, 0],
+                    lambda: x[[0, 3]], lambda: x[1.0],
+                    lambda: x["a"], lambda: x[True], lambda: x[[True, False]], lambda: X[np.ones((3, 2), bool)],
+                    lambda: X[..., ..., 0], lambda: x[x],
+                    lambda: X[:, :, None], lambda: x[[0.5]], lambda: X[[0, 1], [0, 1, 2]], lambda: cp.Variable()[0],
+                    lambda: x[None, None, :],
                     lambda: X[np.zeros((2, 2), int)], lambda: X[None, [0]], lambda: x[0.0:2]]:
             with self.assertRaises((IndexError, ValueError)):
                 ask()
@@ -380,25 +406,34 @@ class Leaves(unittest.TestCase):
         self.assertIsNone(cp.Variable().given_name)
         self.assertEqual(len({cp.Variable().id for _ in range(9)}), 9)
         self.assertEqual(str(x), "x")
-        for ask in [lambda: cp.Variable(0), lambda: cp.Variable(-1), lambda: cp.Variable((2, 3, 4)), lambda: cp.Variable(2.0), lambda: cp.Variable("x"),
-                    lambda: cp.Variable((3, 2), symmetric=True), lambda: cp.Variable(3, diag=True), lambda: cp.Variable(nonneg=True, nonpos=True),
-                    lambda: cp.Variable((2, 2), symmetric=True, diag=True), lambda: cp.Variable(boolean=True, integer=True), lambda: cp.Variable(True)]:
+        for ask in [lambda: cp.Variable(0), lambda: cp.Variable(-1), lambda: cp.Variable((2, 3, 4)),
+                    lambda: cp.Variable(2.0), lambda: cp.Variable("x"),
+                    lambda: cp.Variable((3, 2), symmetric=True), lambda: cp.Variable(3, diag=True),
+                    lambda: cp.Variable(nonneg=True, nonpos=True),
+                    lambda: cp.Variable((2, 2), symmetric=True, diag=True),
+                    lambda: cp.Variable(boolean=True, integer=True), lambda: cp.Variable(True)]:
             self.assertRaises(ValueError, ask)
         for ask in [lambda: cp.Variable(3, color=True), lambda: cp.Variable(3, 4), lambda: cp.Parameter(name=3)]:
             self.assertRaises(TypeError, ask)
         for word in ("PSD", "NSD", "complex", "imag", "hermitian", "sparsity"):
             with self.assertRaisesRegex(UnsupportedError, word):
                 cp.Variable((2, 2), **{word: True})
-        for ask in [lambda: cp.Variable(3, boolean=[0]), lambda: cp.Variable(3, integer=[(1,)]), lambda: cp.Variable(3, var_id=4)]:
+        for ask in [lambda: cp.Variable(3, boolean=[0]), lambda: cp.Variable(3, integer=[(1,)]),
+                    lambda: cp.Variable(3, var_id=4)]:
             self.assertRaises(UnsupportedError, ask)
         self.assertEqual(cp.Variable(3, PSD=False).shape, (3,))
 
     def test_attributes_of_the_language(self):
-        for given, said in [({}, ()), ({"nonneg": True}, ("nonneg",)), ({"pos": True}, ("nonneg",)), ({"neg": True}, ("nonpos",)), ({"boolean": True}, ("boolean",)),
-                            ({"integer": True, "nonneg": True}, ("integer", "nonneg")), ({"symmetric": True}, ("symmetric",)),
-                            ({"symmetric": True, "nonneg": True}, ("symmetric",)), ({"bounds": [0, 1]}, ("nonneg",)), ({"bounds": [-1, 0]}, ("nonpos",)),
-                            ({"bounds": [-1, 1]}, ()), ({"bounds": [None, None]}, ()), ({"bounds": [1, None], "integer": True}, ("integer", "nonneg")),
-                            ({"bounds": [-1, 1], "boolean": True}, ("boolean",)), ({"boolean": True, "nonneg": True}, ("boolean",))]:
+        for given, said in [({}, ()), ({"nonneg": True}, ("nonneg",)), ({"pos": True}, ("nonneg",)),
+                            ({"neg": True}, ("nonpos",)), ({"boolean": True}, ("boolean",)),
+                            ({"integer": True, "nonneg": True}, ("integer", "nonneg")),
+                            ({"symmetric": True}, ("symmetric",)),
+                            ({"symmetric": True, "nonneg": True}, ("symmetric",)), ({"bounds": [0, 1]}, ("nonneg",)),
+                            ({"bounds": [-1, 0]}, ("nonpos",)),
+                            ({"bounds": [-1, 1]}, ()), ({"bounds": [None, None]}, ()),
+                            ({"bounds": [1, None], "integer": True}, ("integer", "nonneg")),
+                            ({"bounds": [-1, 1], "boolean": True}, ("boolean",)),
+                            ({"boolean": True, "nonneg": True}, ("boolean",))]:
             x = cp.Variable((2, 2), **given)
             self.assertEqual(x.language_attributes(), said, given)
 
@@ -445,7 +480,8 @@ class Leaves(unittest.TestCase):
         self.assertIsNone(x.value)
         self.assertIsNone((x + 1).value)
         self.assertIsNone((x + 1).exact)
-        for value in [np.array([[1, 3], [2, 4]]), [[1, 2], [3, 4]], ((1, 3), (2, 4)), sparse.csr_matrix([[1, 3], [2, 4]]), sparse.csr_matrix([[1, 3], [2, 4]]).todense(),
+        for value in [np.array([[1, 3], [2, 4]]), [[1, 2], [3, 4]], ((1, 3), (2, 4)),
+                      sparse.csr_matrix([[1, 3], [2, 4]]), sparse.csr_matrix([[1, 3], [2, 4]]).todense(),
                       [(1, 2), (3, 4)], [np.array([1, 2]), np.array([3, 4])], cp.Constant([[1, 2], [3, 4]])]:
             x.value = value
             self.assertEqual(x.value.tolist(), [[1, 3], [2, 4]], type(value))
@@ -464,10 +500,14 @@ class Leaves(unittest.TestCase):
 
     def test_values_that_do_not_fit(self):
         for made, value, words in [
-            (cp.Parameter(2), [1, 2, 3], "Invalid dimensions"), (cp.Parameter(2), 3, "Invalid dimensions"), (cp.Parameter(nonneg=True), -1, "nonnegative"),
-            (cp.Parameter(nonpos=True), 1, "nonpositive"), (cp.Parameter(pos=True), -1, "nonnegative"), (cp.Parameter((2, 2), symmetric=True), [[1, 2], [3, 4]], "symmetric"),
-            (cp.Parameter((2, 2), diag=True), [[1, 2], [0, 4]], "diagonal"), (cp.Parameter(boolean=True), 2, "boolean"), (cp.Parameter(integer=True), 1.5, "integer"),
-            (cp.Parameter(bounds=[0, 1]), 2, "in bounds"), (cp.Variable(nonneg=True), -1, "nonnegative"), (cp.Parameter(), float("nan"), "NaN"),
+            (cp.Parameter(2), [1, 2, 3], "Invalid dimensions"), (cp.Parameter(2), 3, "Invalid dimensions"),
+            (cp.Parameter(nonneg=True), -1, "nonnegative"),
+            (cp.Parameter(nonpos=True), 1, "nonpositive"), (cp.Parameter(pos=True), -1, "nonnegative"),
+            (cp.Parameter((2, 2), symmetric=True), [[1, 2], [3, 4]], "symmetric"),
+            (cp.Parameter((2, 2), diag=True), [[1, 2], [0, 4]], "diagonal"),
+            (cp.Parameter(boolean=True), 2, "boolean"), (cp.Parameter(integer=True), 1.5, "integer"),
+            (cp.Parameter(bounds=[0, 1]), 2, "in bounds"), (cp.Variable(nonneg=True), -1, "nonnegative"),
+            (cp.Parameter(), float("nan"), "NaN"),
             (cp.Parameter(2), [1, np.inf], "infinity"), (cp.Parameter((1, 3)), np.ones((3, 1)), "Invalid dimensions"),
         ]:
             with self.assertRaisesRegex(ValueError, words):
@@ -501,22 +541,29 @@ class Questions(unittest.TestCase):
         self.assertEqual([item.name() for item in e.parameters()], ["p"])
         self.assertEqual([item.value for item in e.constants()], [3])
         self.assertEqual(e.name(), "p * x + y + abs(x) - 3")
-        self.assertEqual(str(-(x + 1)[1:] * 2 @ np.ones(2)), "-(x + 1)[1:3] * 2 @ [1, 1]".replace("-(x + 1)[1:3] * 2", "(-(x + 1)[1:3]) * 2"))
+        self.assertEqual(str(-(x + 1)[1:] * 2 @ np.ones(2)),
+                         "-(x + 1)[1:3] * 2 @ [1, 1]".replace("-(x + 1)[1:3] * 2", "(-(x + 1)[1:3]) * 2"))
 
     def test_shapes(self):
-        for shape, scalar, vector, matrix in [((), 1, 1, 0), ((1,), 1, 1, 0), ((3,), 0, 1, 0), ((1, 3), 0, 1, 0), ((2, 3), 0, 0, 1), ((1, 1), 1, 1, 0)]:
+        for shape, scalar, vector, matrix in [((), 1, 1, 0), ((1,), 1, 1, 0), ((3,), 0, 1, 0), ((1, 3), 0, 1, 0),
+                                              ((2, 3), 0, 0, 1), ((1, 1), 1, 1, 0)]:
             x = cp.Variable(shape)
-            self.assertEqual((x.is_scalar(), x.is_vector(), x.is_matrix()), (bool(scalar), bool(vector), bool(matrix)), shape)
+            self.assertEqual((x.is_scalar(), x.is_vector(), x.is_matrix()), (bool(scalar), bool(vector), bool(matrix)),
+                             shape)
         self.assertEqual(cp.Variable((2, 3)).T.shape, (3, 2))
         self.assertEqual(cp.Variable(3).T.shape, (3,))
 
     def test_curvature_and_sign(self):
         x, n, p, q = cp.Variable(2), cp.Variable(nonneg=True), cp.Parameter(nonneg=True), cp.Parameter()
         for e, curvature, sign, dpp in [
-            (x, "AFFINE", "UNKNOWN", True), (n, "AFFINE", "NONNEGATIVE", True), (cp.abs(x), "CONVEX", "NONNEGATIVE", True), (-cp.abs(x), "CONCAVE", "NONPOSITIVE", True),
-            (cp.Constant(3), "CONSTANT", "NONNEGATIVE", True), (cp.Constant([1, -3]), "CONSTANT", "UNKNOWN", True), (0 * x, "AFFINE", "ZERO", True),
-            (cp.minimum(x, 0), "CONCAVE", "NONPOSITIVE", True), (cp.abs(x) - cp.abs(n - 1), "UNKNOWN", "UNKNOWN", False), (p * cp.abs(x), "CONVEX", "NONNEGATIVE", True),
-            (q * x, "AFFINE", "UNKNOWN", True), (p * q * x, "AFFINE", "UNKNOWN", False), (q * cp.abs(x), "UNKNOWN", "UNKNOWN", False), (q, "CONSTANT", "UNKNOWN", True),
+            (x, "AFFINE", "UNKNOWN", True), (n, "AFFINE", "NONNEGATIVE", True),
+            (cp.abs(x), "CONVEX", "NONNEGATIVE", True), (-cp.abs(x), "CONCAVE", "NONPOSITIVE", True),
+            (cp.Constant(3), "CONSTANT", "NONNEGATIVE", True), (cp.Constant([1, -3]), "CONSTANT", "UNKNOWN", True),
+            (0 * x, "AFFINE", "ZERO", True),
+            (cp.minimum(x, 0), "CONCAVE", "NONPOSITIVE", True),
+            (cp.abs(x) - cp.abs(n - 1), "UNKNOWN", "UNKNOWN", False), (p * cp.abs(x), "CONVEX", "NONNEGATIVE", True),
+            (q * x, "AFFINE", "UNKNOWN", True), (p * q * x, "AFFINE", "UNKNOWN", False),
+            (q * cp.abs(x), "UNKNOWN", "UNKNOWN", False), (q, "CONSTANT", "UNKNOWN", True),
             (cp.Variable(bounds=[1, 2]), "AFFINE", "NONNEGATIVE", True), (x * n, "UNKNOWN", "UNKNOWN", False),
         ]:
             with self.subTest(str(e)):
@@ -546,7 +593,8 @@ class Questions(unittest.TestCase):
         x = cp.Variable(3)
         self.assertTrue(x)
         self.assertIsInstance(x == 1, Constraint)
-        for ask in [lambda: x < 1, lambda: x > 1, lambda: x != 1, lambda: x >> 1, lambda: x << 1, lambda: 0 <= x <= 1, lambda: bool(x <= 1), lambda: np.ones(3) < x]:
+        for ask in [lambda: x < 1, lambda: x > 1, lambda: x != 1, lambda: x >> 1, lambda: x << 1, lambda: 0 <= x <= 1,
+                    lambda: bool(x <= 1), lambda: np.ones(3) < x]:
             with self.assertRaises(NotImplementedError):
                 ask()
 

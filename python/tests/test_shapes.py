@@ -69,7 +69,8 @@ class Shapes(unittest.TestCase):
                     self.assertEqual(shapes.reshaped(shape, size), wanted)
 
     def test_declared(self):
-        self.assertEqual([shapes.declared(shape) for shape in [(), 3, (3,), [2, 3], np.int32(2), None]], [(), (3,), (3,), (2, 3), (2,), ()])
+        self.assertEqual([shapes.declared(shape) for shape in [(), 3, (3,), [2, 3], np.int32(2), None]],
+                         [(), (3,), (3,), (2, 3), (2,), ()])
         for shape in [0, -1, (2, 0), (1, 2, 3), 1.5, (1.5,), "a", True, (True,)]:
             self.assertRaises(ValueError, shapes.declared, shape)
 

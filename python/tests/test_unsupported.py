@@ -40,7 +40,8 @@ class Names(unittest.TestCase):
             self.assertTrue(hasattr(cp, name), name)
             self.assertNotIn(name, unsupported.NAMES, name)
         self.assertEqual(len(cp.__all__), len(set(cp.__all__)))
-        self.assertEqual((cp.OPTIMAL, cp.INFEASIBLE, cp.CLARABEL, cp.installed_solvers()), ("optimal", "infeasible", "CLARABEL", ["DCX"]))
+        self.assertEqual((cp.OPTIMAL, cp.INFEASIBLE, cp.CLARABEL, cp.installed_solvers()),
+                         ("optimal", "infeasible", "CLARABEL", ["DCX"]))
         self.assertIs(cp.error.SolverError, cp.SolverError)
         self.assertEqual(cp.settings.UNBOUNDED, "unbounded")
         with self.assertRaisesRegex(AttributeError, "no attribute 'nothing'"):
@@ -53,7 +54,8 @@ class Names(unittest.TestCase):
                 with self.assertRaises(UnsupportedError) as caught:
                     getattr(cp, name)(cp.Variable(3), 2)
                 told = str(caught.exception)
-                self.assertRegex(told, rf"^cp\.{name} isn't offered: .+\. Write .+\.\n  .*test_unsupported\.py:\d+\n    getattr")
+                place = r"\n  .*test_unsupported\.py:\d+\n    getattr"
+                self.assertRegex(told, rf"^cp\.{name} isn't offered: .+\. Write .+\." + place)
 
     def test_the_calls_that_it_names_are_offered(self):
         for name, (why, write) in unsupported.NAMES.items():
@@ -73,7 +75,8 @@ class Names(unittest.TestCase):
             problem = Problem(Maximize(sum(x) - norm1(x - 1)), [max(x) <= 3, abs(x[0]) <= 2])
             print(problem.solve(solver=ECOS), problem.status == OPTIMAL)
             """)
-        done = subprocess.run([sys.executable, "-c", text], capture_output=True, text=True, env={**os.environ, "PYTHONPATH": str(FOLDER)})
+        done = subprocess.run([sys.executable, "-c", text], capture_output=True, text=True,
+                              env={**os.environ, "PYTHONPATH": str(FOLDER)})
         self.assertEqual((done.stdout, done.stderr), ("2.0 True\n", ""))
 
 

@@ -1,4 +1,5 @@
-"""The calls on expressions, with CVXPY's names and signatures. What the program's language lacks is composed of what it has."""
+"""The calls on expressions, with CVXPY's names and signatures. What the program's language lacks is composed of what it
+has."""
 from __future__ import annotations
 
 from .entrywise import abs, maximum, minimum, multiply, neg, pos, scalene
@@ -39,8 +40,11 @@ from .places import (
 from .products import conv, convolve, kron, matmul, outer, scalar_product, vdot
 
 __all__ = [
-    "abs", "bmat", "concatenate", "conv", "convolve", "cummax", "cumsum", "cvar", "diag", "diff", "dotsort", "expand_dims", "hstack",
-    "kron", "matmul", "max", "maximum", "mean", "min", "minimum", "mixed_norm", "multiply", "neg", "norm", "norm1", "norm2", "norm_inf",
-    "outer", "permute_dims", "pnorm", "pos", "ptp", "reshape", "scalar_product", "scalene", "squeeze", "stack", "sum", "sum_largest",
+    "abs", "bmat", "concatenate", "conv", "convolve", "cummax", "cumsum", "cvar", "diag", "diff", "dotsort",
+    "expand_dims", "hstack",
+    "kron", "matmul", "max", "maximum", "mean", "min", "minimum", "mixed_norm", "multiply", "neg", "norm", "norm1",
+    "norm2", "norm_inf",
+    "outer", "permute_dims", "pnorm", "pos", "ptp", "reshape", "scalar_product", "scalene", "squeeze", "stack", "sum",
+    "sum_largest",
     "sum_smallest", "swapaxes", "trace", "transpose", "tv", "upper_tri", "vdot", "vec", "vec_to_upper_tri", "vstack",
 ]

@@ -1,4 +1,5 @@
-"""Calls that fold the entries of an expression, all of them or along an axis: sums, means, greatest and least entries."""
+"""Calls that fold the entries of an expression, all of them or along an axis: sums, means, greatest and least entries.
+"""
 from __future__ import annotations
 
 import builtins
@@ -104,7 +105,8 @@ def _whole_share(kind: str, x: Expression, k: int) -> Expression:
 
 
 def cvar(x, beta) -> Expression:
-    """The mean of the share 1 - beta of the greatest entries, the conditional value at risk. ValueError unless 0 <= beta < 1."""
+    """The mean of the share 1 - beta of the greatest entries, the conditional value at risk. ValueError unless 0 <=
+    beta < 1."""
     x = as_expression(x)
     beta = exact(beta)
     if not 0 <= beta < 1:
@@ -167,5 +169,6 @@ def _running_axis(axis, expr: Expression) -> int:
     if axis is None and expr.ndim == 1:
         return 0
     if axis is None or expr.ndim == 0:
-        raise ValueError(f"Invalid argument for axis: a running call on the shape {expr.shape} wants one, and it is {axis}")
+        raise ValueError(f"Invalid argument for axis: a running call on the shape {expr.shape} wants one, and it is "
+                         f"{axis}")
     return shapes.axis_of(axis, expr.shape)

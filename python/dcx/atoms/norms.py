@@ -29,8 +29,8 @@ def _is_number(p) -> bool:
 
 
 def norm(x, p=2, axis=None, keepdims: bool = False) -> Expression:
-    """The norm of order p of a vector, or of each line along an axis; of a matrix the norm of it as a map: the greatest sum of
-    magnitudes of a column where p is 1, and of a row where it is infinity.
+    """The norm of order p of a vector, or of each line along an axis; of a matrix the norm of it as a map: the greatest
+    sum of magnitudes of a column where p is 1, and of a row where it is infinity.
 
     UnsupportedError of every other order, and so where none is given and p is 2, unless there is one entry.
     """
@@ -60,9 +60,10 @@ def _of_map(x: Expression, axis: int, keepdims: bool) -> Expression:
 
 def _refusal(p, of: str) -> UnsupportedError:
     spelled = "the order 2, which is taken where none is given," if _is_number(p) and p == 2 else f"the order {p!r}"
-    return UnsupportedError(f"a norm of a {of} of {spelled} isn't piecewise linear: write cp.norm(x, 1) or cp.norm(x, \"inf\"); "
-                            "for least squares cp.norm1(x), for a limit on a length cp.norm_inf(x) or a bound on c @ x for each of "
-                            "several directions c", sites.here())
+    return UnsupportedError(f"a norm of a {of} of {spelled} isn't piecewise linear: write cp.norm(x, 1) or cp.norm(x, "
+                            "\"inf\"); "
+                            "for least squares cp.norm1(x), for a limit on a length cp.norm_inf(x) or a bound on c @ "
+                            "x for each of several directions c", sites.here())
 
 
 def norm2(x, axis=None, keepdims: bool = False) -> Expression:

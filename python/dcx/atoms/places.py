@@ -47,7 +47,8 @@ def vec(X, order: str = "F") -> Expression:
 
 
 def transpose(expr, axes=None) -> Expression:
-    """The transpose. With `axes` each of the sides is named once: `(1, 0)` is the transpose, `(0, 1)` the expression itself."""
+    """The transpose. With `axes` each of the sides is named once: `(1, 0)` is the transpose, `(0, 1)` the expression
+    itself."""
     expr = as_expression(expr)
     if axes is None:
         return expr.T
@@ -107,7 +108,8 @@ def hstack(arg_list) -> Expression:
     items = [operators.by_rows(item, (1,)) if item.ndim == 0 else item for item in _items(arg_list)]
     first = items[0].shape
     if any(item.ndim != len(first) or item.ndim == 2 and item.shape[0] != first[0] for item in items):
-        raise ValueError("All the input dimensions except for axis 1 must match exactly: " + shapes.show(*(item.shape for item in items)))
+        raise ValueError("All the input dimensions except for axis 1 must match exactly: "
+                         "" + shapes.show(*(item.shape for item in items)))
     if len(first) == 1:
         return _stacked("hstack", items, (sum(item.size for item in items),))
     return _stacked("hstack", items, (first[0], sum(item.shape[1] for item in items)))
@@ -118,7 +120,8 @@ def vstack(arg_list) -> Expression:
     items = _items(arg_list)
     widths = {_width(item) for item in items}
     if len(widths) > 1:
-        raise ValueError("All the input dimensions except for axis 0 must match exactly: " + shapes.show(*(item.shape for item in items)))
+        raise ValueError("All the input dimensions except for axis 0 must match exactly: "
+                         "" + shapes.show(*(item.shape for item in items)))
     shape = (sum(item.shape[0] if item.ndim == 2 else 1 for item in items), widths.pop())
     if len(items) == 1:
         return operators.by_rows(items[0], shape)
@@ -183,7 +186,8 @@ def trace(expr) -> Expression:
 
 
 def diag(vector, k: int = 0) -> Expression:
-    """The matrix with a vector on its diagonal, or the diagonal of a square matrix; k is how many places to the right it is moved.
+    """The matrix with a vector on its diagonal, or the diagonal of a square matrix; k is how many places to the right
+    it is moved.
 
     A matrix with one row, one column or one entry counts as a vector. ValueError of other matrices that aren't square.
     """

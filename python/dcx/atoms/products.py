@@ -44,7 +44,8 @@ def outer(x, y) -> Expression:
 
 
 def kron(a, b) -> Expression:
-    """Each entry of a times all of b, in blocks; one of the two has to be numbers. UnsupportedError where neither is."""
+    """Each entry of a times all of b, in blocks; one of the two has to be numbers. UnsupportedError where neither is.
+    """
     a, b = as_expression(a), as_expression(b)
     if a.ndim == 0 or b.ndim == 0:
         return operators.multiplied(a, b)
@@ -53,7 +54,8 @@ def kron(a, b) -> Expression:
     is_flat = a.ndim == 1
     a, b = _as_matrix(a), _as_matrix(b)
     if not (a.kind == "constant" or b.kind == "constant" or a.is_constant() or b.is_constant()):
-        raise UnsupportedError("a product of two expressions with variables isn't convex: one side of kron has to be without", sites.here())
+        raise UnsupportedError("a product of two expressions with variables isn't convex: one side of kron has to be "
+                               "without", sites.here())
     large, blocks = _each_spread(a, b.shape), _tiled(b, a.shape)
     result = operators.elementwise(large, blocks)
     return operators.by_rows(result, (result.size,)) if is_flat else result
@@ -69,7 +71,8 @@ def _each_spread(a: Expression, block: tuple) -> Expression:
     columns = [place for place in range(a.shape[1]) for _ in range(block[1])]
     if a.kind == "constant":
         width, entries = a.shape[1], a.array.entries
-        return Constant(Array((len(rows), len(columns)), (entries[row * width + column] for row in rows for column in columns)))
+        return Constant(Array((len(rows), len(columns)),
+                              (entries[row * width + column] for row in rows for column in columns)))
     if block[0] > 1:
         a = operators.matrix_multiplied(Constant(_picking(rows, a.shape[0])), a)
     if block[1] > 1:
@@ -103,8 +106,8 @@ def convolve(a, b) -> Expression:
         a, b = b, a
     numbers = a.array.dense().entries
     size = a.size + b.size - 1
-    rows = ([(place, numbers[row - place]) for place in range(b.size) if 0 <= row - place < a.size and numbers[row - place]]
-            for row in range(size))
+    held = [(place, number) for place, number in reversed(list(enumerate(numbers))) if number]
+    rows = ([(row - place, number) for place, number in held if 0 <= row - place < b.size] for row in range(size))
     return operators.matrix_multiplied(Constant(Sparse((size, b.size), rows)), b)
 
 
