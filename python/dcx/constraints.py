@@ -31,7 +31,8 @@ class Constraint:
         self.site = sites.here()
         self.id = next_number()
         self.is_turned = is_turned
-        self._dual: Array | None = None
+        # what has no entry isn't handed to the program, and has no multiplier either
+        self._dual: Array | None = None if self.size else Array(self.shape, ())
         self._known = None
 
     # ---- shapes and parts

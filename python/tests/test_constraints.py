@@ -122,6 +122,7 @@ class Values(unittest.TestCase):
         self.assertEqual(constraints[0].dual_value.tolist(), [3, 1])
         self.assertEqual(constraints[1].dual_value.tolist(), [[2]])
         self.assertEqual(constraints[2].dual_value.tolist(), [[0]])
+        self.assertEqual(constraints[3].dual_value.shape, (0,))
 
 
 class Rules(unittest.TestCase):
