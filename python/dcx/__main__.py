@@ -13,6 +13,7 @@ from . import __version__
 COMMANDS = {
     "run": "run a CVXPY script as it stands: MODEL.py with its arguments",
     "table": "answer a script of the language, and show the answers as tables",
+    "view": "answer a script of the language, and write a page of HTML that shows it",
     "json": "a report as JSON",
     "csv": "a report as CSV",
 }

@@ -42,7 +42,8 @@ class Sources:
     """What made the parts of a script's problem: constraints by number from 1, variables and parameters by name.
 
     `solves` are the calls of `solve` in the order in which they are carried out, and `values` the parameters' values
-    there; a script without a call is solved once, at its end, and has one item in `values` alone.
+    there; a script without a call is solved once, at its end, and has one item in `values` alone. `last` are those at
+    the end, over which a setting is laid, and `problem` is what the second reading makes of the script.
     """
 
     sense: str
@@ -53,6 +54,8 @@ class Sources:
     parameters: dict[str, Source]
     solves: tuple[Source, ...]
     values: tuple[dict[str, Entries], ...]
+    last: dict[str, Entries]
+    problem: object
 
     def of_row(self, row: int) -> Optional[tuple[int, int]]:
         """The constraint, from 1, and the entry, from 0, that a row of the reduced program is; None of another row."""
@@ -64,11 +67,12 @@ class Sources:
 
 
 class Setting(NamedTuple):
-    """A setting of a settings file: its place, its text, and the places of its names."""
+    """A setting of a settings file: its place, its text, the places of its names, and the values that it gives them."""
 
     place: Place
     text: str
     names: dict[str, Place]
+    values: dict[str, Entries]
 
 
 class Lines:
@@ -107,7 +111,7 @@ def read_sources(script: bytes) -> Optional[Sources]:
         tokens = tokens_of(text)
         followed = Followed()
         followed.run(parse(tokens))
-        problem, events, _ = followed.finish()
+        problem, events, last = followed.finish()
     except (Refused, RecursionError):
         return None
     finder = Finder(script, text, tokens)
@@ -124,6 +128,8 @@ def read_sources(script: bytes) -> Optional[Sources]:
         parameters={name: finder.source(problem.nodes[node].place) for name, node in problem.parameters},
         solves=tuple(finder.source(place, turn) for place, turn in followed.solves),
         values=tuple({name: entries_of(array) for name, array in event.items()} for event in events),
+        last={name: entries_of(array) for name, array in last.items()},
+        problem=problem,
     )
 
 
@@ -131,7 +137,7 @@ def read_settings(settings: bytes) -> Optional[tuple[Setting, ...]]:
     """The settings of a file, or None where the file is refused."""
     try:
         text = text_of(settings)
-        parse_settings(settings)
+        values = parse_settings(settings)
         tokens = tokens_of(text, is_settings=True)
     except (Refused, RecursionError):
         return None
@@ -140,7 +146,8 @@ def read_settings(settings: bytes) -> Optional[tuple[Setting, ...]]:
         if token.kind == "newline":
             part = tokens[first:at]
             names = {one.text: Place(*one.place) for one in part if one.kind == "name"}
-            found.append(Setting(Place(*part[0].place), text[start_of(part[0]) : part[-1].end], names))
+            given = {name: Entries(tuple(shape), tuple(map(Fraction, numbers))) for name, (shape, numbers) in values[len(found)]}
+            found.append(Setting(Place(*part[0].place), text[start_of(part[0]) : part[-1].end], names, given))
             first = at + 1
     return tuple(found)
 
