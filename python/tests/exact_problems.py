@@ -1,4 +1,6 @@
-"""Problems with wide data, drawn at random: fits, blends and portfolios, as scripts and, worked out apart from them, as programs for HiGHS."""
+"""Problems with wide data, drawn at random: fits, blends and portfolios, as scripts and, worked out apart from them, as
+programs for HiGHS.
+"""
 import random
 from typing import NamedTuple
 
@@ -16,6 +18,11 @@ class Drawn(NamedTuple):
     status: str
     program: dict
     side: int
+
+
+def lines(*listed):
+    """A script of these lines."""
+    return (HEAD + "\n".join(listed) + "\n").encode()
 
 
 def array(rows):
@@ -76,14 +83,19 @@ def fit(seed):
 
 
 def blend(seed):
-    """The cheapest blend with enough of each nutrient: too much of one is asked for, or more may be taken of what brings money."""
+    """The cheapest blend with enough of each nutrient: too much of one is asked for, or more may be taken of what
+    brings money.
+    """
     d = Draw(seed)
     m, n = d.random.randint(3, 8), d.random.randint(4, 8)
     content, costs = d.matrix(m, n, 0.1, 4), d.vector(n, 1, 9)
     need = d.vector(m, 0.2, 0.9)
-    text = HEAD + f"N = {array(content)}\ncost = {array(costs)}\nneed = {array(need)}\nx = cp.Variable({n}, nonneg=True)\n"
+    text = HEAD + f"N = {array(content)}\ncost = {array(costs)}\nneed = {array(need)}\n"
+    text += f"x = cp.Variable({n}, nonneg=True)\n"
     rules = ["N @ x >= need"]
-    program = dict(c=numbers(costs), A_ub=[[-v for v in row] for row in numbers(content)], b_ub=[-v for v in numbers(need)])
+    program = dict(
+        c=numbers(costs), A_ub=[[-v for v in row] for row in numbers(content)], b_ub=[-v for v in numbers(need)]
+    )
     if d.status == "unbounded":
         text += f"cost = cost - 10*np.array([{', '.join(['0'] * (n - 1) + ['1'])}])\n"
         program["c"][-1] -= 10
@@ -101,7 +113,9 @@ def blend(seed):
 
 
 def portfolio(seed):
-    """The greatest mean less the mean of the worst scenarios, of shares that sum to 1: with small caps, or with loans without end."""
+    """The greatest mean less the mean of the worst scenarios, of shares that sum to 1: with small caps, or with loans
+    without end.
+    """
     d = Draw(seed)
     m, n = d.random.randint(5, 9), d.random.randint(3, 6)
     k = d.random.randint(1, 3)

@@ -1,4 +1,6 @@
-"""The exact solver: its certificates are accepted by the program, its answers are those of the program and of HiGHS, and lies are caught."""
+"""The exact solver: its certificates are accepted by the program, its answers are those of the program and of HiGHS,
+and lies are caught.
+"""
 import os
 import subprocess
 import sys
@@ -15,22 +17,20 @@ from dcx.exact import answers
 from dcx.exact.commands import run as read_anew
 from dcx.exact.limits import NONE
 
-from .exact_problems import HEAD, drawn, fit
+from .exact_problems import drawn, fit, lines
 
 ONE = b"{}\n"
 COUNT = 200
 HIGHS = {0: "optimal", 2: "infeasible", 3: "unbounded"}
-ALL_KINDS = (
-    HEAD
-    + """\
-p = cp.Parameter()
-q = cp.Parameter(nonneg=True)
-x = cp.Variable(nonpos=True)
-S = cp.Variable((2, 2), symmetric=True)
-D = cp.Variable((2, 2), diag=True)
-prob = cp.Problem(cp.Maximize(p*x - cp.norm1(S - D) + cp.min(cp.hstack([x, S[0, 1]]))), [q*x >= -5, D[1, 1] == 1/3, S[0, 0] + x <= 2])
-"""
-).encode()
+ALL_KINDS = lines(
+    "p = cp.Parameter()",
+    "q = cp.Parameter(nonneg=True)",
+    "x = cp.Variable(nonpos=True)",
+    "S = cp.Variable((2, 2), symmetric=True)",
+    "D = cp.Variable((2, 2), diag=True)",
+    "won = p*x - cp.norm1(S - D) + cp.min(cp.hstack([x, S[0, 1]]))",
+    "prob = cp.Problem(cp.Maximize(won), [q*x >= -5, D[1, 1] == 1/3, S[0, 0] + x <= 2])",
+)
 
 
 def certified(script, settings, certificate):
@@ -78,7 +78,9 @@ class RandomProblems(unittest.TestCase):
                 self.assertEqual(answer.status, status)
                 compared += 1
                 if status == "optimal":
-                    self.assertAlmostEqual(float(answer.value), problem.side * found.fun, delta=1e-6 * (1 + abs(found.fun)))
+                    self.assertAlmostEqual(
+                        float(answer.value), problem.side * found.fun, delta=1e-6 * (1 + abs(found.fun))
+                    )
         self.assertGreaterEqual(compared, COUNT * 0.9)
 
     def test_the_program_says_the_same_where_it_answers(self):
@@ -108,8 +110,12 @@ class Answers(unittest.TestCase):
         script, settings = ((folder / name).read_bytes() for name in ("model.py", "settings.txt"))
         best, none, endless = self.solved(script, settings).answers
         self.assertEqual((best.status, best.value, best.variables["x"].entries), ("optimal", Fraction(3, 2), (1,)))
-        self.assertEqual((none.status, none.duals[1].entries[0] > 0, none.duals[2].entries[0] > 0), ("infeasible", True, True))
-        self.assertEqual((endless.status, endless.ray["x"].entries[0] > 0, endless.slope > 0), ("unbounded", True, True))
+        self.assertEqual(
+            (none.status, none.duals[1].entries[0] > 0, none.duals[2].entries[0] > 0), ("infeasible", True, True)
+        )
+        self.assertEqual(
+            (endless.status, endless.ray["x"].entries[0] > 0, endless.slope > 0), ("unbounded", True, True)
+        )
 
     def test_variables_of_all_kinds_and_a_maximum(self):
         settings = b"p = 1; q = 2\np = -7; q = 2\np = -7; q = 0\n"
@@ -122,7 +128,8 @@ class Answers(unittest.TestCase):
         self.assertEqual([(a.value) for a in found[:2]], [a.value for a in own[:2]])
 
     def test_settings_that_do_not_fit_stop_alone(self):
-        script = (HEAD + "p = cp.Parameter(nonneg=True)\nx = cp.Variable()\nprob = cp.Problem(cp.Minimize(x/p), [x >= 1])\n").encode()
+        stated = ["p = cp.Parameter(nonneg=True)", "x = cp.Variable()"]
+        script = lines(*stated, "prob = cp.Problem(cp.Minimize(x/p), [x >= 1])")
         found = self.solved(script, b"p = 2\np = -1\np = 0\nq = 1\n{}\np = 4\n").answers
         self.assertEqual([a.status for a in found], ["optimal"] + ["stopped"] * 4 + ["optimal"])
         own = read_report(program.run("resolve", script, b"p = 2\np = -1\np = 0\nq = 1\n{}\np = 4\n").report).answers
@@ -145,37 +152,50 @@ class Answers(unittest.TestCase):
                 self.assertIn(f"value {own.value}\n", text)
 
     def test_problems_without_rows_or_with_constants_alone(self):
-        texts = ["x = cp.Variable(nonneg=True)\nprob = cp.Problem(cp.Minimize(x + 1))\n", "x = cp.Variable()\nprob = cp.Problem(cp.Minimize(x))\n",
-                 "x = cp.Variable(nonneg=True)\nprob = cp.Problem(cp.Minimize(x), [0*x <= -1])\n", "x = cp.Variable()\nprob = cp.Problem(cp.Minimize(3), [x == x])\n"]
-        found = [self.solved((HEAD + text).encode(), ONE).answers[0] for text in texts]
-        self.assertEqual([(a.status, a.value) for a in found], [("optimal", 1), ("unbounded", None), ("infeasible", None), ("optimal", 3)])
+        scripts = [
+            lines("x = cp.Variable(nonneg=True)", "prob = cp.Problem(cp.Minimize(x + 1))"),
+            lines("x = cp.Variable()", "prob = cp.Problem(cp.Minimize(x))"),
+            lines("x = cp.Variable(nonneg=True)", "prob = cp.Problem(cp.Minimize(x), [0*x <= -1])"),
+            lines("x = cp.Variable()", "prob = cp.Problem(cp.Minimize(3), [x == x])"),
+        ]
+        found = [self.solved(script, ONE).answers[0] for script in scripts]
+        self.assertEqual(
+            [(a.status, a.value) for a in found],
+            [("optimal", 1), ("unbounded", None), ("infeasible", None), ("optimal", 3)],
+        )
 
     def test_more_rows_and_columns_than_the_program_has(self):
-        script = (HEAD + "x = cp.Variable(700)\nprob = cp.Problem(cp.Minimize(cp.norm1(x) + x[0]/3), [x[1] >= 1/7, x[699] == 2])\n").encode()
+        rules = "[x[1] >= 1/7, x[699] == 2]"
+        script = lines("x = cp.Variable(700)", f"prob = cp.Problem(cp.Minimize(cp.norm1(x) + x[0]/3), {rules})")
         own = read_report(program.run("solve", script).report).answers[0]
         self.assertEqual(own.stop.number, 28)
         self.assertEqual(self.solved(script, ONE).answers[0].value, Fraction(15, 7))
 
     def test_what_passes_128_bits_is_told_and_kept(self):
-        script = (HEAD + f"x = cp.Variable()\nprob = cp.Problem(cp.Minimize(x), [x >= 1/{10**29 + 319}, x >= cp.Constant(1/{10**28 + 331})*(1/3)])\n").encode()
+        a, b = 10**29 + 319, 10**28 + 331
+        head = ["x = cp.Variable()", f"a = 1/{a}", f"b = cp.Constant(1/{b})"]
+        script = lines(*head, "prob = cp.Problem(cp.Minimize(x), [x >= a, x >= b/3])")
         self.assertIsNone(self.solved(script, ONE).answers[0].wide)
-        wide = (HEAD + f"x = cp.Variable()\nprob = cp.Problem(cp.Minimize(x), [x - 1/{10**29 + 319} - cp.Constant(1/{10**28 + 331}) >= 0])\n").encode()
+        wide = lines(*head, "prob = cp.Problem(cp.Minimize(x), [x - a - b >= 0])")
         answer = self.solved(wide, ONE).answers[0]
-        self.assertEqual(answer.value, Fraction(1, 10**29 + 319) + Fraction(1, 10**28 + 331))
+        self.assertEqual(answer.value, Fraction(1, a) + Fraction(1, b))
         self.assertTrue(answer.wide.startswith("number "))
         self.assertTrue(answer.checked)
 
     def test_the_solves_of_a_script_are_its_settings(self):
-        script = (HEAD + "p = cp.Parameter()\nx = cp.Variable()\nprob = cp.Problem(cp.Minimize(cp.abs(x - p)), [x >= 3])\n"
-                  "for k in range(3):\n    p.value = k\n    prob.solve()\n").encode()
-        self.assertEqual([(a.word, a.index, a.value) for a in exact.answer(script)], [("solve", 1, 3), ("solve", 2, 2), ("solve", 3, 1)])
+        stated = ["p = cp.Parameter()", "x = cp.Variable()", "prob = cp.Problem(cp.Minimize(cp.abs(x - p)), [x >= 3])"]
+        script = lines(*stated, "for k in range(3):", "    p.value = k", "    prob.solve()")
+        self.assertEqual(
+            [(a.word, a.index, a.value) for a in exact.answer(script)],
+            [("solve", 1, 3), ("solve", 2, 2), ("solve", 3, 1)],
+        )
 
     def test_whole_numbers_and_what_is_no_script_are_errors(self):
-        whole = (HEAD + "n = cp.Variable(2, integer=True)\nprob = cp.Problem(cp.Minimize(cp.sum(n)), [n >= 1/2])\n").encode()
+        whole = lines("n = cp.Variable(2, integer=True)", "prob = cp.Problem(cp.Minimize(cp.sum(n)), [n >= 1/2])")
         with self.assertRaisesRegex(UnsupportedError, "whole numbers .variable n."):
             exact.answer(whole)
         with self.assertRaisesRegex(exact.RefusedError, "19 NotDcp"):
-            exact.answer((HEAD + "x = cp.Variable()\nprob = cp.Problem(cp.Maximize(cp.abs(x)))\n").encode())
+            exact.answer(lines("x = cp.Variable()", "prob = cp.Problem(cp.Maximize(cp.abs(x)))"))
         with self.assertRaisesRegex(exact.RefusedError, "refused settings 6") as caught:
             exact.certificate(fit(0).script, b"p = = 1\n")
         self.assertEqual((caught.exception.refusal.of, caught.exception.refusal.line), ("settings", 1))
@@ -207,7 +227,9 @@ class Lies(unittest.TestCase):
     def test_it_is_caught_in_python_and_reported(self):
         script = next(p.script for p in drawn(30) if p.status == "optimal")
         for change in (self.change_multiplier, self.change_point, self.change_value):
-            with self.subTest(change.__name__), self.lying(change), self.assertRaisesRegex(exact.WrongError, "setting 1 is wrong"):
+            with self.subTest(change.__name__), self.lying(change), self.assertRaisesRegex(
+                exact.WrongError, "setting 1 is wrong"
+            ):
                 exact.answer(script, ONE)
 
     def test_it_is_caught_by_the_program(self):
@@ -248,7 +270,9 @@ class WithoutPackages(unittest.TestCase):
             f"from dcx import exact; print(exact.answer({fit(3).script!r}, b'{{}}\\n')[0].status)"
         )
         package = os.path.dirname(os.path.dirname(program.__file__))
-        found = subprocess.run([sys.executable, "-c", said], capture_output=True, text=True, env={**os.environ, "PYTHONPATH": package})
+        found = subprocess.run(
+            [sys.executable, "-c", said], capture_output=True, text=True, env={**os.environ, "PYTHONPATH": package}
+        )
         self.assertEqual(found.stdout, fit(3).status + "\n", found.stderr)
 
 

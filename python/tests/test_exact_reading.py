@@ -16,7 +16,14 @@ HERE = os.path.dirname(os.path.abspath(__file__))
 PACKAGE = os.path.dirname(HERE)
 CASES = os.path.join(os.path.dirname(PACKAGE), "crates", "dcx_cases", "data")
 # Files of each kind, with how many cases they have at least.
-SAMPLE = {"operators.txt": 50, "certificate.txt": 30, "solve.txt": 5, "row_maps.txt": 5, "migrate.txt": 3, "docs/CERTIFICATES.md": 2}
+SAMPLE = {
+    "operators.txt": 50,
+    "certificate.txt": 30,
+    "solve.txt": 5,
+    "row_maps.txt": 5,
+    "migrate.txt": 3,
+    "docs/CERTIFICATES.md": 2,
+}
 
 WIDE = b"""\
 import cvxpy as cp
@@ -81,15 +88,23 @@ class TheLimits(unittest.TestCase):
     def test_programs_of_any_size_are_answered_without_limits(self):
         script = trial_script(4)  # 10 rows; two of each free unknown, 4 + 1 others, and 10 slacks are 19 columns
         few = Limits(EXACT, 9, None)
-        self.assertIn("stopped 28 TooLarge rows 10 columns 19", run_on("resolve model.py settings.txt", few, model_py=script, settings_txt=b"q = 0\n")[1])
+        self.assertIn(
+            "stopped 28 TooLarge rows 10 columns 19",
+            run_on("resolve model.py settings.txt", few, model_py=script, settings_txt=b"q = 0\n")[1],
+        )
         self.assertIn("stopped 28", run_on("trial 300", OF_PROGRAM)[1])
-        self.assertEqual(run_on("resolve model.py settings.txt", Limits(EXACT, 10, 19), model_py=script, settings_txt=b"q = 0\n")[0], 0)
+        self.assertEqual(
+            run_on("resolve model.py settings.txt", Limits(EXACT, 10, 19), model_py=script, settings_txt=b"q = 0\n")[0],
+            0,
+        )
 
 
 class TheCommand(unittest.TestCase):
     def command(self, *words):
         run_here = [sys.executable, "-m", "dcx.exact", *words]
-        return subprocess.run(run_here, capture_output=True, text=True, cwd=CASES, env={**os.environ, "PYTHONPATH": PACKAGE})
+        return subprocess.run(
+            run_here, capture_output=True, text=True, cwd=CASES, env={**os.environ, "PYTHONPATH": PACKAGE}
+        )
 
     def test_words_are_answered_with_report_and_status(self):
         found = self.command("trial", "3")
@@ -107,7 +122,9 @@ class TheCommand(unittest.TestCase):
 
     def test_the_package_loads_nothing_of_it_by_itself(self):
         said = "import dcx, sys; print([m for m in sys.modules if m.startswith('dcx.exact')])"
-        found = subprocess.run([sys.executable, "-c", said], capture_output=True, text=True, env={**os.environ, "PYTHONPATH": PACKAGE})
+        found = subprocess.run(
+            [sys.executable, "-c", said], capture_output=True, text=True, env={**os.environ, "PYTHONPATH": PACKAGE}
+        )
         self.assertEqual(found.stdout, "[]\n")
 
 

@@ -84,7 +84,10 @@ class Programs(Shown):
         n, m = draw.randint(1, 5), draw.randint(0, 6)
         kinds = [draw.choice(["free", "nonneg", "nonneg", "nonpos"]) for _ in range(n)]
         numbers = [0, 0, 1, -1, 2, Fraction(1, 3)]
-        rows = [([draw.choice(numbers) for _ in range(n)], draw.choice(["<=", "<=", "=="]), draw.choice([0, 0, 1, -1, 3])) for _ in range(m)]
+        rows = [
+            ([draw.choice(numbers) for _ in range(n)], draw.choice(["<=", "<=", "=="]), draw.choice([0, 0, 1, -1, 3]))
+            for _ in range(m)
+        ]
         return program(kinds, rows, [draw.choice(numbers) for _ in range(n)], draw.choice([0, Fraction(5, 7)]))
 
     def test_ends_of_random_programs_are_shown(self):
@@ -111,16 +114,39 @@ class Programs(Shown):
                 split[row.is_equal][1].append(-float(row.form.constant))
             (a_eq, b_eq), (a_ub, b_ub) = split[True], split[False]
             costs = [float(it.objective.terms.get(u, 0)) for u in range(len(bounds))]
-            highs = linprog(costs, a_ub or None, b_ub or None, a_eq or None, b_eq or None, bounds=bounds, options={"presolve": False})
+            highs = linprog(
+                costs,
+                a_ub or None,
+                b_ub or None,
+                a_eq or None,
+                b_eq or None,
+                bounds=bounds,
+                options={"presolve": False},
+            )
             kind = {0: "optimal", 2: "infeasible", 3: "unbounded"}.get(highs.status)
             if kind is not None:
                 with self.subTest(seed):
                     self.assertEqual(solved(it).kind, kind)
 
     def test_examples_on_which_the_simplex_method_cycles(self):
-        beale = program(["nonneg"] * 4, [([Fraction(1, 4), -8, -1, 9], "<=", 0), ([Fraction(1, 2), -12, Fraction(-1, 2), 3], "<=", 0), ([0, 0, 1, 0], "<=", 1)],
-                        [Fraction(-3, 4), 20, Fraction(-1, 2), 6])
-        kuhn = program(["nonneg"] * 4, [([-2, -9, 1, 9], "<=", 0), ([Fraction(1, 3), 1, Fraction(-1, 3), -2], "<=", 0), ([2, 3, -1, -12], "<=", 2)], [-2, -3, 1, 12])
+        beale = program(
+            ["nonneg"] * 4,
+            [
+                ([Fraction(1, 4), -8, -1, 9], "<=", 0),
+                ([Fraction(1, 2), -12, Fraction(-1, 2), 3], "<=", 0),
+                ([0, 0, 1, 0], "<=", 1),
+            ],
+            [Fraction(-3, 4), 20, Fraction(-1, 2), 6],
+        )
+        kuhn = program(
+            ["nonneg"] * 4,
+            [
+                ([-2, -9, 1, 9], "<=", 0),
+                ([Fraction(1, 3), 1, Fraction(-1, 3), -2], "<=", 0),
+                ([2, 3, -1, -12], "<=", 2),
+            ],
+            [-2, -3, 1, 12],
+        )
         for it, value in ((beale, Fraction(-5, 4)), (kuhn, -2)):
             for use_floats in (True, False):
                 found = solved(it, use_floats)
@@ -172,7 +198,11 @@ class Programs(Shown):
 
     def test_a_later_program_starts_from_the_basis_before(self):
         def it(right):
-            return program(["nonneg"] * 3, [([-1, -1, 0], "<=", -right), ([1, 0, -2], "<=", 1), ([0, 1, -1], "<=", right)], [3, 2, 1])
+            return program(
+                ["nonneg"] * 3,
+                [([-1, -1, 0], "<=", -right), ([1, 0, -2], "<=", 1), ([0, 1, -1], "<=", right)],
+                [3, 2, 1],
+            )
 
         first = solved(it(5), use_floats=False)
         again = solved(it(5), use_floats=False, basis=first.basis)
@@ -190,7 +220,10 @@ class Programs(Shown):
 
 class TheFactors(unittest.TestCase):
     def columns(self, draw, n):
-        return [[(i, draw.choice([-3, -2, -1, 1, 2, 3])) for i in sorted(draw.sample(range(n), draw.randint(1, min(4, n))))] for _ in range(n)]
+        return [
+            [(i, draw.choice([-3, -2, -1, 1, 2, 3])) for i in sorted(draw.sample(range(n), draw.randint(1, min(4, n))))]
+            for _ in range(n)
+        ]
 
     def test_solutions_and_prices_behind_replacements(self):
         draw, tried = random.Random(3), 0

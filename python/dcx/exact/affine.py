@@ -1,10 +1,14 @@
-"""Coefficients: numbers, or affine numbers of the entries of parameters. And forms over unknowns with such coefficients."""
+"""Coefficients: numbers, or affine numbers of the entries of parameters. And forms over unknowns with such
+coefficients.
+"""
 from fractions import Fraction
 
 
 
 class Affine:
-    """A constant, and for each entry of a parameter (its number in order of declaration, the entry) a coefficient other than 0."""
+    """A constant, and for each entry of a parameter (its number in order of declaration, the entry) a coefficient other
+    than 0.
+    """
 
     def __init__(self, constant, terms):
         self.constant, self.terms = constant, terms
@@ -60,7 +64,9 @@ class Affines:
         add = self.numbers.add
         keys = sorted(a.terms.keys() | b.terms.keys())
         constant = add(a.constant, b.constant)
-        return numbers_of(constant, [(k, lambda k=k: add(a.terms.get(k, Fraction(0)), b.terms.get(k, Fraction(0)))) for k in keys])
+        return numbers_of(
+            constant, [(k, lambda k=k: add(a.terms.get(k, Fraction(0)), b.terms.get(k, Fraction(0)))) for k in keys]
+        )
 
     def scale(self, by, value):
         mul = self.numbers.mul
@@ -81,7 +87,9 @@ class Form:
 
 
 class Forms:
-    """What is done with forms over coefficients of a kind: each operation takes the constant first and then the unknowns, rising."""
+    """What is done with forms over coefficients of a kind: each operation takes the constant first and then the
+    unknowns, rising.
+    """
 
     def __init__(self, kind):
         self.kind = kind

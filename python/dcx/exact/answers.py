@@ -1,4 +1,6 @@
-"""Answers to a script at its settings from the exact solver, without limits, and the certificate of them that the program checks."""
+"""Answers to a script at its settings from the exact solver, without limits, and the certificate of them that the
+program checks.
+"""
 from __future__ import annotations
 
 from dataclasses import dataclass
@@ -25,12 +27,16 @@ class RefusedError(DCXError):
     """A script or a settings file that the language hasn't; `refusal` says why and where."""
 
     def __init__(self, refusal: Refusal):
-        super().__init__(f"{refusal.text}; the exact solver reads the program's language, which docs/LANGUAGE.md describes")
+        super().__init__(
+            f"{refusal.text}; the exact solver reads the program's language, which docs/LANGUAGE.md describes"
+        )
         self.refusal = refusal
 
 
 class WrongError(DCXError):
-    """The exact solver found something that its own checks refuse; `fault` is the fault that docs/CERTIFICATES.md names."""
+    """The exact solver found something that its own checks refuse; `fault` is the fault that docs/CERTIFICATES.md
+    names.
+    """
 
     def __init__(self, index: int, fault: str):
         super().__init__(f"the exact solver's answer to setting {index} is wrong, as its check found: {fault}")
@@ -39,10 +45,12 @@ class WrongError(DCXError):
 
 @dataclass(frozen=True)
 class ExactAnswer(Answer):
-    """An answer as it stands in a report, of numbers of any size. `status` is `optimal`, `infeasible`, `unbounded` or `stopped`.
+    """An answer as it stands in a report, of numbers of any size. `status` is `optimal`, `infeasible`, `unbounded` or
+    `stopped`.
 
-    `checked` says that it passed the checks of a certificate in Python's numbers. `wide` is None where a certificate can show it; where numbers of
-    the answer or of its checks pass 128 bits, so that the program can't say yes, it is the first such number (`number ..`) or operation (`mul .. ..`).
+    `checked` says that it passed the checks of a certificate in Python's numbers. `wide` is None where a certificate
+    can show it; where numbers of the answer or of its checks pass 128 bits, so that the program can't say yes, it is
+    the first such number (`number ..`) or operation (`mul .. ..`).
     """
 
     checked: bool = False
@@ -57,7 +65,9 @@ class Solved:
         self._problem, self._sections = problem, sections
 
     def certificate(self) -> bytes:
-        """A certificate of the answers, in format 2. The section of a setting that stopped, or whose numbers pass 128 bits, shows nothing."""
+        """A certificate of the answers, in format 2. The section of a setting that stopped, or whose numbers pass 128
+        bits, shows nothing.
+        """
         shown = [Section("none") if a.wide is not None else section for a, section in zip(self.answers, self._sections)]
         return written(self._problem, "2", shown).encode()
 
@@ -65,15 +75,17 @@ class Solved:
 def answer(script: bytes, settings: Optional[bytes] = None, *, use_floats: bool = True) -> list[ExactAnswer]:
     """The exact answers to a script at each setting of a settings file, or at its own solves where there is none.
 
-    With `use_floats` a basis is sought in floating-point numbers first, and nothing rests on what is found. Raises RefusedError where the language
-    hasn't the script or the file, UnsupportedError where the problem is one in whole numbers, WrongError where an answer fails its own checks, which
-    would be an error of the solver.
+    With `use_floats` a basis is sought in floating-point numbers first, and nothing rests on what is found. Raises
+    RefusedError where the language hasn't the script or the file, UnsupportedError where the problem is one in whole
+    numbers, WrongError where an answer fails its own checks, which would be an error of the solver.
     """
     return solve(script, settings, use_floats=use_floats).answers
 
 
 def certificate(script: bytes, settings: bytes, *, use_floats: bool = True) -> bytes:
-    """The certificate of the answers at all settings of the file, for the program's word `certify`. Raises as `answer` does."""
+    """The certificate of the answers at all settings of the file, for the program's word `certify`. Raises as `answer`
+    does.
+    """
     return solve(script, settings, use_floats=use_floats).certificate()
 
 
@@ -84,7 +96,9 @@ def solve(script: bytes, settings: Optional[bytes] = None, *, use_floats: bool =
     whole = marked(problem)
     if whole:
         name = problem.variables[whole[0][0]][0]
-        raise UnsupportedError(f"the exact solver answers no problem in whole numbers (variable {name}): there is no certificate of one")
+        raise UnsupportedError(
+            f"the exact solver answers no problem in whole numbers (variable {name}): there is no certificate of one"
+        )
     session, word = Session(problem, limits=NONE), "solve" if settings is None else "setting"
     sections, answers, basis = [], [], None
     for index, setting in enumerate(listed, 1):
@@ -112,7 +126,9 @@ def _read(script, settings):
     except Refused as refused:
         raise RefusedError(read_refusal(refused.text(of).rstrip("\n"))) from None
     except RecursionError:
-        raise LimitError("the script nests deeper than Python's stack allows; sys.setrecursionlimit raises it") from None
+        raise LimitError(
+            "the script nests deeper than Python's stack allows; sys.setrecursionlimit raises it"
+        ) from None
 
 
 def _section(session, setting, use_floats, basis):
@@ -181,11 +197,16 @@ def _answer(problem, word, index, section, wide):
     duals = {}
     for i, (constraint, entries) in enumerate(zip(problem.constraints, section.duals or ()), 1):
         duals[i] = Entries(constraint.shape, tuple(Fraction(v) for v in entries))
-    return ExactAnswer(word, index, section.kind, **numbers, variables=variables, ray=ray, duals=duals, checked=True, wide=wide)
+    return ExactAnswer(
+        word, index, section.kind, **numbers, variables=variables, ray=ray, duals=duals, checked=True, wide=wide
+    )
 
 
 def _arrays(problem, arrays):
     """Entries by the names of variables."""
     if arrays is None:
         return {}
-    return {name: Entries(problem.nodes[n].shape, tuple(Fraction(v) for v in entries)) for (name, n), entries in zip(problem.variables, arrays)}
+    return {
+        name: Entries(problem.nodes[n].shape, tuple(Fraction(v) for v in entries))
+        for (name, n), entries in zip(problem.variables, arrays)
+    }

@@ -1,4 +1,6 @@
-"""Variables whose entries are to be whole, by branch and bound: a point with the least objective among the whole ones, or that there is none."""
+"""Variables whose entries are to be whole, by branch and bound: a point with the least objective among the whole ones,
+or that there is none.
+"""
 from fractions import Fraction
 from math import floor
 
@@ -37,7 +39,8 @@ def bounds(box):
 class Leaf:
     """A node that isn't split: `bound` with a value that nothing in its box is below, or `empty` with a gap.
 
-    It has the multipliers of the constraints, those of the graphs' rows by node, and those of the bounds of its box, in order.
+    It has the multipliers of the constraints, those of the graphs' rows by node, and those of the bounds of its box, in
+    order.
     """
 
     def __init__(self, kind, number, duals, weights, bounds):
@@ -52,7 +55,9 @@ class Split:
 
 
 class WholeAnswer:
-    """The value of what is minimized and a point that has it, both None where there is no whole point; and the nodes as they are taken."""
+    """The value of what is minimized and a point that has it, both None where there is no whole point; and the nodes as
+    they are taken.
+    """
 
     def __init__(self):
         self.number = self.point = None
@@ -64,7 +69,8 @@ class WholeAnswer:
 
 
 class Branching:
-    """Nodes are numbered from 1 as they are taken, and the program of each is that of the setting with a row for each bound of its box.
+    """Nodes are numbered from 1 as they are taken, and the program of each is that of the setting with a row for each
+    bound of its box.
 
     Of a node that is split the side below is taken first, with all that follows from it.
     """
@@ -128,7 +134,9 @@ class Branching:
     def row(self, v, entry, is_upper, k):
         """An entry less its upper number, or its lower number less the entry, is at most 0."""
         sign = 1 if is_upper else -1
-        return Row(False, Form(Fraction(-sign * k), {self.unknowns[v][entry]: Fraction(sign)}), ("bound", v, entry, is_upper))
+        return Row(
+            False, Form(Fraction(-sign * k), {self.unknowns[v][entry]: Fraction(sign)}), ("bound", v, entry, is_upper)
+        )
 
     def leaf(self, kind, reading, box):
         duals = self.session.duals(reading)

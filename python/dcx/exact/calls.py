@@ -11,7 +11,8 @@ ZERO = (True, True)
 NONNEG = (True, False)
 
 LINEAR = {
-    "plus", "minus", "sum", "mean", "cumsum", "diff", "trace", "diag", "index", "reshape", "transpose", "hstack", "vstack", "promote",
+    "plus", "minus", "sum", "mean", "cumsum", "diff", "trace", "diag", "index", "reshape", "transpose", "hstack",
+    "vstack", "promote",
 }
 PAIRING = {"times", "matmul", "over"}
 CONVEX = {"abs", "pos", "neg", "maximum", "max", "norm1", "norm_inf", "sum_largest", "cummax"}
@@ -208,7 +209,8 @@ def pairs(call, args):
 
 
 class Graph:
-    """Auxiliary unknowns, `free` or `nonneg`; rows that are at most 0, by result entry; for each result entry its terms.
+    """Auxiliary unknowns, `free` or `nonneg`; rows that are at most 0, by result entry; for each result entry its
+    terms.
 
     A term is the operand `(argument, entry)` or `("aux", i)` with its coefficient.
     """

@@ -80,7 +80,11 @@ class Case:
 
     def came(self):
         """The status and the bytes that are written."""
-        listings = {"gather": listing.gathered, "rows": lambda d: listing.program_lines(d, False), "map": lambda d: listing.program_lines(d, True)}
+        listings = {
+            "gather": listing.gathered,
+            "rows": lambda d: listing.program_lines(d, False),
+            "map": lambda d: listing.program_lines(d, True),
+        }
         if len(self.words) == 2 and self.words[0] in listings and self.words[1] in self.files:
             status, text = listings[self.words[0]](self.files[self.words[1]])
             return status, text.encode()
@@ -119,7 +123,8 @@ def judged(path, case):
     is_met = came.startswith(report) if goes_on else came == report
     if is_met and status in (None, came_status):
         return True
-    print(f"{path}:{case.line}: {' '.join(case.words)}\nwanted {status}\n{report.decode(errors='replace')}came {came_status}\n{came.decode(errors='replace')}")
+    wanted, came = (text.decode(errors="replace") for text in (report, came))
+    print(f"{path}:{case.line}: {' '.join(case.words)}\nwanted {status}\n{wanted}came {came_status}\n{came}")
     return False
 
 
@@ -190,7 +195,8 @@ def page_cases(path):
 
 
 def page_case(path, line, words, script, report):
-    """A case of a page, which states no status. Without a script it is over the files of the data that its words name."""
+    """A case of a page, which states no status. Without a script it is over the files of the data that its words name.
+    """
     case = Case(line, words)
     folder = os.path.dirname(path).removesuffix("docs")
     if script is not None:

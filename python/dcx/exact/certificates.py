@@ -12,8 +12,9 @@ NUMBER = re.compile(rb"0|(-?[1-9][0-9]{0,38})(?:/([1-9][0-9]{0,38}))?")
 
 
 class Section:
-    """What a certificate has for a setting. Arrays are lists of entries, in the order of the problem's parameters, variables and constraints;
-    weights are by node."""
+    """What a certificate has for a setting. Arrays are lists of entries, in the order of the problem's parameters,
+    variables and constraints; weights are by node.
+    """
 
     def __init__(self, kind):
         self.kind = kind
@@ -55,7 +56,10 @@ def atoms(problem):
 
 def named(problem, word, listed):
     """How the lines of variables or parameters begin, and how many numbers they have."""
-    return [(f"{word} {name} {shapes.text(problem.nodes[n].shape)} =", shapes.size(problem.nodes[n].shape)) for name, n in listed]
+    return [
+        (f"{word} {name} {shapes.text(problem.nodes[n].shape)} =", shapes.size(problem.nodes[n].shape))
+        for name, n in listed
+    ]
 
 
 def numbered(problem):

@@ -1,4 +1,6 @@
-"""What the words `certificate`, `certify` and `migrate` do with an accepted problem and its settings: a status and a report."""
+"""What the words `certificate`, `certify` and `migrate` do with an accepted problem and its settings: a status and a
+report.
+"""
 from .certificates import Misfit, Section, read, written
 from .checks import Fault, check
 from .faults import Refused, Stopped
@@ -60,7 +62,9 @@ def show(problem, setting, section):
 
 def certificate(session, settings, limit):
     ends = [solved(session, setting, limit) for setting in settings]
-    return 6 if any(stopped for _, stopped in ends) else 0, written(session.problem, "2", [section for section, _ in ends])
+    return 6 if any(stopped for _, stopped in ends) else 0, written(
+        session.problem, "2", [section for section, _ in ends]
+    )
 
 
 def checked(problem, settings, data):

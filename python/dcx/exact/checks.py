@@ -43,7 +43,9 @@ def formed(problem, node, args, numbers):
             for left, right in pairs:
                 if word == "over" and args[1][right] == 0:
                     raise misfit(25)
-                result = numbers.add(result, (numbers.div if word == "over" else numbers.mul)(args[0][left], args[1][right]))
+                result = numbers.add(
+                    result, (numbers.div if word == "over" else numbers.mul)(args[0][left], args[1][right])
+                )
             yield result
     elif word in calls.LINEAR:
         for terms in parts(problem, node):
@@ -251,7 +253,9 @@ class Checker:
 
     def hand_on_slopes(self, n, node):
         try:
-            found = slopes(node.call, self.problem.arg_shapes(node), self.reach[n], self.section.weights[n], self.numbers)
+            found = slopes(
+                node.call, self.problem.arg_shapes(node), self.reach[n], self.section.weights[n], self.numbers
+            )
         except Broken as broken:
             raise Fault("Slope", n, broken.entry, broken.stated, broken.found) from None
         for arg, entries in zip(node.args, found):

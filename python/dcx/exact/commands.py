@@ -17,7 +17,17 @@ from .tokens import text_of, tokens_of
 from .values import Array
 
 MOST_PIVOTS = 200_000
-OPERANDS = {"check": 1, "solve": 1, "resolve": 2, "certificate": 2, "certify": 3, "trial": 1, "migrate": 3, "iis": 2, "range": 3}
+OPERANDS = {
+    "check": 1,
+    "solve": 1,
+    "resolve": 2,
+    "certificate": 2,
+    "certify": 3,
+    "trial": 1,
+    "migrate": 3,
+    "iis": 2,
+    "range": 3,
+}
 WITHOUT_LIMIT = ("check", "certify", "migrate")
 
 
@@ -79,7 +89,9 @@ class Accepted:
         self.verdict = Verdict(self.problem)
 
     def test_unmarked(self):
-        """Some words refuse a problem that reaches a variable whose entries are to be whole, at the first one that is declared."""
+        """Some words refuse a problem that reaches a variable whose entries are to be whole, at the first one that is
+        declared.
+        """
         for v, _ in marked(self.problem):
             raise Refused(34, self.problem.nodes[self.problem.variables[v][1]].place)
 
@@ -171,7 +183,9 @@ def run_command(command, operands, limit, warm, fetch, limits):
         return status_of(ends), report.filtered(accepted.problem, ends)
     if command == "certificate":
         return certificate(session, settings, limit)
-    return with_certificate({"certify": certify, "migrate": migrate}[command], accepted.problem, settings, fetch(operands[2]))
+    return with_certificate(
+        {"certify": certify, "migrate": migrate}[command], accepted.problem, settings, fetch(operands[2])
+    )
 
 
 class CertificateRefused(Refused):

@@ -6,8 +6,8 @@ from .faults import Refused
 from .functions import Call
 from .tree import Constraint, Problem, Tree
 from .values import (
-    MOST_ITEMS, Array, Expression, List, Module, Range, Result, Text, TheProblem, Tuple, array_of, at_most, gathered_items, is_flat, is_nested,
-    is_number, is_plain, is_whole, plain_of, plain_operation,
+    MOST_ITEMS, Array, Expression, List, Module, Range, Result, Text, TheProblem, Tuple, array_of, at_most,
+    gathered_items, is_flat, is_nested, is_number, is_plain, is_whole, plain_of, plain_operation,
 )
 
 MOST_STEPS = 100_000
@@ -280,7 +280,9 @@ class Script:
 
     def value_index(self, place, tree, bracket, picks):
         value = self.value(tree)
-        picks = [(pick[0], [None if part is None else self.value(part) for part in pick[1:]], pick[1:]) for pick in picks]
+        picks = [
+            (pick[0], [None if part is None else self.value(part) for part in pick[1:]], pick[1:]) for pick in picks
+        ]
         if isinstance(value, List):
             return self.item(value, picks, bracket)
         if not isinstance(value, (Array, Expression)):

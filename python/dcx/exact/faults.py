@@ -3,12 +3,13 @@
 REFUSALS = {
     1: "NotText", 2: "BadChar", 3: "BadNumber", 4: "Unclosed", 5: "Indent", 6: "Unexpected", 7: "TooDeep", 8: "TooLong",
     9: "UnknownName", 10: "UnknownCall", 11: "BadArgument", 12: "NotOffered", 13: "ShapeClash", 14: "IndexRange",
-    15: "EmptyResult", 16: "NoProblem", 17: "TwoProblems", 18: "TooMany", 19: "NotDcp", 20: "PlainWide", 34: "WholeVariable",
-    35: "NotRanged",
+    15: "EmptyResult", 16: "NoProblem", 17: "TwoProblems", 18: "TooMany", 19: "NotDcp", 20: "PlainWide",
+    34: "WholeVariable", 35: "NotRanged",
 }
 STOPS = {
     21: "UnknownParam", 22: "MissingParam", 23: "ParamShape", 24: "ParamSign", 25: "ZeroDivisor", 26: "Wide",
-    27: "PivotLimit", 28: "TooLarge", 30: "RelaxationUnbounded", 31: "Memory", 32: "NodeLimit", 33: "Branch", 36: "RangeWide", 37: "Filter",
+    27: "PivotLimit", 28: "TooLarge", 30: "RelaxationUnbounded", 31: "Memory", 32: "NodeLimit", 33: "Branch",
+    36: "RangeWide", 37: "Filter",
 }
 
 

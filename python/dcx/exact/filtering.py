@@ -1,4 +1,5 @@
-"""Why no point is feasible: constraints that no point keeps together, though some point keeps all of them but any one."""
+"""Why no point is feasible: constraints that no point keeps together, though some point keeps all of them but any one.
+"""
 from fractions import Fraction
 
 from . import shapes
@@ -9,16 +10,20 @@ from .verify import verify_others, verify_point, verify_set
 
 
 class Filtered:
-    """A feasible point; or the constraints, by numbers from 0, with a point for each that keeps the others, multipliers and gap."""
+    """A feasible point; or the constraints, by numbers from 0, with a point for each that keeps the others, multipliers
+    and gap.
+    """
 
     def __init__(self):
         self.point = self.members = self.points = self.duals = self.number = None
 
 
 class Filter:
-    """All constraints are tried first, and then each of them in order is left out for good where those that are left are impossible.
+    """All constraints are tried first, and then each of them in order is left out for good where those that are left
+    are impossible.
 
-    The program is that of the problem at the setting, and each step solves it without the rows of the constraints that it leaves out.
+    The program is that of the problem at the setting, and each step solves it without the rows of the constraints that
+    it leaves out.
     """
 
     def __init__(self, session, setting, limit):
@@ -55,7 +60,13 @@ class Filter:
         except Stopped as stop:
             raise self.stopped(step, stop) from None
         if reading.end.kind == "infeasible":
-            verify_set(self.problem, self.setting, self.spread(kept, reading.exact_multiplier), self.session.weights(reading), reading.number)
+            verify_set(
+                self.problem,
+                self.setting,
+                self.spread(kept, reading.exact_multiplier),
+                self.session.weights(reading),
+                reading.number,
+            )
         return reading
 
     def program_of(self, kept):

@@ -5,8 +5,8 @@ from . import shapes
 from .calls import result_shape
 from .faults import Refused
 from .values import (
-    MOST_ITEMS, Array, Expression, List, Objective, Range, Text, Tuple, at_most, gathered_items, is_flat, is_nested, is_number,
-    is_plain, is_whole, plain_of,
+    MOST_ITEMS, Array, Expression, List, Objective, Range, Text, Tuple, at_most, gathered_items, is_flat, is_nested,
+    is_number, is_plain, is_whole, plain_of,
 )
 from .tree import Constraint
 

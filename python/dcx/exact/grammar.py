@@ -1,4 +1,6 @@
-"""The syntax tree of a script, or the first token that no script goes on with. A tree is a tuple of a kind, a place and its parts."""
+"""The syntax tree of a script, or the first token that no script goes on with. A tree is a tuple of a kind, a place and
+its parts.
+"""
 from .faults import Refused
 
 COMPARISONS = ("<=", ">=", "==", "<", ">", "!=")

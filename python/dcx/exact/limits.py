@@ -7,7 +7,9 @@ from .numbers import EXACT, OF_LANGUAGE, Limited, Unlimited
 
 
 class Limits(NamedTuple):
-    """The operations on numbers, and the greatest count of rows and of columns of a reduced program, None where there is none."""
+    """The operations on numbers, and the greatest count of rows and of columns of a reduced program, None where there
+    is none.
+    """
 
     numbers: Union[Limited, Unlimited]
     rows: Optional[int]

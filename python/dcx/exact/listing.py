@@ -88,18 +88,22 @@ def form_text(form, names):
     text = number(plain(constant)) if is_number(constant) else coefficient_text(constant, names)
     for u in sorted(form.terms):
         value = form.terms[u]
-        text += signed(plain(value), False, f"u{u}") if is_number(value) else f" + {coefficient_text(value, names)} u{u}"
+        text += signed(
+            plain(value), False, f"u{u}"
+        ) if is_number(value) else f" + {coefficient_text(value, names)} u{u}"
     return text
 
 
 def program_text(problem, program):
     names = [name for name, _ in problem.parameters]
     columns = sum(2 if kind == "free" else 1 for kind in program.kinds) + sum(not row.is_equal for row in program.rows)
-    lines = [f"rows {len(program.rows)} columns {columns}\n", "unknowns" + "".join(f" {k}" for k in program.kinds) + "\n"]
+    lines = [
+        f"rows {len(program.rows)} columns {columns}\n", "unknowns" + "".join(f" {k}" for k in program.kinds) + "\n"
+    ]
     lines.append(f"minimize {form_text(program.objective, names)}\n")
     for row in program.rows:
         kind, *at = row.origin
-        origin = f"constraint {at[0]} entry {at[1]}" if kind == "constraint" else f"node {at[0]} entry {at[1]} row {at[2]}"
+        origin = f"{kind} {at[0]} entry {at[1]}" + (f" row {at[2]}" if kind == "node" else "")
         lines.append(f"{origin}: {form_text(row.form, names)} {'==' if row.is_equal else '<='} 0\n")
     return "".join(lines)
 

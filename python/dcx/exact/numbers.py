@@ -37,7 +37,9 @@ class Limited:
         return self.fits(value.numerator, value.denominator)
 
     def _added(self, a, b):
-        """The sum, or None where a number that it forms passes: the two cross products, their sum, the parts of the result."""
+        """The sum, or None where a number that it forms passes: the two cross products, their sum, the parts of the
+        result.
+        """
         if a == 0 or b == 0:
             return a + b
         shared = gcd(a.denominator, b.denominator)

@@ -1,4 +1,6 @@
-"""How far a parameter may move before another plan is best: the values at which the last basis holds, and what the objective is at them."""
+"""How far a parameter may move before another plan is best: the values at which the last basis holds, and what the
+objective is at them.
+"""
 from fractions import Fraction
 
 from .faults import Refused, Stopped
@@ -35,7 +37,9 @@ def key_of(problem, name):
 
 
 class Ranged:
-    """`optimal` with the ends of the interval, None where there is none, and the value at p as `constant + slope * p`; or another kind."""
+    """`optimal` with the ends of the interval, None where there is none, and the value at p as `constant + slope * p`;
+    or another kind.
+    """
 
     def __init__(self, kind):
         self.kind = kind
@@ -43,7 +47,9 @@ class Ranged:
 
 
 class Ranging:
-    """The run at a setting, and what its last basis tells of the parameter. The session has a map whose coefficients are free of it."""
+    """The run at a setting, and what its last basis tells of the parameter. The session has a map whose coefficients
+    are free of it.
+    """
 
     def __init__(self, session, setting, name, limit):
         self.session, self.problem, self.setting, self.name, self.limit = session, session.problem, setting, name, limit
@@ -116,7 +122,8 @@ class Ranging:
 
 
 class Shown:
-    """Shows a span: that the basis has these columns at each value, where they may stand, and that the answers there are right.
+    """Shows a span: that the basis has these columns at each value, where they may stand, and that the answers there
+    are right.
 
     Nothing here is limited to 128 bits.
     """
@@ -145,7 +152,9 @@ class Shown:
 
     def number(self, affine, setting):
         names = [name for name, _ in self.session.problem.parameters]
-        return affine.constant + sum(c * setting[names[position]].entries[entry] for (position, entry), c in affine.terms.items())
+        return affine.constant + sum(
+            c * setting[names[position]].entries[entry] for (position, entry), c in affine.terms.items()
+        )
 
     def columns_solve(self, p):
         """The columns solve the rows at the value."""
@@ -176,16 +185,25 @@ class Shown:
             lows.append(ZERO)
         if attribute == "nonpos":
             highs.append(ZERO)
-        demand((max(lows, default=None), min(highs, default=None)) == (self.result.low, self.result.high), "the ends are others")
+        demand(
+            (max(lows, default=None), min(highs, default=None)) == (self.result.low, self.result.high),
+            "the ends are others",
+        )
 
     def slope(self):
         """The slope is what the multipliers of all rows make of the parameter."""
         rows = self.session.map.rows
-        total = sum((self.reading.exact_multiplier(r) * self.ranging.coefficient(row.form) for r, row in enumerate(rows)), ZERO)
-        demand(total + self.ranging.coefficient(self.session.map.objective) == self.result.slope, "the slope is another")
+        total = sum(
+            (self.reading.exact_multiplier(r) * self.ranging.coefficient(row.form) for r, row in enumerate(rows)), ZERO
+        )
+        demand(
+            total + self.ranging.coefficient(self.session.map.objective) == self.result.slope, "the slope is another"
+        )
 
     def answers(self, at):
-        """At the ends, between them, and far out where there is none, the point and the multipliers of the basis are right."""
+        """At the ends, between them, and far out where there is none, the point and the multipliers of the basis are
+        right.
+        """
         low, high = self.result.low, self.result.high
         low, high = at - FAR if low is None else low, at + FAR if high is None else high
         demand(low <= at <= high, "the interval doesn't hold the setting's value")

@@ -71,7 +71,9 @@ class Layout:
 
 
 class Reduction:
-    """Forms of the nodes that are reduced, values of the others, and the rows. The setting is None where parameters are affine."""
+    """Forms of the nodes that are reduced, values of the others, and the rows. The setting is None where parameters are
+    affine.
+    """
 
     def __init__(self, problem, setting, limits):
         self.problem, self.setting, self.limits, self.numbers = problem, setting, limits, limits.numbers
@@ -158,8 +160,12 @@ class Reduction:
     def linear(self, number, node, entry):
         terms = self.terms_of_node(number, node)[entry]
         if not self.reached[number]:
-            return self.numbers.total(self.numbers.mul(coefficient, self.found[node.args[arg]][at]) for arg, at, coefficient in terms)
-        return self.forms.total(self.forms.scaled(coefficient, self.form(node.args[arg], at)) for arg, at, coefficient in terms)
+            return self.numbers.total(
+                self.numbers.mul(coefficient, self.found[node.args[arg]][at]) for arg, at, coefficient in terms
+            )
+        return self.forms.total(
+            self.forms.scaled(coefficient, self.form(node.args[arg], at)) for arg, at, coefficient in terms
+        )
 
     def pairing(self, number, node, entry):
         pairs = self.terms_of_node(number, node)[entry]
@@ -205,7 +211,13 @@ class Reduction:
         rows = []
         for c, constraint in enumerate(self.problem.constraints):
             for entry in range(shapes.size(constraint.shape)):
-                rows.append(Row(constraint.kind == "equal", self.difference(constraint, entry, len(rows)), ("constraint", c, entry)))
+                rows.append(
+                    Row(
+                        constraint.kind == "equal",
+                        self.difference(constraint, entry, len(rows)),
+                        ("constraint", c, entry),
+                    )
+                )
         for number, graph in self.graphs.items():
             rows.extend(self.graph_rows(number, graph))
         objective = self.form(self.problem.objective, 0)
@@ -224,7 +236,10 @@ class Reduction:
         args = self.problem.nodes[number].args
         rows, place = [], {}
         for entry, parts in graph.rows:
-            listed = ((self.forms.unknown(self.bases[number] + at) if kind == "aux" else self.form(args[kind], at), by) for (kind, at), by in parts)
+            listed = (
+                (self.forms.unknown(self.bases[number] + at) if kind == "aux" else self.form(args[kind], at), by)
+                for (kind, at), by in parts
+            )
             form = self.forms.total(self.forms.scaled(Fraction(by), part) for part, by in listed)
             place[entry] = place.get(entry, -1) + 1
             rows.append(Row(False, form, ("node", number, entry, place[entry])))

@@ -4,8 +4,9 @@ from .faults import Stopped
 from .numbers import number
 
 USAGE = (
-    "usage: dcx check SCRIPT | solve SCRIPT | resolve SCRIPT SETTINGS | certificate SCRIPT SETTINGS | certify SCRIPT SETTINGS CERT | "
-    "trial N | migrate SCRIPT SETTINGS CERT | range SCRIPT SETTINGS PARAM | iis SCRIPT SETTINGS\n"
+    "usage: dcx check SCRIPT | solve SCRIPT | resolve SCRIPT SETTINGS | certificate SCRIPT SETTINGS | "
+    "certify SCRIPT SETTINGS CERT | trial N | migrate SCRIPT SETTINGS CERT | range SCRIPT SETTINGS PARAM | "
+    "iis SCRIPT SETTINGS\n"
 )
 SIGNS = {(True, True): "zero", (True, False): "nonneg", (False, True): "nonpos", (False, False): "unknown"}
 
@@ -57,7 +58,9 @@ def outcome(problem, word, k, end):
     if end.kind == "whole infeasible":
         return head + f"nodes {len(end.nodes)}\n"
     if end.kind == "whole optimal":
-        return head + f"value {users(problem, end.number)}\n" + arrays(problem, "var", end.point) + f"nodes {len(end.nodes)}\n"
+        return head + f"value {users(problem, end.number)}\n" + arrays(
+            problem, "var", end.point
+        ) + f"nodes {len(end.nodes)}\n"
     if end.kind == "optimal":
         return head + f"value {users(problem, end.number)}\n" + arrays(problem, "var", end.point) + duals(problem, end)
     if end.kind == "infeasible":

@@ -11,7 +11,8 @@ FAULTS = (TooLarge, ZeroDivisor, Wide)
 
 
 class Answer:
-    """A kind, the number (value, gap or bound) of what is minimized, the slope, points by variable, multipliers by constraint.
+    """A kind, the number (value, gap or bound) of what is minimized, the slope, points by variable, multipliers by
+    constraint.
 
     The weights are the multipliers of the graphs' rows, by node with a variable below it.
     """
@@ -109,7 +110,9 @@ class Session:
         return answer
 
     def solve_warm(self, setting, limit):
-        """The answer from the columns that are kept, where there is one, else that of `solve`; and whether it is from them."""
+        """The answer from the columns that are kept, where there is one, else that of `solve`; and whether it is from
+        them.
+        """
         warm = False
 
         def found(program):

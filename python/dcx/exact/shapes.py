@@ -50,7 +50,11 @@ def matmul_pairs(a, b):
     inner = a[-1]
     left_rows = a[0] if len(a) == 2 else 1
     right_columns = b[1] if len(b) == 2 else 1
-    return [[(i * inner + k, k * right_columns + j) for k in range(inner)] for i in range(left_rows) for j in range(right_columns)]
+    return [
+        [(i * inner + k, k * right_columns + j) for k in range(inner)]
+        for i in range(left_rows)
+        for j in range(right_columns)
+    ]
 
 
 def slice_places(length, start, stop, step):

@@ -7,7 +7,8 @@ from .reduce import Wide
 
 
 class IntegerRow:
-    """Numbers by column, the right side, the positive factor by which the row was multiplied, and whether it was negated.
+    """Numbers by column, the right side, the positive factor by which the row was multiplied, and whether it was
+    negated.
 
     An inequality has a column for its slack, and a row that starts without one has one for its artificial.
     """
@@ -24,7 +25,9 @@ def integers(terms, right, row, numbers):
         multiple = Fraction(1)
         for value in [*terms.values(), right]:
             multiple = Fraction(numbers.lcm(multiple, value.denominator))
-        return {u: int(numbers.mul(multiple, v)) for u, v in terms.items()}, int(numbers.mul(multiple, right)), int(multiple)
+        return {u: int(numbers.mul(multiple, v)) for u, v in terms.items()}, int(
+            numbers.mul(multiple, right)
+        ), int(multiple)
     except Passes as passes:
         raise Wide(("row", row), passes) from None
 
@@ -68,7 +71,9 @@ class Tableau:
 
     def objective(self):
         form = self.program.objective
-        terms, right, multiple = integers({u: -v for u, v in form.terms.items()}, form.constant, self.count, self.numbers)
+        terms, right, multiple = integers(
+            {u: -v for u, v in form.terms.items()}, form.constant, self.count, self.numbers
+        )
         shared = gcd(*terms.values(), right, multiple)
         return {u: v // shared for u, v in self.spread(terms).items()}, right // shared, multiple // shared
 
@@ -163,7 +168,8 @@ def eliminated(row, pivot_row, p, a, numbers):
 
 
 class End:
-    """How a run ends: `optimal`, `infeasible`, `unbounded` with a column, `limit`, or `wide` with a row and a column."""
+    """How a run ends: `optimal`, `infeasible`, `unbounded` with a column, `limit`, or `wide` with a row and a column.
+    """
 
     def __init__(self, kind, pivots, row=None, column=None):
         self.kind, self.pivots, self.row, self.column = kind, pivots, row, column
@@ -231,7 +237,9 @@ class Run:
 
 
 class WarmRun(Run):
-    """The run from columns that were basic in an earlier optimal answer, by the dual simplex. It ends optimal, or it fails, and `end` is None."""
+    """The run from columns that were basic in an earlier optimal answer, by the dual simplex. It ends optimal, or it
+    fails, and `end` is None.
+    """
 
     def __init__(self, tableau, columns, limit):
         self.tableau, self.limit, self.pivots = tableau, limit, 0
@@ -242,7 +250,9 @@ class WarmRun(Run):
         """Makes the columns basic."""
         tableau, listed = self.tableau, set(columns)
         for column in sorted(listed - set(tableau.basis)):
-            rows = (r for r in range(tableau.count) if tableau.basis[r] not in listed and tableau.rows[r].get(column, 0))
+            rows = (
+                r for r in range(tableau.count) if tableau.basis[r] not in listed and tableau.rows[r].get(column, 0)
+            )
             row = next(rows, None)
             if row is None or self.pivot(row, column):
                 return False
@@ -257,7 +267,11 @@ class WarmRun(Run):
         while negative := [r for r in range(tableau.count) if tableau.rows[r].get(tableau.right, 0) < 0]:
             row = min(negative, key=lambda r: tableau.basis[r])
             costs = tableau.rows[tableau.count]
-            ratios = [(Fraction(abs(costs.get(c, 0)), -v), c) for c, v in tableau.rows[row].items() if v < 0 and c < tableau.plain]
+            ratios = [
+                (Fraction(abs(costs.get(c, 0)), -v), c)
+                for c, v in tableau.rows[row].items()
+                if v < 0 and c < tableau.plain
+            ]
             if not ratios or self.pivot(row, min(ratios)[1]):
                 return False
         return True

@@ -33,7 +33,9 @@ def members(call, args, entry):
 
 
 def conditions(call, c, weights, numbers):
-    """The conditions of a result entry with coefficient c, each as (left side, whether both are to be equal, right side)."""
+    """The conditions of a result entry with coefficient c, each as (left side, whether both are to be equal, right
+    side).
+    """
     word = call[0]
     side = -1 if word in LEAST else 1
     each = [w for ws in weights for w in ws]

@@ -9,8 +9,8 @@ from .numbers import OF_LANGUAGE
 MOST_BYTES = 1_048_576
 MOST_OPEN = 64
 KEYWORDS = set(
-    "False None True and as assert async await break class continue def del elif else except finally for from global if import in is "
-    "lambda nonlocal not or pass print raise return try while with yield".split()
+    "False None True and as assert async await break class continue def del elif else except finally for from global "
+    "if import in is lambda nonlocal not or pass print raise return try while with yield".split()
 )
 SIGNS = ["**", "//", "<=", ">=", "==", "!=", "+=", "-=", "*=", "/=", *"+-*/@%<>=()[]{},:.;"]
 NUMBER = re.compile(r"([0-9]+\.?[0-9]*|\.[0-9]+)([eE][+-]?[0-9]+)?")

@@ -54,10 +54,18 @@ class Problem:
         self.objective = self.reach(tree, objective)
         self.objective_place = objective_place
         self.constraints = [
-            Constraint(c.kind, self.reach(tree, c.left), self.reach(tree, c.right), c.shape, c.place) for c in constraints
+            Constraint(
+                c.kind, self.reach(tree, c.left), self.reach(tree, c.right), c.shape, c.place
+            ) for c in constraints
         ]
-        self.variables = [(name, self.numbers[n]) for name, n in declared if n in self.numbers and tree.nodes[n].call[0] == "variable"]
-        self.parameters = [(name, self.numbers[n]) for name, n in declared if n in self.numbers and tree.nodes[n].call[0] == "parameter"]
+        self.variables = [
+            (name, self.numbers[n]) for name, n in declared if n in self.numbers and tree.nodes[n].call[0] == "variable"
+        ]
+        self.parameters = [
+            (name, self.numbers[n])
+            for name, n in declared
+            if n in self.numbers and tree.nodes[n].call[0] == "parameter"
+        ]
         self.mark_reached()
 
     def reach(self, tree, root):

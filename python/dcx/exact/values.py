@@ -137,7 +137,10 @@ def plain_operation(sign, a, b, place):
 def plain_entries(sign, a, b, shape):
     if sign == "@":
         pairs = shapes.matmul_pairs(a.shape, b.shape)
-        return [OF_LANGUAGE.total(OF_LANGUAGE.mul(a.entries[left], b.entries[right]) for left, right in listed) for listed in pairs]
+        return [
+            OF_LANGUAGE.total(OF_LANGUAGE.mul(a.entries[left], b.entries[right]) for left, right in listed)
+            for listed in pairs
+        ]
     lefts = shapes.promote_places(a.shape, shape)
     rights = shapes.promote_places(b.shape, shape)
     return [OPERATIONS[sign](a.entries[i], b.entries[j]) for i, j in zip(lefts, rights)]

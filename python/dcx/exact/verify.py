@@ -1,8 +1,10 @@
-"""Shows that an answer is right, from the problem's own points and multipliers: neither the reduced rows nor the run are looked at.
+"""Shows that an answer is right, from the problem's own points and multipliers: neither the reduced rows nor the run
+are looked at.
 
-A point is put into the constraints and the objective. Of multipliers it is shown that the Lagrangian is bounded by what is printed: each
-coefficient is handed from a node to its arguments, with slopes of the atoms for which the multipliers of their graphs vouch. Along a ray each
-expression rises by its recession value at most. Nothing here is limited to 128 bits.
+A point is put into the constraints and the objective. Of multipliers it is shown that the Lagrangian is bounded by what
+is printed: each coefficient is handed from a node to its arguments, with slopes of the atoms for which the multipliers
+of their graphs vouch. Along a ray each expression rises by its recession value at most. Nothing here is limited to 128
+bits.
 """
 from fractions import Fraction
 
@@ -39,7 +41,10 @@ class Values:
             return self.point[number]
         args = [self.found[a] for a in node.args]
         if word in calls.PAIRING:
-            return [sum((self.pair(word, args, *pair) for pair in pairs), Fraction(0)) for pairs in listed(self.problem, node)]
+            return [
+                sum((self.pair(word, args, *pair) for pair in pairs), Fraction(0))
+                for pairs in listed(self.problem, node)
+            ]
         if word in calls.LINEAR:
             return [sum((k * args[a][e] for a, e, k in terms), Fraction(0)) for terms in listed(self.problem, node)]
         shape = self.problem.nodes[node.args[0]].shape
@@ -63,7 +68,10 @@ class Recession(Values):
         if node.call[0] not in calls.PAIRING:
             return super().node(number, node)
         args = [self.found[a] if self.problem.has_variable[a] else self.values.found[a] for a in node.args]
-        return [sum((self.pair(node.call[0], args, *pair) for pair in pairs), Fraction(0)) for pairs in listed(self.problem, node)]
+        return [
+            sum((self.pair(node.call[0], args, *pair) for pair in pairs), Fraction(0))
+            for pairs in listed(self.problem, node)
+        ]
 
 
 def listed(problem, node):
@@ -102,7 +110,8 @@ def minimized(problem, values):
 
 
 def handed_on(call, coefficients, weights, args):
-    """What an atom hands on to its arguments' entries, with the weights of its graph's rows, which must vouch for it."""
+    """What an atom hands on to its arguments' entries, with the weights of its graph's rows, which must vouch for it.
+    """
     word = call[0]
     result = [[Fraction(0)] * shapes.size(s) for s in args]
     weights = iter(weights)
@@ -159,7 +168,9 @@ def running(coefficients, take, result):
 
 
 def bounded(problem, setting, duals, weights, with_objective, bounds=()):
-    """What the Lagrangian is at least, at every point of the domain. A bound of an entry adds its multiplier times what the entry is beyond it."""
+    """What the Lagrangian is at least, at every point of the domain. A bound of an entry adds its multiplier times what
+    the entry is beyond it.
+    """
     values = Values(problem, None, setting)
     reach = [[Fraction(0)] * shapes.size(node.shape) for node in problem.nodes]
     total = Fraction(0)
@@ -182,7 +193,9 @@ def bounded(problem, setting, duals, weights, with_objective, bounds=()):
         elif node.call[0] == "variable":
             test_variable(node, reach[number])
         elif number in weights:
-            for arg, slopes in zip(node.args, handed_on(node.call, reach[number], weights[number], problem.arg_shapes(node))):
+            for arg, slopes in zip(
+                node.args, handed_on(node.call, reach[number], weights[number], problem.arg_shapes(node))
+            ):
                 reach[arg] = [a + b for a, b in zip(reach[arg], slopes)]
         else:
             hand_on_terms(problem, number, node, reach, values)
@@ -246,7 +259,10 @@ def verify(problem, setting, answer):
     values = verify_point(problem, setting, answer.point)
     if answer.kind == "optimal":
         demand(minimized(problem, values) == answer.number, "the value isn't that of the point")
-        demand(bounded(problem, setting, answer.duals, answer.weights, True) >= answer.number, "the multipliers don't bound the value")
+        demand(
+            bounded(problem, setting, answer.duals, answer.weights, True) >= answer.number,
+            "the multipliers don't bound the value",
+        )
         return
     rising = Recession(problem, answer.ray, values)
     demand(minimized(problem, values) <= answer.number and answer.slope > 0, "the bound or the slope is wrong")
@@ -256,7 +272,9 @@ def verify(problem, setting, answer):
 
 
 def verify_whole(problem, setting, answer):
-    """Shows that a point is whole and has the value, and that the nodes leave no whole point with a smaller one; or that they leave none."""
+    """Shows that a point is whole and has the value, and that the nodes leave no whole point with a smaller one; or
+    that they leave none.
+    """
     if answer.number is not None:
         values = verify_point(problem, setting, answer.point)
         demand(minimized(problem, values) == answer.number, "the value isn't that of the point")
@@ -286,8 +304,13 @@ def root_box(problem):
 
 def verify_leaf(problem, setting, box, leaf, value):
     """Shows that no point of the box is below the value, or that there is no point in it."""
-    sides = [(v, e, is_upper, k) for (v, e), ends in sorted(box.items()) for is_upper, k in enumerate(ends) if k is not None]
+    sides = [
+        (v, e, is_upper, k) for (v, e), ends in sorted(box.items()) for is_upper, k in enumerate(ends) if k is not None
+    ]
     demand(len(sides) == len(leaf.bounds), "the bounds of a leaf aren't those of its box")
     least = bounded(problem, setting, leaf.duals, leaf.weights, leaf.kind == "bound", zip(sides, leaf.bounds))
     demand(least >= leaf.number, "the multipliers of a leaf don't show its number")
-    demand(leaf.number > 0 if leaf.kind == "empty" else value is not None and leaf.number >= value, "the number of a leaf shows nothing")
+    demand(
+        leaf.number > 0 if leaf.kind == "empty" else value is not None and leaf.number >= value,
+        "the number of a leaf shows nothing",
+    )

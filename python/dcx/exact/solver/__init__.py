@@ -1,4 +1,6 @@
-"""Solves reduced programs exactly: a basis that is found in floating-point numbers is factored, and finished from, in whole numbers."""
+"""Solves reduced programs exactly: a basis that is found in floating-point numbers is factored, and finished from, in
+whole numbers.
+"""
 from __future__ import annotations
 
 from .solution import Solution, solved

@@ -1,4 +1,5 @@
-"""The two arithmetics of a run of the simplex method: floating-point numbers, scaled, and whole numbers over a common denominator.
+"""The two arithmetics of a run of the simplex method: floating-point numbers, scaled, and whole numbers over a common
+denominator.
 
 Both have vectors up to a factor above 0, which the run needs no more of than signs and quotients. What each has:
 
@@ -6,10 +7,12 @@ Both have vectors up to a factor above 0, which the run needs no more of than si
     feasible, optimal       how far a level, and a reduced cost, may be beyond 0
     least                   the least magnitude of a pivot
     quotient(a, b)          a / b, in numbers that can be compared
-    factor(basis)           factors the columns of a basis, and gives it back, where columns that depend on others are put out for logical ones
+    factor(basis)           factors the columns of a basis, and gives it back, where columns that depend on others are
+                            put out for logical ones
     levels()                the levels of the basic columns, by position
     reduced(costs)          the reduced costs of all columns at these costs
-    column(q), row(r)       a column, by position, and a row of the tableau with its multipliers, by column and by row, with the scale of each
+    column(q), row(r)       a column, by position, and a row of the tableau with its multipliers, by column and by row,
+                            with the scale of each
     replace(r, q, alpha)    puts a column into the basis
     moved(levels, r, ..)    the levels behind a pivot
     turned(reduced, q, ..)  the reduced costs behind a pivot
@@ -38,7 +41,8 @@ class Arithmetic:
         self.basis = []
 
     def _factored(self, field, basis, columns):
-        """Factors of the basis, repaired: columns without a pivot are put out for the logical ones of rows without one."""
+        """Factors of the basis, repaired: columns without a pivot are put out for the logical ones of rows without one.
+        """
         size = self.form.size
         factors = Factors(field, size, [columns[c] for c in basis])
         if len(factors.places) < size:
@@ -187,7 +191,8 @@ class Whole(Arithmetic):
         return result
 
     def multipliers(self, costs):
-        """The multipliers of the rows with which basic columns have these costs, as whole numbers over a denominator."""
+        """The multipliers of the rows with which basic columns have these costs, as whole numbers over a denominator.
+        """
         return self._priced([costs[c] for c in self.basis])
 
     def column(self, q):

@@ -7,8 +7,8 @@ from typing import Callable, NamedTuple, Optional
 class Field(NamedTuple):
     """How numbers of a kind are calculated with: `+`, `-` and `*` are Python's.
 
-    `settled` brings a number into the form in which 0 is 0, `inverse` is 1 divided by it. Where `least` is set, a pivot has at least this part of the
-    greatest magnitude in its column.
+    `settled` brings a number into the form in which 0 is 0, `inverse` is 1 divided by it. Where `least` is set, a pivot
+    has at least this part of the greatest magnitude in its column.
     """
 
     settled: Callable
@@ -25,9 +25,11 @@ FLOATS = Field(lambda x: x if x > 1e-13 or x < -1e-13 else 0.0, lambda x: 1.0 / 
 
 
 class Factors:
-    """Of columns, each a list of (row, number): which of them are independent, in which rows they have their pivots, and the solutions with them.
+    """Of columns, each a list of (row, number): which of them are independent, in which rows they have their pivots,
+    and the solutions with them.
 
-    `places` are the positions of the columns that have pivots; `rest` are the rows that have none. The solutions are for as many columns as rows.
+    `places` are the positions of the columns that have pivots; `rest` are the rows that have none. The solutions are
+    for as many columns as rows.
     """
 
     def __init__(self, field: Field, size: int, columns: list):
@@ -49,7 +51,9 @@ class Factors:
             self.lower.append((row, below))
 
     def _singletons(self, columns):
-        """Takes columns with one number in the open rows, and rows with one in the open columns, as long as there are some."""
+        """Takes columns with one number in the open rows, and rows with one in the open columns, as long as there are
+        some.
+        """
         is_open, is_open_row = self.is_open, self.is_open_row
         members = [[] for _ in range(self.size)]
         for position, column in enumerate(columns):
@@ -201,4 +205,6 @@ class Factors:
 
     def replace(self, place: int, alpha: list) -> None:
         """Puts another column in a place; alpha is its solution with the columns so far."""
-        self.etas.append((place, self.field.inverse(alpha[place]), [(i, v) for i, v in enumerate(alpha) if v and i != place]))
+        self.etas.append(
+            (place, self.field.inverse(alpha[place]), [(i, v) for i, v in enumerate(alpha) if v and i != place])
+        )

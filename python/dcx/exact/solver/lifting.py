@@ -1,4 +1,6 @@
-"""Exact solutions of systems in whole numbers: from digits modulo a prime (Dixon 1982), read as fractions, and put into the system."""
+"""Exact solutions of systems in whole numbers: from digits modulo a prime (Dixon 1982), read as fractions, and put into
+the system.
+"""
 from __future__ import annotations
 
 from math import isqrt
@@ -8,8 +10,9 @@ from typing import Callable, Optional
 def lifted(solved: Callable, product: Callable, right: list, p: int) -> tuple[list, int]:
     """The solution x of a system as whole numbers over one denominator above 0.
 
-    `solved` solves the system modulo the prime p, `product` multiplies its matrix by whole numbers. What is given back is put into the system,
-    so that nothing rests on the reading of fractions; there is such a solution, since the system can be solved modulo p.
+    `solved` solves the system modulo the prime p, `product` multiplies its matrix by whole numbers. What is given back
+    is put into the system, so that nothing rests on the reading of fractions; there is such a solution, since the
+    system can be solved modulo p.
     """
     x, power, rest, wanted, count = [0] * len(right), 1, list(right), 1, 0
     while True:

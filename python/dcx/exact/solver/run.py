@@ -1,7 +1,9 @@
-"""The revised simplex method from any basis, in either arithmetic: the dual method until no level is below 0, then the primal one.
+"""The revised simplex method from any basis, in either arithmetic: the dual method until no level is below 0, then the
+primal one.
 
-Where a basis isn't dual feasible, the dual method has other costs, with which it is. Both choose by greatest improvement in a norm that follows the
-pivots (Devex, Harris 1973; Forrest and Goldfarb 1992), and in a stretch of pivots without progress by Bland's rule, which ends.
+Where a basis isn't dual feasible, the dual method has other costs, with which it is. Both choose by greatest
+improvement in a norm that follows the pivots (Devex, Harris 1973; Forrest and Goldfarb 1992), and in a stretch of
+pivots without progress by Bland's rule, which ends.
 """
 from __future__ import annotations
 
@@ -16,10 +18,13 @@ FRESH = 50
 
 
 class End:
-    """How a run ends: `optimal`; `infeasible` with the multipliers of rows; `unbounded` with a column, its direction and its numbers; or `lost`."""
+    """How a run ends: `optimal`; `infeasible` with the multipliers of rows; `unbounded` with a column, its direction
+    and its numbers; or `lost`.
+    """
 
     def __init__(self, kind, multipliers=None, column=None, direction=None, alpha=None, scale=None):
-        self.kind, self.multipliers, self.column, self.direction, self.alpha, self.scale = kind, multipliers, column, direction, alpha, scale
+        self.kind, self.multipliers = kind, multipliers
+        self.column, self.direction, self.alpha, self.scale = column, direction, alpha, scale
 
 
 class Run:
@@ -133,7 +138,9 @@ class Run:
         return self.chosen(listed, quotient)
 
     def chosen(self, listed, quotient, slack=None):
-        """Of (choice, pivot, distance) the one whose distance / pivot is least; of those that are as near, the one with the greatest pivot."""
+        """Of (choice, pivot, distance) the one whose distance / pivot is least; of those that are as near, the one with
+        the greatest pivot.
+        """
         if not listed:
             return None
         slack = self.numbers.optimal if slack is None else slack

@@ -18,8 +18,9 @@ class Solution:
         number         the least value; the gap; or the value at the point
         slope          how fast what is minimized falls along the ray
         point, ray     numbers of the unknowns, None where there are none
-        multipliers    of the rows, None where there are none: with those of an optimal program, what is minimized and multiplier times row, summed,
-                       are at least the value wherever the unknowns have their signs; with those of an infeasible one, the sum is at least the gap
+        multipliers    of the rows, None where there are none: with those of an optimal program, what is minimized and
+                       multiplier times row, summed, are at least the value wherever the unknowns have their signs;
+                       with those of an infeasible one, the sum is at least the gap
         basis          the columns to start from for a program of the same size
         pivots         in whole numbers
     """

@@ -1,4 +1,6 @@
-"""A reduced program in whole numbers, as the simplex method has it: columns, rows and costs, with a logical column behind them for each row."""
+"""A reduced program in whole numbers, as the simplex method has it: columns, rows and costs, with a logical column
+behind them for each row.
+"""
 from __future__ import annotations
 
 from fractions import Fraction
@@ -10,13 +12,15 @@ FREE, NONNEG, ZERO = "free", "nonneg", "zero"
 class Standard:
     """`costs x` is to be small where `columns x = right`, and each x is free, at least 0, or 0.
 
-    Column `count + i` is the logical one of row i: 1 in it, at least 0 for an inequality, 0 for an equality. Columns and rows are lists of
-    (row or column, number); those of the logical ones aren't listed among the rows. An unknown that is at most 0 stands turned around.
+    Column `count + i` is the logical one of row i: 1 in it, at least 0 for an inequality, 0 for an equality. Columns
+    and rows are lists of (row or column, number); those of the logical ones aren't listed among the rows. An unknown
+    that is at most 0 stands turned around.
 
         size, count      rows, and columns that are no logical ones
         kinds, costs     of all columns
         signs            of the unknowns
-        factors          of the rows: a row of the program times its factor, which is above 0, is the row here; the last one is that of the costs
+        factors          of the rows: a row of the program times its factor, which is above 0, is the row here; the last
+                         one is that of the costs
     """
 
     def __init__(self, program):

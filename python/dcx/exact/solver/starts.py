@@ -7,8 +7,8 @@ from .arithmetic import Floats
 from .run import Run
 from .standard import FREE, ZERO, Standard
 
-# A program whose rows times columns are more than this is given to HiGHS first, where SciPy can be imported. (Smaller ones take less time than
-# loading SciPy, and have the same answer with it and without it, also where several are best.)
+# A program whose rows times columns are more than this is given to HiGHS first, where SciPy can be imported. (Smaller
+# ones take less time than loading SciPy, and have the same answer with it and without it, also where several are best.)
 LARGE = 800_000
 
 
@@ -18,7 +18,9 @@ def first(form: Standard) -> list[int]:
 
 
 def found(form: Standard, basis: Optional[list[int]] = None) -> list[int]:
-    """A basis that is optimal, or near it, as far as floating-point numbers tell; they start from the basis that is given, or from `first`."""
+    """A basis that is optimal, or near it, as far as floating-point numbers tell; they start from the basis that is
+    given, or from `first`.
+    """
     try:
         numbers = Floats(form)
         if basis is None and form.size * len(form.kinds) > LARGE:
