@@ -82,13 +82,15 @@ class Graph:
         """The parts that something needs, arguments first."""
         return [part for part in self.parts if part.uses]
 
-    def counted(self, constraints: Iterable[Any] = ()) -> list[tuple[Any, int, int]]:
-        """For each part that something needs, and each constraint, in order, how many nodes and entries the language
-        counts that nothing before has."""
+    def counted(self, objective: Any, constraints: Iterable[Any]) -> list[tuple[Any, int, int]]:
+        """For each part that something needs, the objective and each constraint, in order, how many nodes and entries
+        the language counts that nothing before has."""
         count = _Count()
         counted: list[tuple[Any, int, int]] = []
         for part in self.used():
             counted.append((part.source, *count.of_part(part)))
+        least = self.part_of(objective.args[0])
+        counted.append((objective, *count.of_sides([least], least.shape)))
         for constraint in constraints:
             counted.append((constraint, *count.of_sides(map(self.part_of, constraint.args), constraint.shape)))
         return counted
@@ -258,59 +260,62 @@ def _size(expression: Any) -> int:
 
 
 class _Count:
-    """What the language counts: beside the parts themselves what spreads an argument to a shape, and the negation in
-    a difference."""
+    """What the language counts: beside the parts themselves what spreads an argument to a shape, the negation in a
+    difference, and each difference of neighbours before the last one. What is counted has a number, once."""
 
     def __init__(self):
-        self.seen: set = set()
+        self.numbers: dict[tuple, int] = {}
+        self.of_parts: dict[int, int] = {}  # the numbers of parts, by their ids
         self.nodes = 0
         self.entries = 0
 
     def of_part(self, part: Part) -> tuple[int, int]:
-        """The new nodes and entries of a part."""
+        """The new nodes and entries of a part, whose arguments came before it."""
         self.nodes = self.entries = 0
         if not part.plain:
-            self.count(part)
+            self.of_parts[id(part)] = self.number(part)
         return self.nodes, self.entries
 
     def of_sides(self, sides: Iterable[Part], shape: tuple[int, ...]) -> tuple[int, int]:
         """The new nodes and entries of a constraint of this shape."""
         self.nodes = self.entries = 0
         for side in sides:
-            self.node(("part", id(side)), side.size)
-            self.spread(side, shape)
+            self.spread(self.known(side), side.shape, shape)
         return self.nodes, self.entries
 
-    def count(self, part: Part) -> None:
-        kind, args = part.kind, part.args
-        for arg in args:
-            if arg.plain:
-                self.node(("part", id(arg)), arg.size)
+    def number(self, part: Part) -> int:
+        """The number of a part, which is counted where it is new."""
+        kind, args, shape, options = part.kind, part.args, part.shape, part.options
+        known = [self.known(arg) for arg in args]
+        if not args:
+            return self.node((kind, id(part)), part.size)
         if kind == "-":
-            right = args[1]
-            self.node(("minus", id(right)), right.size)
-            self.spread(args[0], part.shape)
-            self.spread(right, part.shape, "minus")
-        elif kind in ("+", "*", "/", "multiply", "maximum", "minimum"):
-            for arg in args:
-                self.spread(arg, part.shape)
-        elif kind == "minus":
-            self.node(("minus", id(args[0])), part.size)
-            return
-        elif kind in ("diff", "tv"):
-            length = args[0].size
-            for times in range(1, (part.options[0] if kind == "diff" else 1) + 1):
-                self.node(("diff", id(args[0]), times), length - times)
-            if kind == "diff":
-                return
-        self.node(("part", id(part)), part.size)
+            kind, known[1] = "+", self.node(("minus", known[1]), args[1].size)
+        if kind == "minus":
+            return self.node(("minus", known[0]), part.size)
+        if kind in ("diff", "tv"):
+            number = known[0]
+            for times in range(1, (options[0] if kind == "diff" else 1) + 1):
+                number = self.node(("diff", number), args[0].size - times)
+            return number if kind == "diff" else self.node(("norm1", (number,), (None,), ()), 1)
+        if kind in ("+", "*", "/", "multiply", "maximum", "minimum"):
+            known = [self.spread(number, arg.shape, shape) for number, arg in zip(known, args)]
+        return self.node((kind, tuple(known), options, shape), part.size)
 
-    def node(self, key: tuple, size: int) -> None:
-        if key not in self.seen:
-            self.seen.add(key)
+    def known(self, part: Part) -> int:
+        """The number of an argument: numbers are counted where they stand beside what isn't plain."""
+        number = self.of_parts.get(id(part))
+        return self.node(("plain", id(part)), part.size) if number is None else number
+
+    def spread(self, number: int, shape: tuple[int, ...], to: tuple[int, ...]) -> int:
+        """The number of what is spread from one shape to another."""
+        return number if shape == to else self.node(("spread", number, to), size_of(to))
+
+    def node(self, key: tuple, size: int) -> int:
+        """The number of what a key stands for, which is counted where it is new."""
+        number = self.numbers.get(key)
+        if number is None:
+            number = self.numbers[key] = len(self.numbers)
             self.nodes += 1
             self.entries += size
-
-    def spread(self, part: Part, shape: tuple[int, ...], of: str = "part") -> None:
-        if part.shape != shape:
-            self.node(("spread", of, id(part), shape), size_of(shape))
+        return number

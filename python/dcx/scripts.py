@@ -109,7 +109,7 @@ class _Writer:
         if own:
             self.constraints += own
             graph = Graph(roots + [side for constraint in own for side in constraint.args])
-        _check_limits(graph, self.constraints)
+        _check_limits(graph, objective, self.constraints)
         self.graph = graph
         self.parts = graph.used()
         self.names: dict[int, str] = {}  # by the id of a part
@@ -345,7 +345,7 @@ def _limit_at(source: Any) -> Iterator[None]:
         raise LimitError(error.reason, source.site) from None
 
 
-def _check_limits(graph: Graph, constraints: Sequence[Any]) -> None:
+def _check_limits(graph: Graph, objective: Any, constraints: Sequence[Any]) -> None:
     """Raises `LimitError`, at the place that passes it, where there are more nodes, entries or constraints than the
     language takes."""
     if len(constraints) > MOST:
@@ -354,7 +354,7 @@ def _check_limits(graph: Graph, constraints: Sequence[Any]) -> None:
             "that the language takes",
             constraints[MOST].site,
         )
-    counted = graph.counted(constraints)
+    counted = graph.counted(objective, constraints)
     for what, place in (("nodes", 1), ("entries", 2)):
         total = sum(count[place] for count in counted)
         if total <= MOST:

@@ -32,7 +32,7 @@ def entries(objective, rules):
     """How many entries the package counts in the script of a model."""
     with mock.patch.object(scripts, "MOST", 10**9):
         writer = scripts._Writer(objective, rules)
-        return sum(count for _, _, count in writer.graph.counted(writer.constraints))
+        return sum(count for _, _, count in writer.graph.counted(objective, writer.constraints))
 
 
 class Counts(unittest.TestCase):
@@ -93,6 +93,13 @@ class Counts(unittest.TestCase):
         ):
             with self.subTest(str(expression)):
                 self.edge(cp.Minimize(cp.sum(expression)), [cp.sum(expression) == 1])
+
+    def test_parts_that_are_one(self):
+        """What the language makes of a form may stand there already: a negation, a difference, what is spread."""
+        v, m, s, p = cp.Variable(4), cp.Variable((3, 4)), cp.Variable(), cp.Parameter()
+        self.edge(cp.Minimize(0), [v - s <= -s, -s <= m, 1 - p <= v, -p <= v, p <= v, v >= p + 1])
+        self.edge(cp.Minimize(cp.tv(v)), [cp.diff(v) <= 1, cp.diff(v, 2) <= -cp.diff(v, 2), cp.norm1(cp.diff(v)) <= 3])
+        self.edge(cp.Minimize(5), [m <= -cp.abs(m), cp.Constant(1) <= 2, -(-v) <= 0, v + -(-v) <= v - -v])
 
     def test_sides_of_constraints_are_spread(self):
         v, m, s = cp.Variable(4), cp.Variable((3, 4)), cp.Variable()
