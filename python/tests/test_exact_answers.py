@@ -5,6 +5,7 @@ import os
 import subprocess
 import sys
 import unittest
+from contextlib import contextmanager
 from fractions import Fraction
 from pathlib import Path
 from unittest import mock
@@ -13,9 +14,10 @@ from scipy.optimize import linprog
 
 from dcx import exact, program, read_report
 from dcx.errors import UnsupportedError
-from dcx.exact import answers
+from dcx.exact import answers, sections
 from dcx.exact.commands import run as read_anew
-from dcx.exact.limits import NONE
+from dcx.exact.limits import Limits
+from dcx.exact.numbers import EXACT
 
 from .exact_problems import drawn, fit, lines
 
@@ -145,7 +147,7 @@ class Answers(unittest.TestCase):
     def test_the_run_by_blands_rule_says_the_same(self):
         for seed in (3, 9, 12):
             script = fit(seed).script
-            text = read_anew(["solve", "model.py"], {"model.py": script}.__getitem__, NONE)[1]
+            text = read_anew(["solve", "model.py"], {"model.py": script}.__getitem__, Limits(EXACT, 10**6, 10**6))[1]
             own = exact.answer(script)[0]
             self.assertIn(f" {own.status}\n", text)
             if own.status == "optimal":
@@ -201,18 +203,25 @@ class Answers(unittest.TestCase):
         self.assertEqual((caught.exception.refusal.of, caught.exception.refusal.line), ("settings", 1))
 
 
+@contextmanager
+def unchecked():
+    """What is found isn't checked in Python."""
+    with mock.patch.object(answers, "check"), mock.patch.object(sections, "check"):
+        yield
+
+
 class Lies(unittest.TestCase):
     """A solver that finds wrong numbers."""
 
     def lying(self, change):
-        real = answers.solved
+        real = sections.solved
 
         def solved(*args):
             found = real(*args)
             change(found)
             return found
 
-        return mock.patch.object(answers, "solved", solved)
+        return mock.patch.object(sections, "solved", solved)
 
     def change_multiplier(self, found):
         at = next(i for i, m in enumerate(found.multipliers) if m)
@@ -236,7 +245,7 @@ class Lies(unittest.TestCase):
         script = next(p.script for p in drawn(30) if p.status == "optimal")
         names = {}
         for change in (self.change_multiplier, self.change_point, self.change_value):
-            with self.lying(change), mock.patch.object(answers, "check"):
+            with self.lying(change), unchecked():
                 certificate = exact.certificate(script, ONE)
             report = certified(script, ONE, certificate)
             self.assertIsNone(report.certified)
@@ -258,7 +267,7 @@ class Lies(unittest.TestCase):
             with self.subTest(status), self.lying(change):
                 with self.assertRaises(exact.WrongError):
                     exact.answer(by_status[status], ONE)
-                with mock.patch.object(answers, "check"):
+                with unchecked():
                     certificate = exact.certificate(by_status[status], ONE)
                 self.assertIsNotNone(certified(by_status[status], ONE, certificate).fault)
 

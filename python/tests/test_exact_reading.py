@@ -6,11 +6,13 @@ import unittest
 from contextlib import redirect_stdout
 from fractions import Fraction
 from io import StringIO
+from tempfile import TemporaryDirectory
 
 from dcx.exact.cases import run_file
 from dcx.exact.commands import run, trial_script
 from dcx.exact.limits import NONE, OF_PROGRAM, Limits
 from dcx.exact.numbers import EXACT, Limited, Passes
+from dcx.program import run as run_program
 
 HERE = os.path.dirname(os.path.abspath(__file__))
 PACKAGE = os.path.dirname(HERE)
@@ -39,6 +41,13 @@ def run_on(words, limits, **files):
     return run(words.split(), files.__getitem__, limits)
 
 
+def folder_of(case):
+    """A folder for one test."""
+    folder = TemporaryDirectory()
+    case.addCleanup(folder.cleanup)
+    return folder.name
+
+
 class Cases(unittest.TestCase):
     def test_a_sample_of_the_worked_cases_is_met(self):
         for name, least in SAMPLE.items():
@@ -49,20 +58,13 @@ class Cases(unittest.TestCase):
                 self.assertGreaterEqual(count, least)
 
     def test_a_case_that_differs_is_told(self):
-        path = os.path.join(self.enterContext_folder(), "wrong.txt")
+        path = os.path.join(folder_of(self), "wrong.txt")
         with open(path, "w", encoding="utf-8") as file:
             file.write("case trial 1\ngives 0\n| trial 2\n")
         told = StringIO()
         with redirect_stdout(told):
             self.assertEqual(run_file(path), (1, 0))
         self.assertIn("wanted 0", told.getvalue())
-
-    def enterContext_folder(self):
-        from tempfile import TemporaryDirectory
-
-        folder = TemporaryDirectory()
-        self.addCleanup(folder.cleanup)
-        return folder.name
 
 
 class TheLimits(unittest.TestCase):
@@ -119,6 +121,21 @@ class TheCommand(unittest.TestCase):
 
     def test_limits_are_lifted_by_an_option(self):
         self.assertIn("stopped 28 TooLarge", self.command("trial", "300").stdout)
+        # (each of the 60 points that lie 10 too high has its whole distance from the line, and a slope of 2 costs 20)
+        found = self.command("--no-limits", "trial", "300")
+        self.assertEqual(found.stdout.split("\n")[1:3], ["setting 1 optimal value 600", "setting 2 optimal value 620"])
+        self.assertEqual(found.returncode, 0)
+
+    def test_a_certificate_of_what_the_program_stops_at(self):
+        folder = folder_of(self)
+        with open(os.path.join(folder, "wide.py"), "wb") as script:
+            script.write(WIDE)
+        with open(os.path.join(folder, "settings.txt"), "wb") as settings:
+            settings.write(b"{}\n")
+        found = self.command("--no-limits", "certificate", script.name, settings.name)
+        self.assertEqual(found.returncode, 0, found.stderr)
+        self.assertTrue(found.stdout.startswith("certificate 2\nsection 1 optimal\nvalue 400000000142\n"))
+        self.assertEqual(run_program("certify", WIDE, b"{}\n", found.stdout).report, b"certified 1\n")
 
     def test_the_package_loads_nothing_of_it_by_itself(self):
         said = "import dcx, sys; print([m for m in sys.modules if m.startswith('dcx.exact')])"

@@ -16,11 +16,10 @@ from .checks import Fault, check
 from .commands import Accepted, laid_over
 from .faults import Refused, Stopped
 from .limits import NONE
-from .numbers import EXACT, OF_LANGUAGE, number
-from .reduce import ZeroDivisor, stopped
+from .numbers import EXACT
+from .sections import Finder, wide
 from .session import Session
 from .settings import parse_settings
-from .solver import solved
 
 
 class RefusedError(DCXError):
@@ -99,18 +98,18 @@ def solve(script: bytes, settings: Optional[bytes] = None, *, use_floats: bool =
         raise UnsupportedError(
             f"the exact solver answers no problem in whole numbers (variable {name}): there is no certificate of one"
         )
-    session, word = Session(problem, limits=NONE), "solve" if settings is None else "setting"
-    sections, answers, basis = [], [], None
+    finder, word = Finder(Session(problem, limits=NONE), use_floats), "solve" if settings is None else "setting"
+    sections, answers = [], []
     for index, setting in enumerate(listed, 1):
         try:
-            section, basis = _section(session, setting, use_floats, basis)
+            section = finder.section(setting)
         except Stopped as stop:
             sections.append(Section("none"))
             answers.append(ExactAnswer(word, index, "stopped", stop=read_stop(stop.text().split(" ")[1:])))
             continue
         _show(problem, setting, index, section)
         sections.append(section)
-        answers.append(_answer(problem, word, index, section, _wide(problem, setting, section)))
+        answers.append(_answer(problem, word, index, section, wide(problem, setting, section)))
     return Solved(problem, sections, answers)
 
 
@@ -131,60 +130,12 @@ def _read(script, settings):
         ) from None
 
 
-def _section(session, setting, use_floats, basis):
-    """The section of a setting, and the basis of its answer."""
-    problem = session.problem
-    session.fit(setting)
-    try:
-        program = session.program(setting)
-    except ZeroDivisor as fault:
-        raise stopped(problem, fault) from None
-    found = solved(program, use_floats, basis)
-    section = Section(found.kind)
-    section.params = [setting[name].entries for name, _ in problem.parameters]
-    section.number, section.slope = found.number, found.slope
-    if found.point is not None:
-        section.point = session.arrays(found.point)
-    if found.ray is not None:
-        section.ray = session.arrays(found.ray)
-    if found.multipliers is not None:
-        section.duals = session.spread(found.multipliers.__getitem__)
-        for row, multiplier in zip(program.rows, found.multipliers):
-            if row.origin[0] == "node":
-                section.weights.setdefault(row.origin[1], []).append(multiplier)
-    return section, found.basis
-
-
 def _show(problem, setting, index, section):
     """Raises WrongError where an answer doesn't pass its checks, in numbers of any size."""
     try:
         check(problem, setting, section, EXACT)
     except Fault as fault:
         raise WrongError(index, fault.text()) from None
-
-
-def _numbers(section):
-    """All numbers of a section."""
-    yield section.number
-    if section.slope is not None:
-        yield section.slope
-    for arrays in (section.point, section.ray, section.duals, section.weights.values()):
-        for entries in arrays or ():
-            yield from entries
-
-
-def _wide(problem, setting, section):
-    """What passes 128 bits in a section or in its checks, or None."""
-    for value in _numbers(section):
-        if not OF_LANGUAGE.has(Fraction(value)):
-            return f"number {number(value)}"
-    try:
-        check(problem, setting, section)
-    except Fault as fault:
-        if fault.name != "Wide":
-            raise
-        return fault.text().partition(" ")[2]
-    return None
 
 
 def _answer(problem, word, index, section, wide):

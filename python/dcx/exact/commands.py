@@ -3,14 +3,18 @@ import re
 
 from . import report
 from .branching import Branching, marked
+from .certificates import written
 from .certifying import CertRefused, certificate, certify, migrate
+from .checks import check
 from .elaborate import elaborate
 from .faults import Refused, Stopped
 from .filtering import Filter
 from .grammar import parse
-from .limits import OF_PROGRAM
+from .limits import NONE, OF_PROGRAM
+from .numbers import EXACT
 from .ranging import Ranging, test_ranged
 from .rules import Verdict
+from .sections import Finder, sections_to_show
 from .session import Session
 from .settings import parse_settings
 from .tokens import text_of, tokens_of
@@ -98,6 +102,8 @@ class Accepted:
 
 def ends_of(session, settings, limit):
     is_marked = bool(marked(session.problem))
+    if session.limits == NONE and not is_marked:
+        return shown_ends(session, settings)
     ends = []
     for setting in settings:
         try:
@@ -105,6 +111,21 @@ def ends_of(session, settings, limit):
         except Stopped as stop:
             ends.append(stop)
     return ends
+
+
+def shown_ends(session, settings):
+    """The ends that the exact solver finds, each with its checks in numbers of any size."""
+    ends = Finder(session).ends(settings)
+    for setting, end in zip(settings, ends):
+        if not isinstance(end, Stopped):
+            check(session.problem, setting, end, EXACT)
+    return ends
+
+
+def shown_certificate(session, settings):
+    """The status and the certificate of what the exact solver finds, in which numbers that pass 128 bits show nothing."""
+    ends = shown_ends(session, settings)
+    return status_of(ends), written(session.problem, "2", sections_to_show(session.problem, settings, ends))
 
 
 def warm_ends_of(session, settings, limit):
@@ -182,7 +203,7 @@ def run_command(command, operands, limit, warm, fetch, limits):
         ends = filtered_of(session, settings, limit)
         return status_of(ends), report.filtered(accepted.problem, ends)
     if command == "certificate":
-        return certificate(session, settings, limit)
+        return shown_certificate(session, settings) if limits == NONE else certificate(session, settings, limit)
     return with_certificate(
         {"certify": certify, "migrate": migrate}[command], accepted.problem, settings, fetch(operands[2])
     )
