@@ -1,15 +1,18 @@
 """Writes worked cases of certificates: `certificate_cases.py numbers`, `certificate_cases.py texts` and `certificate_cases.py drawn SEED COUNT`.
 
 `numbers` and `texts` write certificates that differ a little from right ones, in one number or in one thing of the text, with what the checker
-answers. `drawn` writes those of scripts drawn at random, each of which passes its own checks. The right ones are those of oracle/certifying.py.
+answers. `drawn` writes those of scripts drawn at random, each of which passes its own checks. The right ones are those of `dcx.exact`.
 """
+import os
 import random
 import re
 import sys
 
+sys.path.insert(0, os.path.join(os.path.dirname(os.path.abspath(__file__)), "..", "python"))
+
 import random_cases
-from oracle.cases import IMPORTS
-from oracle.commands import run
+from dcx.exact.cases import IMPORTS
+from dcx.exact.commands import run
 
 MOST = 2**127 - 1
 

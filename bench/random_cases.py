@@ -1,17 +1,20 @@
-"""Writes worked cases of scripts drawn at random, with what the reference answers: `random_cases.py SEED COUNT [LINES [iis|whole|range]]`.
+"""Writes worked cases of scripts drawn at random, with what `dcx.exact` answers: `random_cases.py SEED COUNT [LINES [iis|whole|range]]`.
 
 A script that is refused is drawn anew, and so is one with no number but 0 to tell. About half of the cases have settings. LINES is how long a report may be.
 With `iis` they are cases of that word, with more constraints, and at some setting of each no point keeps them all. With `whole` some variables are boolean or
 integer, all of them have bounds, and some setting of each has more than one node. With `range` they are cases of that word, of a parameter that most often
 stands beside the variables, and some setting of each has a span.
-The reference shows of each answer that it is right; the program of `crates/dcx_cases`, given the file, tells where dcx differs.
+It shows of each answer that it is right; the program of `crates/dcx_cases`, given the file, tells where dcx differs.
 """
+import os
 import random
 import re
 import sys
 
-from oracle.cases import IMPORTS
-from oracle.commands import run
+sys.path.insert(0, os.path.join(os.path.dirname(os.path.abspath(__file__)), "..", "python"))
+
+from dcx.exact.cases import IMPORTS
+from dcx.exact.commands import run
 
 NUMBERS = ["0", "1", "1", "2", "3", "-1", "-2", "5", "1/2", "-3/4", "0.3", "10"]
 SCALING = ["2", "-1", "1/2", "3", "-2/3", "0"]
@@ -194,7 +197,7 @@ def drawn(most, word):
 
 def main(seed, count, most=40, word=None):
     random.seed(int(seed))
-    print(f"# Scripts drawn at random from the seed {seed}, answered by bench/reference.py, which shows that each answer is right.")
+    print(f"# Scripts drawn at random from the seed {seed}, answered by dcx.exact, which shows that each answer is right.")
     for _ in range(int(count)):
         words, script, settings, status, report = drawn(int(most), word)
         print(f"\ncase {words}\nfile model.py\nimports", *(f"| {line}" for line in script), sep="\n")

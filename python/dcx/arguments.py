@@ -1,0 +1,95 @@
+"""The arguments of `solve`: those that CVXPY and its solvers take, and which of them mean something here."""
+
+from __future__ import annotations
+
+from typing import Any, Mapping, Optional
+
+from . import sites, statuses
+from .errors import SolverError, UnsupportedError
+from .sites import Site
+
+__all__ = ["Arguments", "SOLVERS", "pivots"]
+
+# the names of solvers are the words of CVXPY that say their own name
+SOLVERS = frozenset(word for word in statuses.__all__ if getattr(statuses, word) == word)
+
+# what other solvers are told of tolerances, of their way and of what they print
+_MEANINGLESS = frozenset(
+    "warm_start ignore_dpp canon_backend solver_path abstol reltol feastol abstol_inacc reltol_inacc "
+    "feastol_inacc eps eps_abs eps_rel eps_infeas eps_prim_inf eps_dual_inf eps_inaccurate tol tol_gap_abs "
+    "tol_gap_rel tol_feas rho sigma alpha scale scale_x normalize adaptive_rho polish polishing "
+    "acceleration_lookback acceleration_interval use_indirect gpu refinement kktsolver equilibrate_enable threads "
+    "num_threads presolve parallel mi_max_iters mi_abs_eps mi_rel_eps allowableGap ratioGap reoptimize save_file "
+    "mosek_params scip_params scipy_options cplex_params cplex_filename highs_options glpk accept_unknown bfs "
+    "logLevel scaling verbosity check_termination delta linsys_solver max_step_fraction mip_rel_gap mip_abs_gap "
+    "random_seed simplex_strategy primal_feasibility_tolerance dual_feasibility_tolerance MIPGap "
+    "MIPGapAbs MIPFocus Threads OutputFlag Method NumericFocus FeasibilityTol OptimalityTol IntFeasTol BarConvTol "
+    "Presolve Seed LogToConsole".split()
+)
+# what asks for another kind of problem or answer
+_UNSUPPORTED = {
+    "gp": "gp=True asks for a geometric program, which isn't made of linear pieces",
+    "qcp": "qcp=True asks for a quasiconvex program: ask at fixed values of what makes it one, and bisect",
+    "requires_grad": "requires_grad=True asks for derivatives; problem.range(p) tells the value along a parameter, and "
+    "dual_value has the multipliers",
+}
+# the most pivots, and seconds, as solvers call them
+_PIVOTS = ("max_iters", "max_iter")
+_SECONDS = ("time_limit", "time_limit_secs", "TimeLimit", "maximumSeconds")
+
+
+class Arguments:
+    """The arguments of one call of `solve`.
+
+    `options` are the program's words, `time_limit` the seconds that it may take or None, `meaningless` the names of
+    those that have no meaning here. Raises `TypeError` where an argument isn't known, `UnsupportedError` where it
+    asks for what isn't offered, `SolverError` where the solver's name is none, `ValueError` where a limit is none.
+    """
+
+    def __init__(self, solver: Optional[str], given: Mapping[str, Any]):
+        self.meaningless: list[str] = []
+        self.options: list[str] = []
+        self.time_limit: Optional[float] = None
+        self.enforce_dpp = False
+        if solver is not None:
+            if not isinstance(solver, str) or solver.upper() not in SOLVERS:
+                reason = f"The solver {solver} is not installed: there is one, for which CVXPY's other names are taken"
+                raise SolverError(reason, sites.here())
+            self.meaningless.append("solver")
+        for name, value in given.items():
+            self._take(name, value)
+
+    def _take(self, name: str, value: Any) -> None:
+        if name in _UNSUPPORTED:
+            if value:
+                raise UnsupportedError(f"solve({name}={value!r}) isn't offered: {_UNSUPPORTED[name]}", sites.here())
+        elif name == "method":
+            if value is not None:
+                reason = "solve(method=..) isn't offered: call the function itself with the problem"
+                raise UnsupportedError(reason, sites.here())
+        elif name in _PIVOTS:
+            self.options += pivots(value)
+        elif name in _SECONDS:
+            if value is not None and not value > 0:
+                raise ValueError(f"{name} is a number of seconds above 0, and not {value!r}")
+            self.time_limit = value
+        elif name == "enforce_dpp":
+            self.enforce_dpp = bool(value)
+        elif name in _MEANINGLESS:
+            self.meaningless.append(name)
+        else:
+            raise TypeError(f"solve() got an unexpected argument {name!r}, which neither CVXPY nor its solvers have")
+
+    def too_late(self, cause: Exception, site: Site) -> SolverError:
+        """What is told where `time_limit` passed."""
+        return SolverError(f"{cause}; time_limit gives it more", site)
+
+
+def pivots(value: Optional[int]) -> list[str]:
+    """The program's words for a limit on pivots. Raises `ValueError` where it is no whole number from 1 to
+    1,000,000,000."""
+    if value is None:
+        return []
+    if isinstance(value, bool) or int(value) != value or not 1 <= value <= 1_000_000_000:
+        raise ValueError(f"max_iters is a whole number from 1 to 1,000,000,000, and not {value!r}")
+    return [f"--max-pivots={int(value)}"]

@@ -1,0 +1,118 @@
+"""Calls that are products: of matrices, of vectors, of Kronecker, and convolutions."""
+from __future__ import annotations
+
+from fractions import Fraction
+
+from .. import operators, shapes, sites
+from ..arrays import Array, Sparse
+from ..errors import UnsupportedError
+from ..expressions import Constant, Expression, as_expression
+from .places import hstack, reshape, vec, vstack
+
+
+def matmul(lh_expr, rh_expr) -> Expression:
+    """The matrix product, as `@`."""
+    return operators.matrix_multiplied(lh_expr, rh_expr)
+
+
+def vdot(x, y) -> Expression:
+    """The sum of the products of two expressions' entries. ValueError where they have different shapes."""
+    x, y = _flat(x), _flat(y)
+    if x.size != y.size and 1 not in (x.size, y.size):
+        raise ValueError(f"Cannot broadcast dimensions {shapes.show(x.shape, y.shape)}")
+    if x.size != y.size:
+        return operators.multiplied(x, y).sum()
+    return operators.matrix_multiplied(x, y)
+
+
+scalar_product = vdot
+
+
+def _flat(value) -> Expression:
+    """A list, also one of expressions, as one vector; a matrix by columns."""
+    if isinstance(value, (list, tuple)):
+        return hstack([_flat(item) for item in value])
+    return vec(value)
+
+
+def outer(x, y) -> Expression:
+    """The matrix of the products of each entry of x with each of y. ValueError of matrices."""
+    x, y = as_expression(x), as_expression(y)
+    if x.ndim > 1 or y.ndim > 1:
+        raise ValueError("x and y must be vectors.")
+    return operators.matrix_multiplied(reshape(x, (x.size, 1)), reshape(y, (1, y.size)))
+
+
+def kron(a, b) -> Expression:
+    """Each entry of a times all of b, in blocks; one of the two has to be numbers. UnsupportedError where neither is.
+    """
+    a, b = as_expression(a), as_expression(b)
+    if a.ndim == 0 or b.ndim == 0:
+        return operators.multiplied(a, b)
+    if a.ndim != b.ndim:
+        a, b = _as_matrix(a), _as_matrix(b)
+    is_flat = a.ndim == 1
+    a, b = _as_matrix(a), _as_matrix(b)
+    if not (a.kind == "constant" or b.kind == "constant" or a.is_constant() or b.is_constant()):
+        raise UnsupportedError("a product of two expressions with variables isn't convex: one side of kron has to be "
+                               "without", sites.here())
+    large, blocks = _each_spread(a, b.shape), _tiled(b, a.shape)
+    result = operators.elementwise(large, blocks)
+    return operators.by_rows(result, (result.size,)) if is_flat else result
+
+
+def _as_matrix(value: Expression) -> Expression:
+    return value if value.ndim == 2 else operators.by_rows(value, (1, value.size))
+
+
+def _each_spread(a: Expression, block: tuple) -> Expression:
+    """Each entry as a block with that number everywhere."""
+    rows = [place for place in range(a.shape[0]) for _ in range(block[0])]
+    columns = [place for place in range(a.shape[1]) for _ in range(block[1])]
+    if a.kind == "constant":
+        width, entries = a.shape[1], a.array.entries
+        return Constant(Array((len(rows), len(columns)),
+                              (entries[row * width + column] for row in rows for column in columns)))
+    if block[0] > 1:
+        a = operators.matrix_multiplied(Constant(_picking(rows, a.shape[0])), a)
+    if block[1] > 1:
+        a = operators.matrix_multiplied(a, operators.transposed(Constant(_picking(columns, a.shape[1]))))
+    return a
+
+
+def _picking(places: list, width: int) -> Sparse:
+    """The matrix whose product with another has the rows at these places."""
+    return Sparse((len(places), width), (((place, Fraction(1)),) for place in places))
+
+
+def _tiled(b: Expression, times: tuple) -> Expression:
+    """An expression side by side with itself, and below itself, so many times."""
+    line = hstack([b] * times[1]) if times[1] > 1 else b
+    return vstack([line] * times[0]) if times[0] > 1 else line
+
+
+def convolve(a, b) -> Expression:
+    """The discrete convolution of two vectors, one of them numbers, with a.size + b.size - 1 entries.
+
+    ValueError of what isn't a vector; UnsupportedError where neither is numbers.
+    """
+    a, b = as_expression(a), as_expression(b)
+    if not (a.is_vector() and b.is_vector() and a.ndim and b.ndim):
+        raise ValueError("The arguments to convolve must resolve to vectors.")
+    a, b = vec(a), vec(b)
+    if a.kind != "constant":
+        if b.kind != "constant":
+            raise UnsupportedError("one side of a convolution has to be numbers", sites.here())
+        a, b = b, a
+    numbers = a.array.dense().entries
+    size = a.size + b.size - 1
+    held = [(place, number) for place, number in reversed(list(enumerate(numbers))) if number]
+    rows = ([(row - place, number) for place, number in held if 0 <= row - place < b.size] for row in range(size))
+    return operators.matrix_multiplied(Constant(Sparse((size, b.size), rows)), b)
+
+
+def conv(lh_expr, rh_expr) -> Expression:
+    """The convolution as a matrix of one column, where a side is one, else as a vector."""
+    lh_expr, rh_expr = as_expression(lh_expr), as_expression(rh_expr)
+    result = convolve(lh_expr, rh_expr)
+    return reshape(result, (result.size, 1)) if 2 in (lh_expr.ndim, rh_expr.ndim) else result

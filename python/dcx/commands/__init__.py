@@ -1,0 +1,1 @@
+"""The commands of `python3 -m dcx`, a module each."""

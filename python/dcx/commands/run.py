@@ -1,0 +1,129 @@
+"""`python3 -m dcx run MODEL.py ARGS..`: runs a CVXPY script as Python does, with `dcx.cvxpy` in place of `cvxpy`."""
+from __future__ import annotations
+
+import argparse
+import os
+import runpy
+import sys
+import traceback
+from importlib import import_module
+from importlib.abc import MetaPathFinder
+from types import ModuleType
+
+from ..numbers import float_digits
+
+PACKAGE = os.path.dirname(os.path.dirname(os.path.abspath(__file__)))
+# Files whose frames stand above the user's script in each traceback.
+ABOVE = {os.path.abspath(__file__), os.path.join(PACKAGE, "__main__.py"), os.path.abspath(runpy.__file__)}
+FAILED = 1
+INTERRUPTED = 130
+
+
+def add_arguments(parser: argparse.ArgumentParser) -> None:
+    """The script, and whatever stands behind it."""
+    parser.add_argument("--digits", metavar="N", type=digits, help="round each float to N significant digits")
+    parser.add_argument("--decimals", metavar="N", type=decimals, help="round each float to N digits behind the point")
+    parser.add_argument("script", metavar="MODEL.py", help="a script that imports cvxpy")
+    parser.add_argument("arguments", nargs=argparse.REMAINDER, metavar="ARGS", help="the script's own arguments")
+
+
+def digits(text: str) -> int:
+    """How many significant digits a float keeps: 1 to 17."""
+    return whole(text, 1, 17)
+
+
+def decimals(text: str) -> int:
+    """How many digits a float keeps behind the point: 0 to 30."""
+    return whole(text, 0, 30)
+
+
+def whole(text: str, least: int, most: int) -> int:
+    """A whole number within these limits."""
+    if not (text.isascii() and text.isdigit()) or not least <= int(text) <= most:
+        raise argparse.ArgumentTypeError(f"a whole number from {least} to {most}, and not {text!r}")
+    return int(text)
+
+
+def run(arguments: argparse.Namespace) -> int:
+    """Runs the script under `__main__`, with its arguments, its folder on the path and its own status."""
+    script = arguments.script
+    if not os.path.isfile(script):
+        print(f"dcx: {script} can't be read: no such file", file=sys.stderr)
+        return 3
+    stand_in()
+    float_digits(arguments.digits, arguments.decimals)
+    sys.argv = [script, *arguments.arguments]
+    set_path(os.path.dirname(os.path.abspath(script)))
+    try:
+        runpy.run_path(script, run_name="__main__")
+    except Exception as error:
+        print_users(error)
+        return FAILED
+    except KeyboardInterrupt as error:
+        print_users(error)
+        return INTERRUPTED
+    return 0
+
+
+def set_path(folder: str) -> None:
+    """Puts the script's folder on the path as Python does, and what processes need that the script starts."""
+    if getattr(sys.flags, "safe_path", False):
+        sys.path.insert(0, os.path.join(PACKAGE, "instead"))
+    else:
+        sys.path[:1] = [folder, os.path.join(PACKAGE, "instead")]
+    if os.path.dirname(PACKAGE) not in sys.path:
+        sys.path.append(os.path.dirname(PACKAGE))
+
+
+class OneModule(MetaPathFinder):
+    """Refuses what lies below the module `cvxpy`, which is one module here."""
+
+    @staticmethod
+    def find_spec(name: str, path: object = None, target: object = None) -> None:
+        if name.startswith("cvxpy."):
+            raise ModuleNotFoundError(f"dcx has no {name}: take the names from cvxpy itself, as `cp.norm1`", name=name)
+
+
+def stand_in() -> None:
+    """Lets `import cvxpy` and `from cvxpy import ..` find the recorder, and nothing below it but its `error`."""
+    recorder = import_module("dcx.cvxpy")
+    sys.modules["cvxpy"] = recorder
+    recorder.__path__ = []
+    if isinstance(vars(recorder).get("error"), ModuleType):
+        sys.modules["cvxpy.error"] = recorder.error
+    if OneModule not in sys.meta_path:
+        sys.meta_path.insert(0, OneModule)
+
+
+def print_users(error: BaseException) -> None:
+    """Prints a traceback of the user's own frames.
+
+    Left out are the frames that stand above the script, and, of an error that the package raises on purpose, its own.
+    """
+    told = traceback.TracebackException.from_exception(error, capture_locals=False)
+    waiting, seen = [(told, error)], set()
+    while waiting:
+        part, cause = waiting.pop()
+        if part is None or cause is None or id(part) in seen:
+            continue
+        seen.add(id(part))
+        is_meant = is_of_package(cause)
+        frames = [frame for frame in part.stack if not is_left_out(frame.filename, is_meant)]
+        part.stack = traceback.StackSummary.from_list(frames)
+        waiting += [(part.__cause__, cause.__cause__), (part.__context__, cause.__context__)]
+    sys.stdout.flush()
+    print("".join(told.format()), end="", file=sys.stderr)
+
+
+def is_of_package(error: BaseException) -> bool:
+    """Whether the package raises such errors on purpose: its own, and those of shapes and indices, as CVXPY does."""
+    from ..errors import DCXError
+
+    return isinstance(error, (DCXError, ValueError, IndexError))
+
+
+def is_left_out(filename: str, is_meant: bool) -> bool:
+    """Whether a frame of this file isn't shown."""
+    if filename in ABOVE or filename.startswith("<frozen "):
+        return True
+    return is_meant and os.path.abspath(filename).startswith(PACKAGE + os.sep)

@@ -1,0 +1,175 @@
+"""Constraints: two sides that are to be equal, or of which one is at most the other."""
+from __future__ import annotations
+
+from fractions import Fraction
+
+from . import arrays, evaluation, shapes, sites
+from .arrays import Array
+from .errors import UnsupportedError
+from .expressions import Expression, as_expression, leaves_of, next_number
+
+_TRUTH = ("Cannot evaluate the truth value of a constraint or chain constraints, e.g., 1 >= x >= 0: write two "
+          "constraints, [x >= 0, x <= 1]")
+
+
+class Constraint:
+    """`args[0] <= args[1]` or `args[0] == args[1]`, entry by entry: `op` is the sign between them.
+
+    `a >= b` is recorded as `b <= a`; `is_turned` tells so, and texts show what the user wrote. `dual_value` has the
+    multipliers of the last answer in floats, `exact_dual` in fractions, in the constraint's shape; None before.
+    """
+
+    __slots__ = ("op", "args", "shape", "site", "id", "is_turned", "_dual", "_known", "__weakref__")
+
+    def __init__(self, op: str, left, right, is_turned: bool = False):
+        if op not in ("<=", "=="):
+            raise ValueError(f"a constraint has the sign <= or ==, and not {op!r}")
+        left, right = as_expression(left), as_expression(right)
+        self.op = op
+        self.args = (left, right)
+        self.shape = shapes.paired(left.shape, right.shape)
+        self.site = sites.here()
+        self.id = next_number()
+        self.is_turned = is_turned
+        # what has no entry isn't handed to the program, and has no multiplier either
+        self._dual: Array | None = None if self.size else Array(self.shape, ())
+        self._known = None
+
+    # ---- shapes and parts
+
+    @property
+    def size(self) -> int:
+        """How many entries there are."""
+        return arrays.size_of(self.shape)
+
+    @property
+    def ndim(self) -> int:
+        """How many sides there are."""
+        return len(self.shape)
+
+    @property
+    def expr(self) -> Expression:
+        """The left side less the right one: what is to be 0, or at most 0."""
+        return self.args[0] - self.args[1]
+
+    def variables(self) -> list:
+        """The variables of both sides."""
+        return leaves_of(self.args, "variable")
+
+    def parameters(self) -> list:
+        """The parameters of both sides."""
+        return leaves_of(self.args, "parameter")
+
+    def constants(self) -> list:
+        """The constants of both sides."""
+        return leaves_of(self.args, "constant")
+
+    def name(self) -> str:
+        """The constraint as text, as it was written."""
+        left, right = self.args
+        return f"{right} >= {left}" if self.is_turned else f"{left} {self.op} {right}"
+
+    def __str__(self) -> str:
+        return self.name()
+
+    def __repr__(self) -> str:
+        return f"Constraint({self.name()})"
+
+    # ---- truth values, which Python asks for in a chain of comparisons
+
+    def __bool__(self) -> bool:
+        raise UnsupportedError(_TRUTH, sites.here())
+
+    def _chained(self, other):
+        raise UnsupportedError(_TRUTH, sites.here())
+
+    __le__ = __ge__ = __lt__ = __gt__ = _chained
+
+    def __eq__(self, other):
+        return self is other
+
+    def __hash__(self) -> int:
+        return id(self)
+
+    # ---- what the rules find
+
+    def is_dcp(self, dpp: bool = False) -> bool:
+        """Whether the rules accept it; with `dpp` where parameters may vary too."""
+        from . import verdicts
+        verdict = verdicts.of_constraint(self)
+        return verdict.is_dpp if dpp else verdict.is_dcp
+
+    def is_dpp(self, context: str = "dcp") -> bool:
+        """Whether the rules accept it where parameters may vary too."""
+        return self.is_dcp(dpp=True)
+
+    # ---- values
+
+    def _residual(self) -> Array | None:
+        left, right = (evaluation.value_of(side) for side in self.args)
+        if left is None or right is None:
+            return None
+        gap = evaluation.minus(left, right)
+        each = abs if self.op == "==" else (lambda number: max(number, Fraction(0)))
+        return Array(gap.shape, map(each, gap.entries))
+
+    @property
+    def residual(self):
+        """By how much each entry breaks the constraint, in floats, 0 where it is kept; None where a value is missing.
+        """
+        found = self._residual()
+        return None if found is None else arrays.to_floats(found)
+
+    @property
+    def exact_residual(self):
+        """The residual in fractions."""
+        found = self._residual()
+        return None if found is None else arrays.to_fractions(found)
+
+    def violation(self):
+        """The residual. ValueError where a variable or a parameter has no value."""
+        found = self.residual
+        if found is None:
+            raise ValueError("Cannot compute the violation of an constraint whose expression is None-valued.")
+        return found
+
+    def value(self, tolerance=1e-8) -> bool:
+        """Whether the constraint is kept at the present values, each entry within the tolerance.
+
+        ValueError where a variable or a parameter has no value.
+        """
+        found = self._residual()
+        if found is None:
+            raise ValueError("Cannot compute the value of an constraint whose expression is None-valued.")
+        return all(number <= tolerance for number in found.entries)
+
+    # ---- multipliers
+
+    @property
+    def dual_value(self):
+        """The multipliers of the last answer in floats, in the constraint's shape; None where there are none."""
+        return None if self._dual is None else arrays.to_floats(self._dual)
+
+    @property
+    def exact_dual(self):
+        """The multipliers of the last answer in fractions."""
+        return None if self._dual is None else arrays.to_fractions(self._dual)
+
+    def _set_dual(self, array: Array | None) -> None:
+        """What an answer sets: the multipliers row by row, of as many entries as the constraint has, or None."""
+        self._dual = None if array is None else Array(self.shape, array.entries)
+
+
+def zero(expr) -> Constraint:
+    """The expression is 0, as `Zero(expr)`."""
+    return Constraint("==", expr, 0)
+
+
+def nonnegative(expr) -> Constraint:
+    """The expression is at least 0, as `NonNeg(expr)`."""
+    return Constraint("<=", 0, expr, is_turned=True)
+
+
+def nonpositive(expr) -> Constraint:
+    """The expression is at most 0, as `NonPos(expr)`."""
+    return Constraint("<=", expr, 0)

@@ -1,0 +1,96 @@
+"""What NumPy's operators and functions do where they meet an expression."""
+from __future__ import annotations
+
+from . import sites
+from .arrays import numpy
+from .errors import UnsupportedError
+
+# NumPy's functions of two operands that stand for Python's operators
+_OPERATORS = {
+    "add": "added",
+    "subtract": "subtracted",
+    "multiply": "multiplied",
+    "divide": "divided",
+    "true_divide": "divided",
+    "matmul": "matrix_multiplied",
+    "power": "raised",
+    "less_equal": "at_most",
+    "greater_equal": "at_least",
+    "equal": "equal",
+}
+_COMPARISONS = {"less": "__lt__", "greater": "__gt__", "not_equal": "__ne__", "left_shift": "__lshift__",
+                "right_shift": "__rshift__"}
+
+# functions of NumPy that ask an expression for what it tells itself, or for one of its methods
+_ASKED = {"shape": "shape", "ndim": "ndim", "size": "size"}
+_METHODS = {"sum": "sum", "mean": "mean", "max": "max", "amax": "max", "min": "min", "amin": "min",
+            "transpose": "transpose"}
+
+# what to write for a function of NumPy, where its own name isn't that of a call
+_WRITE = {
+    "absolute": "cp.abs", "fabs": "cp.abs", "negative": "-x", "positive": "x", "fmax": "cp.maximum",
+    "fmin": "cp.minimum",
+    "dot": "A @ x", "inner": "x @ y", "tensordot": "A @ x", "ravel": "cp.vec", "append": "cp.hstack",
+    "repeat": "cp.hstack", "prod": "cp.multiply",
+    "column_stack": "cp.vstack([..]).T", "row_stack": "cp.vstack", "stack": "cp.vstack or cp.hstack",
+    "tile": "cp.kron", "where": "cp.multiply",
+    "clip": "cp.minimum and cp.maximum", "linalg.norm": "cp.norm1 or cp.norm_inf", "diagonal": "cp.diag",
+    "block": "cp.bmat",
+    "triu": "cp.multiply", "tril": "cp.multiply", "average": "cp.mean",
+}
+
+
+def boxed(expression):
+    """An array of NumPy without a side that holds the expression, so that NumPy and SciPy leave it whole."""
+    module = numpy()
+    if module is None:
+        raise TypeError("an expression is no array")
+    box = module.empty((), dtype=object)
+    box[()] = expression
+    return box
+
+
+def ufunc(expression, function, method: str, inputs: tuple, options: dict):
+    """What an operator between an array and an expression gives. Where `a += x` stands, with an array a, a new
+    expression.
+
+    UnsupportedError for every other function, with what to write.
+    """
+    from . import operators
+    name = function.__name__
+    out = options.pop("out", None)
+    in_place = out is not None and len(out) == 1 and out[0] is inputs[0]
+    if method == "__call__" and len(inputs) == 2 and not options and (out is None or in_place):
+        if name in _OPERATORS:
+            return getattr(operators, _OPERATORS[name])(*inputs)
+        if name in _COMPARISONS:
+            return getattr(expression, _COMPARISONS[name])(inputs[0])
+    raise _refusal(name)
+
+
+def function(function, arguments: tuple, options: dict):
+    """What one of NumPy's functions of arrays gives of an expression: its shape, or its sum, mean, greatest or least
+    entry.
+
+    UnsupportedError for every other one, with what to write.
+    """
+    name = function.__name__
+    first = arguments[0] if arguments else None
+    if name in _ASKED and len(arguments) == 1 and not options:
+        return getattr(first, _ASKED[name])
+    if name in _METHODS and hasattr(first, "kind"):
+        return getattr(first, _METHODS[name])(*arguments[1:], **options)
+    module = (function.__module__ or "").replace("numpy.", "", 1).replace("numpy", "", 1)
+    raise _refusal(f"{module}.{name}" if module == "linalg" else name)
+
+
+def _refusal(name: str) -> UnsupportedError:
+    from . import atoms, unsupported
+    if name in unsupported.NAMES:
+        why, write = unsupported.NAMES[name]
+        return UnsupportedError(f"np.{name} is a function of NumPy and isn't defined on expressions, and {why}. Write "
+                                f"{write}.", sites.here())
+    write = _WRITE.get(name) or (f"cp.{name}" if hasattr(atoms, name) else None)
+    return UnsupportedError(f"np.{name} is a function of NumPy and isn't defined on expressions"
+                            + (f": write {write}" if write else ", which have no numbers before they are solved"),
+                            sites.here())

@@ -1,0 +1,234 @@
+"""Many settings: they are cut into parts, each of which is one run of the program, here or wherever an executor
+carries it."""
+
+from __future__ import annotations
+
+import os
+from concurrent.futures import FIRST_COMPLETED, Future, ThreadPoolExecutor, wait
+from typing import Any, Callable, Iterable, Iterator, Mapping, NamedTuple, Optional, Union
+
+from . import program
+from .arguments import pivots
+from .errors import ParameterError, SolverError
+from .expressions import Expression
+from .refusals import taken
+from .reports import Report, read_report
+from .results import Result
+from .scripts import Script
+
+__all__ = ["MOST_SETTINGS", "run_part", "solve_at"]
+
+MOST_SETTINGS = 1_000  # of one run
+_BYTES = 1_048_576  # of a settings file
+
+
+class Part(NamedTuple):
+    """Settings that are one run: the number of the first one, from 0, how many they are, and their lines."""
+
+    first: int
+    count: int
+    lines: str
+
+    @property
+    def name(self) -> str:
+        """What the part is called where it is told of; people count from 1."""
+        last = self.first + self.count
+        return f"setting {last}" if self.count == 1 else f"settings {self.first + 1} to {last}"
+
+
+def run_part(script: str, lines: str, options: tuple[str, ...]) -> program.Run:
+    """Runs the program over a part. This is what an executor is handed, with texts alone, so that any kind of worker
+    can carry it."""
+    return program.run("resolve", script, lines, options=options)
+
+
+def solve_at(
+    problem: Any,
+    settings: Iterable[Mapping[Any, Any]],
+    warm: bool = True,
+    executor: Any = None,
+    progress: Optional[Callable[[int, int], object]] = None,
+    chunk: Optional[int] = None,
+    max_iters: Optional[int] = None,
+) -> list[Result]:
+    """Answers a problem at each of the settings, and returns a `Result` for each, in order, with the setting in it.
+
+    A setting gives values to parameters, or to names of parameters; a parameter that it doesn't name keeps its own
+    value. Variables and constraints stay as they are; `result.save()` sets them to a result.
+
+    The settings are cut into parts of at most `chunk` (1,000 at most), and each part is one run of the program.
+    Within a part each setting begins at the last answer, unless `warm` is false or variables are to be whole; the
+    value is the same, and of several best points another may be told. With an `executor`, of the kind of
+    `concurrent.futures.Executor`, it carries the parts: a pool of processes, `Client.get_executor()` of
+    dask.distributed, an MPI pool. Its workers need the package, and the program where `dcx.program.find` finds it.
+    `progress(done, total)` is called here whenever a part is done.
+
+    A part whose worker dies, or fails in another way, is asked again once: by the executor, or, where that takes
+    nothing any more, by this process. Where it fails again each of its results has the status `solver_error`, and an
+    `error` that names the part; the others stay. A setting at which the program stops has such a result as well.
+
+    Raises `DCPError`, `LimitError` as `Problem.solve`; `ParameterError` where a setting leaves a parameter without a
+    value; `KeyError` where it names what is no parameter of the problem, `ValueError` where a value doesn't fit.
+    """
+    script = problem.written
+    settings = list(settings)
+    lines = [_line(script, setting, number) for number, setting in enumerate(settings)]
+    options = [*pivots(max_iters), *(["--warm"] if warm and not problem.is_mixed_integer() else [])]
+    parts = list(_cut(lines, _chunk(chunk, len(lines), executor)))
+    carrier = _Carrier(script.text, tuple(options), executor)
+    results: list[Optional[Result]] = [None] * len(settings)
+    done = 0
+    for part, outcome in carrier.all(parts):
+        for result in _results(problem, script, settings, part, outcome):
+            results[result.index] = result
+        done += part.count
+        if progress is not None:
+            progress(done, len(settings))
+    return results
+
+
+def _results(
+    problem: Any, script: Script, settings: list, part: Part, outcome: Union[Report, Exception]
+) -> Iterator[Result]:
+    """The results of a part: from its report, or from what went wrong twice."""
+    answers: tuple = (None,) * part.count
+    error: Optional[SolverError] = None
+    if isinstance(outcome, Exception):
+        error = _failed(part, outcome)
+    else:
+        try:
+            answers = taken(outcome, script).answers
+        except SolverError as cause:  # the whole run ended without an answer
+            error = SolverError(f"{part.name}: {cause.reason}", problem.site)
+    for place, answer in enumerate(answers, part.first):
+        yield Result(script, answer, problem._maximized, settings[place], place, error)
+
+
+def _failed(part: Part, cause: Exception) -> SolverError:
+    """What is told of a part that failed twice."""
+    told = f"{type(cause).__name__}: {cause}"
+    error = SolverError(f"{part.name}: no answer, since the worker died or failed twice ({told})")
+    error.__cause__ = cause
+    return error
+
+
+class _Carrier:
+    """Carries parts out, and each that fails once more."""
+
+    def __init__(self, script: str, options: tuple[str, ...], executor: Any):
+        self.script = script
+        self.options = options
+        self.executor = executor
+
+    def all(self, parts: list[Part]) -> Iterator[tuple[Part, Union[Report, Exception]]]:
+        """Each part with its report, or with what it failed by the second time, as they are done."""
+        if self.executor is None:
+            program.find()
+            for part in parts:
+                yield part, self._twice(part)
+            return
+        waiting: dict[Future, tuple[Part, bool]] = {}
+        local: Optional[ThreadPoolExecutor] = None
+        try:
+            todo = [(part, False) for part in parts]
+            while todo or waiting:
+                for part, again in todo:
+                    try:
+                        future = (local or self.executor).submit(run_part, self.script, part.lines, self.options)
+                    except Exception:  # the executor takes nothing any more
+                        local = local or ThreadPoolExecutor(os.cpu_count())
+                        future = local.submit(run_part, self.script, part.lines, self.options)
+                    waiting[future] = (part, again)
+                todo = []
+                done, _ = wait(waiting, return_when=FIRST_COMPLETED)
+                for future in done:
+                    part, again = waiting.pop(future)
+                    outcome = _outcome(part, future.result)
+                    if isinstance(outcome, Exception) and not again:
+                        todo.append((part, True))
+                    else:
+                        yield part, outcome
+        finally:
+            for future in waiting:
+                future.cancel()
+            if local is not None:
+                local.shutdown(wait=True)
+
+    def _twice(self, part: Part) -> Union[Report, Exception]:
+        """The report of a part that is run in this process; that of a second run where the first one fails."""
+
+        def ask() -> Union[Report, Exception]:
+            return _outcome(part, lambda: run_part(self.script, part.lines, self.options))
+
+        outcome = ask()
+        return ask() if isinstance(outcome, Exception) else outcome
+
+
+def _outcome(part: Part, ask: Callable[[], program.Run]) -> Union[Report, Exception]:
+    """The report of a part, or what it failed by: a worker's death, a future that was cancelled, what is no report, or
+    one of other settings."""
+    try:
+        run = ask()
+        report = read_report(run.report)
+    except (KeyboardInterrupt, SystemExit):
+        raise
+    except Exception as error:
+        return error
+    except BaseException as error:  # some libraries tell of a cancelled future by what is no Exception
+        return RuntimeError(f"{type(error).__name__}: {error}")
+    if report.kind == "solved" and len(report.answers) != part.count:
+        return RuntimeError(f"the report has {len(report.answers)} answers to {part.count} settings")
+    return report
+
+
+def _chunk(chunk: Optional[int], count: int, executor: Any) -> int:
+    """How many settings a part has: as many as are asked for, else enough for four parts for each worker."""
+    if chunk is not None:
+        if isinstance(chunk, bool) or int(chunk) != chunk or chunk < 1:
+            raise ValueError(f"chunk is a whole number from 1 to {MOST_SETTINGS:,}, and not {chunk!r}")
+        return min(int(chunk), MOST_SETTINGS)
+    if executor is None:
+        return MOST_SETTINGS
+    workers = getattr(executor, "_max_workers", None) or os.cpu_count() or 1
+    return max(1, min(MOST_SETTINGS, -(-count // (4 * workers))))
+
+
+def _cut(lines: list[str], chunk: int) -> Iterator[Part]:
+    """The parts: at most so many settings each, and no more bytes than a settings file may have."""
+    first, size = 0, 0
+    for place, line in enumerate(lines):
+        length = len(line.encode())
+        if place - first == chunk or (size + length > _BYTES and place > first):
+            yield Part(first, place - first, "".join(lines[first:place]))
+            first, size = place, 0
+        size += length
+    if first < len(lines):
+        yield Part(first, len(lines) - first, "".join(lines[first:]))
+
+
+def _line(script: Script, setting: Mapping[Any, Any], number: int) -> str:
+    """The line of a setting. What is wrong with it is told with its number."""
+    if not isinstance(setting, Mapping):
+        kind = type(setting).__name__
+        raise TypeError(f"setting {number} is a {kind}, and not a dictionary of parameters with their values")
+    values = {}
+    for key, value in setting.items():
+        parameter = key if isinstance(key, Expression) else _by_name(script, key)
+        if parameter not in script.names and parameter not in script.idle or parameter.kind != "parameter":
+            raise KeyError(f"setting {number} names {key!r}, which is no parameter that the problem reaches")
+        try:
+            values[parameter] = parameter._tested(value)
+        except (ValueError, TypeError) as error:
+            raise type(error)(f"setting {number}: {error}") from None
+    try:
+        return script.settings_line(values)
+    except ParameterError as error:
+        raise ParameterError(f"setting {number}: {error.reason}", error.site) from None
+
+
+def _by_name(script: Script, name: Any) -> Any:
+    """The parameter of this name: the user's, or the script's."""
+    for parameter in script.parameters.values():
+        if parameter.given_name == name:
+            return parameter
+    return script.parameters.get(name) if isinstance(name, str) else None
