@@ -1,8 +1,8 @@
-"""Every run that docs/PYTHON.md shows is run, and says what stands there.
+"""Every run that docs/PYTHON.md shows is run, and each of Python that README.md shows, and says what stands there.
 
 The blocks of a section are one script. Behind a block stands what it prints; where that begins with `$`, it is what the
 command prints of the block as `model.py`, or of a file of the checkout. `python3 -m tests.test_page --write` writes
-what they print into the page.
+what they print into the pages.
 """
 from __future__ import annotations
 
@@ -18,6 +18,7 @@ from dcx import DCXError
 
 TOP = Path(__file__).resolve().parents[2]
 PAGE = TOP / "docs" / "PYTHON.md"
+README = TOP / "README.md"
 BLOCK = re.compile(r"^```(\w*)\n(.*?)^```$", re.M | re.S)
 MARK = "\x1f"
 
@@ -41,7 +42,7 @@ def shown(text):
             model = Path(folder) / "model.py"
             for language, inside, first, last in blocks:
                 command = re.match(r"\$ python3 (.*)\n", inside)
-                if language == "python":
+                if language in ("python", "py"):
                     code.append(inside)
                 elif command:
                     words = command.group(1).split()
@@ -75,6 +76,16 @@ class Page(unittest.TestCase):
         self.assertEqual(len(found), sum(language == "" for language, _ in blocks))
         self.assertEqual([language for language, _ in blocks if language not in ("", "python")], [])
 
+    def test_readme(self):
+        text = README.read_text()
+        found = shown(text)
+        for _, _, inside, printed in found:
+            with self.subTest(inside[:40]):
+                self.assertEqual(inside, printed)
+        # What stands behind `py`, which the worked cases don't read, and each command of Python.
+        self.assertEqual(len(found), len(re.findall(r"^(?:```py|\$ python3 .*)$", text, re.M)))
+        self.assertGreater(len(found), 1)
+
     def test_instead(self):
         """Of the table of what isn't offered the left column is refused, and the right one runs."""
         head = ("import dcx.cvxpy as cp\nimport numpy as np\n"
@@ -92,11 +103,12 @@ class Page(unittest.TestCase):
 
 
 def write():
-    """Writes what the blocks print into the page."""
-    text = PAGE.read_text()
-    for first, last, _, printed in sorted(shown(text), reverse=True):
-        text = text[:first] + printed + text[last:]
-    PAGE.write_text(text)
+    """Writes what the blocks print into the pages."""
+    for page in (PAGE, README):
+        text = page.read_text()
+        for first, last, _, printed in sorted(shown(text), reverse=True):
+            text = text[:first] + printed + text[last:]
+        page.write_text(text)
 
 
 if __name__ == "__main__":
