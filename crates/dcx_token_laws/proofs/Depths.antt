@@ -52,14 +52,14 @@ next_column s c e = by (is_one c e)
     by (inl is) = rw is refl
     by (inr is) = rw is refl
 
-blanks_column : (s : State) (cs : List ℕ) → AreBlanks cs → (moved_over s.at cs).place.column ≡ s.at.place.column + length cs
+pub blanks_column : (s : State) (cs : List ℕ) → AreBlanks cs → (moved_over s.at cs).place.column ≡ s.at.place.column + length cs
 blanks_column s [] h = omega arith
 blanks_column s (c ∷ cs) h =
     let one = next_column s c (All-head (λ d. IsTrue (is_blank d)) c cs h) in
     let more = blanks_column (record s { at = next_at s.at c }) cs (All-tail (λ d. IsTrue (is_blank d)) c cs h) in
     omega (arith, one, more)
 
-line_end_column : (s : State) (cs : List ℕ) → IsLineEnd cs → (moved_over s.at cs).place.column ≡ 1
+pub line_end_column : (s : State) (cs : List ℕ) → IsLineEnd cs → (moved_over s.at cs).place.column ≡ 1
 line_end_column s cs (inl is) = rw is refl
 line_end_column s cs (inr is) = rw is refl
 
@@ -89,7 +89,7 @@ comment_feeds (x ∷ xs) behind h = All-cons (λ d. d ≢ 10) x xs (hash_other x
 
 -- ---- where the reading stands in its line
 -- behind blanks comes no other
-abbrev NoMore : List ℕ → List ℕ → Type 0
+abbrev pub NoMore : List ℕ → List ℕ → Type 0
 NoMore [] cs = Unit {0}
 NoMore (b ∷ bs) [] = Unit {0}
 NoMore (b ∷ bs) (c ∷ cs) = is_blank c ≡ false
@@ -102,7 +102,7 @@ no_more_behind (c ∷ cs) b bs = by (is_blank c) refl (no_more_behind cs b bs)
     by true e more = rw one-add more
     by false e more = e
 
-no_more : (c : ℕ) (cs : List ℕ) (n : ℕ) → n ≡ 1 + run_of is_blank cs → NoMore (take n (c ∷ cs)) (drop n (c ∷ cs))
+pub no_more : (c : ℕ) (cs : List ℕ) (n : ℕ) → n ≡ 1 + run_of is_blank cs → NoMore (take n (c ∷ cs)) (drop n (c ∷ cs))
 no_more c cs n count =
     let m : n ≡ suc (prefix_len is_blank cs) = count ∙ ap (λ i. 1 + i) (run_is is_blank cs) ∙ one-add (prefix_len is_blank cs) in
     rw m (no_more_behind cs c (take (prefix_len is_blank cs) cs))
@@ -211,7 +211,7 @@ word_if : (o : Option Keyword) → IsOfWords (kind_if o)
 word_if (Some w) = tt
 word_if None = tt
 
-is_of_words : (c : ℕ) (cs : List ℕ) (k : TokenKind) (n : ℕ) → IsToken c cs k n → IsOfWords k
+pub is_of_words : (c : ℕ) (cs : List ℕ) (k : TokenKind) (n : ℕ) → IsToken c cs k n → IsOfWords k
 is_of_words c cs k n (steps.name b count is) = subst IsOfWords (sym is) (word_if _)
 is_of_words c cs k n (steps.number x b d is same) = subst IsOfWords (sym same) tt
 is_of_words c cs k n (steps.text m b d q is count same) = subst IsOfWords (sym same) tt

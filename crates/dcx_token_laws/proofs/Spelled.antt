@@ -136,7 +136,7 @@ no_sign c s (d ∷ []) xs ys e h n = absurd (n (long_plain c d s h))
 no_sign c s (d ∷ f ∷ us) xs ys e h n = absurd h
 
 -- what begins a number begins one with more behind
-begins_more : (c : ℕ) (us rest : List ℕ) → begins_number c us ≡ true → begins_number c (us ++ rest) ≡ true
+pub begins_more : (c : ℕ) (us rest : List ℕ) → begins_number c us ≡ true → begins_number c (us ++ rest) ≡ true
 begins_more c [] rest e = digit_begins c rest e
 begins_more c (d ∷ us) rest e = e
 

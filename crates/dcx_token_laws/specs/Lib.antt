@@ -3,3 +3,4 @@ pub mod Words
 pub mod Cut
 pub mod Lines
 pub mod OneList
+pub mod Faults

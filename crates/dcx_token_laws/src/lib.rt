@@ -8,5 +8,6 @@
 #![tactic(auto)]
 
 pub mod cutting;
+pub mod faults;
 pub mod lines;
 pub mod one_list;
