@@ -108,37 +108,37 @@ no_more c cs n count =
     rw m (no_more_behind cs c (take (prefix_len is_blank cs) cs))
 
 -- the line has a token, the last on this row, which is the reading's too unless a bracket is open; or blanks alone, all of them; or it is at its end, and has none
-data Stage (s : State) (cs : List ℕ) : Type 0 where
+pub data Stage (s : State) (cs : List ℕ) : Type 0 where
   within : (row : ℕ) → HasBegun s → (s.at.place.line ≡ row) ⊎ (0 < length s.brackets) → Stage s cs
   leads : (blanks : List ℕ) → IsLed blanks s → length s.brackets ≡ 0 → s.at.place.column ≡ 1 + length blanks → NoMore blanks cs → Stage s cs
   closing : (blanks : List ℕ) → IsLed blanks s → length s.brackets ≡ 0 → EndsLine cs → Stage s cs
 
 -- ---- the tokens that come
-kinds-replicate : (n : ℕ) (d : Token) → kinds (replicate n d) ≡ replicate n d.kind
+pub kinds-replicate : (n : ℕ) (d : Token) → kinds (replicate n d) ≡ replicate n d.kind
 kinds-replicate zero d = refl
 kinds-replicate (suc n) d = ap (λ ks. d.kind ∷ ks) (kinds-replicate n d)
 
 -- the rest of a line, and then lines
-record IsInside (blocks : List ℕ) (row brackets : ℕ) (new : List Token) : Type 0 where
-  more : List Token
-  end : Token
-  behind : List Token
-  are : new ≡ more ++ end ∷ behind
-  words : All (λ t. IsOfWords t.kind) more
-  closed : brackets_left brackets more ≡ 0
-  together : IsTogether row brackets (more ++ end ∷ [])
-  newline : end.kind ≡ kind.Newline
-  lines : AreLines blocks behind
+pub record IsInside (blocks : List ℕ) (row brackets : ℕ) (new : List Token) : Type 0 where
+  pub more : List Token
+  pub end : Token
+  pub behind : List Token
+  pub are : new ≡ more ++ end ∷ behind
+  pub words : All (λ t. IsOfWords t.kind) more
+  pub closed : brackets_left brackets more ≡ 0
+  pub together : IsTogether row brackets (more ++ end ∷ [])
+  pub newline : end.kind ≡ kind.Newline
+  pub lines : AreLines blocks behind
 
-abbrev Goes : (s : State) (cs : List ℕ) → Stage s cs → List Token → Type 0
+abbrev pub Goes : (s : State) (cs : List ℕ) → Stage s cs → List Token → Type 0
 Goes s cs (within row is here) new = IsInside s.indents row (length s.brackets) new
 Goes s cs (leads blanks is none column last) new = AreLines s.indents new
 Goes s cs (closing blanks is none end) new = AreLines s.indents new
 
-record IsLined (s : State) (cs : List ℕ) (ts : List Token) (stage : Stage s cs) : Type 0 where
-  new : List Token
-  tokens : ts ≡ s.tokens ++ new
-  goes : Goes s cs stage new
+pub record IsLined (s : State) (cs : List ℕ) (ts : List Token) (stage : Stage s cs) : Type 0 where
+  pub new : List Token
+  pub tokens : ts ≡ s.tokens ++ new
+  pub goes : Goes s cs stage new
 
 -- ---- the first token of the rest of a line
 module _ (blocks : List ℕ) (row brackets : ℕ) (end : Token) (behind : List Token) (newline : end.kind ≡ kind.Newline) (t : Token) (ts : List Token) where
@@ -163,7 +163,7 @@ module _ (blocks : List ℕ) (row brackets : ℕ) (end : Token) (behind : List T
         lines = lines;
       })
 
-  no_mark_first : (more : List Token) → t ∷ ts ≡ more ++ end ∷ behind → All (λ u. IsOfWords u.kind) more → IsMark t.kind → ⊥
+  pub no_mark_first : (more : List Token) → t ∷ ts ≡ more ++ end ∷ behind → All (λ u. IsOfWords u.kind) more → IsMark t.kind → ⊥
   no_mark_first [] e words mark = mark_not_newline t.kind mark (ap (λ (u : Token). u.kind) (head_is t end ts behind e) ∙ newline)
   no_mark_first (x ∷ xs) e words mark = word_not x t (sym (head_is t x ts (xs ++ end ∷ behind) e)) (All-head (λ u. IsOfWords u.kind) x xs words) mark
 
@@ -193,19 +193,19 @@ row_behind s front cs h = let e = next_behind s (moved s cs) front cs h refl in 
 
 -- ---- a step
 -- the tokens that are left behind a step
-record After (s t : State) (front rest : List ℕ) (us : List Token) (here : Stage t rest) : Type 0 where
-  left : List Token
-  cut : Cut front rest left []
-  goes : Goes t rest here left
-  tokens : s.tokens ++ us ≡ t.tokens ++ left
+pub record After (s t : State) (front rest : List ℕ) (us : List Token) (here : Stage t rest) : Type 0 where
+  pub left : List Token
+  pub cut : Cut front rest left []
+  pub goes : Goes t rest here left
+  pub tokens : s.tokens ++ us ≡ t.tokens ++ left
 
 -- Where a step leads: lines that come behind it make lines that come before it, and of tokens that are those of lines and cut
 -- the characters those are left that do so behind it.
-record Next (s t : State) (cs taken rest : List ℕ) (stage : Stage s cs) : Type 0 where
-  here : Stage t rest
-  rising : IsRising 0 t.indents
-  before : (ts : List Token) → IsLined t rest ts here → IsLined s cs ts stage
-  after : (front : List ℕ) → IsBehind front s → (us : List Token) → Cut front cs us [] → Goes s cs stage us → After s t (front ++ taken) rest us here
+pub record Next (s t : State) (cs taken rest : List ℕ) (stage : Stage s cs) : Type 0 where
+  pub here : Stage t rest
+  pub rising : IsRising 0 t.indents
+  pub before : (ts : List Token) → IsLined t rest ts here → IsLined s cs ts stage
+  pub after : (front : List ℕ) → IsBehind front s → (us : List Token) → Cut front cs us [] → Goes s cs stage us → After s t (front ++ taken) rest us here
 
 word_if : (o : Option Keyword) → IsOfWords (kind_if o)
 word_if (Some w) = tt
@@ -537,13 +537,13 @@ module _ (s : State) (c : ℕ) (cs : List ℕ) (n : ℕ) (rising : IsRising 0 s.
       next_leads t (steps.word u v k l b begins_so token nested_so same) =
           next_first t u v k l (turned u (turns s u blanks is begins_so)) token (nests u v k nested_so) same
 
-next : (s t : State) (c : ℕ) (cs : List ℕ) (n : ℕ) → IsRising 0 s.indents → (stage : Stage s (c ∷ cs)) → Step s t c cs n → Next s t (c ∷ cs) (take n (c ∷ cs)) (drop n (c ∷ cs)) stage
+pub next : (s t : State) (c : ℕ) (cs : List ℕ) (n : ℕ) → IsRising 0 s.indents → (stage : Stage s (c ∷ cs)) → Step s t c cs n → Next s t (c ∷ cs) (take n (c ∷ cs)) (drop n (c ∷ cs)) stage
 next s t c cs n rising (within row is here) step = next_within s c cs n rising row is here t step
 next s t c cs n rising (leads blanks is none column last) step = next_leads s c cs n rising blanks is none column last t step
 next s t c cs n rising (closing blanks is none end) step = next_closing s c cs n rising blanks is none t end step
 
 -- ---- the end
-no_last : (xs : List Place) → slice_get xs (length xs - 1) ≡ None → length xs ≡ 0
+pub no_last : (xs : List Place) → slice_get xs (length xs - 1) ≡ None → length xs ≡ 0
 no_last [] e = refl
 no_last (x ∷ xs) e =
     let some = slice_get-get_or (x ∷ xs) (length (x ∷ xs) - 1) x (omega arith) in

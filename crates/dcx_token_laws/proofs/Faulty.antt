@@ -3,7 +3,7 @@ use Rattle.std.proofs.Common.{◌≡◌, ◌⊎◌, inl, inr, ℕ, ◌-◌, true
 use Rattle.std.specs.Prelude.{IsTrue, slice_get}
 use Rattle.std.specs.Str.{chars}
 use Rattle.std.proofs.lemmas.Bool.Decides.{nat_tests}
-use Rattle.std.proofs.lemmas.List.{take-append-drop}
+use Rattle.std.proofs.lemmas.List.{append-nil, take-append-drop}
 use Rattle.std.proofs.lemmas.List.Elements.{All-head}
 use Rattle.dcx_shape.specs.declared.place.Place.{Place}
 use Rattle.dcx_tokens.specs.declared.fault.ReadFault.{ReadFault}
@@ -22,6 +22,7 @@ use Rattle.dcx_token_laws.proofs.Basics.{head_is, tail_is, none_is, never_both}
 use Rattle.dcx_token_laws.proofs.Forms.{IsFormed, HasBegun, IsLed}
 use Rattle.dcx_token_laws.proofs.Halts.{IsBegun, Starts, starts_token, starts_number, starts_text, LineHalts, tab, full, apart, Halts, char, line, bad_number, open_text, bracket, halted}
 use Rattle.dcx_token_laws.proofs.Heads.{none_word}
+use Rattle.dcx_token_laws.proofs.Shallow.{shallow}
 use Rattle.dcx_token_laws.proofs.Spelled.{begins_more, is_word}
 use Rattle.dcx_token_laws.proofs.Spots.{spot_formed}
 use Rattle.dcx_token_laws.proofs.Stacks.{Stacks}
@@ -75,7 +76,7 @@ end_begins c ys behind (inr e) =
 not_hash : (c : ℕ) → eqb c 35 ≡ false → c ≡ 35 → ⊥
 not_hash c e is = never_both (eqb c 35) (ap (λ d. eqb d 35) is) e
 
-no_between_by : (c : ℕ) (rest ys behind : List ℕ) → IsBegun c rest → rest ≡ ys ++ behind → IsBetween (c ∷ ys) behind → ⊥
+pub no_between_by : (c : ℕ) (rest ys behind : List ℕ) → IsBegun c rest → rest ≡ ys ++ behind → IsBetween (c ∷ ys) behind → ⊥
 no_between_by c rest ys behind begun e (inl blanks) = never_both (is_blank c) (All-head (λ d. IsTrue (is_blank d)) c ys blanks) begun.no_blank
 no_between_by c rest ys behind begun e (inr (inl comment)) = not_hash c begun.no_hash comment.0
 no_between_by c rest ys behind begun e (inr (inr end)) = never_both (ends_line c rest) (ap (λ xs. ends_line c xs) e ∙ end_begins c ys behind end) begun.no_end
@@ -116,7 +117,7 @@ pub record Stopping (text : List ℕ) (ts : List Token) (f : ReadFault) : Type 0
 pub record AtEnd (text : List ℕ) (ts : List Token) (f : ReadFault) : Type 0 where
   pub state : State
   pub opener : Place
-  pub cut : Cut [] (chars text) ts []
+  pub up_to : IsCutUpTo text ts (chars text) []
   pub stacks : Stacks ts state.indents state.brackets
   pub last : slice_get state.brackets (length state.brackets - 1) ≡ Some opener
   pub is : f ≡ fault.Unclosed opener
@@ -134,13 +135,13 @@ stopping text ts f lexed =
           left = t;
           first = c;
           rest = cs;
-          up_to = record { parts = walks.parts; cut = subst (λ xs. Cut [] (chars text) ts xs) is cut };
+          up_to = record { parts = walks.parts; cut = subst (λ xs. Cut [] (chars text) ts xs) is cut; shallow = shallow text ts (Some f) lexed };
           walks = walks;
           tokens = tokens;
           halts = halted s t c cs f (spot_formed s front (c ∷ cs) walks.spot) e;
         })
     by front rest cut (at_end s opener is walks last f_is tokens) =
-        inr (record { state = s; opener = opener; cut = subst (λ xs. Cut [] (chars text) ts xs) is cut; stacks = subst (λ us. Stacks us s.indents s.brackets) tokens walks.stacks; last = last; is = f_is })
+        inr (record { state = s; opener = opener; up_to = record { parts = sym (append-nil (chars text)); cut = subst (λ xs. Cut [] (chars text) ts xs) is cut; shallow = shallow text ts (Some f) lexed }; stacks = subst (λ us. Stacks us s.indents s.brackets) tokens walks.stacks; last = last; is = f_is })
 
 -- the faults differ
 abbrev pub place_in : ReadFault → Place

@@ -97,7 +97,7 @@ number_not_plain c cs e p = by (nat_lt c 128) (is_ascii_alphabetic c || eqb c 95
 below_range : (c low high : ℕ) → c < low → is_in_range low high c ≡ false
 below_range c low high h = grind (arith, nat_tests)
 
-in_range : (c low high : ℕ) → is_in_range low high c ≡ true → (low ≤ c) × (c ≤ high)
+pub in_range : (c low high : ℕ) → is_in_range low high c ≡ true → (low ≤ c) × (c ≤ high)
 in_range c low high e = (grind (arith, nat_tests), grind (arith, nat_tests))
 
 pub digit_small : (c : ℕ) → is_ascii_digit c ≡ true → c < 128

@@ -2,7 +2,6 @@
 use Rattle.std.proofs.Common.{◌≡◌, ◌⊎◌, inl, inr, ℕ, zero, suc, ◌+◌, ◌<◌, ◌≤◌, Bool, true, false, eqb, ◌||◌, List, [], ◌∷◌, ◌++◌, length, take, Option, Some, refl, sym, ap, ◌∙◌, subst, arith}
 use Rattle.std.specs.Prelude.{nat_lt}
 use Rattle.std.specs.List.{All, list_all, list_any}
-use Rattle.std.specs.Str.{chars}
 use Rattle.std.proofs.lemmas.Bool.Decides.{nat_tests}
 use Rattle.std.proofs.lemmas.List.Elements.{All-head, All-tail}
 use Rattle.dcx_tokens.specs.declared.fault.ReadFault.{ReadFault}
@@ -13,14 +12,10 @@ use Rattle.dcx_tokens.specs.declared.token.Token.{Token}
 use Rattle.dcx_tokens.specs.declared.token.TokenKind.{TokenKind}
 use Rattle.dcx_tokens.specs.declared.token.TokenKind.TheVariants as kind
 use Rattle.dcx_tokens.specs.Front.{ends_line, sign_len, tab_among}
-use Rattle.dcx_tokens.specs.Laws.{brackets_behind, blocks_behind, brackets_left, blocks_left, StaysShallow}
+use Rattle.dcx_tokens.specs.Laws.{brackets_left, blocks_left}
 use Rattle.dcx_tokens.specs.Layout.{is_deeper, is_standing, opens}
-use Rattle.dcx_tokens.specs.Position.{bytes_of}
 use Rattle.dcx_tokens.specs.Reading.{IsLexed}
 use Rattle.dcx_tokens.specs.State.{State, is_full}
-use Rattle.dcx_tokens.proofs.Kept.{reads_keep}
-use Rattle.dcx_tokens.proofs.Nesting as nesting
-use Rattle.dcx_tokens.proofs.Nesting.{Nested}
 use Rattle.dcx_token_laws.specs.Cut.{place_behind}
 use Rattle.dcx_token_laws.specs.Faults.{IsCutUpTo, IndentsDoNotFollow, TooDeepAreAbove64, BeginsNothing, IsLedBy, DoesNotFollow, OpensBracket, BeginsBlock, open_blocks}
 use Rattle.dcx_token_laws.specs.Lines.{StandsAt, Turns, deeper, back}
@@ -31,6 +26,7 @@ use Rattle.dcx_token_laws.proofs.Firsts.{long_len}
 use Rattle.dcx_token_laws.proofs.Forms.{HasBegun, IsLed}
 use Rattle.dcx_token_laws.proofs.Halts.{IsBegun, LineHalts, tab, full, apart, Halts, char, line, bad_number, open_text, bracket}
 use Rattle.dcx_token_laws.proofs.Rising.{all_below}
+use Rattle.dcx_token_laws.proofs.Shallow.{shallow_end, shallow}
 use Rattle.dcx_token_laws.proofs.Spelled.{is_word}
 use Rattle.dcx_token_laws.proofs.Spots.{Spot, within, leads, closing, spot_formed, stacks_begun}
 use Rattle.dcx_token_laws.proofs.Stacks.{Stacks, open_count}
@@ -126,17 +122,7 @@ indents text ts p lexed = by (stopping text ts (fault.Indent p) lexed)
     by (inr x) = absurd (clash (fault.Indent p) (fault.Unclosed x.opener) x.is refl)
 
 -- ---- 64
-shallow_end : (b i : ℕ) (ts : List Token) → StaysShallow b i ts → brackets_left b ts + blocks_left i ts ≤ 64
-shallow_end b i [] h = h
-shallow_end b i (u ∷ ts) h = shallow_end (brackets_behind b u.kind) (blocks_behind i u.kind) ts h.2
-
-pub shallow : (text : List ℕ) (ts : List Token) (f : Option ReadFault) → IsLexed text ts f → StaysShallow 0 0 ts
-shallow text ts f lexed =
-    let total = bytes_of (chars text) in
-    let last = reads_keep (λ (s : State). Nested s.tokens (length s.brackets) (length s.indents)) total (nesting.nests total) (record { shallow = omega arith; brackets_are = refl; blocks_are = refl }) (omega arith) lexed in
-    subst (λ us. StaysShallow 0 0 us) last.are last.keeps.shallow
-
-is_64 : (s : State) → is_full s ≡ true → 64 ≤ length s.indents + length s.brackets
+pub is_64 : (s : State) → is_full s ≡ true → 64 ≤ length s.indents + length s.brackets
 is_64 s e = grind (arith, nat_tests)
 
 all_64 : (text : List ℕ) (ts : List Token) (f : Option ReadFault) (s : State) → IsLexed text ts f → Stacks ts s.indents s.brackets → is_full s ≡ true → brackets_left 0 ts + blocks_left 0 ts ≡ 64

@@ -20,6 +20,10 @@ pub mod Stacks
 pub mod Spots
 pub mod Stretches
 pub mod Stopped
+pub mod Shallow
 pub mod Faulty
 pub mod Unread
 pub mod Follows
+pub mod Points
+pub mod Totals
+pub mod Unhalted

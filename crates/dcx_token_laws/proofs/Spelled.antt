@@ -121,7 +121,7 @@ is_word c cs k n (sign s b d q e count same) =
     subst (λ j. IsWord j (take n (c ∷ cs))) (sym same) (subst (λ i. IsSign s (take i (c ∷ cs))) (sym count) (sign_cases c cs s e))
 
 -- ---- no more of the text would spell a token
-sign_some : (s : Symbol) → 0 < sign_len s
+pub sign_some : (s : Symbol) → 0 < sign_len s
 sign_some symbol.StarStar = omega arith
 sign_some _ = omega arith
 

@@ -1,6 +1,6 @@
 -- Where a reading stops: what stands there, and all that is read so far.
 use Rattle.std.proofs.Common.{◌≡◌, inl, ℕ, ◌-◌, List, [], ◌∷◌, ◌++◌, length, take, drop, Option, Some, None, refl, sym, ap, ◌∙◌, subst, append_assoc}
-use Rattle.std.specs.Prelude.{Err, slice_get}
+use Rattle.std.specs.Prelude.{Ok, Err, slice_get}
 use Rattle.std.specs.Str.{chars}
 use Rattle.std.proofs.lemmas.List.{take-append-drop, append-nil}
 use Rattle.std.proofs.lemmas.List.Elements.{All-nil}
@@ -11,7 +11,7 @@ use Rattle.dcx_tokens.specs.declared.fault.ReadFault.TheVariants as fault
 use Rattle.dcx_tokens.specs.declared.token.Token.{Token}
 use Rattle.dcx_tokens.specs.Front.{is_blank}
 use Rattle.dcx_tokens.specs.Reading.{Reads, ends, stops, goes_on, IsLexed, fault_of}
-use Rattle.dcx_tokens.specs.State.{State, Answer, finished, finished_at, step}
+use Rattle.dcx_tokens.specs.State.{State, Answer, finished, finished_at, step, start}
 use Rattle.dcx_token_laws.specs.Cut.{Cut, ended}
 use Rattle.dcx_token_laws.proofs.Basics.{none_is, same_some}
 use Rattle.dcx_token_laws.proofs.Spots.{Spot, leads, spot_formed, leads_next}
@@ -39,22 +39,37 @@ pub record Stopped (text : List ℕ) (s : State) (front cs : List ℕ) (ts : Lis
   pub cut : IsCut s front cs rest ts
 
 -- the end
-record EndStops (s t : State) (f : ReadFault) : Type 0 where
-  opener : Place
-  last : slice_get s.brackets (length s.brackets - 1) ≡ Some opener
-  is : f ≡ fault.Unclosed opener
-  left : s.tokens ≡ t.tokens
+pub record EndStops (s t : State) (f : ReadFault) : Type 0 where
+  pub opener : Place
+  pub last : slice_get s.brackets (length s.brackets - 1) ≡ Some opener
+  pub is : f ≡ fault.Unclosed opener
+  pub left : s.tokens ≡ t.tokens
 
-abbrev EndIf : State → ReadFault → Answer (Unit {0}) → Type 0
+abbrev pub EndIf : State → ReadFault → Answer (Unit {0}) → Type 0
 EndIf s f answer = fault_of answer.1 ≡ Some f → EndStops s answer.0 f
 
-end_stops : (s : State) (f : ReadFault) → EndIf s f (finished s)
+pub end_stops : (s : State) (f : ReadFault) → EndIf s f (finished s)
 unfolding finished
 end_stops s f = by (slice_get s.brackets (length s.brackets - 1)) refl
   where
     by : (o : Option Place) → slice_get s.brackets (length s.brackets - 1) ≡ o → EndIf s f (finished_at s o)
     by (Some opener) e g = record { opener = opener; last = e; is = sym (same_some (fault.Unclosed opener) f g); left = refl }
     by None e g = absurd (none_is f g)
+
+-- behind a step
+pub walks_next : (text : List ℕ) (s t : State) (front : List ℕ) (c : ℕ) (cs : List ℕ) (n : ℕ) → Walks text s front (c ∷ cs) → step s c cs ≡ (t, Ok n) → Walks text t (front ++ take n (c ∷ cs)) (drop n (c ∷ cs))
+walks_next text s t front c cs n walks e =
+    let next = leads_next s t front c cs n walks.stacks walks.spot (stepped s t c cs n e) in
+    record {
+      parts = walks.parts ∙ ap (λ xs. front ++ xs) (sym (take-append-drop n (c ∷ cs))) ∙ sym (append_assoc front (take n (c ∷ cs)) (drop n (c ∷ cs)));
+      behind = next_behind s t front (take n (c ∷ cs)) walks.behind (step_moved s t c cs n e);
+      spot = next.spot;
+      stacks = next.stacks;
+    }
+
+-- before the first step
+pub walks_first : (text : List ℕ) → Walks text start [] (chars text)
+walks_first text = record { parts = refl; behind = refl; spot = leads [] [] refl refl refl (inl refl) (All-nil (λ d. IsTrue (is_blank d))) refl tt; stacks = no_stacks }
 
 pub reads_stopped : {s : State} {cs : List ℕ} {ts : List Token} {g : Option ReadFault} (text : List ℕ) (f : ReadFault) (front : List ℕ) → g ≡ Some f → Walks text s front cs → Reads s cs ts g → Stopped text s front cs ts f
 reads_stopped {s = s} {ts = ts} text f front some walks (ends {t = t} e are is) =
@@ -75,16 +90,8 @@ reads_stopped {s = s} {cs = c ∷ cs} {ts = ts} text f front some walks (stops {
       cut = subst (λ us. IsCut s front (c ∷ cs) (c ∷ cs) us) are (stop_cut s t front c cs walks.behind formed (stopped s t c cs h formed e));
     }
 reads_stopped {s = s} {cs = c ∷ cs} {ts = ts} text f front some walks (goes_on {t = t} {n = n} e more) =
-    let one = stepped s t c cs n e in
-    let formed = spot_formed s front (c ∷ cs) walks.spot in
-    let next = leads_next s t front c cs n walks.stacks walks.spot one in
-    let rest = reads_stopped text f (front ++ take n (c ∷ cs)) some (record {
-      parts = walks.parts ∙ ap (λ xs. front ++ xs) (sym (take-append-drop n (c ∷ cs))) ∙ sym (append_assoc front (take n (c ∷ cs)) (drop n (c ∷ cs)));
-      behind = next_behind s t front (take n (c ∷ cs)) walks.behind (step_moved s t c cs n e);
-      spot = next.spot;
-      stacks = next.stacks;
-    }) more in
-    record { passed = rest.passed; rest = rest.rest; stop = rest.stop; cut = step_cut s t front c cs n rest.rest ts walks.behind formed one rest.cut }
+    let rest = reads_stopped text f (front ++ take n (c ∷ cs)) some (walks_next text s t front c cs n walks e) more in
+    record { passed = rest.passed; rest = rest.rest; stop = rest.stop; cut = step_cut s t front c cs n rest.rest ts walks.behind (spot_formed s front (c ∷ cs) walks.spot) (stepped s t c cs n e) rest.cut }
 
 pub record StopsIn (text : List ℕ) (ts : List Token) (f : ReadFault) : Type 0 where
   pub front : List ℕ
@@ -94,5 +101,5 @@ pub record StopsIn (text : List ℕ) (ts : List Token) (f : ReadFault) : Type 0 
 
 pub stops_in : (text : List ℕ) (ts : List Token) (f : ReadFault) → IsLexed text ts (Some f) → StopsIn text ts f
 stops_in text ts f lexed =
-    let all = reads_stopped text f [] refl (record { parts = refl; behind = refl; spot = leads [] [] refl refl refl (inl refl) (All-nil (λ d. IsTrue (is_blank d))) refl tt; stacks = no_stacks }) lexed in
+    let all = reads_stopped text f [] refl (walks_first text) lexed in
     record { front = all.passed; rest = all.rest; stop = all.stop; cut = subst (λ us. Cut [] (chars text) us all.rest) (sym all.cut.tokens) all.cut.cut }

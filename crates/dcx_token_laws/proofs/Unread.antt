@@ -11,7 +11,7 @@ use Rattle.dcx_tokens.specs.Front.{is_quote, begins_number}
 use Rattle.dcx_tokens.specs.Number.{is_spoiled, number_at}
 use Rattle.dcx_tokens.specs.Quoted.{up_to_quote}
 use Rattle.dcx_tokens.specs.State.{State, line_begun_at}
-use Rattle.dcx_token_laws.specs.Cut.{place_behind, Cut}
+use Rattle.dcx_token_laws.specs.Cut.{place_behind}
 use Rattle.dcx_token_laws.specs.Faults.{IsCutUpTo, BadNumbersAreNone, UnclosedAreOpen, BeginsBadNumber, OpensText, IsLeftOpen}
 use Rattle.dcx_token_laws.specs.Words.{IsNumber, IsQuoted}
 use Rattle.dcx_token_laws.proofs.Basics.{head_is, tail_is, none_is}
@@ -96,7 +96,7 @@ pub unclosed : UnclosedAreOpen
 unclosed text ts p lexed = by (stopping text ts (fault.Unclosed p) lexed)
   where
     Goal : Type 0
-    Goal = ((front : List ℕ) × (c : ℕ) × (rest : List ℕ) × IsCutUpTo text ts front (c ∷ rest) × (p ≡ place_behind front) × OpensText c rest) ⊎ (Cut [] (chars text) ts [] × IsLeftOpen ts p)
+    Goal = ((front : List ℕ) × (c : ℕ) × (rest : List ℕ) × IsCutUpTo text ts front (c ∷ rest) × (p ≡ place_behind front) × OpensText c rest) ⊎ (IsCutUpTo text ts (chars text) [] × IsLeftOpen ts p)
 
     of : (x : Stopping text ts (fault.Unclosed p)) → Halts x.state x.left x.first x.rest (fault.Unclosed p) → Goal
     of x (char begun en ed eq eo same is) = absurd (clash (fault.Unclosed p) (fault.BadChar x.state.at.place) is refl)
@@ -109,4 +109,4 @@ unclosed text ts p lexed = by (stopping text ts (fault.Unclosed p) lexed)
 
     by : Stopping text ts (fault.Unclosed p) ⊎ AtEnd text ts (fault.Unclosed p) → Goal
     by (inl x) = of x x.halts
-    by (inr x) = inr (x.cut, subst (IsLeftOpen ts) (sym (ap place_in x.is)) (left_open ts x.state.brackets x.opener x.stacks.are_open x.last))
+    by (inr x) = inr (x.up_to, subst (IsLeftOpen ts) (sym (ap place_in x.is)) (left_open ts x.state.brackets x.opener x.stacks.are_open x.last))

@@ -10,7 +10,7 @@ use Rattle.dcx_tokens.specs.declared.token.Token.{Token}
 use Rattle.dcx_tokens.specs.declared.token.TokenKind.{TokenKind}
 use Rattle.dcx_tokens.specs.declared.token.TokenKind.TheVariants as kind
 use Rattle.dcx_tokens.specs.Front.{is_quote, begins_number, tab_among}
-use Rattle.dcx_tokens.specs.Laws.{brackets_behind, brackets_left, blocks_left}
+use Rattle.dcx_tokens.specs.Laws.{brackets_behind, brackets_left, blocks_left, StaysShallow}
 use Rattle.dcx_tokens.specs.Layout.{opens}
 use Rattle.dcx_tokens.specs.Number.{is_spoiled}
 use Rattle.dcx_tokens.specs.Reading.{IsLexed}
@@ -18,10 +18,12 @@ use Rattle.dcx_token_laws.specs.Cut.{AreBlanks, IsBetween, place_behind, Cut}
 use Rattle.dcx_token_laws.specs.Lines.{depth_of, Turns}
 use Rattle.dcx_token_laws.specs.Words.{IsNumber, IsQuoted, IsWord}
 
--- the text is its tokens ts up to the characters rest, which stand behind those of front
+-- the text is its tokens ts up to the characters rest, which stand behind those of front, and behind none of them are more than
+-- 64 brackets and blocks open together
 pub record IsCutUpTo (text : List ℕ) (ts : List Token) (front rest : List ℕ) : Type 0 where
   pub parts : chars text ≡ front ++ rest
   pub cut : Cut [] (chars text) ts rest
+  pub shallow : StaysShallow 0 0 ts
 
 -- ---- 2: characters
 -- c is spelled in no token and in nothing between tokens, where the characters rest stand behind it, nor does it open a text
@@ -75,7 +77,7 @@ pub record IsLeftOpen (ts : List Token) (p : Place) : Type 0 where
 abbrev pub UnclosedAreOpen : Type 0
 UnclosedAreOpen = (text : List ℕ) (ts : List Token) (p : Place) → IsLexed text ts (Some (fault.Unclosed p)) →
     ((front : List ℕ) × (c : ℕ) × (rest : List ℕ) × IsCutUpTo text ts front (c ∷ rest) × (p ≡ place_behind front) × OpensText c rest)
-    ⊎ (Cut [] (chars text) ts [] × IsLeftOpen ts p)
+    ⊎ (IsCutUpTo text ts (chars text) [] × IsLeftOpen ts p)
 
 -- ---- 5: indentations
 -- the first column, or behind a line feed

@@ -4,3 +4,4 @@ pub mod Cut
 pub mod Lines
 pub mod OneList
 pub mod Faults
+pub mod Fine
