@@ -83,7 +83,7 @@ no_feeds : (cs behind : List ℕ) → HasNoLineEnd cs behind → HasNoFeed cs
 no_feeds [] behind h = All-nil (λ d. d ≢ 10)
 no_feeds (c ∷ cs) behind h = All-cons (λ d. d ≢ 10) c cs (not_end c (cs ++ behind) h.0) (no_feeds cs behind h.1)
 
-comment_feeds : (front behind : List ℕ) → IsComment front behind → HasNoFeed front
+pub comment_feeds : (front behind : List ℕ) → IsComment front behind → HasNoFeed front
 comment_feeds [] behind h = absurd h
 comment_feeds (x ∷ xs) behind h = All-cons (λ d. d ≢ 10) x xs (hash_other x h.0) (no_feeds xs behind h.1)
 

@@ -16,7 +16,8 @@ use Rattle.dcx_tokens.specs.Front.{is_blank, is_quote, begins_name, begins_numbe
 use Rattle.dcx_tokens.specs.Reading.{IsLexed}
 use Rattle.dcx_tokens.specs.State.{State}
 use Rattle.dcx_token_laws.specs.Cut.{IsLineEnd, IsBetween, place_behind, Cut}
-use Rattle.dcx_token_laws.specs.Faults.{IsCutUpTo, BadCharsBeginNothing, BeginsNothing}
+use Rattle.dcx_token_laws.specs.Faults.{BadCharsBeginNothing, BeginsNothing}
+use Rattle.dcx_token_laws.specs.Fine.{IsFineUpTo}
 use Rattle.dcx_token_laws.specs.Words.{IsSign, IsWord}
 use Rattle.dcx_token_laws.proofs.Basics.{head_is, tail_is, none_is, never_both}
 use Rattle.dcx_token_laws.proofs.Forms.{IsFormed, HasBegun, IsLed}
@@ -26,6 +27,7 @@ use Rattle.dcx_token_laws.proofs.Shallow.{shallow}
 use Rattle.dcx_token_laws.proofs.Spelled.{begins_more, is_word}
 use Rattle.dcx_token_laws.proofs.Spots.{spot_formed}
 use Rattle.dcx_token_laws.proofs.Stacks.{Stacks}
+use Rattle.dcx_token_laws.proofs.Standing.{numbers_end, spaces_lead}
 use Rattle.dcx_token_laws.proofs.Stopped.{Walks, StopsAt, in_step, at_end, stops_in}
 use Rattle.dcx_token_laws.proofs.Stretches.{IsBehind}
 
@@ -108,7 +110,7 @@ pub record Stopping (text : List ℕ) (ts : List Token) (f : ReadFault) : Type 0
   pub left : State
   pub first : ℕ
   pub rest : List ℕ
-  pub up_to : IsCutUpTo text ts front (first ∷ rest)
+  pub up_to : IsFineUpTo text ts front (first ∷ rest)
   pub walks : Walks text state front (first ∷ rest)
   pub tokens : left.tokens ≡ ts
   pub halts : Halts state left first rest f
@@ -117,7 +119,7 @@ pub record Stopping (text : List ℕ) (ts : List Token) (f : ReadFault) : Type 0
 pub record AtEnd (text : List ℕ) (ts : List Token) (f : ReadFault) : Type 0 where
   pub state : State
   pub opener : Place
-  pub up_to : IsCutUpTo text ts (chars text) []
+  pub up_to : IsFineUpTo text ts (chars text) []
   pub stacks : Stacks ts state.indents state.brackets
   pub last : slice_get state.brackets (length state.brackets - 1) ≡ Some opener
   pub is : f ≡ fault.Unclosed opener
@@ -135,13 +137,13 @@ stopping text ts f lexed =
           left = t;
           first = c;
           rest = cs;
-          up_to = record { parts = walks.parts; cut = subst (λ xs. Cut [] (chars text) ts xs) is cut; shallow = shallow text ts (Some f) lexed };
+          up_to = record { parts = walks.parts; cut = subst (λ xs. Cut [] (chars text) ts xs) is cut; shallow = shallow text ts (Some f) lexed; numbers = numbers_end text ts (Some f) lexed; spaces = spaces_lead text ts (Some f) lexed };
           walks = walks;
           tokens = tokens;
           halts = halted s t c cs f (spot_formed s front (c ∷ cs) walks.spot) e;
         })
     by front rest cut (at_end s opener is walks last f_is tokens) =
-        inr (record { state = s; opener = opener; up_to = record { parts = sym (append-nil (chars text)); cut = subst (λ xs. Cut [] (chars text) ts xs) is cut; shallow = shallow text ts (Some f) lexed }; stacks = subst (λ us. Stacks us s.indents s.brackets) tokens walks.stacks; last = last; is = f_is })
+        inr (record { state = s; opener = opener; up_to = record { parts = sym (append-nil (chars text)); cut = subst (λ xs. Cut [] (chars text) ts xs) is cut; shallow = shallow text ts (Some f) lexed; numbers = numbers_end text ts (Some f) lexed; spaces = spaces_lead text ts (Some f) lexed }; stacks = subst (λ us. Stacks us s.indents s.brackets) tokens walks.stacks; last = last; is = f_is })
 
 -- the faults differ
 abbrev pub place_in : ReadFault → Place
@@ -182,7 +184,7 @@ pub bad_chars : BadCharsBeginNothing
 bad_chars text ts p lexed = by (stopping text ts (fault.BadChar p) lexed)
   where
     Goal : Type 0
-    Goal = (front : List ℕ) × (c : ℕ) × (rest : List ℕ) × IsCutUpTo text ts front (c ∷ rest) × (p ≡ place_behind front) × BeginsNothing c rest
+    Goal = (front : List ℕ) × (c : ℕ) × (rest : List ℕ) × IsFineUpTo text ts front (c ∷ rest) × (p ≡ place_behind front) × BeginsNothing c rest
 
     of : (x : Stopping text ts (fault.BadChar p)) → Halts x.state x.left x.first x.rest (fault.BadChar p) → Goal
     of x (char begun en ed eq eo same is) = (x.front, x.first, x.rest, x.up_to, ap place_in is ∙ place_is x.state x.front x.walks.behind, begins_nothing x.first x.rest begun en ed eq eo)

@@ -17,7 +17,8 @@ use Rattle.dcx_tokens.specs.Layout.{is_deeper, is_standing, opens}
 use Rattle.dcx_tokens.specs.Reading.{IsLexed}
 use Rattle.dcx_tokens.specs.State.{State, is_full}
 use Rattle.dcx_token_laws.specs.Cut.{place_behind}
-use Rattle.dcx_token_laws.specs.Faults.{IsCutUpTo, IndentsDoNotFollow, TooDeepAreAbove64, BeginsNothing, IsLedBy, DoesNotFollow, OpensBracket, BeginsBlock, open_blocks}
+use Rattle.dcx_token_laws.specs.Faults.{IndentsDoNotFollow, TooDeepAreAbove64, BeginsNothing, DoesNotFollow, OpensBracket, BeginsBlock, open_blocks}
+use Rattle.dcx_token_laws.specs.Fine.{IsFineUpTo, IsLedBy}
 use Rattle.dcx_token_laws.specs.Lines.{StandsAt, Turns, deeper, back}
 use Rattle.dcx_token_laws.specs.Words.{IsSign}
 use Rattle.dcx_token_laws.proofs.Basics.{head_is, never_both, nil_not, right}
@@ -87,7 +88,7 @@ is_first text ts f x begun not same how = by x.walks.spot
     stack = subst (λ us. Stacks us x.state.indents x.state.brackets) (ap (λ (w : State). w.tokens) (sym same) ∙ x.tokens) x.walks.stacks
 
     by : Spot x.state x.front (x.first ∷ x.rest) → IsFirst ts f x.state x.front
-    by (within has) = absurd (not has)
+    by (within has led_not) = absurd (not has)
     by (leads before blanks led none parts starts are column last) =
         record { blanks = blanks; led = record { before = before; parts = parts; starts = starts; are = are; outside = sym stack.count ∙ none }; halts = how blanks led; stacks = stack }
     by (closing blanks led none end) = absurd (never_both (ends_line x.first x.rest) end begun.no_end)
@@ -97,7 +98,7 @@ pub indents : IndentsDoNotFollow
 indents text ts p lexed = by (stopping text ts (fault.Indent p) lexed)
   where
     Goal : Type 0
-    Goal = (front : List ℕ) × (c : ℕ) × (rest : List ℕ) × (blanks : List ℕ) × IsCutUpTo text ts front (c ∷ rest) × (p ≡ place_behind front) × (BeginsNothing c rest → ⊥) × IsLedBy blanks ts front × DoesNotFollow blanks ts
+    Goal = (front : List ℕ) × (c : ℕ) × (rest : List ℕ) × (blanks : List ℕ) × IsFineUpTo text ts front (c ∷ rest) × (p ≡ place_behind front) × (BeginsNothing c rest → ⊥) × IsLedBy blanks ts front × DoesNotFollow blanks ts
 
     follows_not : (s : State) (blanks : List ℕ) → s.indents ≡ open_blocks [] ts → LineHalts s blanks (fault.Indent p) → (p ≡ s.at.place) × DoesNotFollow blanks ts
     follows_not s blanks blocks (tab e is) = (ap place_in is, inl e)
@@ -150,7 +151,7 @@ pub too_deep : TooDeepAreAbove64
 too_deep text ts p lexed = by (stopping text ts (fault.TooDeep p) lexed)
   where
     Goal : Type 0
-    Goal = (front : List ℕ) × (c : ℕ) × (rest : List ℕ) × IsCutUpTo text ts front (c ∷ rest) × (p ≡ place_behind front) × (brackets_left 0 ts + blocks_left 0 ts ≡ 64) × (OpensBracket c ⊎ BeginsBlock c rest ts front)
+    Goal = (front : List ℕ) × (c : ℕ) × (rest : List ℕ) × IsFineUpTo text ts front (c ∷ rest) × (p ≡ place_behind front) × (brackets_left 0 ts + blocks_left 0 ts ≡ 64) × (OpensBracket c ⊎ BeginsBlock c rest ts front)
 
     one_block : (s : State) (blanks : List ℕ) → s.indents ≡ open_blocks [] ts → LineHalts s blanks (fault.TooDeep p) → (p ≡ s.at.place) × (is_full s ≡ true) × (tab_among blanks ≡ false) × All (λ d. d < length blanks) (open_blocks [] ts)
     one_block s blanks blocks (tab e is) = absurd (clash (fault.TooDeep p) (fault.Indent s.at.place) is refl)

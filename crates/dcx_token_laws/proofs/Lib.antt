@@ -27,3 +27,4 @@ pub mod Follows
 pub mod Points
 pub mod Totals
 pub mod Unhalted
+pub mod Standing

@@ -15,9 +15,11 @@ use Rattle.dcx_tokens.specs.Laws.{brackets_behind, blocks_behind, brackets_left,
 use Rattle.dcx_tokens.specs.Layout.{kept, opens, closes}
 use Rattle.dcx_tokens.specs.State.{State, Answer, put, is_full, nested, dedent_at}
 use Rattle.dcx_tokens.proofs.Kept.{token_of}
+use Rattle.std.proofs.lemmas.List.Elements.{All-head, All-tail}
+use Rattle.dcx_token_laws.specs.Cut.{AreMarks, IsMark, Spans}
 use Rattle.dcx_token_laws.specs.Faults.{IsOpener, StaysOpen, blocks_with, open_blocks}
 use Rattle.dcx_token_laws.specs.Lines.{IsOfWords, depth_of}
-use Rattle.dcx_token_laws.proofs.Basics.{head_is, tail_is}
+use Rattle.dcx_token_laws.proofs.Basics.{head_is, tail_is, nil_not}
 use Rattle.dcx_token_laws.proofs.Forms.{Turned, deeper, back, nests, never_ok, first_is}
 
 -- ---- a bracket that is open
@@ -59,23 +61,43 @@ open_push ts t p i j h count =
       left = left_push 1 h.behind t ∙ now;
     }
 
--- the last of a stack
-pub data LastOf (ps qs : List Place) (x p : Place) (rs : List Place) : Type 0 where
+pub brackets_left-append : (n : ℕ) (xs ys : List Token) → brackets_left n (xs ++ ys) ≡ brackets_left (brackets_left n xs) ys
+brackets_left-append n [] ys = refl
+brackets_left-append n (x ∷ xs) ys = brackets_left-append (brackets_behind n x.kind) xs ys
+
+mark_brackets : (n : ℕ) (k : TokenKind) → IsMark k → brackets_behind n k ≡ n
+mark_brackets n kind.Indent h = refl
+mark_brackets n kind.Dedent h = refl
+mark_brackets n kind.Newline h = absurd h
+mark_brackets n kind.Name h = absurd h
+mark_brackets n (kind.Keyword w) h = absurd h
+mark_brackets n (kind.Number x) h = absurd h
+mark_brackets n kind.Text h = absurd h
+mark_brackets n (kind.Sign s) h = absurd h
+
+marks_brackets : (front : List ℕ) (n : ℕ) (ms : List Token) → AreMarks front ms → brackets_left n ms ≡ n
+marks_brackets front n [] are = refl
+marks_brackets front n (m ∷ ms) are =
+    ap (λ i. brackets_left i ms) (mark_brackets n m.kind (All-head (λ t. IsMark t.kind × Spans t front []) m ms are).0) ∙ marks_brackets front n ms (All-tail (λ t. IsMark t.kind × Spans t front []) m ms are)
+
+-- marks leave the brackets as they are
+pub marks_outside : (front : List ℕ) (ts ms : List Token) → AreMarks front ms → brackets_left 0 (ts ++ ms) ≡ brackets_left 0 ts
+marks_outside front ts ms are = brackets_left-append 0 ts ms ∙ marks_brackets front (brackets_left 0 ts) ms are
+
+-- the last of a list
+pub data LastOf {A : Type 0} (ps qs : List A) (x p : A) (rs : List A) : Type 0 where
   is_last : ps ≡ qs → p ≡ x → rs ≡ [] → LastOf ps qs x p rs
-  is_inner : (ms : List Place) → ps ≡ qs ++ p ∷ ms → rs ≡ ms ++ x ∷ [] → LastOf ps qs x p rs
+  is_inner : (ms : List A) → ps ≡ qs ++ p ∷ ms → rs ≡ ms ++ x ∷ [] → LastOf ps qs x p rs
 
-places_nil : (x : Place) (xs : List Place) → ◌≡◌ {A = List Place} [] (x ∷ xs) → ⊥
-places_nil x xs e = cc
+pub some_there : {A : Type 0} (qs : List A) (p : A) (rs : List A) → ◌≡◌ {A = List A} [] (qs ++ p ∷ rs) → ⊥
+some_there [] p rs e = nil_not p rs e
+some_there (q ∷ qs) p rs e = nil_not q (qs ++ p ∷ rs) e
 
-some_places : (qs : List Place) (p : Place) (rs : List Place) → ◌≡◌ {A = List Place} [] (qs ++ p ∷ rs) → ⊥
-some_places [] p rs e = places_nil p rs e
-some_places (q ∷ qs) p rs e = places_nil q (qs ++ p ∷ rs) e
-
-last_of : (ps qs : List Place) (x p : Place) (rs : List Place) → ps ++ x ∷ [] ≡ qs ++ p ∷ rs → LastOf ps qs x p rs
+pub last_of : {A : Type 0} (ps qs : List A) (x p : A) (rs : List A) → ps ++ x ∷ [] ≡ qs ++ p ∷ rs → LastOf ps qs x p rs
 last_of [] [] x p rs e = is_last refl (sym (head_is x p [] rs e)) (sym (tail_is x p [] rs e))
-last_of [] (q ∷ qs) x p rs e = absurd (some_places qs p rs (tail_is x q [] (qs ++ p ∷ rs) e))
+last_of [] (q ∷ qs) x p rs e = absurd (some_there qs p rs (tail_is x q [] (qs ++ p ∷ rs) e))
 last_of (y ∷ ps) [] x p rs e = is_inner ps (ap (λ z. z ∷ ps) (head_is y p (ps ++ x ∷ []) rs e)) (sym (tail_is y p (ps ++ x ∷ []) rs e))
-last_of (y ∷ ps) (q ∷ qs) x p rs e = by (last_of ps qs x p rs (tail_is y q (ps ++ x ∷ []) (qs ++ p ∷ rs) e))
+last_of {A = A} (y ∷ ps) (q ∷ qs) x p rs e = by (last_of ps qs x p rs (tail_is y q (ps ++ x ∷ []) (qs ++ p ∷ rs) e))
   where
     first : y ≡ q
     first = head_is y q (ps ++ x ∷ []) (qs ++ p ∷ rs) e
@@ -125,7 +147,7 @@ pub record Stacks (ts : List Token) (blocks : List ℕ) (brackets : List Place) 
   pub count : length brackets ≡ brackets_left 0 ts
 
 pub no_stacks : Stacks [] [] []
-no_stacks = record { blocks_are = refl; are_open = λ qs p rs e. absurd (some_places qs p rs e); count = refl }
+no_stacks = record { blocks_are = refl; are_open = λ qs p rs e. absurd (some_there qs p rs e); count = refl }
 
 push_blocks : (ts : List Token) (blocks : List ℕ) (t : Token) → blocks ≡ open_blocks [] ts → blocks_with blocks (depth_of t) t.kind ≡ open_blocks [] (ts ++ t ∷ [])
 push_blocks ts blocks t e = ap (λ bs. blocks_with bs (depth_of t) t.kind) e ∙ sym (open_blocks-append [] ts (t ∷ []))
@@ -189,7 +211,7 @@ push_close ts blocks brackets t same closer h = record {
 }
   where
     by : (ps : List Place) → ps ≡ brackets → (qs : List Place) (p : Place) (rs : List Place) → take (length brackets - 1) brackets ≡ qs ++ p ∷ rs → IsOpenAt (ts ++ t ∷ []) p (length rs)
-    by [] is qs p rs e = absurd (some_places qs p rs (ap (λ zs. take (length zs - 1) zs) is ∙ e))
+    by [] is qs p rs e = absurd (some_there qs p rs (ap (λ zs. take (length zs - 1) zs) is ∙ e))
     by (x ∷ xs) is qs p rs e =
         let u = unsnoc x xs in
         let all : brackets ≡ u.front ++ u.last ∷ [] = sym is ∙ u.are in

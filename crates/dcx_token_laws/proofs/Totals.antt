@@ -12,7 +12,7 @@ use Rattle.dcx_tokens.proofs.Lengths.{number_some}
 use Rattle.dcx_token_laws.proofs.Spelled.{sign_some}
 use Rattle.dcx_token_laws.proofs.Steps.{IsToken, name, number, text, sign, Step, line_end, blank, comment, word, stepped}
 
-token_long : (c : ℕ) (cs : List ℕ) (k : TokenKind) (n : ℕ) → IsToken c cs k n → 0 < n
+pub token_long : (c : ℕ) (cs : List ℕ) (k : TokenKind) (n : ℕ) → IsToken c cs k n → 0 < n
 token_long c cs k n (name b count is) = omega (arith, count)
 token_long c cs k n (number x b d e same) = number_some c cs (x, n) d e
 token_long c cs k n (text m b d q e count same) = omega (arith, count)

@@ -5,7 +5,7 @@ use Rattle.std.specs.Char.{is_ascii_digit}
 use Rattle.std.specs.List.{All}
 use Rattle.std.specs.Str.{chars}
 use Rattle.std.proofs.lemmas.List.{take-append-drop}
-use Rattle.std.proofs.lemmas.List.Elements.{All-head, All-tail}
+use Rattle.std.proofs.lemmas.List.Elements.{All-head}
 use Rattle.dcx_frac.specs.declared.fraction.Frac.{Frac}
 use Rattle.dcx_shape.specs.declared.place.Place.{Place}
 use Rattle.dcx_tokens.specs.declared.fault.ReadFault.{ReadFault}
@@ -21,12 +21,11 @@ use Rattle.dcx_tokens.specs.Quoted.{up_to_quote}
 use Rattle.dcx_tokens.specs.Reading.{Reads, ends, stops, goes_on, IsLexed}
 use Rattle.dcx_tokens.specs.State.{State, is_full, start}
 use Rattle.dcx_token_laws.specs.Cut.{AreBlanks, AreMarks, IsMark, Spans, Cut}
-use Rattle.dcx_token_laws.specs.Faults.{StartsLine}
-use Rattle.dcx_token_laws.specs.Fine.{StandsThere, IsFine, FineTextsAreRead}
+use Rattle.dcx_token_laws.specs.Fine.{StandsThere, IsFine, FineTextsAreRead, StartsLine}
 use Rattle.dcx_token_laws.specs.Lines.{IsOfWords, depth_of, kinds, Turns, AreLines}
 use Rattle.dcx_token_laws.specs.Words.{IsNumber, IsSign, IsWord, IsLongest}
 use Rattle.dcx_token_laws.proofs.Basics.{is_char, nil_not, none_is, never_both}
-use Rattle.dcx_token_laws.proofs.Depths.{Stage, within, leads, closing, IsInside, Goes, next, no_mark_first, one_list}
+use Rattle.dcx_token_laws.proofs.Depths.{Stage, within, leads, closing, IsInside, Goes, next, no_mark_first, texts_are_lines, one_list}
 use Rattle.dcx_token_laws.proofs.Faulty.{begins_nothing, no_between_by, place_is}
 use Rattle.dcx_token_laws.proofs.Firsts.{number_not_quote}
 use Rattle.dcx_token_laws.proofs.Follows.{no_turn, is_64}
@@ -43,9 +42,13 @@ use Rattle.dcx_token_laws.proofs.Same.{IsLine, a_line, marks_kinds, AtEnd, at_en
 use Rattle.dcx_token_laws.proofs.Spelled.{is_word, is_longest, begins_more}
 use Rattle.dcx_token_laws.proofs.Spots as spots
 use Rattle.dcx_token_laws.proofs.Spots.{Spot, spot_formed}
-use Rattle.dcx_token_laws.proofs.Stacks.{open_count, kept_fewer}
+use Rattle.dcx_token_laws.proofs.Stacks as outside
+use Rattle.dcx_token_laws.proofs.Stacks.{brackets_left-append, open_count, kept_fewer}
 use Rattle.dcx_token_laws.proofs.Steps.{stepped}
 use Rattle.dcx_token_laws.proofs.Stopped.{Walks, walks_next, walks_first, EndStops, EndIf, end_stops}
+use Rattle.dcx_token_laws.proofs.Shallow.{shallow}
+use Rattle.dcx_token_laws.proofs.Standing.{numbers_end, spaces_lead}
+use Rattle.dcx_token_laws.proofs.Stretches.{texts_are_cut}
 use Rattle.dcx_token_laws.proofs.Totals.{reading}
 
 -- ---- kinds
@@ -72,28 +75,9 @@ after_dedents : (n m : ℕ) → blocks_after n (replicate m kind.Dedent) ≡ n -
 after_dedents n zero = omega arith
 after_dedents n (suc m) = after_dedents (n - 1) m ∙ omega arith
 
-brackets_left-append : (n : ℕ) (xs ys : List Token) → brackets_left n (xs ++ ys) ≡ brackets_left (brackets_left n xs) ys
-brackets_left-append n [] ys = refl
-brackets_left-append n (x ∷ xs) ys = brackets_left-append (brackets_behind n x.kind) xs ys
-
 blocks_left-append : (n : ℕ) (xs ys : List Token) → blocks_left n (xs ++ ys) ≡ blocks_left (blocks_left n xs) ys
 blocks_left-append n [] ys = refl
 blocks_left-append n (x ∷ xs) ys = blocks_left-append (blocks_behind n x.kind) xs ys
-
-mark_brackets : (n : ℕ) (k : TokenKind) → IsMark k → brackets_behind n k ≡ n
-mark_brackets n kind.Indent h = refl
-mark_brackets n kind.Dedent h = refl
-mark_brackets n kind.Newline h = absurd h
-mark_brackets n kind.Name h = absurd h
-mark_brackets n (kind.Keyword w) h = absurd h
-mark_brackets n (kind.Number x) h = absurd h
-mark_brackets n kind.Text h = absurd h
-mark_brackets n (kind.Sign s) h = absurd h
-
-marks_brackets : (front : List ℕ) (n : ℕ) (ms : List Token) → AreMarks front ms → brackets_left n ms ≡ n
-marks_brackets front n [] are = refl
-marks_brackets front n (m ∷ ms) are =
-    ap (λ i. brackets_left i ms) (mark_brackets n m.kind (All-head (λ t. IsMark t.kind × Spans t front []) m ms are).0) ∙ marks_brackets front n ms (All-tail (λ t. IsMark t.kind × Spans t front []) m ms are)
 
 -- no more than 64 are open behind tokens in front
 shallow_behind : (b i : ℕ) (xs ys : List Token) → StaysShallow b i (xs ++ ys) → brackets_left b xs + blocks_left i xs ≤ 64
@@ -194,7 +178,7 @@ module _ (text : List ℕ) (us : List Token) (fine : IsFine text us) where
     }
 
     marks_outside : (ms : List Token) → AreMarks front ms → brackets_left 0 (s.tokens ++ ms) ≡ length s.brackets
-    marks_outside ms are = brackets_left-append 0 s.tokens ms ∙ marks_brackets front (brackets_left 0 s.tokens) ms are ∙ sym walks.stacks.count
+    marks_outside ms are = outside.marks_outside front s.tokens ms are ∙ sym walks.stacks.count
 
     marks_blocks : (ms : List Token) → blocks_left 0 (s.tokens ++ ms) ≡ blocks_after (length s.indents) (kinds ms)
     marks_blocks ms =
@@ -273,7 +257,7 @@ module _ (text : List ℕ) (us : List Token) (fine : IsFine text us) where
         a = ahead front c cs left begun cut
 
         by : Spot s front (c ∷ cs) → (here : Stage s (c ∷ cs)) → Goes s (c ∷ cs) here left → ⊥
-        by (spots.within is) here goes = not is
+        by (spots.within is apart) here goes = not is
         by (spots.closing blanks led none end) here goes = never_both (ends_line c cs) end begun.no_end
         by (spots.leads before blanks led none parts starts_so are column last) (within row is here) goes = not is
         by (spots.leads before blanks led none parts starts_so are column last) (leads blanks' led' none' column' last') goes = line_fine before blanks f begun a rising none parts starts_so are column goes (how blanks led)
@@ -337,8 +321,8 @@ module _ (text : List ℕ) (us : List Token) (fine : IsFine text us) where
       let l = one.after front walks.behind left cut goes in
       reads_fine f (front ++ take n (c ∷ cs)) one.here one.rising (walks_next text s t front c cs n walks e) l.left l.cut l.goes (sym l.tokens ∙ all) some more
 
-pub fine_texts : FineTextsAreRead
-fine_texts text ts fine =
+fine_is_read : (text : List ℕ) (ts : List Token) → IsFine text ts → IsLexed text ts None
+fine_is_read text ts fine =
     let all = reading (length (chars text)) start (chars text) (omega arith) in
     by all.tokens all.told all.told refl all.reads
   where
@@ -347,3 +331,17 @@ fine_texts text ts fine =
         let lexed : IsLexed text us None = subst (Reads start (chars text) us) is reads in
         subst (λ vs. IsLexed text vs None) (sym (one_list text us ts lexed fine.cut fine.lines)) lexed
     by us g (Some f) is reads = absurd (reads_fine text ts fine f [] (leads [] refl refl refl tt) tt (walks_first text) ts fine.cut fine.lines refl is reads)
+
+read_is_fine : (text : List ℕ) (ts : List Token) → IsLexed text ts None → IsFine text ts
+read_is_fine text ts lexed =
+    let cut = texts_are_cut text ts None lexed in
+    record {
+      cut = subst (λ rest. Cut [] (chars text) ts rest) (cut.2 refl) cut.1;
+      lines = texts_are_lines text ts lexed;
+      shallow = shallow text ts None lexed;
+      numbers = numbers_end text ts None lexed;
+      spaces = spaces_lead text ts None lexed;
+    }
+
+pub fine_texts : FineTextsAreRead
+fine_texts = record { fine_is_read = fine_is_read; read_is_fine = read_is_fine }

@@ -12,7 +12,8 @@ use Rattle.dcx_tokens.specs.Number.{is_spoiled, number_at}
 use Rattle.dcx_tokens.specs.Quoted.{up_to_quote}
 use Rattle.dcx_tokens.specs.State.{State, line_begun_at}
 use Rattle.dcx_token_laws.specs.Cut.{place_behind}
-use Rattle.dcx_token_laws.specs.Faults.{IsCutUpTo, BadNumbersAreNone, UnclosedAreOpen, BeginsBadNumber, OpensText, IsLeftOpen}
+use Rattle.dcx_token_laws.specs.Faults.{BadNumbersAreNone, UnclosedAreOpen, BeginsBadNumber, OpensText, IsLeftOpen}
+use Rattle.dcx_token_laws.specs.Fine.{IsFineUpTo}
 use Rattle.dcx_token_laws.specs.Words.{IsNumber, IsQuoted}
 use Rattle.dcx_token_laws.proofs.Basics.{head_is, tail_is, none_is}
 use Rattle.dcx_token_laws.proofs.Faulty.{Stopping, AtEnd, stopping, place_is, place_in, clash, no_line}
@@ -44,7 +45,7 @@ pub bad_numbers : BadNumbersAreNone
 bad_numbers text ts p lexed = by (stopping text ts (fault.BadNumber p) lexed)
   where
     Goal : Type 0
-    Goal = (front : List ℕ) × (c : ℕ) × (rest : List ℕ) × IsCutUpTo text ts front (c ∷ rest) × (p ≡ place_behind front) × BeginsBadNumber c rest
+    Goal = (front : List ℕ) × (c : ℕ) × (rest : List ℕ) × IsFineUpTo text ts front (c ∷ rest) × (p ≡ place_behind front) × BeginsBadNumber c rest
 
     of : (x : Stopping text ts (fault.BadNumber p)) → Halts x.state x.left x.first x.rest (fault.BadNumber p) → Goal
     of x (char begun en ed eq eo same is) = absurd (clash (fault.BadNumber p) (fault.BadChar x.state.at.place) is refl)
@@ -96,7 +97,7 @@ pub unclosed : UnclosedAreOpen
 unclosed text ts p lexed = by (stopping text ts (fault.Unclosed p) lexed)
   where
     Goal : Type 0
-    Goal = ((front : List ℕ) × (c : ℕ) × (rest : List ℕ) × IsCutUpTo text ts front (c ∷ rest) × (p ≡ place_behind front) × OpensText c rest) ⊎ (IsCutUpTo text ts (chars text) [] × IsLeftOpen ts p)
+    Goal = ((front : List ℕ) × (c : ℕ) × (rest : List ℕ) × IsFineUpTo text ts front (c ∷ rest) × (p ≡ place_behind front) × OpensText c rest) ⊎ (IsFineUpTo text ts (chars text) [] × IsLeftOpen ts p)
 
     of : (x : Stopping text ts (fault.Unclosed p)) → Halts x.state x.left x.first x.rest (fault.Unclosed p) → Goal
     of x (char begun en ed eq eo same is) = absurd (clash (fault.Unclosed p) (fault.BadChar x.state.at.place) is refl)

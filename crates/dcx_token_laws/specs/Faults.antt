@@ -1,4 +1,4 @@
--- What each fault of the tokens says of the text, at its place.
+-- What each fault of the tokens says of the text, at its place; in front of it nothing is wrong.
 use Rattle.std.specs.Prelude.{◌≡◌, ◌⊎◌, ℕ, ◌+◌, ◌<◌, IsTrue, IsFalse, List, [], ◌∷◌, ◌++◌, length, take, ◌-◌, Some}
 use Rattle.std.specs.List.{All}
 use Rattle.std.specs.Str.{chars}
@@ -10,20 +10,14 @@ use Rattle.dcx_tokens.specs.declared.token.Token.{Token}
 use Rattle.dcx_tokens.specs.declared.token.TokenKind.{TokenKind}
 use Rattle.dcx_tokens.specs.declared.token.TokenKind.TheVariants as kind
 use Rattle.dcx_tokens.specs.Front.{is_quote, begins_number, tab_among}
-use Rattle.dcx_tokens.specs.Laws.{brackets_behind, brackets_left, blocks_left, StaysShallow}
+use Rattle.dcx_tokens.specs.Laws.{brackets_behind, brackets_left, blocks_left}
 use Rattle.dcx_tokens.specs.Layout.{opens}
 use Rattle.dcx_tokens.specs.Number.{is_spoiled}
 use Rattle.dcx_tokens.specs.Reading.{IsLexed}
-use Rattle.dcx_token_laws.specs.Cut.{AreBlanks, IsBetween, place_behind, Cut}
+use Rattle.dcx_token_laws.specs.Cut.{IsBetween, place_behind}
+use Rattle.dcx_token_laws.specs.Fine.{IsLedBy, IsFineUpTo}
 use Rattle.dcx_token_laws.specs.Lines.{depth_of, Turns}
 use Rattle.dcx_token_laws.specs.Words.{IsNumber, IsQuoted, IsWord}
-
--- the text is its tokens ts up to the characters rest, which stand behind those of front, and behind none of them are more than
--- 64 brackets and blocks open together
-pub record IsCutUpTo (text : List ℕ) (ts : List Token) (front rest : List ℕ) : Type 0 where
-  pub parts : chars text ≡ front ++ rest
-  pub cut : Cut [] (chars text) ts rest
-  pub shallow : StaysShallow 0 0 ts
 
 -- ---- 2: characters
 -- c is spelled in no token and in nothing between tokens, where the characters rest stand behind it, nor does it open a text
@@ -35,7 +29,7 @@ pub record BeginsNothing (c : ℕ) (rest : List ℕ) : Type 0 where
 
 abbrev pub BadCharsBeginNothing : Type 0
 BadCharsBeginNothing = (text : List ℕ) (ts : List Token) (p : Place) → IsLexed text ts (Some (fault.BadChar p)) →
-    (front : List ℕ) × (c : ℕ) × (rest : List ℕ) × IsCutUpTo text ts front (c ∷ rest) × (p ≡ place_behind front) × BeginsNothing c rest
+    (front : List ℕ) × (c : ℕ) × (rest : List ℕ) × IsFineUpTo text ts front (c ∷ rest) × (p ≡ place_behind front) × BeginsNothing c rest
 
 -- ---- 3: numbers
 -- a digit, or a point with one behind it, and each number that is spelled there has a name character or a point right behind it
@@ -45,7 +39,7 @@ pub record BeginsBadNumber (c : ℕ) (rest : List ℕ) : Type 0 where
 
 abbrev pub BadNumbersAreNone : Type 0
 BadNumbersAreNone = (text : List ℕ) (ts : List Token) (p : Place) → IsLexed text ts (Some (fault.BadNumber p)) →
-    (front : List ℕ) × (c : ℕ) × (rest : List ℕ) × IsCutUpTo text ts front (c ∷ rest) × (p ≡ place_behind front) × BeginsBadNumber c rest
+    (front : List ℕ) × (c : ℕ) × (rest : List ℕ) × IsFineUpTo text ts front (c ∷ rest) × (p ≡ place_behind front) × BeginsBadNumber c rest
 
 -- ---- 4: texts and brackets that aren't closed
 -- a quote, with which no text is spelled
@@ -76,22 +70,10 @@ pub record IsLeftOpen (ts : List Token) (p : Place) : Type 0 where
 -- a text is not closed on its line, or the text has no characters more and a bracket is left open
 abbrev pub UnclosedAreOpen : Type 0
 UnclosedAreOpen = (text : List ℕ) (ts : List Token) (p : Place) → IsLexed text ts (Some (fault.Unclosed p)) →
-    ((front : List ℕ) × (c : ℕ) × (rest : List ℕ) × IsCutUpTo text ts front (c ∷ rest) × (p ≡ place_behind front) × OpensText c rest)
-    ⊎ (IsCutUpTo text ts (chars text) [] × IsLeftOpen ts p)
+    ((front : List ℕ) × (c : ℕ) × (rest : List ℕ) × IsFineUpTo text ts front (c ∷ rest) × (p ≡ place_behind front) × OpensText c rest)
+    ⊎ (IsFineUpTo text ts (chars text) [] × IsLeftOpen ts p)
 
 -- ---- 5: indentations
--- the first column, or behind a line feed
-abbrev pub StartsLine : List ℕ → Type 0
-StartsLine cs = (cs ≡ []) ⊎ ((before : List ℕ) × (cs ≡ before ++ 10 ∷ []))
-
--- behind the characters front and the tokens ts a line begins, outside brackets, and nothing but these blanks stands in it
-pub record IsLedBy (blanks : List ℕ) (ts : List Token) (front : List ℕ) : Type 0 where
-  pub before : List ℕ
-  pub parts : front ≡ before ++ blanks
-  pub starts : StartsLine before
-  pub are : AreBlanks blanks
-  pub outside : brackets_left 0 ts ≡ 0
-
 -- the depths of the blocks that are open behind a token, outermost first
 abbrev pub blocks_with : List ℕ → ℕ → TokenKind → List ℕ
 blocks_with blocks depth kind.Indent = blocks ++ depth ∷ []
@@ -109,7 +91,7 @@ DoesNotFollow blanks ts = IsTrue (tab_among blanks) ⊎ ((marks : List TokenKind
 
 abbrev pub IndentsDoNotFollow : Type 0
 IndentsDoNotFollow = (text : List ℕ) (ts : List Token) (p : Place) → IsLexed text ts (Some (fault.Indent p)) →
-    (front : List ℕ) × (c : ℕ) × (rest : List ℕ) × (blanks : List ℕ) × IsCutUpTo text ts front (c ∷ rest) × (p ≡ place_behind front) × (BeginsNothing c rest → ⊥) × IsLedBy blanks ts front × DoesNotFollow blanks ts
+    (front : List ℕ) × (c : ℕ) × (rest : List ℕ) × (blanks : List ℕ) × IsFineUpTo text ts front (c ∷ rest) × (p ≡ place_behind front) × (BeginsNothing c rest → ⊥) × IsLedBy blanks ts front × DoesNotFollow blanks ts
 
 -- ---- 7: more than 64 are open
 -- a bracket opens there
@@ -123,4 +105,4 @@ BeginsBlock c rest ts front = (blanks : List ℕ) × (BeginsNothing c rest → �
 -- there are 64 already
 abbrev pub TooDeepAreAbove64 : Type 0
 TooDeepAreAbove64 = (text : List ℕ) (ts : List Token) (p : Place) → IsLexed text ts (Some (fault.TooDeep p)) →
-    (front : List ℕ) × (c : ℕ) × (rest : List ℕ) × IsCutUpTo text ts front (c ∷ rest) × (p ≡ place_behind front) × (brackets_left 0 ts + blocks_left 0 ts ≡ 64) × (OpensBracket c ⊎ BeginsBlock c rest ts front)
+    (front : List ℕ) × (c : ℕ) × (rest : List ℕ) × IsFineUpTo text ts front (c ∷ rest) × (p ≡ place_behind front) × (brackets_left 0 ts + blocks_left 0 ts ≡ 64) × (OpensBracket c ⊎ BeginsBlock c rest ts front)

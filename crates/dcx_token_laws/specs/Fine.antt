@@ -1,16 +1,28 @@
 -- A text without a fault, told of the text and its tokens.
-use Rattle.std.specs.Prelude.{◌≡◌, ℕ, IsFalse, List, [], ◌∷◌, ◌++◌, None}
+use Rattle.std.specs.Prelude.{◌≡◌, ◌⊎◌, ℕ, IsFalse, List, [], ◌∷◌, ◌++◌, None}
 use Rattle.std.specs.Str.{chars}
 use Rattle.dcx_frac.specs.declared.fraction.Frac.{Frac}
 use Rattle.dcx_tokens.specs.declared.token.Token.{Token}
 use Rattle.dcx_tokens.specs.declared.token.TokenKind.TheVariants as kind
 use Rattle.dcx_tokens.specs.Front.{tab_among}
-use Rattle.dcx_tokens.specs.Laws.{StaysShallow}
+use Rattle.dcx_tokens.specs.Laws.{brackets_left, StaysShallow}
 use Rattle.dcx_tokens.specs.Number.{is_spoiled}
 use Rattle.dcx_tokens.specs.Reading.{IsLexed}
-use Rattle.dcx_token_laws.specs.Cut.{Spans, Cut}
-use Rattle.dcx_token_laws.specs.Faults.{IsLedBy}
+use Rattle.dcx_token_laws.specs.Cut.{AreBlanks, Spans, Cut}
 use Rattle.dcx_token_laws.specs.Lines.{IsOfWords, AreLines}
+
+-- ---- numbers, and the blanks that lead lines
+-- the first column, or behind a line feed
+abbrev pub StartsLine : List ℕ → Type 0
+StartsLine cs = (cs ≡ []) ⊎ ((before : List ℕ) × (cs ≡ before ++ 10 ∷ []))
+
+-- behind the characters front and the tokens ts a line begins, outside brackets, and nothing but these blanks stands in it
+pub record IsLedBy (blanks : List ℕ) (ts : List Token) (front : List ℕ) : Type 0 where
+  pub before : List ℕ
+  pub parts : front ≡ before ++ blanks
+  pub starts : StartsLine before
+  pub are : AreBlanks blanks
+  pub outside : brackets_left 0 ts ≡ 0
 
 -- behind the tokens before stands the token t, and behind the characters front those of it, and then those of behind
 pub record StandsThere (cs : List ℕ) (ts before : List Token) (t : Token) (front behind : List ℕ) : Type 0 where
@@ -28,8 +40,17 @@ NumbersEnd cs ts = (before : List Token) (t : Token) (front behind : List ℕ) (
 abbrev pub SpacesLead : List ℕ → List Token → Type 0
 SpacesLead cs ts = (before : List Token) (t : Token) (front behind blanks : List ℕ) → StandsThere cs ts before t front behind → IsOfWords t.kind → IsLedBy blanks before front → IsFalse (tab_among blanks)
 
--- the text can be cut into these tokens, they are those of lines, no more than 64 brackets and blocks are open together behind any
--- of them, and numbers end and lines begin as they must
+-- ---- a part of a text, and the whole
+-- up to the characters rest, which stand behind those of front, the text is cut into these tokens, no more than 64 brackets and
+-- blocks are open together behind any of them, and numbers end and lines begin as they must
+pub record IsFineUpTo (text : List ℕ) (ts : List Token) (front rest : List ℕ) : Type 0 where
+  pub parts : chars text ≡ front ++ rest
+  pub cut : Cut [] (chars text) ts rest
+  pub shallow : StaysShallow 0 0 ts
+  pub numbers : NumbersEnd (chars text) ts
+  pub spaces : SpacesLead (chars text) ts
+
+-- so is the whole of it, and the tokens are those of lines
 pub record IsFine (text : List ℕ) (ts : List Token) : Type 0 where
   pub cut : Cut [] (chars text) ts []
   pub lines : AreLines [] ts
@@ -37,6 +58,7 @@ pub record IsFine (text : List ℕ) (ts : List Token) : Type 0 where
   pub numbers : NumbersEnd (chars text) ts
   pub spaces : SpacesLead (chars text) ts
 
--- such a text has no fault, and these are its tokens
-abbrev pub FineTextsAreRead : Type 0
-FineTextsAreRead = (text : List ℕ) (ts : List Token) → IsFine text ts → IsLexed text ts None
+-- a text has no fault, and these are its tokens, exactly where that is so
+pub record FineTextsAreRead : Type 0 where
+  pub fine_is_read : (text : List ℕ) (ts : List Token) → IsFine text ts → IsLexed text ts None
+  pub read_is_fine : (text : List ℕ) (ts : List Token) → IsLexed text ts None → IsFine text ts

@@ -3,5 +3,5 @@ pub mod Words
 pub mod Cut
 pub mod Lines
 pub mod OneList
-pub mod Faults
 pub mod Fine
+pub mod Faults
