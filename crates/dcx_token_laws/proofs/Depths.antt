@@ -365,18 +365,18 @@ module _ (s : State) (c : ℕ) (cs : List ℕ) (n : ℕ) (rising : IsRising 0 s.
   -- ---- in front of the first token of a line
   module _ (blanks : List ℕ) (is : IsLed blanks s) (none : length s.brackets ≡ 0) where
     -- what the first token finds
-    record IsTurned (u : State) : Type 0 where
-      marks : List Token
-      tokens : u.tokens ≡ s.tokens ++ marks
-      places : All (λ m. m.place ≡ s.at.place) marks
-      turns_so : Turns s.indents (length blanks) (kinds marks) u.indents
-      rises : IsRising 0 u.indents
-      brackets : length u.brackets ≡ 0
-      at : u.at ≡ s.at
-      begun : HasBegun u
-      spans : (front : List ℕ) → IsBehind front s → AreMarks front marks
+    pub record IsTurned (u : State) : Type 0 where
+      pub marks : List Token
+      pub tokens : u.tokens ≡ s.tokens ++ marks
+      pub places : All (λ m. m.place ≡ s.at.place) marks
+      pub turns_so : Turns s.indents (length blanks) (kinds marks) u.indents
+      pub rises : IsRising 0 u.indents
+      pub brackets : length u.brackets ≡ 0
+      pub at : u.at ≡ s.at
+      pub begun : HasBegun u
+      pub spans : (front : List ℕ) → IsBehind front s → AreMarks front marks
 
-    turned : (u : State) → Turned s u (length blanks) → IsTurned u
+    pub turned : (u : State) → Turned s u (length blanks) → IsTurned u
     turned u (deeper d same) =
         let token = token_of s kind.Indent [] in
         subst IsTurned (sym same) (record {

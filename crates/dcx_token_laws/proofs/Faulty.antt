@@ -20,6 +20,7 @@ use Rattle.dcx_token_laws.specs.Faults.{BadCharsBeginNothing, BeginsNothing}
 use Rattle.dcx_token_laws.specs.Fine.{IsFineUpTo}
 use Rattle.dcx_token_laws.specs.Words.{IsSign, IsWord}
 use Rattle.dcx_token_laws.proofs.Basics.{head_is, tail_is, none_is, never_both}
+use Rattle.dcx_token_laws.proofs.Begun.{lines_begin}
 use Rattle.dcx_token_laws.proofs.Forms.{IsFormed, HasBegun, IsLed}
 use Rattle.dcx_token_laws.proofs.Halts.{IsBegun, Starts, starts_token, starts_number, starts_text, LineHalts, tab, full, apart, Halts, char, line, bad_number, open_text, bracket, halted}
 use Rattle.dcx_token_laws.proofs.Heads.{none_word}
@@ -137,13 +138,13 @@ stopping text ts f lexed =
           left = t;
           first = c;
           rest = cs;
-          up_to = record { parts = walks.parts; cut = subst (λ xs. Cut [] (chars text) ts xs) is cut; shallow = shallow text ts (Some f) lexed; numbers = numbers_end text ts (Some f) lexed; spaces = spaces_lead text ts (Some f) lexed };
+          up_to = record { parts = walks.parts; cut = subst (λ xs. Cut [] (chars text) ts xs) is cut; lines = lines_begin text ts f lexed; shallow = shallow text ts (Some f) lexed; numbers = numbers_end text ts (Some f) lexed; spaces = spaces_lead text ts (Some f) lexed };
           walks = walks;
           tokens = tokens;
           halts = halted s t c cs f (spot_formed s front (c ∷ cs) walks.spot) e;
         })
     by front rest cut (at_end s opener is walks last f_is tokens) =
-        inr (record { state = s; opener = opener; up_to = record { parts = sym (append-nil (chars text)); cut = subst (λ xs. Cut [] (chars text) ts xs) is cut; shallow = shallow text ts (Some f) lexed; numbers = numbers_end text ts (Some f) lexed; spaces = spaces_lead text ts (Some f) lexed }; stacks = subst (λ us. Stacks us s.indents s.brackets) tokens walks.stacks; last = last; is = f_is })
+        inr (record { state = s; opener = opener; up_to = record { parts = sym (append-nil (chars text)); cut = subst (λ xs. Cut [] (chars text) ts xs) is cut; lines = lines_begin text ts f lexed; shallow = shallow text ts (Some f) lexed; numbers = numbers_end text ts (Some f) lexed; spaces = spaces_lead text ts (Some f) lexed }; stacks = subst (λ us. Stacks us s.indents s.brackets) tokens walks.stacks; last = last; is = f_is })
 
 -- the faults differ
 abbrev pub place_in : ReadFault → Place

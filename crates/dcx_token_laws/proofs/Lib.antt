@@ -28,3 +28,4 @@ pub mod Points
 pub mod Totals
 pub mod Unhalted
 pub mod Standing
+pub mod Begun

@@ -41,11 +41,12 @@ abbrev pub SpacesLead : List ℕ → List Token → Type 0
 SpacesLead cs ts = (before : List Token) (t : Token) (front behind blanks : List ℕ) → StandsThere cs ts before t front behind → IsOfWords t.kind → IsLedBy blanks before front → IsFalse (tab_among blanks)
 
 -- ---- a part of a text, and the whole
--- up to the characters rest, which stand behind those of front, the text is cut into these tokens, no more than 64 brackets and
--- blocks are open together behind any of them, and numbers end and lines begin as they must
+-- up to the characters rest, which stand behind those of front, the text is cut into these tokens, with some more they are those of
+-- lines, no more than 64 brackets and blocks are open together behind any of them, and numbers end and lines begin as they must
 pub record IsFineUpTo (text : List ℕ) (ts : List Token) (front rest : List ℕ) : Type 0 where
   pub parts : chars text ≡ front ++ rest
   pub cut : Cut [] (chars text) ts rest
+  pub lines : (more : List Token) × AreLines [] (ts ++ more)
   pub shallow : StaysShallow 0 0 ts
   pub numbers : NumbersEnd (chars text) ts
   pub spaces : SpacesLead (chars text) ts
