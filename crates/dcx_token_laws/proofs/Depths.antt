@@ -52,14 +52,14 @@ next_column s c e = by (is_one c e)
     by (inl is) = rw is refl
     by (inr is) = rw is refl
 
-blanks_column : (s : State) (cs : List ℕ) → AreBlanks cs → (moved_over s.at cs).place.column ≡ s.at.place.column + length cs
+pub blanks_column : (s : State) (cs : List ℕ) → AreBlanks cs → (moved_over s.at cs).place.column ≡ s.at.place.column + length cs
 blanks_column s [] h = omega arith
 blanks_column s (c ∷ cs) h =
     let one = next_column s c (All-head (λ d. IsTrue (is_blank d)) c cs h) in
     let more = blanks_column (record s { at = next_at s.at c }) cs (All-tail (λ d. IsTrue (is_blank d)) c cs h) in
     omega (arith, one, more)
 
-line_end_column : (s : State) (cs : List ℕ) → IsLineEnd cs → (moved_over s.at cs).place.column ≡ 1
+pub line_end_column : (s : State) (cs : List ℕ) → IsLineEnd cs → (moved_over s.at cs).place.column ≡ 1
 line_end_column s cs (inl is) = rw is refl
 line_end_column s cs (inr is) = rw is refl
 
@@ -83,13 +83,13 @@ no_feeds : (cs behind : List ℕ) → HasNoLineEnd cs behind → HasNoFeed cs
 no_feeds [] behind h = All-nil (λ d. d ≢ 10)
 no_feeds (c ∷ cs) behind h = All-cons (λ d. d ≢ 10) c cs (not_end c (cs ++ behind) h.0) (no_feeds cs behind h.1)
 
-comment_feeds : (front behind : List ℕ) → IsComment front behind → HasNoFeed front
+pub comment_feeds : (front behind : List ℕ) → IsComment front behind → HasNoFeed front
 comment_feeds [] behind h = absurd h
 comment_feeds (x ∷ xs) behind h = All-cons (λ d. d ≢ 10) x xs (hash_other x h.0) (no_feeds xs behind h.1)
 
 -- ---- where the reading stands in its line
 -- behind blanks comes no other
-abbrev NoMore : List ℕ → List ℕ → Type 0
+abbrev pub NoMore : List ℕ → List ℕ → Type 0
 NoMore [] cs = Unit {0}
 NoMore (b ∷ bs) [] = Unit {0}
 NoMore (b ∷ bs) (c ∷ cs) = is_blank c ≡ false
@@ -102,43 +102,43 @@ no_more_behind (c ∷ cs) b bs = by (is_blank c) refl (no_more_behind cs b bs)
     by true e more = rw one-add more
     by false e more = e
 
-no_more : (c : ℕ) (cs : List ℕ) (n : ℕ) → n ≡ 1 + run_of is_blank cs → NoMore (take n (c ∷ cs)) (drop n (c ∷ cs))
+pub no_more : (c : ℕ) (cs : List ℕ) (n : ℕ) → n ≡ 1 + run_of is_blank cs → NoMore (take n (c ∷ cs)) (drop n (c ∷ cs))
 no_more c cs n count =
     let m : n ≡ suc (prefix_len is_blank cs) = count ∙ ap (λ i. 1 + i) (run_is is_blank cs) ∙ one-add (prefix_len is_blank cs) in
     rw m (no_more_behind cs c (take (prefix_len is_blank cs) cs))
 
 -- the line has a token, the last on this row, which is the reading's too unless a bracket is open; or blanks alone, all of them; or it is at its end, and has none
-data Stage (s : State) (cs : List ℕ) : Type 0 where
+pub data Stage (s : State) (cs : List ℕ) : Type 0 where
   within : (row : ℕ) → HasBegun s → (s.at.place.line ≡ row) ⊎ (0 < length s.brackets) → Stage s cs
   leads : (blanks : List ℕ) → IsLed blanks s → length s.brackets ≡ 0 → s.at.place.column ≡ 1 + length blanks → NoMore blanks cs → Stage s cs
   closing : (blanks : List ℕ) → IsLed blanks s → length s.brackets ≡ 0 → EndsLine cs → Stage s cs
 
 -- ---- the tokens that come
-kinds-replicate : (n : ℕ) (d : Token) → kinds (replicate n d) ≡ replicate n d.kind
+pub kinds-replicate : (n : ℕ) (d : Token) → kinds (replicate n d) ≡ replicate n d.kind
 kinds-replicate zero d = refl
 kinds-replicate (suc n) d = ap (λ ks. d.kind ∷ ks) (kinds-replicate n d)
 
 -- the rest of a line, and then lines
-record IsInside (blocks : List ℕ) (row brackets : ℕ) (new : List Token) : Type 0 where
-  more : List Token
-  end : Token
-  behind : List Token
-  are : new ≡ more ++ end ∷ behind
-  words : All (λ t. IsOfWords t.kind) more
-  closed : brackets_left brackets more ≡ 0
-  together : IsTogether row brackets (more ++ end ∷ [])
-  newline : end.kind ≡ kind.Newline
-  lines : AreLines blocks behind
+pub record IsInside (blocks : List ℕ) (row brackets : ℕ) (new : List Token) : Type 0 where
+  pub more : List Token
+  pub end : Token
+  pub behind : List Token
+  pub are : new ≡ more ++ end ∷ behind
+  pub words : All (λ t. IsOfWords t.kind) more
+  pub closed : brackets_left brackets more ≡ 0
+  pub together : IsTogether row brackets (more ++ end ∷ [])
+  pub newline : end.kind ≡ kind.Newline
+  pub lines : AreLines blocks behind
 
-abbrev Goes : (s : State) (cs : List ℕ) → Stage s cs → List Token → Type 0
+abbrev pub Goes : (s : State) (cs : List ℕ) → Stage s cs → List Token → Type 0
 Goes s cs (within row is here) new = IsInside s.indents row (length s.brackets) new
 Goes s cs (leads blanks is none column last) new = AreLines s.indents new
 Goes s cs (closing blanks is none end) new = AreLines s.indents new
 
-record IsLined (s : State) (cs : List ℕ) (ts : List Token) (stage : Stage s cs) : Type 0 where
-  new : List Token
-  tokens : ts ≡ s.tokens ++ new
-  goes : Goes s cs stage new
+pub record IsLined (s : State) (cs : List ℕ) (ts : List Token) (stage : Stage s cs) : Type 0 where
+  pub new : List Token
+  pub tokens : ts ≡ s.tokens ++ new
+  pub goes : Goes s cs stage new
 
 -- ---- the first token of the rest of a line
 module _ (blocks : List ℕ) (row brackets : ℕ) (end : Token) (behind : List Token) (newline : end.kind ≡ kind.Newline) (t : Token) (ts : List Token) where
@@ -163,7 +163,7 @@ module _ (blocks : List ℕ) (row brackets : ℕ) (end : Token) (behind : List T
         lines = lines;
       })
 
-  no_mark_first : (more : List Token) → t ∷ ts ≡ more ++ end ∷ behind → All (λ u. IsOfWords u.kind) more → IsMark t.kind → ⊥
+  pub no_mark_first : (more : List Token) → t ∷ ts ≡ more ++ end ∷ behind → All (λ u. IsOfWords u.kind) more → IsMark t.kind → ⊥
   no_mark_first [] e words mark = mark_not_newline t.kind mark (ap (λ (u : Token). u.kind) (head_is t end ts behind e) ∙ newline)
   no_mark_first (x ∷ xs) e words mark = word_not x t (sym (head_is t x ts (xs ++ end ∷ behind) e)) (All-head (λ u. IsOfWords u.kind) x xs words) mark
 
@@ -193,25 +193,25 @@ row_behind s front cs h = let e = next_behind s (moved s cs) front cs h refl in 
 
 -- ---- a step
 -- the tokens that are left behind a step
-record After (s t : State) (front rest : List ℕ) (us : List Token) (here : Stage t rest) : Type 0 where
-  left : List Token
-  cut : Cut front rest left []
-  goes : Goes t rest here left
-  tokens : s.tokens ++ us ≡ t.tokens ++ left
+pub record After (s t : State) (front rest : List ℕ) (us : List Token) (here : Stage t rest) : Type 0 where
+  pub left : List Token
+  pub cut : Cut front rest left []
+  pub goes : Goes t rest here left
+  pub tokens : s.tokens ++ us ≡ t.tokens ++ left
 
 -- Where a step leads: lines that come behind it make lines that come before it, and of tokens that are those of lines and cut
 -- the characters those are left that do so behind it.
-record Next (s t : State) (cs taken rest : List ℕ) (stage : Stage s cs) : Type 0 where
-  here : Stage t rest
-  rising : IsRising 0 t.indents
-  before : (ts : List Token) → IsLined t rest ts here → IsLined s cs ts stage
-  after : (front : List ℕ) → IsBehind front s → (us : List Token) → Cut front cs us [] → Goes s cs stage us → After s t (front ++ taken) rest us here
+pub record Next (s t : State) (cs taken rest : List ℕ) (stage : Stage s cs) : Type 0 where
+  pub here : Stage t rest
+  pub rising : IsRising 0 t.indents
+  pub before : (ts : List Token) → IsLined t rest ts here → IsLined s cs ts stage
+  pub after : (front : List ℕ) → IsBehind front s → (us : List Token) → Cut front cs us [] → Goes s cs stage us → After s t (front ++ taken) rest us here
 
 word_if : (o : Option Keyword) → IsOfWords (kind_if o)
 word_if (Some w) = tt
 word_if None = tt
 
-is_of_words : (c : ℕ) (cs : List ℕ) (k : TokenKind) (n : ℕ) → IsToken c cs k n → IsOfWords k
+pub is_of_words : (c : ℕ) (cs : List ℕ) (k : TokenKind) (n : ℕ) → IsToken c cs k n → IsOfWords k
 is_of_words c cs k n (steps.name b count is) = subst IsOfWords (sym is) (word_if _)
 is_of_words c cs k n (steps.number x b d is same) = subst IsOfWords (sym same) tt
 is_of_words c cs k n (steps.text m b d q is count same) = subst IsOfWords (sym same) tt
@@ -365,18 +365,18 @@ module _ (s : State) (c : ℕ) (cs : List ℕ) (n : ℕ) (rising : IsRising 0 s.
   -- ---- in front of the first token of a line
   module _ (blanks : List ℕ) (is : IsLed blanks s) (none : length s.brackets ≡ 0) where
     -- what the first token finds
-    record IsTurned (u : State) : Type 0 where
-      marks : List Token
-      tokens : u.tokens ≡ s.tokens ++ marks
-      places : All (λ m. m.place ≡ s.at.place) marks
-      turns_so : Turns s.indents (length blanks) (kinds marks) u.indents
-      rises : IsRising 0 u.indents
-      brackets : length u.brackets ≡ 0
-      at : u.at ≡ s.at
-      begun : HasBegun u
-      spans : (front : List ℕ) → IsBehind front s → AreMarks front marks
+    pub record IsTurned (u : State) : Type 0 where
+      pub marks : List Token
+      pub tokens : u.tokens ≡ s.tokens ++ marks
+      pub places : All (λ m. m.place ≡ s.at.place) marks
+      pub turns_so : Turns s.indents (length blanks) (kinds marks) u.indents
+      pub rises : IsRising 0 u.indents
+      pub brackets : length u.brackets ≡ 0
+      pub at : u.at ≡ s.at
+      pub begun : HasBegun u
+      pub spans : (front : List ℕ) → IsBehind front s → AreMarks front marks
 
-    turned : (u : State) → Turned s u (length blanks) → IsTurned u
+    pub turned : (u : State) → Turned s u (length blanks) → IsTurned u
     turned u (deeper d same) =
         let token = token_of s kind.Indent [] in
         subst IsTurned (sym same) (record {
@@ -537,13 +537,13 @@ module _ (s : State) (c : ℕ) (cs : List ℕ) (n : ℕ) (rising : IsRising 0 s.
       next_leads t (steps.word u v k l b begins_so token nested_so same) =
           next_first t u v k l (turned u (turns s u blanks is begins_so)) token (nests u v k nested_so) same
 
-next : (s t : State) (c : ℕ) (cs : List ℕ) (n : ℕ) → IsRising 0 s.indents → (stage : Stage s (c ∷ cs)) → Step s t c cs n → Next s t (c ∷ cs) (take n (c ∷ cs)) (drop n (c ∷ cs)) stage
+pub next : (s t : State) (c : ℕ) (cs : List ℕ) (n : ℕ) → IsRising 0 s.indents → (stage : Stage s (c ∷ cs)) → Step s t c cs n → Next s t (c ∷ cs) (take n (c ∷ cs)) (drop n (c ∷ cs)) stage
 next s t c cs n rising (within row is here) step = next_within s c cs n rising row is here t step
 next s t c cs n rising (leads blanks is none column last) step = next_leads s c cs n rising blanks is none column last t step
 next s t c cs n rising (closing blanks is none end) step = next_closing s c cs n rising blanks is none t end step
 
 -- ---- the end
-no_last : (xs : List Place) → slice_get xs (length xs - 1) ≡ None → length xs ≡ 0
+pub no_last : (xs : List Place) → slice_get xs (length xs - 1) ≡ None → length xs ≡ 0
 no_last [] e = refl
 no_last (x ∷ xs) e =
     let some = slice_get-get_or (x ∷ xs) (length (x ∷ xs) - 1) x (omega arith) in

@@ -97,8 +97,11 @@ number_not_plain c cs e p = by (nat_lt c 128) (is_ascii_alphabetic c || eqb c 95
 below_range : (c low high : ℕ) → c < low → is_in_range low high c ≡ false
 below_range c low high h = grind (arith, nat_tests)
 
-in_range : (c low high : ℕ) → is_in_range low high c ≡ true → (low ≤ c) × (c ≤ high)
+pub in_range : (c low high : ℕ) → is_in_range low high c ≡ true → (low ≤ c) × (c ≤ high)
 in_range c low high e = (grind (arith, nat_tests), grind (arith, nat_tests))
+
+pub digit_small : (c : ℕ) → is_ascii_digit c ≡ true → c < 128
+digit_small c e = let r = in_range c 48 57 e in let high = r.1 in omega (arith, high)
 
 -- no letter, no underscore and no quote
 record IsOther (c : ℕ) : Type 0 where

@@ -35,10 +35,10 @@ pub data Begins (s u : State) : Type 0 where
   begun : HasBegun s → u ≡ s → Begins s u
   turned : (blanks : List ℕ) → IsLed blanks s → Turned s u (length blanks) → Begins s u
 
-never_ok : {A : Type 0} (s u : State) (f : ReadFault) (a : A) → ◌≡◌ {A = Answer A} (s, Err f) (u, Ok a) → ⊥
+pub never_ok : {A : Type 0} (s u : State) (f : ReadFault) (a : A) → ◌≡◌ {A = Answer A} (s, Err f) (u, Ok a) → ⊥
 never_ok {A = A} s u f a e = let no : ◌≡◌ {A = Result A ReadFault} (Err f) (Ok a) = ap (λ (p : Answer A). p.1) e in cc
 
-first_is : (s u : State) → ◌≡◌ {A = Answer (Unit {0})} (s, Ok tt) (u, Ok tt) → u ≡ s
+pub first_is : (s u : State) → ◌≡◌ {A = Answer (Unit {0})} (s, Ok tt) (u, Ok tt) → u ≡ s
 first_is s u e = sym (ap (λ (p : Answer (Unit {0})). p.0) e)
 
 pub turns : (s u : State) (blanks : List ℕ) → IsLed blanks s → line_begun_at s s.line ≡ (u, Ok tt) → Turned s u (length blanks)

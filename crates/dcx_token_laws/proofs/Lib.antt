@@ -6,6 +6,7 @@ pub mod Spelled
 pub mod Feeds
 pub mod Between
 pub mod Numerals
+pub mod Longer
 pub mod Quotes
 pub mod Firsts
 pub mod OneKind
@@ -14,4 +15,17 @@ pub mod Same
 pub mod Rising
 pub mod Depths
 pub mod Stops
+pub mod Halts
+pub mod Stacks
+pub mod Spots
 pub mod Stretches
+pub mod Stopped
+pub mod Shallow
+pub mod Faulty
+pub mod Unread
+pub mod Follows
+pub mod Points
+pub mod Totals
+pub mod Unhalted
+pub mod Standing
+pub mod Begun

@@ -32,9 +32,9 @@ module _ (p : ℕ → Bool) where
   run_front xs ys h = let e = run_is p (xs ++ ys) in while_front xs ys (omega arith)
 
 -- ---- the fraction
-record IsSameFraction (xs ys : List ℕ) : Type 0 where
-  len : fraction_len xs ≡ fraction_len ys
-  ds : fraction_digits xs ≡ fraction_digits ys
+pub record IsSameFraction (xs ys : List ℕ) : Type 0 where
+  pub len : fraction_len xs ≡ fraction_len ys
+  pub ds : fraction_digits xs ≡ fraction_digits ys
 
 no_fraction : (ys : List ℕ) → fraction_len ys ≤ 0 → IsSameFraction ys []
 no_fraction [] h = record { len = refl; ds = refl }
@@ -53,13 +53,13 @@ fraction_front (x ∷ xs) ys h = by (eqb x 46) refl h
     by false e le = record { len = rw e refl; ds = rw e refl }
 
 -- ---- the exponent
-record IsSameExponent (xs ys : List ℕ) : Type 0 where
-  len : exponent_len xs ≡ exponent_len ys
-  ds : exponent_digits xs ≡ exponent_digits ys
-  sign : is_negative xs ≡ is_negative ys
+pub record IsSameExponent (xs ys : List ℕ) : Type 0 where
+  pub len : exponent_len xs ≡ exponent_len ys
+  pub ds : exponent_digits xs ≡ exponent_digits ys
+  pub sign : is_negative xs ≡ is_negative ys
 
 -- e and E are characters of names
-spoils : (c : ℕ) (cs : List ℕ) → begins_exponent c ≡ true → is_spoiled (c ∷ cs) ≡ true
+pub spoils : (c : ℕ) (cs : List ℕ) → begins_exponent c ≡ true → is_spoiled (c ∷ cs) ≡ true
 spoils c cs e = by (eqb c 101) (eqb c 69) refl refl e
   where
     of : (n : ℕ) → n < 128 → c ≡ n → is_xid_continue n ≡ true → is_spoiled (c ∷ cs) ≡ true
@@ -74,7 +74,7 @@ none_negative : (c : ℕ) (cs : List ℕ) → begins_exponent c ≡ false → is
 none_negative c [] e = refl
 none_negative c (d ∷ ds) e = rw e refl
 
-no_exponent : (c : ℕ) (cs : List ℕ) → begins_exponent c ≡ false → IsSameExponent (c ∷ cs) []
+pub no_exponent : (c : ℕ) (cs : List ℕ) → begins_exponent c ≡ false → IsSameExponent (c ∷ cs) []
 no_exponent c cs e =
     let none : exponent_digits (c ∷ cs) ≡ [] = rw e refl in
     record { len = ap (λ ds. cond (eqb (length ds) 0) 0 (1 + exponent_sign_len cs + length ds)) none; ds = none; sign = none_negative c cs e }
@@ -91,7 +91,7 @@ exponent_none (y ∷ ys) h fine = by (begins_exponent y) refl
     by false e = no_exponent y ys e
 
 -- with digits the exponent counts e, its sign and them
-with_digits : (d : ℕ) (xs ys : List ℕ) (e : ℕ) → begins_exponent e ≡ true → exponent_sign_len ((d ∷ xs) ++ ys) + length (digits (drop (exponent_sign_len ((d ∷ xs) ++ ys)) ((d ∷ xs) ++ ys))) ≤ suc (length xs) →
+pub with_digits : (d : ℕ) (xs ys : List ℕ) (e : ℕ) → begins_exponent e ≡ true → exponent_sign_len ((d ∷ xs) ++ ys) + length (digits (drop (exponent_sign_len ((d ∷ xs) ++ ys)) ((d ∷ xs) ++ ys))) ≤ suc (length xs) →
     IsSameExponent (e ∷ d ∷ (xs ++ ys)) (e ∷ d ∷ xs)
 with_digits d xs ys e begins le =
     let sign = exponent_sign_len (d ∷ xs) in
@@ -145,18 +145,18 @@ spoiled_front [] ys e = refl
 spoiled_front (x ∷ xs) ys e = e
 
 -- the number that is spelled so in front, unless something spoils it
-abbrev number_by : Spelling → List ℕ → Option (Frac × ℕ)
+abbrev pub number_by : Spelling → List ℕ → Option (Frac × ℕ)
 number_by s cs = cond (is_spoiled (drop s.len cs)) None (option_map (λ f. (f, s.len)) (frac_of_spelling s))
 
-by_spelling : (cs : List ℕ) → number_at cs ≡ number_by (spelling_at cs) cs
+pub by_spelling : (cs : List ℕ) → number_at cs ≡ number_by (spelling_at cs) cs
 unfolding number_at
 by_spelling cs = refl
 
-record Told (b : Bool) (len : ℕ) (n : Frac × ℕ) : Type 0 where
-  fine : b ≡ false
-  is : n.1 ≡ len
+pub record Told (b : Bool) (len : ℕ) (n : Frac × ℕ) : Type 0 where
+  pub fine : b ≡ false
+  pub is : n.1 ≡ len
 
-told : (b : Bool) (o : Option Frac) (len : ℕ) (n : Frac × ℕ) → cond b None (option_map (λ (f : Frac). (f, len)) o) ≡ Some n → Told b len n
+pub told : (b : Bool) (o : Option Frac) (len : ℕ) (n : Frac × ℕ) → cond b None (option_map (λ (f : Frac). (f, len)) o) ≡ Some n → Told b len n
 told true o len n e = absurd (let no : ◌≡◌ {A = Option (Frac × ℕ)} None (Some n) = e in cc)
 told false None len n e = absurd (let no : ◌≡◌ {A = Option (Frac × ℕ)} None (Some n) = e in cc)
 told false (Some f) len n e = record { fine = refl; is = let same : ◌≡◌ {A = Option (Frac × ℕ)} (Some (f, len)) (Some n) = e in cc }
@@ -230,7 +230,7 @@ fraction_within (x ∷ xs) = by (eqb x 46)
     by true = omega (arith, run_is is_ascii_digit xs, prefix_len-le-length is_ascii_digit xs)
     by false = omega arith
 
-sign_within : (xs : List ℕ) → exponent_sign_len xs ≤ length xs
+pub sign_within : (xs : List ℕ) → exponent_sign_len xs ≤ length xs
 sign_within [] = omega arith
 sign_within (x ∷ xs) = by (eqb x 43 || eqb x 45)
   where

@@ -15,12 +15,12 @@ sign_not_name s c [] h b = short_not_name c s h b
 sign_not_name s c (d ∷ []) h b = name_not_plain c b (long_plain c d s h)
 sign_not_name s c (d ∷ e ∷ xs) h b = h
 
-sign_not_number : (s : Symbol) (c : ℕ) (xs : List ℕ) → IsSign s (c ∷ xs) → begins_number c xs ≡ true → ⊥
+pub sign_not_number : (s : Symbol) (c : ℕ) (xs : List ℕ) → IsSign s (c ∷ xs) → begins_number c xs ≡ true → ⊥
 sign_not_number s c [] h b = short_not_digit c s h b
 sign_not_number s c (d ∷ []) h b = number_not_plain c (d ∷ []) b (long_plain c d s h)
 sign_not_number s c (d ∷ e ∷ xs) h b = h
 
-sign_not_quote : (s : Symbol) (c : ℕ) (xs : List ℕ) → IsSign s (c ∷ xs) → is_quote c ≡ true → ⊥
+pub sign_not_quote : (s : Symbol) (c : ℕ) (xs : List ℕ) → IsSign s (c ∷ xs) → is_quote c ≡ true → ⊥
 sign_not_quote s c [] h b = short_not_quote c s h b
 sign_not_quote s c (d ∷ []) h b = quote_not_plain c b (long_plain c d s h)
 sign_not_quote s c (d ∷ e ∷ xs) h b = h

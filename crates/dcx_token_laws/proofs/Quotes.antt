@@ -47,3 +47,22 @@ quote_front quote is_taken (c ∷ cs) ys n e le = by (eqb c 10) is_taken (eqb c 
     by false true q h more = counted false h more
     by false false true h more = h
     by false false false h more = counted (eqb c 92) h more
+
+-- the quote that closes it closes it with more behind
+pub quote_longer : (quote : ℕ) (is_taken : Bool) (xs ys : List ℕ) (n : ℕ) → up_to_quote quote is_taken xs ≡ Some n → up_to_quote quote is_taken (xs ++ ys) ≡ Some n
+quote_longer quote is_taken [] ys n e = absurd (none_is n e)
+quote_longer quote is_taken (c ∷ cs) ys n e = by (eqb c 10) is_taken (eqb c quote) e (λ b m. quote_longer quote b cs ys m)
+  where
+    counted : (b : Bool) → option_map (λ m. 1 + m) (up_to_quote quote b cs) ≡ Some n → ((b : Bool) (m : ℕ) → up_to_quote quote b cs ≡ Some m → up_to_quote quote b (cs ++ ys) ≡ Some m) →
+        option_map (λ m. 1 + m) (up_to_quote quote b (cs ++ ys)) ≡ Some n
+    counted b h more =
+        let one = one_more (up_to_quote quote b cs) n h in
+        rw (more b one.count one.was) (ap (λ m. Some m) (sym one.is))
+
+    by : (l t q : Bool) → cond l None (cond t (option_map (λ m. 1 + m) (up_to_quote quote false cs)) (cond q (Some 1) (option_map (λ m. 1 + m) (up_to_quote quote (eqb c 92) cs)))) ≡ Some n →
+        ((b : Bool) (m : ℕ) → up_to_quote quote b cs ≡ Some m → up_to_quote quote b (cs ++ ys) ≡ Some m) →
+        cond l None (cond t (option_map (λ m. 1 + m) (up_to_quote quote false (cs ++ ys))) (cond q (Some 1) (option_map (λ m. 1 + m) (up_to_quote quote (eqb c 92) (cs ++ ys))))) ≡ Some n
+    by true t q h more = h
+    by false true q h more = counted false h more
+    by false false true h more = h
+    by false false false h more = counted (eqb c 92) h more

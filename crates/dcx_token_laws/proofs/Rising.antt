@@ -30,7 +30,7 @@ le_false : (a b : ℕ) → b < a → nat_le a b ≡ false
 le_false a b h = grind (arith, nat_tests)
 
 -- ---- deeper than all
-all_below : (xs : List ℕ) (x : ℕ) → list_all (λ i. nat_lt i x) xs ≡ true → All (λ d. d < x) xs
+pub all_below : (xs : List ℕ) (x : ℕ) → list_all (λ i. nat_lt i x) xs ≡ true → All (λ d. d < x) xs
 all_below [] x e = All-nil (λ d. d < x)
 all_below (y ∷ ys) x e = All-cons (λ d. d < x) y ys (is_less y x (left (nat_lt y x) (list_all (λ i. nat_lt i x) ys) e)) (all_below ys x (right (nat_lt y x) (list_all (λ i. nat_lt i x) ys) e))
 

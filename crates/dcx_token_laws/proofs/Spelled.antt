@@ -121,7 +121,7 @@ is_word c cs k n (sign s b d q e count same) =
     subst (λ j. IsWord j (take n (c ∷ cs))) (sym same) (subst (λ i. IsSign s (take i (c ∷ cs))) (sym count) (sign_cases c cs s e))
 
 -- ---- no more of the text would spell a token
-sign_some : (s : Symbol) → 0 < sign_len s
+pub sign_some : (s : Symbol) → 0 < sign_len s
 sign_some symbol.StarStar = omega arith
 sign_some _ = omega arith
 
@@ -136,7 +136,7 @@ no_sign c s (d ∷ []) xs ys e h n = absurd (n (long_plain c d s h))
 no_sign c s (d ∷ f ∷ us) xs ys e h n = absurd h
 
 -- what begins a number begins one with more behind
-begins_more : (c : ℕ) (us rest : List ℕ) → begins_number c us ≡ true → begins_number c (us ++ rest) ≡ true
+pub begins_more : (c : ℕ) (us rest : List ℕ) → begins_number c us ≡ true → begins_number c (us ++ rest) ≡ true
 begins_more c [] rest e = digit_begins c rest e
 begins_more c (d ∷ us) rest e = e
 

@@ -50,19 +50,19 @@ pub front_is_sign : (c : ℕ) (cs : List ℕ) (symbol : Symbol) → ends_line c 
 unfolding front_at
 front_is_sign c cs symbol l b h n d q e = rw (l, b, h, n, d, q, e) refl
 
-name_token : (place : Place) (c : ℕ) (cs : List ℕ) → ends_line c cs ≡ false → is_blank c ≡ false → eqb c 35 ≡ false → begins_name c ≡ true → token_at place (front_at c cs) c cs ≡ Ok (word_token_of (c ∷ cs) cs)
+pub name_token : (place : Place) (c : ℕ) (cs : List ℕ) → ends_line c cs ≡ false → is_blank c ≡ false → eqb c 35 ≡ false → begins_name c ≡ true → token_at place (front_at c cs) c cs ≡ Ok (word_token_of (c ∷ cs) cs)
 unfolding front_at token_at
 name_token place c cs l b h n = rw (l, b, h, n) refl
 
-number_token : (place : Place) (c : ℕ) (cs : List ℕ) → ends_line c cs ≡ false → is_blank c ≡ false → eqb c 35 ≡ false → begins_name c ≡ false → begins_number c cs ≡ true → token_at place (front_at c cs) c cs ≡ number_token_of place (c ∷ cs)
+pub number_token : (place : Place) (c : ℕ) (cs : List ℕ) → ends_line c cs ≡ false → is_blank c ≡ false → eqb c 35 ≡ false → begins_name c ≡ false → begins_number c cs ≡ true → token_at place (front_at c cs) c cs ≡ number_token_of place (c ∷ cs)
 unfolding front_at token_at
 number_token place c cs l b h n d = rw (l, b, h, n, d) refl
 
-text_token : (place : Place) (c : ℕ) (cs : List ℕ) → ends_line c cs ≡ false → is_blank c ≡ false → eqb c 35 ≡ false → begins_name c ≡ false → begins_number c cs ≡ false → is_quote c ≡ true → token_at place (front_at c cs) c cs ≡ text_token_of place c cs
+pub text_token : (place : Place) (c : ℕ) (cs : List ℕ) → ends_line c cs ≡ false → is_blank c ≡ false → eqb c 35 ≡ false → begins_name c ≡ false → begins_number c cs ≡ false → is_quote c ≡ true → token_at place (front_at c cs) c cs ≡ text_token_of place c cs
 unfolding front_at token_at
 text_token place c cs l b h n d q = rw (l, b, h, n, d, q) refl
 
-sign_token : (place : Place) (c : ℕ) (cs : List ℕ) (symbol : Symbol) → token_at place (sign_front (Some symbol)) c cs ≡ Ok (kind.Sign symbol, sign_len symbol)
+pub sign_token : (place : Place) (c : ℕ) (cs : List ℕ) (symbol : Symbol) → token_at place (sign_front (Some symbol)) c cs ≡ Ok (kind.Sign symbol, sign_len symbol)
 unfolding token_at
 sign_token place c cs symbol = refl
 
@@ -146,14 +146,14 @@ module _ (s t : State) (c : ℕ) (cs : List ℕ) (n : ℕ) where
       (state_is left t n two.value.1 three.then ∙ ap (λ m. put three.state two.value.0 (take m (c ∷ cs))) (sym count))
 
 module _ (c : ℕ) (cs : List ℕ) where
-  as_token : (a token : TokenKind × ℕ) → IsToken c cs a.0 a.1 → ◌≡◌ {A = Result (TokenKind × ℕ) ReadFault} (Ok a) (Ok token) → IsToken c cs token.0 token.1
+  pub as_token : (a token : TokenKind × ℕ) → IsToken c cs a.0 a.1 → ◌≡◌ {A = Result (TokenKind × ℕ) ReadFault} (Ok a) (Ok token) → IsToken c cs token.0 token.1
   as_token a token is e = subst (λ (p : TokenKind × ℕ). IsToken c cs p.0 p.1) (sym (same_token a token e)) is
 
-  number_is : (place : Place) (token : TokenKind × ℕ) (o : Option (Frac × ℕ)) → begins_name c ≡ false → begins_number c cs ≡ true → number_at (c ∷ cs) ≡ o → number_or place o ≡ Ok token → IsToken c cs token.0 token.1
+  pub number_is : (place : Place) (token : TokenKind × ℕ) (o : Option (Frac × ℕ)) → begins_name c ≡ false → begins_number c cs ≡ true → number_at (c ∷ cs) ≡ o → number_or place o ≡ Ok token → IsToken c cs token.0 token.1
   number_is place token (Some x) n d is e = as_token (kind.Number x.0, x.1) token (number x.0 n d is refl) e
   number_is place token None n d is e = absurd (never_ok (fault.BadNumber place) token e)
 
-  text_is : (place : Place) (token : TokenKind × ℕ) (o : Option ℕ) → begins_name c ≡ false → begins_number c cs ≡ false → is_quote c ≡ true → up_to_quote c false cs ≡ o → text_or place o ≡ Ok token → IsToken c cs token.0 token.1
+  pub text_is : (place : Place) (token : TokenKind × ℕ) (o : Option ℕ) → begins_name c ≡ false → begins_number c cs ≡ false → is_quote c ≡ true → up_to_quote c false cs ≡ o → text_or place o ≡ Ok token → IsToken c cs token.0 token.1
   text_is place token (Some m) n d q is e = as_token (kind.Text, 1 + m) token (text m n d q is refl refl) e
   text_is place token None n d q is e = absurd (never_ok (fault.Unclosed place) token e)
 

@@ -19,23 +19,23 @@ pub data Stops (s t : State) : Type 0 where
   at_once : t ≡ s → Stops s t
   begun : line_begun_at s s.line ≡ (t, Ok tt) → Stops s t
 
-never_err : {A : Type 0} (s t : State) (a : A) (f : ReadFault) → ◌≡◌ {A = Answer A} (s, Ok a) (t, Err f) → ⊥
+pub never_err : {A : Type 0} (s t : State) (a : A) (f : ReadFault) → ◌≡◌ {A = Answer A} (s, Ok a) (t, Err f) → ⊥
 never_err {A = A} s t a f e = let no : ◌≡◌ {A = Result A ReadFault} (Ok a) (Err f) = ap (λ (p : Answer A). p.1) e in cc
 
-left_is : {A : Type 0} (s t : State) (g f : ReadFault) → ◌≡◌ {A = Answer A} (s, Err g) (t, Err f) → t ≡ s
+pub left_is : {A : Type 0} (s t : State) (g f : ReadFault) → ◌≡◌ {A = Answer A} (s, Err g) (t, Err f) → t ≡ s
 left_is {A = A} s t g f e = sym (ap (λ (p : Answer A). p.0) e)
 
 abbrev stop_at : {A : Type 0} → State → ReadFault → Answer A
 stop_at s f = (s, Err f)
 
 -- of two acts the first stops, or the second behind it
-record Second {A B : Type 0} (answer : Answer A) (next : State → A → Answer B) (t : State) (f : ReadFault) : Type 0 where
-  state : State
-  value : A
-  first : answer ≡ (state, Ok value)
-  then : next state value ≡ (t, Err f)
+pub record Second {A B : Type 0} (answer : Answer A) (next : State → A → Answer B) (t : State) (f : ReadFault) : Type 0 where
+  pub state : State
+  pub value : A
+  pub first : answer ≡ (state, Ok value)
+  pub then : next state value ≡ (t, Err f)
 
-one_stops : {A B : Type 0} (answer : Answer A) (next : State → A → Answer B) (t : State) (f : ReadFault) → and_then answer next ≡ (t, Err f) → ((g : ReadFault) × (answer ≡ (t, Err g))) ⊎ Second answer next t f
+pub one_stops : {A B : Type 0} (answer : Answer A) (next : State → A → Answer B) (t : State) (f : ReadFault) → and_then answer next ≡ (t, Err f) → ((g : ReadFault) × (answer ≡ (t, Err g))) ⊎ Second answer next t f
 one_stops (u, Ok a) next t f e = inr (record { state = u; value = a; first = refl; then = e })
 one_stops {A = A} {B = B} (u, Err g) next t f e = inl (g, ap (λ (w : State). stop_at {A = A} w g) (ap (λ (p : Answer B). p.0) e))
 
@@ -59,7 +59,7 @@ sign_left u t symbol g = by (opens symbol) (is_full u) (closes symbol)
     by false f true e = absurd (never_err (record u { brackets = take (length u.brackets - 1) u.brackets }) t tt g e)
     by false f false e = absurd (never_err u t tt g e)
 
-nested_left : (u t : State) (k : TokenKind) (g : ReadFault) → nested u k ≡ (t, Err g) → t ≡ u
+pub nested_left : (u t : State) (k : TokenKind) (g : ReadFault) → nested u k ≡ (t, Err g) → t ≡ u
 nested_left u t (kind.Sign symbol) g e = sign_left u t symbol g e
 nested_left u t kind.Name g e = absurd (never_err u t tt g e)
 nested_left u t (kind.Keyword w) g e = absurd (never_err u t tt g e)
@@ -69,7 +69,7 @@ nested_left u t kind.Newline g e = absurd (never_err u t tt g e)
 nested_left u t kind.Indent g e = absurd (never_err u t tt g e)
 nested_left u t kind.Dedent g e = absurd (never_err u t tt g e)
 
-line_begun_left : (s t : State) (g : ReadFault) → IsFormed s → line_begun_at s s.line ≡ (t, Err g) → t ≡ s
+pub line_begun_left : (s t : State) (g : ReadFault) → IsFormed s → line_begun_at s s.line ≡ (t, Err g) → t ≡ s
 line_begun_left s t g (inl is) e = let same : line_begun_at s s.line ≡ (s, Ok tt) = rw is refl in absurd (never_err s t tt g (sym same ∙ e))
 line_begun_left s t g (inr (blanks, is)) e =
     let same : line_begun_at s s.line ≡ begin_line s (length blanks) (tab_among blanks) = rw is refl in

@@ -1,5 +1,5 @@
 -- Each step of a reading cuts one stretch off the text.
-use Rattle.std.proofs.Common.{◌≡◌, ◌≢◌, inl, inr, ℕ, zero, suc, ◌-◌, List, [], ◌∷◌, ◌++◌, length, take, drop, replicate, Option, Some, None, refl, sym, ap, ◌∙◌, subst, append_assoc, arith}
+use Rattle.std.proofs.Common.{◌≡◌, inl, inr, ℕ, zero, suc, ◌-◌, List, [], ◌∷◌, ◌++◌, length, take, drop, replicate, Option, Some, None, refl, sym, ap, ◌∙◌, subst, append_assoc, arith}
 use Rattle.std.specs.Prelude.{Ok, Err, slice_get}
 use Rattle.std.specs.Str.{chars}
 use Rattle.std.proofs.lemmas.List.{append-nil, take-append-drop}
@@ -70,74 +70,66 @@ turned_marks front s u spaces h (back st same) =
     let n = length s.indents - length (kept s.indents spaces) in
     subst (IsMarked front s) (sym same) (record { marks = replicate n (dedent_at s s.at.place); tokens = refl; at = refl; are = dedents s front n h })
 
-marked : (front : List ℕ) (s u : State) → IsBehind front s → Begins s u → IsMarked front s u
+pub marked : (front : List ℕ) (s u : State) → IsBehind front s → Begins s u → IsMarked front s u
 marked front s u h (begun is same) = subst (IsMarked front s) (sym same) (record { marks = []; tokens = sym (append-nil s.tokens); at = refl; are = All-nil (λ m. IsMark m.kind × Spans m front []) })
 marked front s u h (turned blanks is how) = turned_marks front s u (length blanks) h how
 
 -- ---- a reading from a state on
--- the tokens that are read from there on, and the characters that they cut
-pub record IsCut (s : State) (front cs : List ℕ) (ts : List Token) (f : Option ReadFault) : Type 0 where
+-- the tokens that are read from there on, which cut the characters up to rest
+pub record IsCut (s : State) (front cs rest : List ℕ) (ts : List Token) : Type 0 where
   pub new : List Token
   pub tokens : ts ≡ s.tokens ++ new
-  pub rest : List ℕ
   pub cut : Cut front cs new rest
-  pub whole : f ≡ None → rest ≡ []
 
 -- the same characters, cut in two
 joined : (front : List ℕ) (n : ℕ) (cs : List ℕ) (ts : List Token) (rest : List ℕ) → Cut front (take n cs ++ drop n cs) ts rest → Cut front cs ts rest
 joined front n cs ts rest h = subst (λ xs. Cut front xs ts rest) (take-append-drop n cs) h
 
 -- a stretch without a token
-passed : (s t : State) (front cs : List ℕ) (n : ℕ) (ts : List Token) (f : Option ReadFault) → t.tokens ≡ s.tokens → cuts.IsBetween (take n cs) (drop n cs) →
-    IsCut t (front ++ take n cs) (drop n cs) ts f → IsCut s front cs ts f
-passed s t front cs n ts f same between more = record {
+passed : (s t : State) (front cs : List ℕ) (n : ℕ) (rest : List ℕ) (ts : List Token) → t.tokens ≡ s.tokens → cuts.IsBetween (take n cs) (drop n cs) →
+    IsCut t (front ++ take n cs) (drop n cs) rest ts → IsCut s front cs rest ts
+passed s t front cs n rest ts same between more = record {
   new = more.new;
   tokens = more.tokens ∙ ap (λ us. us ++ more.new) same;
-  rest = more.rest;
-  cut = joined front n cs more.new more.rest (cuts.between (take n cs) between more.cut);
-  whole = more.whole;
+  cut = joined front n cs more.new rest (cuts.between (take n cs) between more.cut);
 }
 
 -- a stretch with a token, behind marks
-tokened : (s t : State) (marks : List Token) (token : Token) (front cs : List ℕ) (n : ℕ) (ts : List Token) (f : Option ReadFault) → t.tokens ≡ (s.tokens ++ marks) ++ token ∷ [] → AreMarks front marks →
-    IsWord token.kind (take n cs) → IsLongest (take n cs) (drop n cs) → Spans token front (take n cs) → IsCut t (front ++ take n cs) (drop n cs) ts f → IsCut s front cs ts f
-tokened s t marks token front cs n ts f same are word longest spans more = record {
+tokened : (s t : State) (marks : List Token) (token : Token) (front cs : List ℕ) (n : ℕ) (rest : List ℕ) (ts : List Token) → t.tokens ≡ (s.tokens ++ marks) ++ token ∷ [] → AreMarks front marks →
+    IsWord token.kind (take n cs) → IsLongest (take n cs) (drop n cs) → Spans token front (take n cs) → IsCut t (front ++ take n cs) (drop n cs) rest ts → IsCut s front cs rest ts
+tokened s t marks token front cs n rest ts same are word longest spans more = record {
   new = marks ++ token ∷ more.new;
   tokens = more.tokens ∙ ap (λ us. us ++ more.new) same ∙ append_assoc (s.tokens ++ marks) (token ∷ []) more.new ∙ append_assoc s.tokens marks (token ∷ more.new);
-  rest = more.rest;
-  cut = joined front n cs (marks ++ token ∷ more.new) more.rest (cuts.word marks (take n cs) are word longest spans more.cut);
-  whole = more.whole;
+  cut = joined front n cs (marks ++ token ∷ more.new) rest (cuts.word marks (take n cs) are word longest spans more.cut);
 }
 
-lined : (s t : State) (token : Token) (front cs : List ℕ) (n : ℕ) (ts : List Token) (f : Option ReadFault) → t.tokens ≡ s.tokens ++ token ∷ [] →
-    token.kind ≡ kind.Newline → cuts.IsLineEnd (take n cs) → Spans token front (take n cs) → IsCut t (front ++ take n cs) (drop n cs) ts f → IsCut s front cs ts f
-lined s t token front cs n ts f same is end spans more = record {
+lined : (s t : State) (token : Token) (front cs : List ℕ) (n : ℕ) (rest : List ℕ) (ts : List Token) → t.tokens ≡ s.tokens ++ token ∷ [] →
+    token.kind ≡ kind.Newline → cuts.IsLineEnd (take n cs) → Spans token front (take n cs) → IsCut t (front ++ take n cs) (drop n cs) rest ts → IsCut s front cs rest ts
+lined s t token front cs n rest ts same is end spans more = record {
   new = token ∷ more.new;
   tokens = more.tokens ∙ ap (λ us. us ++ more.new) same ∙ append_assoc s.tokens (token ∷ []) more.new;
-  rest = more.rest;
-  cut = joined front n cs (token ∷ more.new) more.rest (cuts.line_end (take n cs) is end spans more.cut);
-  whole = more.whole;
+  cut = joined front n cs (token ∷ more.new) rest (cuts.line_end (take n cs) is end spans more.cut);
 }
 
 -- a step cuts one stretch off
-step_cut : (s t : State) (front : List ℕ) (c : ℕ) (cs : List ℕ) (n : ℕ) (ts : List Token) (f : Option ReadFault) → IsBehind front s → IsFormed s → Step s t c cs n →
-    IsCut t (front ++ take n (c ∷ cs)) (drop n (c ∷ cs)) ts f → IsCut s front (c ∷ cs) ts f
-step_cut s t front c cs n ts f h formed (steps.line_end l count same) more = by (line_ends s t (take n (c ∷ cs)) formed same)
+pub step_cut : (s t : State) (front : List ℕ) (c : ℕ) (cs : List ℕ) (n : ℕ) (rest : List ℕ) (ts : List Token) → IsBehind front s → IsFormed s → Step s t c cs n →
+    IsCut t (front ++ take n (c ∷ cs)) (drop n (c ∷ cs)) rest ts → IsCut s front (c ∷ cs) rest ts
+step_cut s t front c cs n rest ts h formed (steps.line_end l count same) more = by (line_ends s t (take n (c ∷ cs)) formed same)
   where
     end : cuts.IsLineEnd (take n (c ∷ cs))
     end = is_line_end c cs n l count
 
-    by : LineEnds s t (take n (c ∷ cs)) → IsCut s front (c ∷ cs) ts f
-    by (closes_it is (over none e)) = lined s t (token_of s kind.Newline (take n (c ∷ cs))) front (c ∷ cs) n ts f (ap (λ (w : State). w.tokens) e) refl end (token_spans s kind.Newline front (take n (c ∷ cs)) h) more
-    by (closes_it is (inside some e)) = passed s t front (c ∷ cs) n ts f (ap (λ (w : State). w.tokens) e) (inr (inr end)) more
-    by (empty blanks is e) = passed s t front (c ∷ cs) n ts f (ap (λ (w : State). w.tokens) e) (inr (inr end)) more
-step_cut s t front c cs n ts f h formed (steps.blank l b count same) more = passed s t front (c ∷ cs) n ts f (ap (λ (w : State). w.tokens) same) (inl (are_blanks c cs n b count)) more
-step_cut s t front c cs n ts f h formed (steps.comment l is count same) more = passed s t front (c ∷ cs) n ts f (ap (λ (w : State). w.tokens) same) (inr (inl (is_comment c cs n is count))) more
-step_cut s t front c cs n ts f h formed (steps.word u v k l b begins_so token nested_so same) more =
+    by : LineEnds s t (take n (c ∷ cs)) → IsCut s front (c ∷ cs) rest ts
+    by (closes_it is (over none e)) = lined s t (token_of s kind.Newline (take n (c ∷ cs))) front (c ∷ cs) n rest ts (ap (λ (w : State). w.tokens) e) refl end (token_spans s kind.Newline front (take n (c ∷ cs)) h) more
+    by (closes_it is (inside some e)) = passed s t front (c ∷ cs) n rest ts (ap (λ (w : State). w.tokens) e) (inr (inr end)) more
+    by (empty blanks is e) = passed s t front (c ∷ cs) n rest ts (ap (λ (w : State). w.tokens) e) (inr (inr end)) more
+step_cut s t front c cs n rest ts h formed (steps.blank l b count same) more = passed s t front (c ∷ cs) n rest ts (ap (λ (w : State). w.tokens) same) (inl (are_blanks c cs n b count)) more
+step_cut s t front c cs n rest ts h formed (steps.comment l is count same) more = passed s t front (c ∷ cs) n rest ts (ap (λ (w : State). w.tokens) same) (inr (inl (is_comment c cs n is count))) more
+step_cut s t front c cs n rest ts h formed (steps.word u v k l b begins_so token nested_so same) more =
     let m = marked front s u h (begins s u formed begins_so) in
     let nest = nests u v k nested_so in
     let behind : IsBehind front v = nest.at ∙ m.at ∙ h in
-    tokened s t m.marks (token_of v k (take n (c ∷ cs))) front (c ∷ cs) n ts f
+    tokened s t m.marks (token_of v k (take n (c ∷ cs))) front (c ∷ cs) n rest ts
     (ap (λ (w : State). w.tokens) same ∙ ap (λ us. us ++ token_of v k (take n (c ∷ cs)) ∷ []) (nest.tokens ∙ m.tokens))
     m.are (is_word c cs k n token) (is_longest c cs k n token) (token_spans v k front (take n (c ∷ cs)) behind) more
 
@@ -182,40 +174,39 @@ finished_cut s front h formed = by (slice_get s.brackets (length s.brackets - 1)
     by None = line_supplied_cut s front h formed
 
 -- where a step stops, marks may stand
-stop_cut : (s t : State) (front : List ℕ) (c : ℕ) (cs : List ℕ) (f : Option ReadFault) → IsBehind front s → IsFormed s → Stops s t → f ≢ None → IsCut s front (c ∷ cs) t.tokens f
-stop_cut s t front c cs f h formed (at_once same) some = record {
-  new = [];
-  tokens = ap (λ (w : State). w.tokens) same ∙ sym (append-nil s.tokens);
-  rest = c ∷ cs;
-  cut = cuts.ended;
-  whole = λ none. absurd (some none);
-}
-stop_cut s t front c cs f h formed (stop_begun e) some =
+pub stop_cut : (s t : State) (front : List ℕ) (c : ℕ) (cs : List ℕ) → IsBehind front s → IsFormed s → Stops s t → IsCut s front (c ∷ cs) (c ∷ cs) t.tokens
+stop_cut s t front c cs h formed (at_once same) = record { new = []; tokens = ap (λ (w : State). w.tokens) same ∙ sym (append-nil s.tokens); cut = cuts.ended }
+stop_cut s t front c cs h formed (stop_begun e) =
     let m = marked front s t h (begins s t formed e) in
-    record {
-      new = m.marks;
-      tokens = m.tokens;
-      rest = c ∷ cs;
-      cut = cuts.stopped c cs m.are;
-      whole = λ none. absurd (some none);
-    }
+    record { new = m.marks; tokens = m.tokens; cut = cuts.stopped c cs m.are }
 
 -- ---- a whole reading
 pub step_moved : (s t : State) (c : ℕ) (cs : List ℕ) (n : ℕ) → step s c cs ≡ (t, Ok n) → t.at ≡ moved_over s.at (take n (c ∷ cs))
 step_moved s t c cs n e = subst (Moves s c cs) e (step_moves s c cs)
 
-reads_cut : {s : State} {cs : List ℕ} {ts : List Token} {f : Option ReadFault} (front : List ℕ) → IsBehind front s → IsFormed s → Reads s cs ts f → IsCut s front cs ts f
-reads_cut {s = s} {f = f} front h formed (ends {t = t} e are is) =
+-- the whole text, or what comes before a fault
+record CutUpTo (s : State) (front cs : List ℕ) (ts : List Token) (f : Option ReadFault) : Type 0 where
+  rest : List ℕ
+  cut : IsCut s front cs rest ts
+  whole : f ≡ None → rest ≡ []
+
+reads_cut : {s : State} {cs : List ℕ} {ts : List Token} {f : Option ReadFault} (front : List ℕ) → IsBehind front s → IsFormed s → Reads s cs ts f → CutUpTo s front cs ts f
+reads_cut {s = s} front h formed (ends {t = t} e are is) =
     let all = subst (λ (p : Answer (Unit {0})). Ends s p.0 front) e (finished_cut s front h formed) in
-    record { new = all.new; tokens = sym are ∙ all.tokens; rest = []; cut = all.cut; whole = λ none. refl }
-reads_cut {s = s} {cs = c ∷ cs} {f = g} front h formed (stops {t = t} {f = f} e are is) =
-    subst (λ us. IsCut s front (c ∷ cs) us g) are (stop_cut s t front c cs g h formed (stopped s t c cs f formed e) (some_is f g is))
-reads_cut {s = s} {cs = c ∷ cs} {ts = ts} {f = f} front h formed (goes_on {t = t} {n = n} e more) =
+    record { rest = []; cut = record { new = all.new; tokens = sym are ∙ all.tokens; cut = all.cut }; whole = λ none. refl }
+reads_cut {s = s} {cs = c ∷ cs} front h formed (stops {t = t} {f = f} {fault = g} e are is) =
+    record {
+      rest = c ∷ cs;
+      cut = subst (λ us. IsCut s front (c ∷ cs) (c ∷ cs) us) are (stop_cut s t front c cs h formed (stopped s t c cs f formed e));
+      whole = λ none. absurd (some_is f g is none);
+    }
+reads_cut {s = s} {cs = c ∷ cs} {ts = ts} front h formed (goes_on {t = t} {n = n} e more) =
     let one = stepped s t c cs n e in
     let moved_so : t.at ≡ moved_over s.at (take n (c ∷ cs)) = step_moved s t c cs n e in
-    step_cut s t front c cs n ts f h formed one (reads_cut (front ++ take n (c ∷ cs)) (next_behind s t front (take n (c ∷ cs)) h moved_so) (formed_next s t c cs n one formed) more)
+    let rest = reads_cut (front ++ take n (c ∷ cs)) (next_behind s t front (take n (c ∷ cs)) h moved_so) (formed_next s t c cs n one formed) more in
+    record { rest = rest.rest; cut = step_cut s t front c cs n rest.rest ts h formed one rest.cut; whole = rest.whole }
 
 pub texts_are_cut : (text : List ℕ) (ts : List Token) (f : Option ReadFault) → IsLexed text ts f → (rest : List ℕ) × Cut [] (chars text) ts rest × (f ≡ None → rest ≡ [])
 texts_are_cut text ts f lexed =
     let all = reads_cut [] refl (inr ([], refl)) lexed in
-    (all.rest, subst (λ us. Cut [] (chars text) us all.rest) (sym all.tokens) all.cut, all.whole)
+    (all.rest, subst (λ us. Cut [] (chars text) us all.rest) (sym all.cut.tokens) all.cut.cut, all.whole)

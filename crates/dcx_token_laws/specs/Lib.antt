@@ -3,3 +3,5 @@ pub mod Words
 pub mod Cut
 pub mod Lines
 pub mod OneList
+pub mod Fine
+pub mod Faults
