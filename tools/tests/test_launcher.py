@@ -11,6 +11,7 @@ import subprocess
 import tempfile
 import time
 import unittest
+from concurrent.futures import ThreadPoolExecutor
 
 TOP = os.path.dirname(os.path.dirname(os.path.dirname(os.path.realpath(__file__))))
 TOOLS = ("readlink", "awk", "find", "sort", "xargs", "sha256sum", "cut")
@@ -51,6 +52,10 @@ class Checkout:
         write(self.at("crates/low/specs/Lib.antt"), "definition\n")
         write(self.at("crates/low/proofs/f/Answers.antt"), "proof\n")
         write(self.at("crates/low/data/table.txt"), "1\n")
+        write(self.at("elsewhere.rt"), "code elsewhere\n")
+        write(self.at("outside/inner.rt"), "inner\n")
+        link(self.at("crates/low/src/linked.rt"), "../../../elsewhere.rt")
+        link(self.at("crates/low/src/folder"), "../../../outside")
         self.give_program(PROGRAM)
 
     def at(self, *names):
@@ -141,14 +146,9 @@ class Launcher(unittest.TestCase):
             link(os.path.join(cls.make_folder("tools"), tool), shutil.which(tool))
         write(os.path.join(cls.make_folder("kit"), "rt"), RT, 0o755)
         cls.kit = os.path.join(cls.room, "kit")
-        cls.checkouts = {}
-        for name in ["main", "other", "moved", *CHANGES]:
-            it = cls.checkouts[name] = Checkout(cls.room, "a checkout, " + name)
-            write(it.at("elsewhere.rt"), "code elsewhere\n")
-            write(it.at("outside/inner.rt"), "inner\n")
-            link(it.at("crates/low/src/linked.rt"), "../../../elsewhere.rt")
-            link(it.at("crates/low/src/folder"), "../../../outside")
-            it.give_program(PROGRAM)
+        names = ["main", "other", "moved", *CHANGES]
+        with ThreadPoolExecutor() as pool:
+            cls.checkouts = dict(zip(names, pool.map(lambda name: Checkout(cls.room, "a checkout, " + name), names)))
         # (only what was changed more than two seconds ago gives a stamp)
         time.sleep(2.1)
 
@@ -195,14 +195,19 @@ class Launcher(unittest.TestCase):
 
     def test_changes(self):
         path = self.path_without("rt")
-        for name, change in CHANGES.items():
-            with self.subTest(name):
-                it = self.checkouts[name]
-                self.assert_runs(it.dcx("x"), "dist x\n")
-                self.assertTrue(os.path.exists(it.at("out/seen")))
-                change(it)
-                self.assert_refused(it.dcx("x", PATH=path))
-                self.assertEqual(it.count_proofs(), 0)
+
+        def both(name):
+            it = self.checkouts[name]
+            before = it.dcx("x"), os.path.exists(it.at("out/seen"))
+            CHANGES[name](it)
+            return before, it.dcx("x", PATH=path)
+
+        with ThreadPoolExecutor() as pool:
+            for name, ((before, is_seen), after) in zip(CHANGES, pool.map(both, CHANGES)):
+                with self.subTest(name):
+                    self.assert_runs(before, "dist x\n")
+                    self.assertTrue(is_seen)
+                    self.assert_refused(after)
 
     def test_build(self):
         it = self.checkouts["other"]
