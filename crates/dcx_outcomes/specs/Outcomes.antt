@@ -80,3 +80,8 @@ pub record AreOutcomes (p : Problem) (limit : ℕ) (settings : List Pairs) (outc
 pub record Counts (p : Problem) (settings : ℕ) (old new : ℕ) : Type 0 where
   pub mapped : HasMap p → new ≡ old + length p.tree
   pub anew : new ≤ old + length p.tree + settings * length p.tree
+
+-- no more are counted: where memory is wanting before all settings are done
+pub record CountsNoMore (p : Problem) (settings : ℕ) (old new : ℕ) : Type 0 where
+  pub mapped : HasMap p → new ≤ old + length p.tree
+  pub anew : new ≤ old + length p.tree + settings * length p.tree

@@ -11,7 +11,7 @@ ghost use Rattle.dcx_answer.specs.declared.stop.Stop.{Stop};
 ghost use Rattle.dcx_answer.specs.NodeStops.{stop_names_node};
 ghost use Rattle.dcx_graph.specs.Program.{Program};
 ghost use Rattle.dcx_cache.specs.Programs.{IsMapOf, HasMap, SessionGives, IsProgramAt};
-ghost use Rattle.dcx_outcomes.specs.Outcomes.{Counts};
+ghost use Rattle.dcx_outcomes.specs.Outcomes.{Counts, CountsNoMore};
 ghost use Rattle.dcx_outcomes.specs.Asking.{IsAnswered, IsAskedOutcome, AreAskedOutcomes};
 
 use crate::beginning::begin;
@@ -130,8 +130,8 @@ pub(crate) fn ask_session<Q: Question, S: Ledger>(
 ) -> Result<Vec<Q::Outcome>, AllocError>
     requires { Q.can_ask question.now session.old.problem }
     ensures outcomes { IfOk result (λ v. AreAskedOutcomes (Q.gives question.now) Q.told_end Q.told_place session.old.problem settings.now v.items) }
-    ensures counted { OnOk result (HasMap session.old.problem → steps.new ≡ steps.old) }
-    ensures few { OnOk result (steps.new ≤ steps.old + length settings.now * length session.old.problem.tree) }
+    ensures counted { HasMap session.old.problem → steps.new ≡ steps.old }
+    ensures few { steps.new ≤ steps.old + length settings.now * length session.old.problem.tree }
 {
     let mut outcomes = Vec::with_capacity(alloc, settings.len())?;
     for setting in settings {
@@ -155,6 +155,7 @@ pub(crate) fn ask_problem<Q: Question, S: Ledger>(
     requires can { Q.can_ask question.now problem }
     ensures outcomes { IfOk result (λ v. AreAskedOutcomes (Q.gives question.now) Q.told_end Q.told_place problem settings.now v.items) }
     ensures counted { OnOk result (Counts problem (length settings.now) steps.old steps.new) }
+    ensures few { CountsNoMore problem (length settings.now) steps.old steps.new }
 {
     let mut session = begin(alloc, problem, verdict, steps)?;
     let outcomes = ask_session(alloc, question, &mut session, settings, steps);

@@ -2,7 +2,7 @@
 ghost use Rattle.std.specs.Prelude.{⊤, length, IfOk, OnOk};
 ghost use Rattle.dcx_rules.specs.Verdicts.{IsVerdictOf};
 ghost use Rattle.dcx_tree.specs.Meaning.{IsAccepted};
-ghost use Rattle.dcx_outcomes.specs.Outcomes.{Counts};
+ghost use Rattle.dcx_outcomes.specs.Outcomes.{Counts, CountsNoMore};
 ghost use Rattle.dcx_outcomes.specs.Filters.{FilterGives, filter_end, AreFilterOutcomes};
 
 use crate::asking::{Question, ask_problem};
@@ -85,6 +85,7 @@ pub fn filter_outcomes<S: Ledger>(
     requires verdict { IsVerdictOf problem verdict }
     ensures outcomes { IfOk result (AreFilterOutcomes problem limit settings.now) }
     ensures counted { OnOk result (Counts problem (length settings.now) steps.old steps.new) }
+    ensures few { CountsNoMore problem (length settings.now) steps.old steps.new }
 {
     let question = Filtering { limit };
     let outcomes = ask_problem(alloc, &question, problem, verdict, settings, steps)?;

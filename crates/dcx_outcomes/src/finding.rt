@@ -3,7 +3,7 @@ ghost use Rattle.std.specs.Prelude.{◌≡◌, ◌+◌, ◌*◌, ◌≤◌, leng
 ghost use Rattle.dcx_rules.specs.Verdicts.{IsVerdictOf};
 ghost use Rattle.dcx_tree.specs.Meaning.{IsAccepted};
 ghost use Rattle.dcx_cache.specs.Programs.{HasMap};
-ghost use Rattle.dcx_outcomes.specs.Outcomes.{Counts};
+ghost use Rattle.dcx_outcomes.specs.Outcomes.{Counts, CountsNoMore};
 ghost use Rattle.dcx_outcomes.specs.Warm.{AreToldFrom, AreFound, counted_where};
 
 use crate::beginning::begin;
@@ -34,8 +34,8 @@ fn all<S: Ledger>(
     steps: &mut Steps<S>,
 ) -> Result<Told, AllocError>
     ensures outcomes { IfOk result (λ t. AreToldFrom warm session.old.problem limit settings.now session.old.columns t.outcomes t.kept session.new.columns) }
-    ensures counted { OnOk result (HasMap session.old.problem → steps.new ≡ steps.old) }
-    ensures few { OnOk result (steps.new ≤ steps.old + length settings.now * length session.old.problem.tree) }
+    ensures counted { HasMap session.old.problem → steps.new ≡ steps.old }
+    ensures few { steps.new ≤ steps.old + length settings.now * length session.old.problem.tree }
 {
     let mut outcomes = Vec::with_capacity(alloc, settings.len())?;
     let mut kept = 0;
@@ -96,6 +96,7 @@ pub fn outcomes<S: Ledger>(
     requires verdict { IsVerdictOf problem verdict }
     ensures outcomes { IfOk result (λ f. AreFound warm problem limit settings.now f.outcomes f.warm) }
     ensures counted { OnOk result (Counts problem (length settings.now) steps.old steps.new) }
+    ensures few { CountsNoMore problem (length settings.now) steps.old steps.new }
 {
     let mut session = begin(alloc, problem, verdict, steps)?;
     let told = all(alloc, &mut session, settings, limit, warm, steps);

@@ -84,7 +84,7 @@ pub fn range_outcomes<S: Ledger>(
 ) -> Result<RangeOutcomes, AllocError>
     requires { HasRange session.old.problem name.now }
     ensures outcomes { IfOk result (AreRangeOutcomes session.old.problem name.now limit settings.now) }
-    ensures counted { OnOk result (steps.new ≡ steps.old) }
+    ensures counted { steps.new ≡ steps.old }
 {
     let question = Ranging { name, limit };
     let outcomes = ask_session(alloc, &question, session, settings, steps)?;

@@ -2,7 +2,7 @@
 ghost use Rattle.std.specs.Prelude.{⊤, length, IfOk, OnOk};
 ghost use Rattle.dcx_rules.specs.Verdicts.{IsVerdictOf};
 ghost use Rattle.dcx_tree.specs.Meaning.{IsAccepted};
-ghost use Rattle.dcx_outcomes.specs.Outcomes.{Counts};
+ghost use Rattle.dcx_outcomes.specs.Outcomes.{Counts, CountsNoMore};
 ghost use Rattle.dcx_outcomes.specs.Wholes.{WholeGives, whole_end, AreWholeOutcomes};
 
 use crate::asking::{Question, ask_problem};
@@ -89,6 +89,7 @@ pub fn whole_outcomes<S: Ledger>(
     requires verdict { IsVerdictOf problem verdict }
     ensures outcomes { IfOk result (AreWholeOutcomes problem limit settings.now) }
     ensures counted { OnOk result (Counts problem (length settings.now) steps.old steps.new) }
+    ensures few { CountsNoMore problem (length settings.now) steps.old steps.new }
 {
     let question = Branching { limit };
     let outcomes = ask_problem(alloc, &question, problem, verdict, settings, steps)?;

@@ -3,6 +3,7 @@
 //! | what must hold | where |
 //! |---|---|
 //! | the report of a run is its text, byte for byte | `report_text`, `text_of` of `specs/ReportText.antt` |
+//! | the usage line, and that memory is wanting, are told without memory | `usage_report`, `memory_report` |
 //! | a value and a bound are told of the user's objective: negated back where it is maximized | `user_number` of `specs/AnswerText.antt` |
 //! | a trial tells of each setting how it ends, on one line, an optimal value with it | `trial_lines` of `specs/TrialText.antt` |
 //! | a refused certificate is told with its section, the check that fails there, and what that carries | `cert_refused_text` of `specs/CertifiedText.antt` |
@@ -37,5 +38,5 @@ pub use dcx_answer::{
 pub use dcx_host::{FetchFault, Library, Sink, SinkFault};
 pub use dcx_refusal::Refusal;
 pub use dcx_tree::Sense;
-pub use report::report_text;
+pub use report::{memory_report, report_text, usage_report};
 pub use run::{Run, Word};

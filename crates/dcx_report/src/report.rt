@@ -114,6 +114,22 @@ fn put_warm(out: &mut Vec<u8>, warm: Option<u32>) -> Result<(), AllocError>
 const USAGE: &[u8] =
     b"usage: dcx check SCRIPT | solve SCRIPT | resolve SCRIPT SETTINGS | certificate SCRIPT SETTINGS | certify SCRIPT SETTINGS CERT | trial N | migrate SCRIPT SETTINGS CERT | range SCRIPT SETTINGS PARAM | iis SCRIPT SETTINGS\n";
 
+/// The report of words that are of no command, whose bytes are there and want no memory.
+#[tactic(auto, unfolding(crate::specs::ReportText::text_of))]
+pub fn usage_report() -> &'static [u8]
+    ensures { result.now ≡ text_of Run.Usage }
+{
+    USAGE
+}
+
+/// The report of a run that wants memory, whose bytes are there and want none.
+#[tactic(auto, unfolding(crate::specs::ReportText::text_of))]
+pub fn memory_report() -> &'static [u8]
+    ensures { result.now ≡ text_of Run.Memory }
+{
+    b"want of memory\n"
+}
+
 /// Appends the report of a run.
 #[tactic(auto, unfolding(crate::specs::ReportText::text_of))]
 fn put_run(out: &mut Vec<u8>, run: &Run) -> Result<(), AllocError>
@@ -166,7 +182,7 @@ fn put_run(out: &mut Vec<u8>, run: &Run) -> Result<(), AllocError>
             put_range_counts(out, outcomes)
         }
         Run::ReadFault => put_bytes(out, b"fault read\n"),
-        Run::Memory => put_bytes(out, b"want of memory\n"),
+        Run::Memory => put_bytes(out, memory_report()),
     }
 }
 

@@ -3,7 +3,7 @@ use Rattle.std.proofs.Common.{length, sym, subst}
 use Rattle.std.specs.Prelude.{IfOk}
 use Rattle.dcx_tree.specs.declared.problem.Problem.{Problem}
 use Rattle.dcx_outcomes.specs.Asking.{AreAskedOutcomes}
-use Rattle.dcx_outcomes.proofs.Counting.{both_ok, counts}
+use Rattle.dcx_outcomes.proofs.Counting.{on_ok, counts, begun_no_more, no_more}
 use Rattle.dcx_outcomes.proofs.asking.ask_problem.Goals as goal
 
 pub ask_session-outcomes-requires : goal.ask_session-outcomes-requires
@@ -16,7 +16,14 @@ returns-clause-outcomes g c =
 
 pub returns-clause-counted : goal.returns-clause-counted
 returns-clause-counted g c =
-    both_ok c.ask_session-outcomes.result _ _ _
-    (λ kept few. counts c.args.problem c.in_ok-session.session.problem c.in_ok-session.session.cached (length c.args.settings.now) c.args.steps.now c.begin.new.steps c.ask_session-outcomes.new.steps c.in_ok-session.ensures.problem c.in_ok-session.ensures.counted
-    c.in_ok-session.ensures.cached c.in_ok-session.ensures.few kept few)
-    c.ask_session-outcomes.ensures.counted c.ask_session-outcomes.ensures.few
+    on_ok c.ask_session-outcomes.result _
+    (counts c.args.problem c.in_ok-session.session.problem c.in_ok-session.session.cached (length c.args.settings.now) c.args.steps.now c.begin.new.steps c.ask_session-outcomes.new.steps c.in_ok-session.ensures.problem c.in_ok-session.ensures.counted
+    c.in_ok-session.ensures.cached c.in_ok-session.ensures.few c.ask_session-outcomes.ensures.counted c.ask_session-outcomes.ensures.few)
+
+pub returns-in_err-session-clause-few : goal.returns-in_err-session-clause-few
+returns-in_err-session-clause-few g c = begun_no_more c.args.problem (length c.args.settings.now) c.args.steps.now c.begin.new.steps c.begin.ensures.few
+
+pub returns-clause-few : goal.returns-clause-few
+returns-clause-few g c =
+    no_more c.args.problem c.in_ok-session.session.problem (length c.args.settings.now) c.args.steps.now c.begin.new.steps c.ask_session-outcomes.new.steps c.in_ok-session.ensures.problem c.begin.ensures.few c.ask_session-outcomes.ensures.counted
+    c.ask_session-outcomes.ensures.few

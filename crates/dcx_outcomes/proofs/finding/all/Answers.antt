@@ -7,6 +7,7 @@ use Rattle.dcx_tree.specs.declared.problem.Problem.{Problem}
 use Rattle.dcx_cache.specs.Programs.{HasMap}
 use Rattle.dcx_outcomes.specs.Warm.{IsToldFrom, AreToldFrom}
 use Rattle.dcx_outcomes.proofs.More.{told_none, told_step, items_of, flag_added, kept_within, steps_more}
+use Rattle.dcx_outcomes.proofs.Counting.{at_least, few_within}
 use Rattle.dcx_outcomes.proofs.finding.all.Goals as goal
 
 pub loop-setting-preserved : goal.loop-setting-preserved
@@ -44,19 +45,26 @@ pub returns-in_err-outcomes-clause-outcomes : goal.returns-in_err-outcomes-claus
 returns-in_err-outcomes-clause-outcomes g c = let p = err_from_is_err_and c.from_residual.result c.from_residual.ensures.1 in rw p.1 tt
 
 pub returns-in_err-outcomes-clause-counted : goal.returns-in_err-outcomes-clause-counted
-returns-in_err-outcomes-clause-counted g c = let p = err_from_is_err_and c.from_residual.result c.from_residual.ensures.1 in rw p.1 tt
+returns-in_err-outcomes-clause-counted g c = λ h. refl
 
 pub returns-in_err-outcomes-clause-few : goal.returns-in_err-outcomes-clause-few
-returns-in_err-outcomes-clause-few g c = let p = err_from_is_err_and c.from_residual.result c.from_residual.ensures.1 in rw p.1 tt
+returns-in_err-outcomes-clause-few g c = at_least c.args.steps.now (length c.args.settings.now * length c.args.session.now.problem.tree)
 
 pub returns-in_err-push-clause-outcomes : goal.returns-in_err-push-clause-outcomes
 returns-in_err-push-clause-outcomes g c = let p = err_from_is_err_and c.from_residual-in_err-push.result c.from_residual-in_err-push.ensures.1 in rw p.1 tt
 
 pub returns-in_err-push-clause-counted : goal.returns-in_err-push-clause-counted
-returns-in_err-push-clause-counted g c = let p = err_from_is_err_and c.from_residual-in_err-push.result c.from_residual-in_err-push.ensures.1 in rw p.1 tt
+returns-in_err-push-clause-counted g c =
+    let before = c.loop-setting.invariant in
+    λ h. c.outcome-next.ensures.counted (subst (λ (z : Problem). HasMap z) (sym before.same) h) ∙ before.counted h
 
 pub returns-in_err-push-clause-few : goal.returns-in_err-push-clause-few
-returns-in_err-push-clause-few g c = let p = err_from_is_err_and c.from_residual-in_err-push.result c.from_residual-in_err-push.ensures.1 in rw p.1 tt
+returns-in_err-push-clause-few g c =
+    let before = c.loop-setting.invariant in
+    let p = c.args.session.now.problem in
+    few_within (c.loop-setting.setting-index + 1) (length c.args.settings.now) (length p.tree) c.args.steps.now c.outcome-next.new.steps (omega arith)
+    (steps_more c.loop-setting.setting-index (length p.tree) c.args.steps.now c.loop-setting.steps c.outcome-next.new.steps before.few
+    (subst (λ (z : Problem). c.outcome-next.new.steps ≤ c.loop-setting.steps + length z.tree) before.same c.outcome-next.ensures.few))
 
 pub returns-clause-outcomes : goal.returns-clause-outcomes
 returns-clause-outcomes g c =
