@@ -2,13 +2,15 @@
 
 from __future__ import annotations
 
+from fractions import Fraction
 from typing import Any, Mapping, Optional
 
 from . import sites, statuses
 from .errors import SolverError, UnsupportedError
+from .numbers import exact
 from .sites import Site
 
-__all__ = ["Arguments", "SOLVERS", "pivots"]
+__all__ = ["Arguments", "SOLVERS", "box", "pivots"]
 
 # the names of solvers are the words of CVXPY that say their own name
 SOLVERS = frozenset(word for word in statuses.__all__ if getattr(statuses, word) == word)
@@ -42,7 +44,7 @@ class Arguments:
     """The arguments of one call of `solve`.
 
     `options` are the program's words, `time_limit` the seconds that it may take or None, `meaningless` the names of
-    those that have no meaning here. Raises `TypeError` where an argument isn't known, `UnsupportedError` where it
+    those that have no meaning here. `exact`, `trust` and `box` are what is said of the exact solver. Raises `TypeError` where an argument isn't known, `UnsupportedError` where it
     asks for what isn't offered, `SolverError` where the solver's name is none, `ValueError` where a limit is none.
     """
 
@@ -51,6 +53,9 @@ class Arguments:
         self.options: list[str] = []
         self.time_limit: Optional[float] = None
         self.enforce_dpp = False
+        self.exact = True
+        self.trust: Optional[str] = None
+        self.box: Optional[Fraction] = None
         if solver is not None:
             if not isinstance(solver, str) or solver.upper() not in SOLVERS:
                 reason = f"The solver {solver} is not installed: there is one, for which CVXPY's other names are taken"
@@ -75,6 +80,14 @@ class Arguments:
             self.time_limit = value
         elif name == "enforce_dpp":
             self.enforce_dpp = bool(value)
+        elif name == "exact":
+            self.exact = bool(value)
+        elif name == "trust":
+            if value not in (None, "python"):
+                raise ValueError(f'trust is "python" or None, and not {value!r}')
+            self.trust = value
+        elif name == "box":
+            self.box = box(value)
         elif name in _MEANINGLESS:
             self.meaningless.append(name)
         else:
@@ -83,6 +96,14 @@ class Arguments:
     def too_late(self, cause: Exception, site: Site) -> SolverError:
         """What is told where `time_limit` passed."""
         return SolverError(f"{cause}; time_limit gives it more", site)
+
+
+def box(value: Any) -> Optional[Fraction]:
+    """The box that entries of variables are looked at in. Raises `ValueError` where it is no number above 0."""
+    found = None if value is None else exact(value)
+    if found is not None and found <= 0:
+        raise ValueError(f"box is a number above 0, and not {value!r}")
+    return found
 
 
 def pivots(value: Optional[int]) -> list[str]:

@@ -14,7 +14,9 @@ from .reports import Section, read_report
 from .results import values_of
 from .scripts import Script
 
-__all__ = ["Certificate", "CertificateError", "Irreducible", "Shown", "Span", "certificate", "irreducible", "span"]
+__all__ = [
+    "Certificate", "CertificateError", "Irreducible", "Shown", "Span", "certificate", "certified", "irreducible", "span"
+]
 
 
 class CertificateError(DCXError):
@@ -50,11 +52,7 @@ class Certificate:
     def check(self) -> Shown:
         """Lets the program check the certificate, and returns what it shows. Raises `CertificateError` where it shows
         nothing."""
-        report = read_report(program.run("certify", self.script, self.settings, self.text).report)
-        if report.fault is not None:
-            raise CertificateError(f"{report.fault.text}: {' '.join(messages.fault(report.fault))}", report.fault)
-        if report.certified != 1:
-            raise CertificateError(f"the program doesn't take the certificate: {report.text.strip()}")
+        certified(self.script, self.settings, self.text)
         section = self.section
         number = section.value if section.status == "optimal" else section.bound
         return Shown(section.status, number if number is None or not self._maximized else -number)
@@ -98,6 +96,16 @@ class Span(NamedTuple):
         if self.status != "optimal" or not (above and below):
             raise ValueError(f"{number} is outside of the span from {self.low} to {self.high}")
         return self.value + self.slope * number
+
+
+def certified(script: str, settings: str, text: str) -> None:
+    """Lets the program check a certificate of a script at one line of settings. Raises `CertificateError`, with the
+    line of the fault, where it shows nothing."""
+    report = read_report(program.run("certify", script, settings, text).report)
+    if report.fault is not None:
+        raise CertificateError(f"{report.fault.text}: {' '.join(messages.fault(report.fault))}", report.fault)
+    if report.certified != 1:
+        raise CertificateError(f"the program doesn't take the certificate: {report.text.strip()}")
 
 
 def certificate(problem: Any, max_iters: Optional[int] = None) -> Certificate:

@@ -8,14 +8,17 @@ from typing import Any, Callable, Iterable, Mapping, NamedTuple, Optional
 
 from . import program, sites
 from .arguments import Arguments
+from .certificates import CertificateError
 from .constraints import Constraint
 from .errors import DCPError, DPPError, SolverError, UnsupportedError
 from .expressions import Constant, leaves_of, postorder
 from .objectives import Maximize, Objective
-from .refusals import read
+from .refusals import read, stopped
 from .reports import Verdict, read_report
 from .results import Farkas, Ray, Result
 from .scripts import Script, written
+from .shown import fallback
+from .shown.intervals import Interval
 
 __all__ = ["Problem", "SizeMetrics", "Solution", "SolverStats"]
 
@@ -74,6 +77,7 @@ class Problem:
         self._verdict: Optional[tuple[bool, Optional[Verdict]]] = None
         self._result: Optional[Result] = None
         self._report: Optional[bytes] = None
+        self._asked: Optional[str] = None
         self._arguments_told = False
 
     # -- what the problem is made of
@@ -183,12 +187,17 @@ class Problem:
         unbounded.
 
         `max_iters` is the most pivots that a run may take, 200,000 by itself, and `time_limit` the seconds after
-        which it is ended. The other arguments of CVXPY's solve and of its solvers are taken and have no meaning here,
+        which it is ended. Where the program stops since its own numbers pass 128 bits, its rows are too many or its
+        own limit of pivots is passed, the exact solver is asked, in Python, and the program checks its certificate;
+        `exact=False` leaves that out. `shown_by` tells on what the answer stands. Where an answer's numbers pass 128
+        bits an `interval` is shown: the status is `optimal_inaccurate`, and the point is feasible. There `box` is the
+        greatest magnitude of entries that have no bounds, a million by itself, and `trust="python"` takes the exact
+        answer as it is found. The exact solver has `time_limit` seconds too, 120 by itself. The other arguments of CVXPY's solve and of its solvers are taken and have no meaning here,
         since there is one solver and its answers are exact; `verbose` says so, and what is done.
 
         Raises `DCPError` where the rules refuse the problem, `ParameterError` where a parameter has no value,
-        `LimitError` where the model passes a limit of the language, `SolverError` where the program stops without an
-        answer (then there are no values), `ProgramError` where it can't be run, `UnsupportedError` where an argument
+        `LimitError` where the model passes a limit of the language, `SolverError` where there is no answer (then there
+        are no values), `CertificateError` where the program refuses what the exact solver says, `ProgramError` where it can't be run, `UnsupportedError` where an argument
         asks for what isn't offered, `TypeError` where one isn't known.
         """
         given = Arguments(solver, arguments)
@@ -202,19 +211,57 @@ class Problem:
         start = time.perf_counter()
         try:
             run = program.run("resolve", script.text, settings, options=given.options, timeout=given.time_limit)
-            self._report = run.report
+            self._report, self._asked = run.report, settings
             answer = read(run, script).answers[0]
-        except (program.ProgramError, SolverError) as cause:
+            shown = self._shown(answer, settings, given, verbose)
+        except (program.ProgramError, SolverError, CertificateError) as cause:
             error = given.too_late(cause, self.site) if isinstance(cause, program.TimedOut) else cause
             self._keep(Result(script, None, self._maximized, error=error))
             raise error from None
-        self._keep(Result(script, answer, self._maximized, seconds=time.perf_counter() - start))
+        answer = answer if shown is None else shown.answer
+        self._keep(Result(script, answer, self._maximized, seconds=time.perf_counter() - start, shown=shown))
         if verbose:
             value = "" if self.exact is None else f", value {self.value:.10g}, exactly {self.exact}"
-            print(f"dcx: {self.status}{value}")
+            value = value if self.interval is None else f", {self.interval}"
+            print(f"dcx: {self.status}{value}" + ("" if shown is None else f"; shown by {self.shown_by}"))
         if self._result.error is not None:
             raise self._result.error
         return self._result.value
+
+    def _shown(self, answer: Any, settings: str, given: Arguments, verbose: bool) -> Any:
+        """What is shown behind a stop, where the exact solver is asked; None where it isn't.
+
+        Raises `SolverError`, with the program's stop, where there is nothing, and `CertificateError`."""
+        is_limited = bool(given.options)
+        if not given.exact or self.is_mixed_integer() or not fallback.helps(answer.stop, is_limited):
+            return None
+        wishes = fallback.Wishes(True, given.trust, given.box, given.time_limit)
+        if verbose:
+            print(
+                f"dcx: the program stops ({answer.stop.number} {answer.stop.name}); the exact solver has at most "
+                f"{fallback.seconds_of(wishes):g} s, and the program checks what it finds"
+            )
+        try:
+            return fallback.shown(self.written.text, settings, self._maximized, wishes)
+        except SolverError as cause:
+            stop = stopped(answer.stop, self.written)
+            raise SolverError(f"{stop.reason} Behind that, {cause.reason}", stop.site, answer.stop) from None
+        except CertificateError as cause:
+            reason = f"what the exact solver found for the problem is wrong, as the program says: {cause.reason}"
+            raise CertificateError(reason, cause.fault) from None
+
+    def verify(
+        self,
+        values: Mapping[Any, Any],
+        duals: Optional[Mapping[Any, Any]] = None,
+        box: Any = None,
+        time_limit: Optional[float] = None,
+    ) -> Any:
+        """Tells what can be shown of an answer that another solver gave, as a `dcx.shown.verifying.Verified`; see
+        `dcx.shown.verifying.verify`."""
+        from .shown import verifying
+
+        return verifying.verify(self, values, duals, box, time_limit)
 
     def solve_at(
         self,
@@ -250,6 +297,19 @@ class Problem:
 
         return certificates.span(self, parameter, max_iters)
 
+    def view(self, file: Any = "problem.html", parameter: Any = None, max_iters: Optional[int] = None) -> str:
+        """Writes a page that shows the answer at the parameters' values, and returns the file's name; see
+        `dcx.view.notebook.view`."""
+        from .view import notebook
+
+        return notebook.view(self, file, parameter, max_iters)
+
+    def _repr_html_(self) -> Optional[str]:
+        """The last answer, for a notebook; None before one."""
+        from .view import notebook
+
+        return notebook.fragment(self)
+
     def _keep(self, result: Result) -> None:
         """Keeps a result, and sets the values of variables and constraints by it."""
         self._result = result
@@ -261,7 +321,8 @@ class Problem:
 
     @property
     def status(self) -> Optional[str]:
-        """`optimal`, `infeasible`, `unbounded`, or `solver_error` where the last solve stopped; None before one."""
+        """`optimal`, `infeasible`, `unbounded`, `optimal_inaccurate` where an interval is shown, or `solver_error` where
+        there is no answer; None before one."""
         return None if self._result is None else self._result.status
 
     @property
@@ -285,6 +346,18 @@ class Problem:
         """The multipliers that show that no point is feasible, in fractions; None where the last answer wasn't
         `infeasible`."""
         return None if self._result is None else self._result.farkas
+
+    @property
+    def shown_by(self) -> Optional[str]:
+        """On what the last answer stands: `the program`, `a certificate that the program accepted`, `an interval`, or
+        `python`, where its word was enough for the user; None where there is no answer."""
+        return None if self._result is None else self._result.shown_by
+
+    @property
+    def interval(self) -> Optional[Interval]:
+        """The interval that holds the best value, where the last answer stands on one, as a
+        `dcx.shown.intervals.Interval`."""
+        return None if self._result is None else self._result.interval
 
     @property
     def report(self) -> Optional[bytes]:

@@ -166,6 +166,11 @@ def _memory() -> int:
     return int(text) << 20
 
 
+def limit_memory(pid: int) -> None:
+    """Sets the limit on the memory of another process that works for the package: the one that the program has."""
+    _limit(pid, _memory())
+
+
 def _limit(pid: int, memory: int) -> None:
     """Sets the limit on the memory of a program that was started, as far as the system lets one be set."""
     if not hasattr(resource, "prlimit"):

@@ -2,6 +2,7 @@
 
 from __future__ import annotations
 
+import re
 from typing import Any, Optional
 
 from . import messages
@@ -16,6 +17,12 @@ __all__ = ["no_answer", "read", "refused", "stopped", "taken"]
 # the refusals that tell a limit, and those of a word that doesn't take the problem
 _LIMITS = (8, 18, 20)
 _WHOLE, _RANGE, _RULES = 34, 35, 19
+_WIDE = 26
+_LONG = re.compile(r"\d[\d.]{13}")  # a number with more digits than data have
+_ROUND = (
+    " Sums and products of floats have errors in their last digits: dcx.float_digits(decimals=12), or `python3 -m dcx "
+    "run --decimals 12`, reads each float to twelve decimals."
+)
 
 
 def read(run: Run, script: Script) -> Report:
@@ -74,6 +81,8 @@ def stopped(stop: Stop, script: Script) -> SolverError:
     inner = stop.detail.stop or stop
     if inner.detail.place is not None:
         reason += " Places are those of problem.script()."
+    if inner.number == _WIDE and _LONG.search(script.text):
+        reason += _ROUND
     if stop.number == 28:
         largest = max(script.constraints.values(), key=lambda constraint: constraint.size, default=None)
         if largest is not None:

@@ -3,18 +3,24 @@
 from __future__ import annotations
 
 from fractions import Fraction
-from typing import Any, Mapping, NamedTuple, Optional
+from typing import TYPE_CHECKING, Any, Mapping, NamedTuple, Optional
 
 from .arrays import Array, filled, to_floats, to_fractions
 from .errors import DCXError
 from .refusals import stopped
 from .reports import Answer
 from .scripts import Script
-from .statuses import INFEASIBLE, OPTIMAL, SOLVER_ERROR, UNBOUNDED
+from .shown import PROGRAM
+from .statuses import INFEASIBLE, OPTIMAL, OPTIMAL_INACCURATE, SOLVER_ERROR, UNBOUNDED
+
+if TYPE_CHECKING:
+    from .shown.fallback import Shown
+    from .shown.intervals import Interval
 
 __all__ = ["Farkas", "Ray", "Result", "values_of"]
 
 _ENDS = {INFEASIBLE: float("inf"), UNBOUNDED: float("-inf")}
+_WITH_POINT = (OPTIMAL, OPTIMAL_INACCURATE)
 
 
 class Ray(NamedTuple):
@@ -41,7 +47,8 @@ class Result:
     """How the problem ends at one setting.
 
     `setting` is the setting as it was given, `index` its number from 0. `status` is `optimal`, `infeasible`,
-    `unbounded` or `solver_error`, where `error` says why there is no answer. `value` is the objective's value as a
+    `unbounded`, `optimal_inaccurate` (a feasible point with an `interval` that holds the best value) or
+    `solver_error`, where `error` says why there is no answer. `shown_by` says on what the answer stands. `value` is the objective's value as a
     float, infinite where the problem is infeasible or unbounded, None where there is no answer, and `exact` the
     fraction, None where there is none. `result[x]` is the value of a variable in floats, None where it has none.
     `nodes` is how many nodes the search for whole numbers took, `seconds` how long the run took.
@@ -56,12 +63,14 @@ class Result:
         index: int = 0,
         error: Optional[DCXError] = None,
         seconds: Optional[float] = None,
+        shown: Optional[Shown] = None,
     ):
         self.script = script
         self.answer = answer
         self.setting = setting
         self.index = index
         self.seconds = seconds
+        self.shown = shown
         self.error = error
         self._maximized = maximized
         if answer is not None and answer.stop is not None:
@@ -69,10 +78,23 @@ class Result:
         self.status = SOLVER_ERROR if self.error is not None else answer.status
 
     @property
+    def shown_by(self) -> Optional[str]:
+        """On what the answer stands: `the program`, `a certificate that the program accepted`, `an interval` or
+        `python`; None where there is no answer."""
+        if self.error is not None:
+            return None
+        return PROGRAM if self.shown is None else self.shown.by
+
+    @property
+    def interval(self) -> Optional[Interval]:
+        """The interval that holds the best value, where the answer stands on one."""
+        return None if self.shown is None else self.shown.interval
+
+    @property
     def value(self) -> Optional[float]:
         """The value as a float: infinite where the problem is infeasible or unbounded, None where there is no answer.
         """
-        if self.status == OPTIMAL:
+        if self.status in _WITH_POINT:
             return float(self.answer.value)
         end = _ENDS.get(self.status)
         return end if end is None or not self._maximized else -end
@@ -97,12 +119,12 @@ class Result:
         return None if array is None else to_fractions(array)
 
     def array(self, variable: Any) -> Optional[Array]:
-        """The value of a variable as an exact array, None where the problem isn't optimal. Raises `KeyError` of what
-        is no variable of it."""
+        """The value of a variable as an exact array, None where there is no best point. Raises `KeyError` of what is
+        no variable of it."""
         if variable in self.script.idle:
-            return filled(variable.shape, 0) if self.status == OPTIMAL else None
+            return filled(variable.shape, 0) if self.status in _WITH_POINT else None
         name = self.script.names[variable]
-        return _array(self.answer.variables[name]) if self.status == OPTIMAL else None
+        return _array(self.answer.variables[name]) if self.status in _WITH_POINT else None
 
     def dual_value(self, constraint: Any) -> Any:
         """The multipliers of a constraint in floats, None where there are none."""
@@ -118,7 +140,7 @@ class Result:
         """The multipliers of a constraint as an exact array, None where the problem isn't optimal or is one in whole
         numbers."""
         number = self.script.numbers[constraint]
-        found = self.answer.duals.get(number) if self.status == OPTIMAL else None
+        found = self.answer.duals.get(number) if self.status in _WITH_POINT else None
         return None if found is None else Array(constraint.shape, found.entries)
 
     @property

@@ -5,6 +5,7 @@ from __future__ import annotations
 
 import os
 import pickle
+import shlex
 import shutil
 import signal
 import tempfile
@@ -66,7 +67,7 @@ class Case(unittest.TestCase):
     def wrapped(self, before):
         """The program behind some lines of a shell, which see the words `resolve SCRIPT SETTINGS`."""
         path = self.folder / "wrapped"
-        path.write_text(f"#!/bin/sh\n{before}\nexec {PROGRAM} \"$@\"\n")
+        path.write_text(f"#!/bin/sh\n{before}\nexec {shlex.quote(PROGRAM)} \"$@\"\n")
         path.chmod(0o755)
         return mock.patch.dict(os.environ, DCX=str(path))
 

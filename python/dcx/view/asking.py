@@ -2,7 +2,7 @@
 from __future__ import annotations
 
 import hashlib
-from dataclasses import dataclass, field
+from dataclasses import dataclass, field, replace
 from fractions import Fraction
 from pathlib import Path
 from typing import Callable, Optional, Sequence
@@ -12,8 +12,10 @@ from ..reports import Answer, Report, Section, read_report
 from ..tables import Tables, is_of
 from ..values import Entries, number_text
 from .course import Course, Follower
+from .irreducible import shown
 
 MOST_IRREDUCIBLE = 100  # settings without a point for which constraints in the way are sought
+MOST_NARROWED = 5  # of these for which multipliers of their own are sought
 
 
 @dataclass
@@ -21,7 +23,8 @@ class Found:
     """What is shown on a page.
 
     `names` are those of the script's file and the settings' file; `tables` reads both. `status` is the program's.
-    `irreducible` has what `iis` answers, by the number of the setting. `settings` is the text with which the certificate
+    `irreducible` has what `iis` answers, by the number of the setting; the numbers in `narrowed` are those of settings
+    whose answer has the multipliers of these constraints alone. `settings` is the text with which the certificate
     goes, `certificate` its text, `shown` which answer each of its sections is of, and `certified` what the check said.
     `whole` is set where some variable is to be whole. `refused_range` says why a parameter has no course.
     """
@@ -35,6 +38,7 @@ class Found:
     checksum: str
     whole: bool = False
     irreducible: dict[int, Answer] = field(default_factory=dict)
+    narrowed: set[int] = field(default_factory=set)
     settings: str = ""
     certificate: Optional[str] = None
     shown: tuple[int, ...] = ()
@@ -94,6 +98,7 @@ def found(
     if not result.whole:
         result.irreducible = irreducible(result, plain)
         certify(result, plain)
+        narrow(result)
     if parameter is not None:
         follow(result, parameter, min(chosen, len(report.answers)), plain)
     return result
@@ -140,15 +145,27 @@ def irreducible(result: Found, options: Sequence[str]) -> dict[int, Answer]:
     return dict(zip(asked, report.answers))
 
 
+def narrow(result: Found) -> None:
+    """Puts the multipliers of the constraints in the way in place of those of all constraints."""
+    answers = list(result.answers)
+    for index, filtered in list(result.irreducible.items())[:MOST_NARROWED]:
+        values = result.values(index)
+        one = shown(result.script, result.tables.sources, line_of(values), values, answers[index - 1], filtered.members)
+        if one is not None:
+            answers[index - 1] = one
+            result.narrowed.add(index)
+    result.report = replace(result.report, answers=tuple(answers))
+
+
 def certify(result: Found, options: Sequence[str]) -> None:
     """Lets the program write a certificate of the answers, and check it."""
-    shown = tuple(answer.index for answer in result.answers if answer.stop is None)
-    if not shown:
+    answered = tuple(answer.index for answer in result.answers if answer.stop is None)
+    if not answered:
         return
     if result.given is not None:
         result.settings, result.shown = result.given.decode(), tuple(answer.index for answer in result.answers)
     else:
-        result.settings, result.shown = "".join(line_of(result.values(index)) for index in shown), shown
+        result.settings, result.shown = "".join(line_of(result.values(index)) for index in answered), answered
     run = program.run("certificate", result.script, result.settings, options=options)
     if read_report(run.report).form is None:
         return

@@ -43,6 +43,10 @@ def shown_by_program(found: Found) -> Markup:
         parts.append("Where it says unbounded the objective goes on for ever along the ray. ")
     if found.irreducible:
         parts.append("That the constraints in the way can't be kept together, and that each of them is needed for that, is its answer too. ")
+    if found.narrowed:
+        parts.append(
+            "Their multipliers were found by the second reading, in Python; that they show it was checked by the program's word certify. "
+        )
     if found.whole:
         parts.append("Some variable is to be whole: no whole point is better, which the nodes of its search show. ")
     return el("p", el("b", "The program. "), parts)

@@ -6,7 +6,7 @@ from typing import Sequence
 
 from ..grids import decimals
 from ..values import Entries, number_text
-from .markup import Markup, el
+from .markup import Markup, el, text
 
 DIGITS = 6
 MOST_SHOWN = 60  # entries of an array that stand open
@@ -15,7 +15,7 @@ MOST_SHOWN = 60  # entries of an array that stand open
 def number(value: Fraction) -> Markup:
     """A number: its decimals, and its fraction where it isn't whole, with a sign that tells whether the two are equal."""
     if value.denominator == 1:
-        return el("span", number_text(value), class_="n")
+        return text(number_text(value))
     told = decimals(value, DIGITS)
     sign = "=" if Fraction(told) == value else "≈"
     return el("span", told, " ", el("small", f"{sign} {number_text(value)}"), class_="n")

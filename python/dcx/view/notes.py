@@ -11,7 +11,7 @@ from ..sources import Source
 from ..tables import shortened
 from ..values import Place
 from .asking import Found
-from .figures import MOST_SHOWN, entry_text, named, number, sides_text
+from .figures import MOST_SHOWN, entry_text, named, number
 from .markup import Markup, Part, el, text
 from .sides import Row, rows
 
@@ -86,8 +86,6 @@ class Notes(dict):
             if not values.shape:
                 note.beside.append(el("p", el("code", name), more, " = ", number(values.entries[0])))
             else:
-                if not more or values is arrays[0][1]:
-                    note.beside.append(el("p", el("code", name), " ", el("span", sides_text(values.shape), class_="quiet")))
                 note.below.append(named(name, values, more))
 
     def objective(self) -> None:
@@ -168,10 +166,11 @@ class Notes(dict):
             left_out = len(flat) - len(shown)
         self.left = max(0, self.left - len(shown))
         has_entry = any(self.sources.shapes[of] for of, _ in group)
-        has_slack = any(row.slack is not None for row in flat)
+        has_slack = any(row.slack is not None and not row.is_equality for row in flat)
+        has_state = any(row.binds or row.constraint in self.members for row in flat)
         has_multiplier = any(row.multiplier is not None for row in flat)
         heads = [("constraint", has_text), ("turn", has_turn), ("entry", has_entry), ("slack", has_slack)]
-        heads += [("multiplier", has_multiplier), ("", True)]
+        heads += [("multiplier", has_multiplier), ("", has_state)]
         body = []
         for row in shown:
             source = self.sources.constraints[row.constraint]
@@ -181,7 +180,7 @@ class Notes(dict):
                 (el("td", entry_text(self.sources.shapes[row.constraint], row.entry)), has_entry),
                 (cell(row.slack), has_slack),
                 (cell(row.multiplier), has_multiplier),
-                (el("td", state_mark(row, row.constraint in self.members)), True),
+                (el("td", state_mark(row, row.constraint in self.members)), has_state),
             ]
             is_idle = row.slack and not row.multiplier
             body.append(el("tr", [one for one, is_there in cells if is_there], class_="idle" if is_idle else None))

@@ -147,8 +147,6 @@ def facts(found: Found, answer: Answer) -> Markup:
     """A few numbers on an answer."""
     sources = found.tables.sources
     items: list[tuple[str, Part]] = []
-    if answer.value is not None:
-        items.append((OBJECTIVE[sources.sense], number(answer.value)))
     if answer.gap is not None:
         items.append(("gap", number(answer.gap)))
     if answer.slope is not None:
@@ -191,9 +189,26 @@ def source(found: Found, answer: Answer, is_one: bool) -> Markup:
     name = os.path.basename(found.names[0])
     parts = [] if is_one else [el("p", capital(sentence(found.tables, answer)) + ".", id=f"answer-{answer.index}")]
     title = "The script with its answer" if is_one else f"The script with the answer of {word(found)} {answer.index}"
-    parts += [stop_in_settings(found, answer), tools()]
+    parts += [stop_in_settings(found, answer), in_the_way(found, answer), tools()]
     parts.append(listing(found.tables.files["script"], Notes(found, answer), f"the script {name} with its answer"))
     return el("section", el("h2", title), parts, id="source")
+
+
+def in_the_way(found: Found, answer: Answer) -> Part:
+    """What the marked constraints are, and what their multipliers say."""
+    irreducible = found.irreducible.get(answer.index)
+    if irreducible is None:
+        return None
+    if irreducible.stop is not None:
+        return message("Which constraints are in the way isn't known", messages.stop(irreducible.stop))
+    told = f"No point keeps the {len(irreducible.members)} marked constraints together; without any one of them there is one. "
+    if len(irreducible.members) == 1:
+        told = "No point keeps the marked constraint. "
+    if answer.index in found.narrowed:
+        told += "The multipliers are those of the marked ones alone."
+    elif answer.duals:
+        told += "The multipliers show it of all constraints together, and may be those of others than the marked ones."
+    return el("p", told)
 
 
 def stop_in_settings(found: Found, answer: Answer) -> Part:

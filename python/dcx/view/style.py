@@ -71,7 +71,7 @@ th { text-align: left; font-weight: 600; }
 .rows th, .rows td { padding: .25rem .875rem .25rem 0; vertical-align: baseline; border-bottom: 1px solid var(--line); }
 .rows thead th, .rows thead td { color: var(--quiet); white-space: nowrap; border-bottom-color: var(--quiet); }
 .rows .num { text-align: right; white-space: nowrap; }
-.rows td code { overflow-wrap: anywhere; }
+.rows td code { overflow-wrap: break-word; }
 .idle, .idle small { color: var(--quiet); }
 .matrix th { padding: .125rem .625rem; color: var(--quiet); font-weight: 400; font-size: .75rem; text-align: right; }
 .matrix td { padding: .125rem .625rem; text-align: right; white-space: nowrap; }

@@ -21,7 +21,7 @@ from __future__ import annotations
 
 import operator
 from fractions import Fraction
-from math import gcd
+from math import frexp, gcd, ldexp
 
 from .factors import FLOATS, Factors, modulo
 from .lifting import lifted
@@ -51,6 +51,13 @@ class Arithmetic:
             factors = Factors(field, size, [columns[c] for c in basis])
         self.factors, self.basis = factors, list(basis)
         return list(basis)
+
+    def _dense(self, column):
+        """A column with its zeros, by row."""
+        result = [0] * self.form.size
+        for i, v in column:
+            result[i] = v
+        return result
 
     def _tableau_row(self, multipliers, rows):
         """The numbers of the columns that aren't basic, from those of the rows."""
@@ -115,15 +122,10 @@ class Floats(Arithmetic):
         return result
 
     def column(self, q):
-        right = [0.0] * self.form.size
-        for i, v in self.columns[q]:
-            right[i] = v
-        return self.factors.solve(right), 1.0
+        return self.factors.solve(self._dense(self.columns[q])), 1.0
 
     def row(self, r):
-        unit = [0.0] * self.form.size
-        unit[r] = 1.0
-        y = self.factors.price(unit)
+        y = self.factors.price(self._dense([(r, 1.0)]))
         return y, {c: v for c, v in self._tableau_row(y, self.rows).items() if abs(v) > 1e-11}, 1.0
 
     def replace(self, r, q, alpha):
@@ -153,7 +155,6 @@ def _middle(values):
     """What brings the least and the greatest magnitude as far from 1, as a power of 2."""
     if not values:
         return 1.0
-    from math import frexp, ldexp
     least, most = min(values), max(values)
     return ldexp(1.0, -((frexp(least)[1] + frexp(most)[1]) // 2))
 
@@ -196,17 +197,15 @@ class Whole(Arithmetic):
         return self._priced([costs[c] for c in self.basis])
 
     def column(self, q):
-        return self._solved(self._dense(q))
+        return self._solved(self._dense(self.form.columns[q]))
 
     def row(self, r):
-        unit = [0] * self.form.size
-        unit[r] = 1
-        y, scale = self._priced(unit)
+        y, scale = self._priced(self._dense([(r, 1)]))
         return y, {c: v for c, v in self._tableau_row(y, self.rows).items() if v}, scale
 
     def replace(self, r, q, alpha):
         self.basis[r] = q
-        own = self.factors.solve(self._dense(q))
+        own = self.factors.solve(self._dense(self.form.columns[q]))
         if own[r] and len(self.factors.etas) < MOST_ETAS:
             self.factors.replace(r, own)
             return
@@ -215,12 +214,6 @@ class Whole(Arithmetic):
             if self.factor(basis) == basis:
                 return
         raise ArithmeticError("no prime factors the basis")
-
-    def _dense(self, q):
-        right = [0] * self.form.size
-        for i, v in self.form.columns[q]:
-            right[i] = v
-        return right
 
     def _solved(self, right):
         return lifted(self.factors.solve, self._product, right, self.p)

@@ -1,0 +1,136 @@
+"""What can be shown of an answer that another solver gave: `problem.verify(values, duals)`."""
+from __future__ import annotations
+
+from fractions import Fraction
+from typing import Any, Mapping, NamedTuple, Optional
+
+from .. import arrays, program
+from ..arguments import box as box_of
+from ..arrays import Array, size_of, to_fractions
+from ..errors import UnsupportedError
+from ..refusals import read
+from . import asking, fallback
+from .intervals import Interval
+
+__all__ = ["Verified", "verify"]
+
+
+class Verified(NamedTuple):
+    """What can be shown of values that are said to be the best.
+
+    `feasible` tells whether the values keep all constraints exactly, as the decimals that they are; `broken` has, of
+    each constraint that they break, by how much at most (of a variable by how much they miss its own sign or form).
+    `value` is the objective there. `interval` holds the problem's best value: its one end is the value at `point`,
+    which keeps all constraints, and `moved` how far that is from the values, in the entry that moves most: 0 where
+    they are feasible themselves. Where no feasible point is as near as a hundred-thousandth of the greatest entry,
+    that end is None, and so are `point` and `moved`. `why` tells why an end is missing.
+    """
+
+    feasible: bool
+    broken: dict[Any, Fraction]
+    value: Fraction
+    interval: Interval
+    point: Optional[dict[Any, Any]]
+    moved: Optional[Fraction]
+    why: str
+
+    @property
+    def gap(self) -> Optional[Fraction]:
+        """How much better than `point` the best value may be at most; None where an end isn't shown."""
+        ends = (self.interval.low, self.interval.high)
+        return None if None in ends else ends[1] - ends[0]
+
+    def __str__(self) -> str:
+        told = f"the values keep all constraints, with the value {float(self.value):.12g}"
+        if not self.feasible:
+            worst = max(self.broken, key=self.broken.__getitem__)
+            told = f"the values break {len(self.broken)} of the constraints, `{worst}` by {float(self.broken[worst]):.3g}"
+            if self.moved is not None:
+                told += f"; a point that keeps all of them is at most {float(self.moved):.1e} away"
+        why = f"; {self.why}" if self.why else ""
+        return f"{told}; the best value is {self.interval}{why}"
+
+
+def verify(
+    problem: Any,
+    values: Mapping[Any, Any],
+    duals: Optional[Mapping[Any, Any]] = None,
+    box: Any = None,
+    time_limit: Optional[float] = None,
+) -> Verified:
+    """Tells what can be shown of the values that another solver gave, at the parameters' present values.
+
+    `values` has a value for each variable, by the variable or its name, in its shape: what CVXPY has in `value`, in
+    floats. `duals` may have multipliers by constraint, as in CVXPY's `dual_value`; they begin the search for the bound,
+    and without them, or where they show too little, the exact solver finds multipliers. The program says yes to both
+    ends of the interval. Where multipliers leave something over on a variable without bounds, the bound is one for
+    entries of at most `box` in magnitude, a million by itself; `interval.boxed` tells which. `time_limit` is how many
+    seconds the exact solver may take, 120 by itself.
+
+    Raises `KeyError` where a key is no variable or constraint of the problem or a variable has no value, `ValueError`
+    where a value has another shape or isn't finite, `UnsupportedError` of a problem in whole numbers, `SolverError`
+    where the search fails or takes too long, `CertificateError` where the program says no, and else as
+    `Problem.solve`.
+    """
+    if problem.is_mixed_integer():
+        raise UnsupportedError("verify(..) isn't offered of a problem in whole numbers: no multipliers show its best value")
+    script = problem.written
+    settings = script.settings_line()
+    read(program.run("check", script.text), script)
+    named = _values(script, values)
+    stated = None if duals is None else _duals(script, duals)
+    box = box_of(box)
+    made, lacks, value, moved = asking.asked("verified", script.text, settings, box, named, stated, seconds=time_limit)
+    interval = fallback.checked(made, settings, problem._maximized)
+    broken = {}
+    for number, lack in lacks.items():
+        broken[script.variables[number] if isinstance(number, str) else script.constraints[number]] = lack
+    point = None
+    if interval.point is not None:
+        point = {
+            variable: to_fractions(Array(variable.shape, entries))
+            for variable, entries in zip(script.variables.values(), made.point)
+        }
+    return Verified(not lacks, broken, value, interval, point, None if point is None else moved, made.why)
+
+
+def _values(script: Any, values: Mapping[Any, Any]) -> dict[str, list[Fraction]]:
+    """The entries of each variable, by the script's name."""
+    found: dict[str, list[Fraction]] = {}
+    for key, value in values.items():
+        variable = key if not isinstance(key, str) else _named(script, key)
+        if variable in script.idle:
+            continue
+        if variable not in script.names or variable.kind != "variable":
+            raise KeyError(f"{key!r} is no variable of the problem")
+        if value is None:
+            raise KeyError(f"the variable {variable.name()} has no value")
+        found[script.names[variable]] = list(variable._shaped(value).dense().entries)
+    for name, variable in script.variables.items():
+        if name not in found:
+            raise KeyError(f"the variable {variable.name()} has no value")
+    return {name: found[name] for name in script.variables}
+
+
+def _named(script: Any, name: str) -> Any:
+    """The variable of a name: the user's, else the script's."""
+    for variable in (*script.variables.values(), *script.idle):
+        if variable.kind == "variable" and name in (variable.given_name, variable.name()):
+            return variable
+    return script.variables.get(name)
+
+
+def _duals(script: Any, duals: Mapping[Any, Any]) -> dict[int, list[Fraction]]:
+    """The multipliers by the number of the constraint."""
+    found = {}
+    for constraint, value in duals.items():
+        number = script.numbers.get(constraint)
+        if number is None:
+            raise KeyError(f"{constraint!r} is no constraint of the problem")
+        if value is None:
+            continue
+        entries = arrays.array_of(value).dense().entries
+        if len(entries) != size_of(constraint.shape):
+            raise ValueError(f"{len(entries)} multipliers are given for {constraint}, which has {constraint.size} entries")
+        found[number] = list(entries)
+    return found
