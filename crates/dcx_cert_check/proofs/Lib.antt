@@ -1,7 +1,7 @@
 -- The lemmas.
 pub mod Settled
 pub mod Shows
-pub mod Kept
+pub mod KeptTables
 pub mod Steps
 pub mod Demands
 pub mod SingleSettled

@@ -7,6 +7,7 @@ use Rattle.dcx_tree.specs.declared.problem.Problem.{Problem}
 use Rattle.dcx_linear.specs.declared.param_form.ParamForm.{ParamForm}
 use Rattle.dcx_graph.specs.Program.{Program}
 use Rattle.dcx_graph.specs.Reduced.{Reduction}
+use Rattle.dcx_right.specs.Ranges.{place_of, HasParameter, IsNumber}
 use Rattle.dcx_range.specs.Standing.{scales_row, scales_unknown}
 use Rattle.dcx_answer.specs.declared.not_ranged.NotRanged.{NotRanged}
 use Rattle.dcx_answer.specs.declared.not_ranged.NotRanged.TheVariants as faults

@@ -8,7 +8,7 @@ use Rattle.dcx_cert_sections.specs.Checks.{in_turn}
 use Rattle.dcx_cert_rays.specs.Rays.{ray_checks}
 use Rattle.dcx_cert_rays.specs.Steepness.{AreFixedValues}
 use Rattle.dcx_cert_check.specs.Checks.{point_checks}
-use Rattle.dcx_cert_check.proofs.Kept.{fixed_kept}
+use Rattle.dcx_cert_check.proofs.KeptTables.{fixed_kept}
 use Rattle.dcx_cert_check.proofs.checking.check_unbounded.Goals as goal
 
 pub check_point-requires-clause-kept : goal.check_point-requires-clause-kept
