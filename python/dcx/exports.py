@@ -13,6 +13,7 @@ from typing import Iterator, Optional
 
 from .lines import Fault, Refusal, Stop
 from .reports import Answer, Report, Section
+from .shown.intervals import Interval
 from .values import Entries, number_text
 
 COLUMNS = ("word", "index", "status", "what", "name", "row", "column", "exact", "decimal", "text")
@@ -37,6 +38,8 @@ def plain(value: object) -> object:
             "exact": nested(value.shape, [number_text(entry) for entry in value.entries]),
             "decimal": nested(value.shape, [float(entry) for entry in value.entries]),
         }
+    if isinstance(value, Interval):
+        return {name: plain(item) for name, item in value.told().items() if item not in (None, ())}
     if isinstance(value, Stop):
         carried = plain(value.detail)
         if value.detail.name is not None:  # `name` is that of the stop
@@ -122,6 +125,12 @@ def rows_of_answer(head: dict[str, object], answer: Answer) -> Iterator[dict[str
     rows = [*rows_of_section(head, answer)]
     if answer.stop is not None:
         rows.append({**head, "what": answer.stop.number, "name": answer.stop.name, "text": answer.stop.text})
+    if answer.shown_by is not None:
+        rows.append({**head, "what": "shown by", "text": answer.shown_by})
+    if answer.interval is not None:
+        for what in ("low", "high"):
+            end = getattr(answer.interval, what)
+            rows.append({**head, "what": what, **numbers(end), "text": "none" if end is None else None})
     if answer.nodes is not None:
         rows.append({**head, "what": "nodes", "exact": answer.nodes, "decimal": float(answer.nodes)})
     if answer.range is not None:

@@ -11,6 +11,7 @@ from typing import Optional, Union
 
 from .exact.report import USAGE
 from .lines import Fault, Refusal, Stop, written
+from .shown.intervals import Interval
 from .values import Entries, Misread, array_line, end_text, number_text
 
 WORDS_ALONE = {"usage": USAGE.rstrip("\n"), "fault": "fault read", "memory": "want of memory"}
@@ -86,6 +87,9 @@ class Answer:
     numbers, with the number of its `nodes`. Value and bound are those of the script's own objective, `duals` the
     multipliers of the constraints, by number from 1. `members` are the numbers of constraints that no point keeps
     together, and `without` a point for each of them. What an answer of this status doesn't have is None, or empty.
+
+    No report has `shown_by` and `interval`, which tell on what an answer stands: they are set where the exact solver
+    was asked behind a stop (see `dcx.shown`). The status is `optimal_inaccurate` then where an interval is shown.
     """
 
     word: str
@@ -104,6 +108,8 @@ class Answer:
     members: tuple[int, ...] = ()
     without: tuple[Without, ...] = ()
     range: Optional[Range] = None
+    shown_by: Optional[str] = None
+    interval: Optional[Interval] = None
 
     def lines(self) -> list[str]:
         """The lines of the report."""

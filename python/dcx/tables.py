@@ -14,7 +14,9 @@ from .grids import GAP, Look, array_rows, both, joined, named_rows, number_colum
 from .lines import Refusal, Stop
 from .messages import Message
 from .reports import Answer, Report
+from .shown import PROGRAM, PYTHON
 from .sources import Lines, Setting, Source, Sources, printable, read_settings, read_sources
+from .statuses import OPTIMAL_INACCURATE
 from .values import Entries, Place
 
 LONGEST = 60
@@ -142,9 +144,17 @@ class Tables:
         if answer.stop is not None:
             return rows + self.stop(answer.stop, answer.index)
         rows.append(self.look.bold(self.sentence(answer)))
+        if answer.shown_by not in (None, PROGRAM):
+            rows += self.stands(answer)
         rows += self.parameters(answer)
         rows += self.variables(answer)
         return rows + self.constraints(answer)
+
+    def stands(self, answer: Answer) -> list[str]:
+        """On what an answer stands that isn't the program's own."""
+        by = "Python alone, which nothing proves" if answer.shown_by == PYTHON else answer.shown_by
+        text = f"shown by {by}" if answer.interval is None else f"shown by {by}: the best is {answer.interval}"
+        return textwrap.wrap(text, self.look.width, break_long_words=False)
 
     def sentence(self, answer: Answer) -> str:
         """How it ends, in one sentence."""
@@ -153,6 +163,8 @@ class Tables:
         nodes = "" if answer.nodes is None else f", shown by {answer.nodes} node" + "s" * (answer.nodes != 1)
         if answer.status == "optimal":
             return f"optimal{whole}: {BEST[sense]} is {self.number(answer.value)}{nodes}"
+        if answer.status == OPTIMAL_INACCURATE:
+            return f"nearly optimal: the objective at this point, which keeps the constraints, is {self.number(answer.value)}"
         if answer.status == "infeasible" and answer.gap is None:
             return f"infeasible{whole}: no point keeps the constraints{nodes}"
         if answer.status == "infeasible":

@@ -37,6 +37,8 @@ REFUSED = {"portfolio/too_little_turnover": ("rule at_most", 10), "guide/bonus":
 # has, by hand: `raised += 1` changes the array that it was bound to, a float has no 25 digits behind the point, and `3
 # == x` is x == 3 to Python, with a multiplier of its sign.
 ANOTHER = {"cvxpy/in_place": (6, [1, 1, 1]), "messages/wide_pivot": (1, [-1.5]), "cvxpy/turned": (6, [-2])}
+# Where the program alone stops, and the exact solver has an answer: its value, by hand.
+BEYOND = {"messages/too_large": 25}
 # Where Python forms `1 - 0.9` first, which is a float that isn't quite a tenth, floats are read to twelve decimals.
 ROUNDED = {"regression/model"}
 
@@ -123,10 +125,12 @@ class Examples(unittest.TestCase):
         """What stands in the problem itself behind its last solve."""
         if problem.status is None:
             try:
-                problem.solve()
+                problem.solve(exact=False)
             except SolverError:
                 pass
         self.check_answer(names, problem, problem._result, answer, at)
+        if at in BEYOND:
+            self.assertAlmostEqual(problem.solve(), BEYOND[at], delta=1e-6)
         if answer.status == "optimal":
             self.assertEqual(problem.value, float(problem.exact))
 

@@ -9,15 +9,20 @@ import time
 from dataclasses import replace
 from typing import Callable, Sequence
 
+from ..certificates import CertificateError
+from ..errors import SolverError
 from ..exact.settings import MOST_SETTINGS
 from ..grids import Look
 from ..messages import status as status_message
 from ..program import ProgramError, run as run_program
 from ..reports import Report, read_report
+from ..shown import PROGRAM
+from ..shown.fallback import Wishes
+from ..shown.stops import behind
 from ..sources import read_settings
 from ..tables import Tables
 
-READ_FAULT, MEMORY, STOPPED, NOT_FOUND = 3, 5, 6, 70
+READ_FAULT, MEMORY, STOPPED, REFUSED, NOT_FOUND = 3, 5, 6, 7, 70
 SECONDS = 0.3  # how long a part of the settings takes, where that can be chosen
 
 
@@ -29,6 +34,11 @@ def add_arguments(parser: argparse.ArgumentParser) -> None:
     parser.add_argument("--max-pivots", metavar="N", type=up_to(10**9), help="how many pivots a solve may take")
     parser.add_argument("--digits", metavar="N", type=up_to(40), default=6, help="digits of decimals; 6 without it")
     parser.add_argument("--no-color", action="store_true", help="no colours, also on a terminal")
+    parser.add_argument("--json", action="store_true", help="the answers as JSON, and no tables")
+    parser.add_argument("--no-exact", action="store_true", help="leave a stop a stop: the exact solver isn't asked")
+    parser.add_argument("--trust", choices=["python"], help="take what the exact solver finds, where nothing shows it")
+    parser.add_argument("--box", metavar="N", type=up_to(10**9), help="the box of an interval; 1000000 without it")
+    parser.add_argument("--time-limit", metavar="N", type=up_to(10**6), help="seconds of the exact solver; 120 without it")
     parser.add_argument("--sort", choices=["multiplier"], help="constraints with the greatest multipliers first")
 
 
@@ -70,8 +80,35 @@ def run(arguments: argparse.Namespace) -> int:
     names = (arguments.script, arguments.settings or "")
     settings = files[1] if len(files) > 1 else None
     tables = Tables(files[0], settings, names, look(arguments), by_multiplier=arguments.sort == "multiplier")
-    print_text(tables.text(report))
+    if report.kind == "solved":
+        try:
+            report, status = with_others(report, status, tables, files[0], arguments)
+        except CertificateError as error:
+            print(f"dcx: what the exact solver found is wrong, as the program says: {error}", file=sys.stderr)
+            return REFUSED
+    print_text(report.to_json() + "\n" if arguments.json else tables.text(report))
     return status
+
+
+def with_others(
+    report: Report, status: int, tables: Tables, script: bytes, arguments: argparse.Namespace
+) -> tuple[Report, int]:
+    """The report with what the exact solver finds in the place of stops, and on what each answer stands."""
+    wishes = Wishes(not arguments.no_exact, arguments.trust, arguments.box, arguments.time_limit)
+    found = []
+    for answer in report.answers:
+        if answer.stop is None:
+            found.append(replace(answer, shown_by=PROGRAM))
+            continue
+        try:
+            found.append(behind(answer, tables, script, wishes, arguments.max_pivots is not None) or answer)
+        except SolverError as error:
+            print(f"dcx: {answer.word} {answer.index}: {error}", file=sys.stderr)
+            found.append(answer)
+    stopped = sum(answer.stop is not None for answer in found)
+    if stopped < report.stopped:
+        status = STOPPED if stopped else 0
+    return replace(report, answers=tuple(found), answered=len(found) - stopped, stopped=stopped), status
 
 
 def look(arguments: argparse.Namespace) -> Look:

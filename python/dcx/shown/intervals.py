@@ -45,6 +45,10 @@ class Interval(NamedTuple):
         most = max(abs(self.low), abs(self.high))
         return float((self.high - self.low) / most) if most else 0.0
 
+    def told(self) -> dict:
+        """What there is to tell of it, but for the texts."""
+        return {"low": self.low, "high": self.high, "width": self.width, "box": self.box, "boxed": self.boxed}
+
     def __str__(self) -> str:
         ends = ["-inf" if self.low is None else f"{float(self.low):.12g}"]
         ends.append("inf" if self.high is None else f"{float(self.high):.12g}")

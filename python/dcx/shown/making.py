@@ -187,7 +187,7 @@ class Maker:
         section = Section(kind)
         section.params = [setting[name].entries for name, _ in problem.parameters]
         section.number, section.point, section.duals = number, [], duals(problem)
-        section.weights = weights or {}
+        section.weights = dict(sorted((weights or {}).items()))
         for value in (number, *(v for entries in [*section.duals, *section.weights.values()] for v in entries)):
             if not OF_LANGUAGE.has(Fraction(value)):
                 raise Fault("Wide", "number", value)

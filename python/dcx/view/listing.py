@@ -9,8 +9,8 @@ from .markup import Markup, Part, el, text
 from .notes import Note
 
 
-def listing(lines: Lines, notes: Mapping[int, Note], label: str, prefix: str = "", is_short: bool = False) -> Markup:
-    """The lines with their notes; with `is_short` those alone that have some."""
+def listing(lines: Lines, notes: Mapping[int, Note], label: str, is_short: bool = False) -> Markup:
+    """The lines with their notes; with `is_short` those alone that have some, which are no places of the page then."""
     count = len(lines.lines)
     if count and not lines.lines[-1]:
         count -= 1
@@ -20,12 +20,12 @@ def listing(lines: Lines, notes: Mapping[int, Note], label: str, prefix: str = "
         note = notes.get(at)
         if note is None and is_short:
             continue
-        parts.append(line(lines, at, note or Note(), prefix))
+        parts.append(line(lines, at, note or Note(), None if is_short else f"L{at}"))
     classes = "listing short" if is_short else "listing"
     return el("div", parts, class_=classes, role="group", aria_label=label)
 
 
-def line(lines: Lines, at: int, note: Note, prefix: str) -> Markup:
+def line(lines: Lines, at: int, note: Note, place: Optional[str]) -> Markup:
     """One line."""
     content = lines.text(at)
     classes = " ".join(["line", *filter(None, [note.tone])])
@@ -37,7 +37,7 @@ def line(lines: Lines, at: int, note: Note, prefix: str) -> Markup:
         el("code", marked(content, note, lines)),
         el("div", note.beside, class_="beside") if note.beside else None,
         class_=classes,
-        id=f"{prefix}L{at}",
+        id=place,
     )
     return text([row, el("div", note.below, class_="below") if note.below else None])
 

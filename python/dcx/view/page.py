@@ -108,7 +108,8 @@ def answered(
     chosen = min(chosen, len(answers))
     answer = answers[chosen - 1]
     is_one = len(answers) == 1
-    sections = [] if is_one else [overview(found, "answer-")]
+    folded, places = others(found, answer)
+    sections = [] if is_one else [overview(found, "answer-", places | {answer.index})]
     middle = course(found, parameter) if parameter is not None else None
     if middle is not None and not is_one:
         sections.append(middle)
@@ -116,8 +117,7 @@ def answered(
     sections.extend(filter(None, [constraints(found, answer, by_multiplier)]))
     if middle is not None and is_one:
         sections.append(middle)
-    if not is_one:
-        sections.extend(filter(None, [others(found, answer)]))
+    sections.extend(filter(None, [folded]))
     title = one_title(found, answer) if is_one else many_title(found)
     return title, sections
 
@@ -221,16 +221,16 @@ def stop_in_settings(found: Found, answer: Answer) -> Part:
     return message(f"Stopped: {answer.stop.number} {answer.stop.name}", messages.stop(answer.stop))
 
 
-def others(found: Found, chosen: Answer) -> Optional[Markup]:
-    """The other answers, folded up, as far as there is room for them."""
+def others(found: Found, chosen: Answer) -> tuple[Optional[Markup], set[int]]:
+    """The other answers, folded up, as far as there is room for them, and the numbers of those that stand there."""
+    places: set[int] = set()
     parts: list[Markup] = []
     length = 0
     lines = found.tables.files["script"]
     for answer in found.answers:
         if answer is chosen:
             continue
-        prefix = f"{answer.word}-{answer.index}-"
-        inner = listing(lines, Notes(found, answer), f"lines with the answer of {word(found)} {answer.index}", prefix, is_short=True)
+        inner = listing(lines, Notes(found, answer), f"lines with the answer of {word(found)} {answer.index}", is_short=True)
         setting = found.tables.setting(answer.index)
         label = [f"{word(found)} {answer.index}"] + ([": ", el("code", " ".join(setting.text.split())[:200])] if setting else [])
         part = el(
@@ -245,11 +245,12 @@ def others(found: Found, chosen: Answer) -> Optional[Markup]:
         if length > MOST_BYTES:
             break
         parts.append(part)
+        places.add(answer.index)
     if not parts:
-        return None
+        return None, places
     left = len(found.answers) - 1 - len(parts)
     told = None
     if left:
         told = el("p", f"The page would grow too large with the other {left:,}; --setting N puts one of them into the script.", class_="quiet")
     title = "The other " + answers_head(found).rpartition(" ")[2]
-    return el("section", el("h2", title), parts, told, id="others")
+    return el("section", el("h2", title), parts, told, id="others"), places

@@ -28,11 +28,13 @@ class Column(NamedTuple):
     keys: Sequence[object]
 
 
-def overview(found: Found, link: str) -> Markup:
-    """The table, with a plot above it where there are values."""
+def overview(found: Found, link: str, places: set[int]) -> Markup:
+    """The table, with a plot above it where there are values. `link` is what the place of an answer on the page begins
+    with, and `places` has the numbers of those that stand there.
+    """
     drawings = [drawing for drawing in (over_parameter(found), over_settings(found)) if drawing is not None]
     plotted = el("div", drawings, class_="plots") if drawings else None
-    return el("section", el("h2", head(found)), plotted, table(found, link), id="settings")
+    return el("section", el("h2", head(found)), plotted, table(found, link, places), id="settings")
 
 
 def head(found: Found) -> str:
@@ -44,10 +46,12 @@ def word(found: Found) -> str:
     return "setting" if found.given is not None else "solve"
 
 
-def table(found: Found, link: str) -> Markup:
-    """A row for each answer. `link` is what the place of an answer on the page begins with."""
+def table(found: Found, link: str, places: set[int]) -> Markup:
+    """A row for each answer."""
     answers = found.answers
-    columns = [Column(word(found), True, [el("a", a.index, href=f"#{link}{a.index}") for a in answers], [a.index for a in answers])]
+    indices = [answer.index for answer in answers]
+    links = [el("a", index, href=f"#{link}{index}") if index in places else index for index in indices]
+    columns = [Column(word(found), True, links, indices)]
     columns += parameters(found)
     columns.append(Column("status", False, [status(answer) for answer in answers], [answer.status for answer in answers]))
     columns.append(numbers(OBJECTIVE[found.tables.sources.sense], [answer.value for answer in answers]))
