@@ -27,6 +27,12 @@ prob = cp.Problem(cp.Minimize(cp.norm1(x)), [x >= 1, cp.cumsum(x) <= 240])
 """
 
 
+def setUpModule():
+    """Programs that are started here may be interrupted, also where this process was started by one that may not."""
+    before = signal.signal(signal.SIGINT, signal.default_int_handler)
+    unittest.addModuleCleanup(signal.signal, signal.SIGINT, before or signal.SIG_DFL)
+
+
 class Folder(unittest.TestCase):
     """A folder for programs that are no dcx, as the variable DCX may name them."""
 

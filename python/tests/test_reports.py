@@ -49,9 +49,9 @@ def case_reports():
 
 
 def example_reports():
-    """The files of the examples that are reports or certificates."""
+    """The files of the examples that are reports or certificates, and not what a driver in Python prints."""
     for path in sorted((TOP / "examples").rglob("*.txt")):
-        if "settings" not in path.name and not path.name.startswith(("once", "wide_range", "hours_weeks")):
+        if "settings" not in path.name and not path.name.startswith(("once", "wide_range", "hours_weeks", "printed")):
             yield str(path.relative_to(TOP)), path.read_bytes()
 
 

@@ -271,8 +271,8 @@ class Printed(unittest.TestCase):
             "  x  3\n"
             "  y  1\n"
             "constraints and their multipliers\n"
-            "  1  line 5  x + y <= 4  2\n"
-            "  2  line 5  x <= 3      1\n"
+            "  1  line 6  x + y <= 4  2\n"
+            "  2  line 6  x <= 3      1\n"
             "\n"
             "answered 1, stopped 0\n",
         )
@@ -328,14 +328,20 @@ class Printed(unittest.TestCase):
         report = read_report((TOP / "examples/transport/report.txt").read_bytes())
         text = Tables((TOP / "examples/production/model.py").read_bytes()).text(report)
         self.assertNotIn("line ", text)
-        self.assertIn("  north_to_a  8\n", text)
-        self.assertIn("\n  1  4\n  2  3\n", text)
+        self.assertIn("  crates (2,3)\n    [  8  0  2  ]\n    [  0  7  5  ]\n", text)
+        self.assertIn("\n  1\n      [0]  4  3\n", text)
 
     def test_sorted_by_multiplier(self):
-        text, _, _ = table("examples/transport/model.py", "--sort", "multiplier")
-        multipliers = [int(row.split()[-1]) for row in text.split("\n") if "  line " in row]
-        self.assertEqual(sorted(multipliers, reverse=True), multipliers)
-        self.assertGreater(len(set(multipliers)), 2)
+        """Three bounds of 1 on what brings 2, 5 and 3 a piece."""
+        with tempfile.TemporaryDirectory() as folder:
+            script = Path(folder) / "model.py"
+            script.write_text(
+                "import cvxpy as cp\nx = cp.Variable(3, nonneg=True)\n"
+                "prob = cp.Problem(cp.Maximize(2*x[0] + 5*x[1] + 3*x[2]), [x[0] <= 1, x[1] <= 1, x[2] <= 1])\n"
+            )
+            text, _, _ = table(script, "--sort", "multiplier")
+        rows = [row.split() for row in text.split("\n") if "  line " in row]
+        self.assertEqual([(row[0], row[-1]) for row in rows], [("2", "5"), ("3", "3"), ("1", "2")])
 
     def test_infeasible_unbounded_and_whole(self):
         text, _, status = table("examples/certificates/model.py", "examples/certificates/settings.txt")
