@@ -8,12 +8,13 @@ from typing import Optional, Sequence
 
 from . import __version__
 
-# The package's own commands, each with a module of that name in `commands`, which has `add_arguments(parser)` and
+# The package's own commands, each with a module of that name in `commands` (`_` for `-`), which has `add_arguments(parser)` and
 # `run(arguments) -> status`; it is loaded when the command is asked for.
 COMMANDS = {
     "run": "run a CVXPY script as it stands: MODEL.py with its arguments",
     "table": "answer a script of the language, and show the answers as tables",
     "view": "answer a script of the language, and write a page of HTML that shows it",
+    "whole-check": "check the evidence of an answer in whole numbers",
     "json": "a report as JSON",
     "csv": "a report as CSV",
 }
@@ -34,7 +35,7 @@ def command_parser(chosen: Optional[str]) -> argparse.ArgumentParser:
     for name, summary in COMMANDS.items():
         one = commands.add_parser(name, help=summary, description=summary)
         if name == chosen:
-            module = import_module(f"{__package__}.commands.{name}")
+            module = import_module(f"{__package__}.commands.{name.replace('-', '_')}")
             module.add_arguments(one)
             one.set_defaults(action=module.run)
     return parser

@@ -3,7 +3,7 @@
 from __future__ import annotations
 
 from fractions import Fraction
-from typing import Any, Mapping, Optional
+from typing import Any, Callable, Mapping, Optional
 
 from . import sites, statuses
 from .errors import SolverError, UnsupportedError
@@ -37,6 +37,7 @@ _UNSUPPORTED = {
 }
 # the most pivots, and seconds, as solvers call them
 _PIVOTS = ("max_iters", "max_iter")
+_NODES = ("max_nodes", "mip_max_nodes", "node_limit")
 _SECONDS = ("time_limit", "time_limit_secs", "TimeLimit", "maximumSeconds")
 
 
@@ -56,6 +57,9 @@ class Arguments:
         self.exact = True
         self.trust: Optional[str] = None
         self.box: Optional[Fraction] = None
+        self.program_seconds: Optional[float] = None
+        self.max_nodes: Optional[int] = None
+        self.progress: Optional[Callable[[Any], object]] = None
         if solver is not None:
             if not isinstance(solver, str) or solver.upper() not in SOLVERS:
                 reason = f"The solver {solver} is not installed: there is one, for which CVXPY's other names are taken"
@@ -88,6 +92,18 @@ class Arguments:
             self.trust = value
         elif name == "box":
             self.box = box(value)
+        elif name == "program_seconds":
+            if not value > 0:
+                raise ValueError(f"program_seconds is a number of seconds above 0, and not {value!r}")
+            self.program_seconds = value
+        elif name in _NODES:
+            if value is not None and (isinstance(value, bool) or int(value) != value or value < 1):
+                raise ValueError(f"{name} is a whole number from 1, and not {value!r}")
+            self.max_nodes = value
+        elif name == "progress":
+            if value is not None and not callable(value):
+                raise TypeError(f"progress is called with a dcx.whole.search.Progress, and {value!r} can't be called")
+            self.progress = value
         elif name in _MEANINGLESS:
             self.meaningless.append(name)
         else:

@@ -19,6 +19,7 @@ from .results import Farkas, Ray, Result
 from .scripts import Script, written
 from .shown import fallback
 from .shown.intervals import Interval
+from .whole import answering
 
 __all__ = ["Problem", "SizeMetrics", "Solution", "SolverStats"]
 
@@ -78,6 +79,7 @@ class Problem:
         self._result: Optional[Result] = None
         self._report: Optional[bytes] = None
         self._asked: Optional[str] = None
+        self._progress: Any = None
         self._arguments_told = False
 
     # -- what the problem is made of
@@ -189,7 +191,9 @@ class Problem:
         `max_iters` is the most pivots that a run may take, 200,000 by itself, and `time_limit` the seconds after
         which it is ended. Where the program stops since its own numbers pass 128 bits, its rows are too many or its
         own limit of pivots is passed, the exact solver is asked, in Python, and the program checks its certificate;
-        `exact=False` leaves that out. `shown_by` tells on what the answer stands. Where an answer's numbers pass 128
+        `exact=False` leaves that out. With whole variables the program has `program_seconds` for its own branch and
+        bound, five by itself; behind that boxes are searched here (docs/PYTHON.md, "Whole numbers"), of which
+        `max_nodes` are solved at the most, in 600 s by itself, and `progress` is called with how far that is. `shown_by` tells on what the answer stands. Where an answer's numbers pass 128
         bits an `interval` is shown: the status is `optimal_inaccurate`, and the point is feasible. There `box` is the
         greatest magnitude of entries that have no bounds, a million by itself, and `trust="python"` takes the exact
         answer as it is found. The exact solver has `time_limit` seconds too, 120 by itself. The other arguments of CVXPY's solve and of its solvers are taken and have no meaning here,
@@ -210,14 +214,14 @@ class Problem:
             self._say(given)
         start = time.perf_counter()
         try:
-            run = program.run("resolve", script.text, settings, options=given.options, timeout=given.time_limit)
-            self._report, self._asked = run.report, settings
-            answer = read(run, script).answers[0]
-            shown = self._shown(answer, settings, given, verbose)
+            answer, shown = self._answered(settings, given, verbose)
         except (program.ProgramError, SolverError, CertificateError) as cause:
             error = given.too_late(cause, self.site) if isinstance(cause, program.TimedOut) else cause
             self._keep(Result(script, None, self._maximized, error=error))
             raise error from None
+        except KeyboardInterrupt:
+            self._keep(Result(script, None, self._maximized, error=SolverError("the search was interrupted", self.site)))
+            raise
         answer = answer if shown is None else shown.answer
         self._keep(Result(script, answer, self._maximized, seconds=time.perf_counter() - start, shown=shown))
         if verbose:
@@ -226,14 +230,56 @@ class Problem:
             print(f"dcx: {self.status}{value}" + ("" if shown is None else f"; shown by {self.shown_by}"))
         if self._result.error is not None:
             raise self._result.error
+        if getattr(shown, "why", None) == "interrupted":
+            raise KeyboardInterrupt
         return self._result.value
+
+    def _answered(self, settings: str, given: Arguments, verbose: bool) -> tuple[Any, Any]:
+        """The program's answer, None where its time passed, and what is shown behind it, None where nothing is."""
+        is_searched = given.exact and self.is_mixed_integer()
+        seconds = given.time_limit
+        if is_searched:
+            seconds = given.program_seconds or min(answering.FIRST, (seconds or 2 * answering.FIRST) / 2)
+        start = time.monotonic()
+        self._report, self._asked, self._progress = None, settings, None
+        why = f"has no answer after {seconds:g} s" if is_searched else ""
+        answer = None
+        try:
+            run = program.run("resolve", self.written.text, settings, options=given.options, timeout=seconds)
+            self._report = run.report
+            answer = read(run, self.written).answers[0]
+            if not is_searched:
+                return answer, self._shown(answer, settings, given, verbose)
+            if not answering.helps(answer.stop, bool(given.options)):
+                return answer, None
+            why = f"stops ({answer.stop.number} {answer.stop.name})"
+        except program.TimedOut:
+            if not is_searched:
+                raise
+        left = answering.SECONDS if given.time_limit is None else given.time_limit - (time.monotonic() - start)
+        if verbose:
+            print(f"dcx: the program {why}; the search for whole numbers has {left:.0f} s")
+
+        def told(progress: Any) -> None:
+            self._progress = progress
+            if verbose:
+                print(f"dcx: {progress}")
+            if given.progress is not None:
+                given.progress(progress)
+
+        try:
+            shown = answering.shown(self.written.text, settings, left, given.max_nodes, told)
+        except SolverError as cause:
+            raise SolverError(f"the program {why}; behind that, {cause.reason}", self.site, cause.stop) from None
+        self._progress = shown.progress
+        return answer, shown
 
     def _shown(self, answer: Any, settings: str, given: Arguments, verbose: bool) -> Any:
         """What is shown behind a stop, where the exact solver is asked; None where it isn't.
 
         Raises `SolverError`, with the program's stop, where there is nothing, and `CertificateError`."""
         is_limited = bool(given.options)
-        if not given.exact or self.is_mixed_integer() or not fallback.helps(answer.stop, is_limited):
+        if not given.exact or not fallback.helps(answer.stop, is_limited):
             return None
         wishes = fallback.Wishes(True, given.trust, given.box, given.time_limit)
         if verbose:
@@ -349,8 +395,9 @@ class Problem:
 
     @property
     def shown_by(self) -> Optional[str]:
-        """On what the last answer stands: `the program`, `a certificate that the program accepted`, `an interval`, or
-        `python`, where its word was enough for the user; None where there is no answer."""
+        """On what the last answer stands: `the program`, `a certificate that the program accepted`, `an interval`,
+        `python`, where its word was enough for the user, or one of the words of `dcx.whole`; None where there is no
+        answer."""
         return None if self._result is None else self._result.shown_by
 
     @property
@@ -358,6 +405,19 @@ class Problem:
         """The interval that holds the best value, where the last answer stands on one, as a
         `dcx.shown.intervals.Interval`."""
         return None if self._result is None else self._result.interval
+
+    @property
+    def evidence(self) -> Any:
+        """The evidence of the last answer in whole numbers, where it stands on boxes, as a
+        `dcx.whole.evidence.Evidence`; its `write(folder)` writes the files, and `python3 -m dcx whole-check` checks
+        them."""
+        return None if self._result is None else getattr(self._result.shown, "evidence", None)
+
+    @property
+    def progress(self) -> Any:
+        """How far the last search for whole numbers came, or this one, while it runs, as a
+        `dcx.whole.search.Progress` with `best`, `bound`, `gap` and `nodes`; None where there was none."""
+        return self._progress
 
     @property
     def report(self) -> Optional[bytes]:

@@ -11,7 +11,7 @@ from .refusals import stopped
 from .reports import Answer
 from .scripts import Script
 from .shown import PROGRAM
-from .statuses import INFEASIBLE, OPTIMAL, OPTIMAL_INACCURATE, SOLVER_ERROR, UNBOUNDED
+from .statuses import INFEASIBLE, OPTIMAL, OPTIMAL_INACCURATE, SOLVER_ERROR, UNBOUNDED, USER_LIMIT
 
 if TYPE_CHECKING:
     from .shown.fallback import Shown
@@ -20,7 +20,7 @@ if TYPE_CHECKING:
 __all__ = ["Farkas", "Ray", "Result", "values_of"]
 
 _ENDS = {INFEASIBLE: float("inf"), UNBOUNDED: float("-inf")}
-_WITH_POINT = (OPTIMAL, OPTIMAL_INACCURATE)
+_WITH_POINT = (OPTIMAL, OPTIMAL_INACCURATE, USER_LIMIT)
 
 
 class Ray(NamedTuple):

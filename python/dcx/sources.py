@@ -146,7 +146,8 @@ def read_settings(settings: bytes) -> Optional[tuple[Setting, ...]]:
         if token.kind == "newline":
             part = tokens[first:at]
             names = {one.text: Place(*one.place) for one in part if one.kind == "name"}
-            given = {name: Entries(tuple(shape), tuple(map(Fraction, numbers))) for name, (shape, numbers) in values[len(found)]}
+            listed = values[len(found)]
+            given = {name: Entries(tuple(shape), tuple(map(Fraction, entries))) for name, (shape, entries) in listed}
             found.append(Setting(Place(*part[0].place), text[start_of(part[0]) : part[-1].end], names, given))
             first = at + 1
     return tuple(found)

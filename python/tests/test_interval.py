@@ -46,7 +46,7 @@ X = cp.Variable((2, 2), symmetric=True)
 D = cp.Variable((2, 2), diag=True)
 n = cp.Variable((1, 2), nonpos=True)
 C = np.array([[1, 2/3], [0.25, 3]])
-prob = cp.Problem(cp.Minimize(cp.norm_inf(X + D - C) + cp.norm1(n + 1/9) + cp.trace(D)/5), [D >= 1/3, X[0, 1] >= 1])
+prob = cp.Problem(cp.Minimize(cp.norm_inf(X + D - C) + cp.norm1(n + 1/9) + cp.trace(D)/5), [cp.diag(D) >= 1/3, X[0, 1] >= 1])
 """,
     "folds": """
 x = cp.Variable(4)
@@ -63,7 +63,7 @@ prob = cp.Problem(cp.Maximize(cp.sum(x)), [x[i] + (i + 1)*x[2] <= 1 + i/3 for i 
 
 
 def exact_value(script):
-    (answer,) = solve(script.encode())
+    (answer,) = solve(script.encode()).answers
     return answer.value
 
 
@@ -94,7 +94,7 @@ class Ends(unittest.TestCase):
             self.holds(one, problem.exact)
 
     def test_wide_blends_and_portfolios(self):
-        for problem, x, found in (wide.blend(2, 16, 14, 7), wide.portfolio(4, 12, 18, 6)):
+        for problem, x, found in (wide.blend(2, 24, 20, 7), wide.portfolio(5, 14, 30, 7)):
             value = problem.solve()
             self.assertEqual((problem.status, problem.shown_by), ("optimal_inaccurate", INTERVAL))
             interval = problem.interval

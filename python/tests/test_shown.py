@@ -4,6 +4,7 @@ from __future__ import annotations
 import contextlib
 import io
 import json
+import re
 import tempfile
 import unittest
 from fractions import Fraction
@@ -195,8 +196,15 @@ class Lies(unittest.TestCase):
         self.refused(change, "section 1 ")
 
     def test_a_wrong_point_and_a_wrong_value(self):
-        self.refused(lambda text: text.replace("\nvar x (5) = ", "\nvar x (5) = 1").replace("= 1-", "= 1"), "refused")
-        self.refused(lambda text: text.replace("\nvalue ", "\nvalue 1"), "section 1 Value")
+        def moved(text):
+            lines = text.split("\n")
+            at = next(i for i, line in enumerate(lines) if line.startswith("var x (5) = "))
+            words = lines[at].split(" ")
+            words[4] = "7" if words[4] != "7" else "8"
+            return "\n".join([*lines[:at], " ".join(words), *lines[at + 1 :]])
+
+        self.refused(moved, "section 1 Value")
+        self.refused(lambda text: re.sub("\nvalue .*", "\nvalue 1", text), "section 1 Value")
 
     def test_what_breaks_off(self):
         self.refused(lambda text: text[: len(text) // 2], "section 0 Form")
@@ -274,7 +282,7 @@ class Tables(unittest.TestCase):
         self.assertIn("the least objective is 601/2", called("table", script, str(settings))[0])
 
     def test_lies(self):
-        with lying(lambda text: text.replace("\nvalue ", "\nvalue 1")):
+        with lying(lambda text: re.sub("\nvalue .*", "\nvalue 1", text)):
             out, told, status = called("table", self.file("fit"))
         self.assertEqual((out, status), ("", 7))
         self.assertIn("certificate refused section 1 Value", told)

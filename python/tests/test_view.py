@@ -28,7 +28,6 @@ EMPTY = {"meta", "br", "wbr", "input"}
 PAGES = {
     "plan": ["examples/project/model.py", "examples/project/settings.txt"],
     "fit": ["examples/deviations/model.py"],
-    "control": ["examples/control/model.py", "docs/pages/control_settings.txt"],
     "schedule": ["examples/schedule/model.py", "examples/schedule/settings.txt", "--setting", "2"],
     "range": ["examples/prices/model.py", "examples/prices/settings.txt", "--range", "neighbour"],
     "refusal": ["examples/portfolio/too_little_turnover.py"],
@@ -447,7 +446,8 @@ class Pages(unittest.TestCase):
                 prob.view(file, cp.Parameter())
 
     def test_kept_pages(self):
-        """The pages of docs/pages/ are those that `tools/pages` makes; the program's checksum may be another one."""
+        """The pages of docs/pages/ are those that `tools/pages` makes, but for the program's checksum. The one of a hundred
+        settings, which takes longest, is left out."""
         before = os.getcwd()
         os.chdir(TOP)
         try:

@@ -1,4 +1,5 @@
-"""`python3 -m dcx view SCRIPT [SETTINGS]`: answers a script of the program's language, and writes a page that shows it."""
+"""`python3 -m dcx view SCRIPT [SETTINGS]`: answers a script of the program's language, and writes a page that shows it.
+"""
 from __future__ import annotations
 
 import argparse
@@ -21,7 +22,8 @@ def add_arguments(parser: argparse.ArgumentParser) -> None:
     parser.add_argument("settings", nargs="?", metavar="SETTINGS", help="a file with a setting of parameters a line")
     parser.add_argument("-o", "--output", metavar="FILE", help="the page; beside the script, with .html, without it")
     parser.add_argument("--range", metavar="P", dest="parameter", help="also the value over the parameter P")
-    parser.add_argument("--setting", metavar="N", type=up_to(1000), default=1, help="whose answer stands in the script; 1 without it")
+    chosen = "whose answer stands in the script; 1 without it"
+    parser.add_argument("--setting", metavar="N", type=up_to(1000), default=1, help=chosen)
     parser.add_argument("--sort", choices=["multiplier"], help="the constraints' table: the greatest multipliers first")
     parser.add_argument("--warm", action="store_true", help="begin each setting at the answer before it")
     parser.add_argument("--max-pivots", metavar="N", type=up_to(10**9), help="how many pivots a solve may take")

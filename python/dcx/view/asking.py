@@ -84,7 +84,8 @@ def found(
     neither answers nor a refusal is handed back as it is.
     """
     if answered is None:
-        run = program.run("solve" if settings is None else "resolve", script, *filter(None, [settings]), options=options)
+        word, files = ("solve", [script]) if settings is None else ("resolve", [script, settings])
+        run = program.run(word, *files, options=options)
         answered = read_report(run.report), run.status
     report, status = answered
     tables = Tables(script, settings, names)

@@ -50,25 +50,28 @@ def constraints(found: Found, answer: Answer, by_multiplier: bool = False) -> Op
         cells.append(el("td", state_mark(row, number in members)))
         idle = slacks[at] and not multipliers[at]
         body.append(el("tr", cells, class_="idle" if idle else None))
-    heads = [el("th", "no.", scope="col", class_="num"), el("th", "line", scope="col", class_="num"), el("th", "constraint", scope="col")]
+    heads = [el("th", name, scope="col", class_="num") for name in ("no.", "line")]
+    heads.append(el("th", "constraint", scope="col"))
     if has[0]:
         heads.append(el("th", "least slack", scope="col", class_="num"))
     if has[1]:
         heads.append(el("th", "greatest multiplier", scope="col", class_="num", data_first="down"))
     heads.append(el("td"))
     table = el("table", el("thead", el("tr", heads)), el("tbody", body), class_="rows sortable")
-    parts = [el("h2", "The constraints"), el("p", EXPLAINED[answer.status], class_="quiet") if answer.status in EXPLAINED else None]
+    explained = EXPLAINED.get(answer.status)
+    parts = [el("h2", "The constraints"), explained and el("p", explained, class_="quiet")]
     parts.append(el("div", table, class_="wide", tabindex=0, role="region", aria_label="table of the constraints"))
     if len(order) > MOST:
-        parts.append(el("p", f"Shown are the {MOST:,} with the greatest multipliers, of {len(order):,}.", class_="quiet"))
+        left_out = f"Shown are the {MOST:,} with the greatest multipliers, of {len(order):,}."
+        parts.append(el("p", left_out, class_="quiet"))
     return el("section", parts, id="constraints")
 
 
 EXPLAINED = {
-    "optimal": "A multiplier is what the objective gains for each unit by which the constraint gives way, as long as the plan "
-    "doesn't change. The slack is what is left between both sides.",
-    "infeasible": "Left minus right of each constraint, times its multiplier, sums to the gap or more at every point, and would "
-    "sum to 0 or less at one that keeps them all.",
+    "optimal": "A multiplier is what the objective gains for each unit by which the constraint gives way, as long as "
+    "the plan doesn't change. The slack is what is left between both sides.",
+    "infeasible": "Left minus right of each constraint, times its multiplier, sums to the gap or more at every point, "
+    "and would sum to 0 or less at one that keeps them all.",
 }
 
 

@@ -29,11 +29,14 @@ def shown_by_program(found: Found) -> Markup:
     """What the program's answers rest on."""
     if found.report.refusal is not None:
         told = (
-            "The program is proved to refuse exactly what the written rules refuse, at the first place that breaks one; the "
-            "sentences beside it are this package's."
+            "The program is proved to refuse exactly what the written rules refuse, at the first place that breaks "
+            "one; the sentences beside it are this package's."
         )
         return el("p", el("b", "The program. "), told)
-    parts = ["The answers are those of the program dcx, which is proved: it was built after a prover checked what each function promises. "]
+    parts = [
+        "The answers are those of the program dcx, which is proved: it was built after a prover checked what each "
+        "function promises. "
+    ]
     statuses = {answer.status for answer in found.answers}
     if "optimal" in statuses:
         parts.append("Each point it prints keeps the constraints exactly, and no point is better. ")
@@ -42,10 +45,14 @@ def shown_by_program(found: Found) -> Markup:
     if "unbounded" in statuses:
         parts.append("Where it says unbounded the objective goes on for ever along the ray. ")
     if found.irreducible:
-        parts.append("That the constraints in the way can't be kept together, and that each of them is needed for that, is its answer too. ")
+        parts.append(
+            "That the constraints in the way can't be kept together, and that each of them is needed for that, is its "
+            "answer too. "
+        )
     if found.narrowed:
         parts.append(
-            "Their multipliers were found by the second reading, in Python; that they show it was checked by the program's word certify. "
+            "Their multipliers were found by the second reading, in Python; that they show it was checked by the "
+            "program's word certify. "
         )
     if found.whole:
         parts.append("Some variable is to be whole: no whole point is better, which the nodes of its search show. ")
@@ -66,10 +73,15 @@ def by_certificate(found: Found) -> Markup:
         ", which solves nothing, went through it and said ",
         el("code", said),
         ". " if not missing else f": {missing} of {count} have none. ",
-        "Whoever does so trusts neither the simplex method nor this page; docs/CERTIFICATES.md says how to write another checker.",
+        "Whoever does so trusts neither the simplex method nor this page; docs/CERTIFICATES.md says how to write "
+        "another checker.",
     ]
-    files = [download(f"{stem}_certificate.txt", found.certificate), download(script, found.script.decode("utf-8", "replace"))]
-    files.append(download(settings, found.settings))
+    contents = {
+        f"{stem}_certificate.txt": found.certificate,
+        script: found.script.decode("utf-8", "replace"),
+        settings: found.settings,
+    }
+    files = [download(name, content) for name, content in contents.items()]
     unpack = "".join(f"gunzip {name}; " for name, is_packed, _ in files if is_packed)
     command = f"{unpack}python3 -m dcx certify {script} {settings} {stem}_certificate.txt"
     return el(
@@ -105,8 +117,8 @@ def of_page(found: Found) -> Part:
     if found.report.refusal is not None:
         return None
     told = (
-        "Slacks are worked out in exact fractions by a second reading of the script in Python, which isn't proved. Decimals "
-        "are rounded to six digits; the fractions beside them are the numbers themselves."
+        "Slacks are worked out in exact fractions by a second reading of the script in Python, which isn't proved. "
+        "Decimals are rounded to six digits; the fractions beside them are the numbers themselves."
     )
     return [el("b", "This page. "), told]
 

@@ -1,4 +1,4 @@
-"""Numbers, vectors and matrices in HTML: decimals, with the fraction that they are rounded from beside or below them."""
+"""Numbers, vectors and matrices in HTML: decimals, with the fraction that they are rounded from."""
 from __future__ import annotations
 
 from fractions import Fraction
@@ -13,7 +13,7 @@ MOST_SHOWN = 60  # entries of an array that stand open
 
 
 def number(value: Fraction) -> Markup:
-    """A number: its decimals, and its fraction where it isn't whole, with a sign that tells whether the two are equal."""
+    """A number: its decimals, and its fraction where it isn't whole, with a sign that tells whether both are equal."""
     if value.denominator == 1:
         return text(number_text(value))
     told = decimals(value, DIGITS)
@@ -42,10 +42,10 @@ def array(values: Entries, label: str) -> Markup:
         return el("ol", list(cells), class_="vector", aria_label=label)
     rows, columns = values.shape
     head = el("tr", el("td"), [el("th", f"[:, {j}]", scope="col") for j in range(columns)])
-    body = [
-        el("tr", el("th", f"[{i}]", scope="row"), [el("td", number(values.entries[i * columns + j])) for j in range(columns)])
-        for i in range(rows)
-    ]
+    body = []
+    for i in range(rows):
+        entries = values.entries[i * columns : (i + 1) * columns]
+        body.append(el("tr", el("th", f"[{i}]", scope="row"), [el("td", number(entry)) for entry in entries]))
     table = el("table", el("thead", head), el("tbody", body), class_="matrix")
     return el("div", table, class_="wide", tabindex=0, role="region", aria_label=label)
 

@@ -50,6 +50,7 @@ def shown(
     if read_report(program.run("certify", script, line, text).report).certified != 1:
         return None
     duals = {
-        number: Entries(dual.shape, tuple(map(Fraction, section.duals[number - 1]))) for number, dual in answer.duals.items()
+        number: Entries(dual.shape, tuple(map(Fraction, section.duals[number - 1])))
+        for number, dual in answer.duals.items()
     }
     return replace(answer, gap=Fraction(section.number), duals=duals)

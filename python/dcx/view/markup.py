@@ -29,8 +29,8 @@ def text(part: Part) -> Markup:
 def el(element: str, *parts: Part, **attributes: object) -> Markup:
     """An element with these parts in it.
 
-    An underscore in an attribute's name is a hyphen, one at its end is left out (`class_`). An attribute that is None or
-    False is left out, one that is True stands alone.
+    An underscore in an attribute's name is a hyphen, one at its end is left out (`class_`). An attribute that is None
+    or False is left out, one that is True stands alone.
     """
     words = [element]
     for name, value in attributes.items():

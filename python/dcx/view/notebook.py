@@ -23,7 +23,8 @@ STYLE = """
 .dcx-answer p { margin: 0 0 .375em; }
 .dcx-answer small, .dcx-answer .quiet, .dcx-answer .k { opacity: .7; font-size: .8125em; }
 .dcx-answer .mark { font-weight: 650; }
-.dcx-answer ol.vector { display: flex; flex-wrap: wrap; gap: .25em .75em; margin: 0 0 .5em; padding: 0; list-style: none; }
+.dcx-answer ol.vector { display: flex; flex-wrap: wrap; gap: .25em .75em; }
+.dcx-answer ol.vector { margin: 0 0 .5em; padding: 0; list-style: none; }
 .dcx-answer ol.vector li { display: flex; flex-direction: column; }
 .dcx-answer .vector .n { display: flex; flex-direction: column; }
 .dcx-answer .wide { overflow-x: auto; }
@@ -35,11 +36,11 @@ STYLE = """
 def view(
     problem: Any, file: Union[str, os.PathLike] = "problem.html", parameter: Any = None, max_iters: Optional[int] = None
 ) -> str:
-    """Solves a recorded problem at its parameters' values and writes the page that shows it, of the script that was handed
-    over; with a parameter also the value over it. Returns the file's name.
+    """Solves a recorded problem at its parameters' values and writes the page that shows it, of the script that was
+    handed over; with a parameter also the value over it. Returns the file's name.
 
-    Raises `ParameterError`, `LimitError` and `ProgramError` as `Problem.solve`, `OSError` where the file can't be written,
-    `KeyError` where the parameter is none of the problem. What the rules refuse is shown on the page.
+    Raises `ParameterError`, `LimitError` and `ProgramError` as `Problem.solve`, `OSError` where the file can't be
+    written, `KeyError` where the parameter is none of the problem. What the rules refuse is shown on the page.
     """
     script = problem.written
     name = None

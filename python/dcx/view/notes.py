@@ -1,4 +1,4 @@
-"""What stands beside and below the lines of a script: the answer of each constraint, variable, parameter and objective."""
+"""What stands beside and below the lines of a script: what an answer says of constraints and variables."""
 from __future__ import annotations
 
 from dataclasses import dataclass, field
@@ -95,7 +95,8 @@ class Notes(dict):
             told: Part = [OBJECTIVE[sense], " ", el("strong", number(answer.value))]
         elif answer.slope is not None:
             goes = "falls" if sense == "minimize" else "rises"
-            told = [f"{goes} for ever: ", number(answer.bound), " at the point, ", number(answer.slope), " for each step along the ray"]
+            told = [f"{goes} for ever: ", number(answer.bound), " at the point, "]
+            told += [number(answer.slope), " for each step along the ray"]
         elif answer.gap is not None:
             told = ["no point; gap ", el("strong", number(answer.gap))]
         else:
@@ -188,8 +189,8 @@ class Notes(dict):
         table = el("table", el("thead", el("tr", columns)), el("tbody", body), class_="rows")
         lines = ", ".join(dict.fromkeys(str(source.place.line) for source in sources))
         inner = el("div", table, class_="wide", tabindex=0, role="region", aria_label=f"constraints of line {lines}")
-        told = f"{left_out} entries that neither bind nor have a multiplier, or are too many, are left out here." if left_out else None
-        parts = [inner, el("p", told, class_="quiet") if told else None]
+        told = f"{left_out} entries that neither bind nor have a multiplier, or are too many, are left out here."
+        parts = [inner, el("p", told, class_="quiet") if left_out else None]
         if len(shown) > MOST_SHOWN:
             return el("details", el("summary", f"{len(flat)} entries"), parts)
         return el("div", parts)
@@ -199,7 +200,8 @@ class Notes(dict):
         point: Without = next(one for one in self.irreducible.without if one.constraint == member)
         source = self.sources.constraints[member]
         label = ["Without ", el("code", shortened(source.text)), " ", turn(source), " the others can be kept"]
-        return el("details", el("summary", label), [named(name, array) for name, array in point.variables.items()], class_="aside")
+        arrays = [named(name, array) for name, array in point.variables.items()]
+        return el("details", el("summary", label), arrays, class_="aside")
 
 
 def spaced(parts: Sequence[Part]) -> Markup:

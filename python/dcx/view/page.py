@@ -37,10 +37,12 @@ def page(found: Found, parameter: Optional[str] = None, chosen: int = 1, by_mult
         title, sections = answered(found, parameter, chosen, by_multiplier)
     sections.append(evidence(found))
     heads = [(section_id(section), section_head(section)) for section in sections]
-    links = el("nav", el("ul", [el("li", el("a", Markup(name), href=f"#{of}")) for of, name in heads]), aria_label="parts of the page")
+    items = [el("li", el("a", Markup(name), href=f"#{of}")) for of, name in heads]
+    links = el("nav", el("ul", items), aria_label="parts of the page")
     first = found.tables.files["script"].text(1)
     asks = el("p", first[1:].strip(), class_="lead") if first.startswith("#") else None
-    header = el("header", el("p", told_files(found), class_="file"), el("h1", title[0]), el("p", title[1]) if title[1] else None, asks, title[2], links)
+    more = el("p", title[1]) if title[1] else None
+    header = el("header", el("p", told_files(found), class_="file"), el("h1", title[0]), more, asks, title[2], links)
     scripts = el("script", Markup(SCRIPT))
     body = el("body", header, el("main", sections), el("footer", el("p", "Written by python3 -m dcx view.")), scripts)
     top = [
@@ -72,7 +74,8 @@ def told_files(found: Found) -> Part:
 def tools() -> Markup:
     """What may be shown or hidden."""
     boxes = [("fractions", "fractions", True), ("short", "only lines with an answer", False)]
-    return el("div", [el("label", el("input", type="checkbox", id=of, checked=on), name) for of, name, on in boxes], class_="tools")
+    labels = [el("label", el("input", type="checkbox", id=of, checked=on), name) for of, name, on in boxes]
+    return el("div", labels, class_="tools")
 
 
 # A refusal
@@ -93,7 +96,8 @@ def refused(found: Found) -> tuple[tuple[Part, Part, Part], list[Markup]]:
     else:
         count = len(lines.lines)
         near = {at: Note() for at in range(max(1, place.line - AROUND), min(count, place.line + AROUND) + 1)}
-        inner = [el("h2", "The settings"), listing(lines, {**near, place.line: note}, f"lines of {name}", is_short=True)]
+        notes = {**near, place.line: note}
+        inner = [el("h2", "The settings"), listing(lines, notes, f"lines of {name}", is_short=True)]
     return title, [el("section", inner, id="source")]
 
 
@@ -160,10 +164,16 @@ def facts(found: Found, answer: Answer) -> Markup:
     if answer.variables and answer.stop is None:
         flat = [row for of in rows(sources, answer, found.values(answer.index)).values() for row in of]
         if flat:
-            items.append(("constraints that bind", f"{sum(row.binds for row in flat):,} of {sum(not row.is_equality for row in flat):,}"))
+            binding, count = sum(row.binds for row in flat), sum(not row.is_equality for row in flat)
+            items.append(("constraints that bind", f"{binding:,} of {count:,}"))
     if answer.nodes is not None:
         items.append(("nodes of the search", f"{answer.nodes:,}"))
-    return el("dl", [el("div", el("dt", name), el("dd", value)) for name, value in items], class_="facts") if items else text(None)
+    return facts_list(items) if items else text(None)
+
+
+def facts_list(items: list[tuple[str, Part]]) -> Markup:
+    """Numbers below their names."""
+    return el("dl", [el("div", el("dt", name), el("dd", value)) for name, value in items], class_="facts")
 
 
 def many_title(found: Found) -> tuple[Part, Part, Part]:
@@ -181,7 +191,7 @@ def many_title(found: Found) -> tuple[Part, Part, Part]:
             items.append((f"{name}{told and ' '}{told}, {word(found)} {one.index}", number(one.value)))
     if found.report.warm is not None:
         items.append(("from an earlier answer", f"{found.report.warm:,}"))
-    return title, None, el("dl", [el("div", el("dt", name), el("dd", value)) for name, value in items], class_="facts")
+    return title, None, facts_list(items)
 
 
 def source(found: Found, answer: Answer, is_one: bool) -> Markup:
@@ -201,7 +211,8 @@ def in_the_way(found: Found, answer: Answer) -> Part:
         return None
     if irreducible.stop is not None:
         return message("Which constraints are in the way isn't known", messages.stop(irreducible.stop))
-    told = f"No point keeps the {len(irreducible.members)} marked constraints together; without any one of them there is one. "
+    count = len(irreducible.members)
+    told = f"No point keeps the {count} marked constraints together; without any one of them there is one. "
     if len(irreducible.members) == 1:
         told = "No point keeps the marked constraint. "
     if answer.index in found.narrowed:
@@ -230,9 +241,10 @@ def others(found: Found, chosen: Answer) -> tuple[Optional[Markup], set[int]]:
     for answer in found.answers:
         if answer is chosen:
             continue
-        inner = listing(lines, Notes(found, answer), f"lines with the answer of {word(found)} {answer.index}", is_short=True)
+        which = f"{word(found)} {answer.index}"
+        inner = listing(lines, Notes(found, answer), f"lines with the answer of {which}", is_short=True)
         setting = found.tables.setting(answer.index)
-        label = [f"{word(found)} {answer.index}"] + ([": ", el("code", " ".join(setting.text.split())[:200])] if setting else [])
+        label = [which] + ([": ", el("code", " ".join(setting.text.split())[:200])] if setting else [])
         part = el(
             "details",
             el("summary", label),
@@ -251,6 +263,7 @@ def others(found: Found, chosen: Answer) -> tuple[Optional[Markup], set[int]]:
     left = len(found.answers) - 1 - len(parts)
     told = None
     if left:
-        told = el("p", f"The page would grow too large with the other {left:,}; --setting N puts one of them into the script.", class_="quiet")
+        why = f"The page would grow too large with the other {left:,}; --setting N puts one of them into the script."
+        told = el("p", why, class_="quiet")
     title = "The other " + answers_head(found).rpartition(" ")[2]
     return el("section", el("h2", title), parts, told, id="others"), places

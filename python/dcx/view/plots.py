@@ -81,15 +81,16 @@ def dot(axes: Axes, point: Point, class_: str = "dot", radius: str = "3.5") -> M
     """A point, with its numbers."""
     x, y = axes.at(point.x, point.y)
     title = el("title", point.label)
-    return el("circle", title, cx=x, cy=y, r=radius, class_=class_, data_x=number_text(point.x), data_y=number_text(point.y))
+    exact = {"data_x": number_text(point.x), "data_y": number_text(point.y)}
+    return el("circle", title, cx=x, cy=y, r=radius, class_=class_, **exact)
 
 
 def points(
     shown: Sequence[Point], missing: Sequence[tuple[Fraction, str]], x_label: str, y_label: str, caption: Part,
     whole: bool = False,
 ) -> Optional[Markup]:
-    """Points; where there is no value a cross stands on the axis. None where there are fewer than two. With `whole` only
-    whole numbers are told below."""
+    """Points; where there is no value a cross stands on the axis. None where there are fewer than two. With `whole`
+    only whole numbers are told below."""
     if len(shown) < 2:
         return None
     axes = Axes([point.x for point in shown] + [x for x, _ in missing], [point.y for point in shown], whole)

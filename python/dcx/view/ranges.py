@@ -30,16 +30,18 @@ def course(found: Found, parameter: str) -> Markup:
 def lead(one: Course, value: str) -> str:
     """What is seen, in a sentence."""
     count = len(one.pieces)
-    corners = len(plots.corners_of(one)) - sum(1 for piece, side in ((one.pieces[0], "low"), (one.pieces[-1], "high")) if getattr(piece, side) is not None)
-    bends = "bends nowhere" if corners <= 0 else f"bends at {corners} " + ("place" if corners == 1 else "places")
+    corners = count - 1
+    bends = f"bends at {corners} " + ("place" if corners == 1 else "places") if corners else "bends nowhere"
     return f"The {value} is made of {count} straight " + ("piece" if count == 1 else "pieces") + f" and {bends}."
 
 
 def caption(found: Found, one: Course, value: str) -> Part:
     """What the plot shows."""
     which = "setting" if found.given is not None else "solve"
-    others = f" The other parameters have their values of {which} {found.course_of}." if len(found.values(found.course_of)) > 1 else ""
-    return f"The {value} over {one.name}; a ring stands where a piece ends, a dot at an answer.{others}"
+    told = f"The {value} over {one.name}; a ring stands where a piece ends, a dot at an answer."
+    if len(found.values(found.course_of)) > 1:
+        told += f" The other parameters have their values of {which} {found.course_of}."
+    return told
 
 
 def on_course(found: Found, one: Course) -> list[plots.Point]:
@@ -61,11 +63,14 @@ def others(found: Found, index: int, name: str) -> dict:
 
 def pieces(one: Course) -> Markup:
     """A row for each piece."""
-    heads = [("from", "num"), ("to", "num"), ("the value is", None), ("at the low end", "num"), ("at the high end", "num")]
+    heads = [("from", "num"), ("to", "num"), ("the value is", None)]
+    heads += [("at the low end", "num"), ("at the high end", "num")]
     body = []
     for piece in one.pieces:
-        cells = [el("td", end(piece.low), class_="num"), el("td", end(piece.high), class_="num"), el("td", formula(piece, one.name))]
-        cells += [el("td", None if place is None else number(piece.at(place)), class_="num") for place in (piece.low, piece.high)]
+        ends = (piece.low, piece.high)
+        cells = [el("td", end(place), class_="num") for place in ends]
+        cells.append(el("td", formula(piece, one.name)))
+        cells += [el("td", None if place is None else number(piece.at(place)), class_="num") for place in ends]
         body.append(el("tr", cells))
     head = el("tr", [el("th", text, scope="col", class_=kind) for text, kind in heads])
     table = el("table", el("thead", head), el("tbody", body), class_="rows")
@@ -94,7 +99,8 @@ def notes(found: Found, one: Course) -> Markup:
         place = piece.low if side == "low" else piece.high
         kind = one.ends[side]
         if kind == "infeasible":
-            lines.append(["There is no point ", beyond, " ", number(place), ", which multipliers of a certificate show."])
+            shown = ", which multipliers of a certificate show."
+            lines.append(["There is no point ", beyond, " ", number(place), shown])
         elif kind == "sign":
             lines.append(["The parameter's sign ends it at ", number(place), "."])
         elif kind == "open":

@@ -53,7 +53,8 @@ def table(found: Found, link: str, places: set[int]) -> Markup:
     links = [el("a", index, href=f"#{link}{index}") if index in places else index for index in indices]
     columns = [Column(word(found), True, links, indices)]
     columns += parameters(found)
-    columns.append(Column("status", False, [status(answer) for answer in answers], [answer.status for answer in answers]))
+    statuses = [answer.status for answer in answers]
+    columns.append(Column("status", False, [status(answer) for answer in answers], statuses))
     columns.append(numbers(OBJECTIVE[found.tables.sources.sense], [answer.value for answer in answers]))
     columns += variables(found)
     heads = [el("th", column.head, scope="col", class_="num" if column.is_number else None) for column in columns]
@@ -93,7 +94,8 @@ def parameters(found: Found) -> list[Column]:
         if len({array and array.entries for array in arrays}) == 1:
             continue
         if any(array is not None and array.shape for array in arrays):
-            columns.append(Column(el("code", name), False, list(map(short, arrays)), [array and array.entries for array in arrays]))
+            keys = [array and array.entries for array in arrays]
+            columns.append(Column(el("code", name), False, list(map(short, arrays)), keys))
         else:
             columns.append(numbers(el("code", name), [array and array.entries[0] for array in arrays]))
     solves = found.tables.sources.solves
@@ -152,7 +154,8 @@ def over_parameter(found: Found) -> Optional[Markup]:
     places = {answer.index: found.values(answer.index)[name].entries[0] for answer in found.answers}
     shown, missing = split(found, places)
     value = OBJECTIVE[found.tables.sources.sense]
-    return plots.points(shown, missing, name, value, f"The {value} over {name}, which alone changes. {crosses(missing)}".strip())
+    caption = f"The {value} over {name}, which alone changes. {crosses(missing)}".strip()
+    return plots.points(shown, missing, name, value, caption)
 
 
 def changing(found: Found) -> Optional[str]:

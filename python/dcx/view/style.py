@@ -35,7 +35,7 @@ small { color: var(--quiet); font-size: .8125em; overflow-wrap: anywhere; }
 .n small { white-space: normal; }
 .quiet, .comment { color: var(--quiet); }
 .mark, mark { color: var(--accent); font-weight: 650; background: none; }
-mark { background: var(--tint); border-radius: 3px; padding: .1em .15em; box-decoration-break: clone; -webkit-box-decoration-break: clone; }
+mark { background: var(--tint); border-radius: 3px; padding: .1em .15em; margin: 0 -.15em; box-decoration-break: clone; -webkit-box-decoration-break: clone; }
 nav ul, .facts, .downloads { display: flex; flex-wrap: wrap; gap: .25rem 1.25rem; margin: .75rem 0 0; padding: 0; list-style: none; font-size: .875rem; }
 .facts { margin-top: 1rem; gap: .5rem 2.25rem; font-size: 1rem; }
 .facts dt { color: var(--quiet); font-size: .8125rem; }
@@ -50,7 +50,7 @@ nav ul, .facts, .downloads { display: flex; flex-wrap: wrap; gap: .25rem 1.25rem
 .no { color: var(--quiet); text-align: right; user-select: none; line-height: 1.6; }
 .beside { font-size: .875rem; line-height: 1.5; }
 .beside p { margin: 0; }
-.beside i { color: var(--line); font-style: normal; }
+.beside i { color: var(--quiet); font-style: normal; }
 .binds { border-left-color: var(--accent); }
 .way { border-left-color: var(--accent); background: var(--tint); }
 .below { margin: .125rem 1rem .625rem calc(4rem + 3px); font-size: .875rem; }
@@ -107,7 +107,7 @@ footer { padding-top: 2rem; padding-bottom: 3rem; color: var(--quiet); font-size
 body:has(#fractions:not(:checked)) small { display: none; }
 body:has(#short:checked) .listing .plain { display: none; }
 
-@media (max-width: 52rem) {
+@media screen and (max-width: 52rem) {
   main, header, footer { padding-left: 1rem; padding-right: 1rem; }
   header { padding-top: 1.5rem; }
   h1 { font-size: 1.375rem; }
