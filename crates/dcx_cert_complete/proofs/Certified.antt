@@ -43,14 +43,15 @@ use Rattle.dcx_cert_bound.specs.Checks.{bound_checks}
 use Rattle.dcx_cert_sections.specs.Checks.{Check, Checked}
 use Rattle.dcx_cert_check.specs.Checks.{checks_of}
 use Rattle.dcx_cache.proofs.Answered.{is_answered}
-use Rattle.dcx_cert_complete.specs.Certified.{FailsWide, IsAcceptedOrWide}
+use Rattle.dcx_cache.proofs.WarmRuns.{warm_is_answered}
+use Rattle.dcx_cert_complete.specs.Certified.{FailsWide, IsAcceptedOrWide, IsCertified}
 use Rattle.dcx_cert_complete.specs.Programs.{HasForms}
-use Rattle.dcx_cert_complete.specs.Laws.{BuiltIsCertified}
+use Rattle.dcx_cert_complete.specs.Laws.{IsProgramThere, BuiltIsCertified}
 use Rattle.dcx_cert_complete.proofs.Answered.{optimal_bounds, infeasible_bounds}
 use Rattle.dcx_cert_complete.proofs.Bounded.{forms_bound_programs}
 use Rattle.dcx_cert_complete.proofs.Checked.{bounds_fail_wide}
 use Rattle.dcx_cert_complete.proofs.Pointwise.{point_wide, value_wide, signs_never, gap_never}
-use Rattle.dcx_cert_complete.proofs.Programs.{session_programs_have_forms}
+use Rattle.dcx_cert_complete.proofs.Programs.{programs_there_have_forms}
 use Rattle.dcx_cert_complete.proofs.Raywise.{descent_wide}
 use Rattle.dcx_cert_complete.proofs.Settings.{setting_wide}
 use Rattle.dcx_cert_complete.proofs.Weighed.{m, first_row, are_row_weights}
@@ -143,9 +144,17 @@ answered check fails (Ok x) h = h
 answered check fails (Err f) (inl memory) = inl memory
 answered check fails (Err f) (inr h) = inr (fails f h)
 
-pub built_is_certified : BuiltIsCertified
-built_is_certified p setting limit q s x cert ok h built =
-    let program = is_answered p setting ok h.fits limit q s h.program h.is_solved in
-    let own = session_programs_have_forms p setting q ok h.fits h.program in
-    let fails = certified p setting q s.answer h.known own program ok h.fits x cert h.read (read_right p (setting_of p setting) q s.answer h.known program x h.read) built in
+-- of an answer of the rows
+rows_certified : (p : Problem) (setting : Pairs) (q : Program Frac) (lp : LpAnswer) (x : Answer) (cert : Cert) → IsAccepted p → FitsParameters p.parameters setting → IsProgramThere p setting q → HasKinds (rows_of q) →
+    IsAnswered p (setting_of p setting) q lp → IsRead p q.kinds lp x → IsBuilt p setting q.origins lp x cert → IsCertified (checks_of p setting cert)
+rows_certified p setting q lp x cert ok met there known is read built =
+    let own = programs_there_have_forms p setting q ok met there in
+    let fails = certified p setting q lp known own is ok met x cert read (read_right p (setting_of p setting) q lp known is x read) built in
     record { fails = fails; answered = answered (checks_of p setting cert) fails }
+
+pub built_is_certified : BuiltIsCertified
+built_is_certified = record {
+  rows = rows_certified;
+  solved = λ p setting limit q s x cert ok h built. rows_certified p setting q s.answer x cert ok h.fits (inl h.program) h.known (is_answered p setting ok h.fits limit q s h.program h.is_solved) h.read built;
+  warm = λ p setting limit columns q s x cert ok h built. rows_certified p setting q s.answer x cert ok h.fits (inl h.program) h.known (warm_is_answered p setting limit columns q s ok h.fits h.program h.is_solved) h.read built;
+}

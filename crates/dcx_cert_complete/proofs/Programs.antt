@@ -1,5 +1,5 @@
 -- The program of a session at a setting is that of forms that meet the equations of the nodes.
-use Rattle.std.proofs.Common.{[], ◌++◌, map, Ok, ap, ◌∙◌, subst}
+use Rattle.std.proofs.Common.{inl, inr, [], ◌++◌, map, Ok, ap, ◌∙◌, subst}
 use Rattle.dcx_frac.specs.declared.fraction.Frac.{Frac}
 use Rattle.dcx_point.specs.Pairs.{Pairs}
 use Rattle.dcx_convex.specs.Rules.{Plain, Parametrized}
@@ -12,6 +12,7 @@ use Rattle.dcx_unknowns.specs.Equations.{reduced_with}
 use Rattle.dcx_formed.specs.Forms.{forms_at}
 use Rattle.dcx_formed.proofs.LawsHold.{fracs_meet_equations, param_forms_meet_equations}
 use Rattle.dcx_postsolve.specs.Programs.{IsProgramOf}
+use Rattle.dcx_fit.specs.Fit.{FitsParameters}
 use Rattle.dcx_graph.specs.Program.{Program, entry_origin, constraint_entries}
 use Rattle.dcx_graph.specs.Correct.{ReducesNumbers, ReducesAffine}
 use Rattle.dcx_graph.specs.Fixing.{FixGives}
@@ -21,7 +22,7 @@ use Rattle.dcx_graph.proofs.Correct.{numbers_program, affine_program, affine_are
 use Rattle.dcx_cert_build.proofs.Laid.{graph_rows_are}
 use Rattle.dcx_cache.specs.Programs.{mapped, anew}
 use Rattle.dcx_cert_complete.specs.Programs.{HasForms}
-use Rattle.dcx_cert_complete.specs.Laws.{SessionProgramsHaveForms}
+use Rattle.dcx_cert_complete.specs.Laws.{SessionProgramsHaveForms, IsProgramThere}
 
 -- a problem that is reduced at the setting
 numbers_have_forms : (p : Problem) (setting : Pairs) (q : Program Frac) → IsAccepted p → ReducesNumbers p setting (Ok q) → HasForms p (setting_of p setting) q
@@ -51,3 +52,8 @@ fixed_have_forms p first setting q r dpp is arrays fixed =
 pub session_programs_have_forms : SessionProgramsHaveForms
 session_programs_have_forms p setting q ok fits (mapped map m f) = fixed_have_forms p [] setting map q m.dpp m.reduces (λ i d b. (fits.met i d b).shaped) f
 session_programs_have_forms p setting q ok fits (anew n h) = numbers_have_forms p setting q ok h
+
+-- so is each program of whose answers certificates are built
+pub programs_there_have_forms : (p : Problem) (setting : Pairs) (q : Program Frac) → IsAccepted p → FitsParameters p.parameters setting → IsProgramThere p setting q → HasForms p (setting_of p setting) q
+programs_there_have_forms p setting q ok fits (inl of_session) = session_programs_have_forms p setting q ok fits of_session
+programs_there_have_forms p setting q ok fits (inr of_numbers) = numbers_have_forms p setting q ok of_numbers

@@ -1,5 +1,5 @@
 -- The main statements, as the clauses of the laws say them.
-use Rattle.std.specs.Prelude.{ℕ, Bool, List, Option, Ok}
+use Rattle.std.specs.Prelude.{◌⊎◌, ℕ, Bool, List, Option, Ok}
 use Rattle.dcx_math.specs.Rational.{ℚ}
 use Rattle.dcx_frac.specs.declared.fraction.Frac.{Frac}
 use Rattle.dcx_frac.specs.Frac.{value}
@@ -22,11 +22,16 @@ use Rattle.dcx_unknowns.specs.Equations.{Forms, AllStand}
 use Rattle.dcx_fit.specs.Fit.{FitsParameters}
 use Rattle.dcx_cert_sections.specs.declared.cert.Cert.{Cert}
 use Rattle.dcx_answer.specs.declared.answer.Answer.{Answer}
+use Rattle.dcx_lp_answer.specs.declared.answer.LpAnswer.{LpAnswer}
+use Rattle.dcx_std.specs.Solutions.{HasKinds}
 use Rattle.dcx_lp_solve.specs.declared.solving.Solved.{Solved}
 use Rattle.dcx_graph.specs.Program.{Program}
+use Rattle.dcx_graph.specs.Correct.{ReducesNumbers}
+use Rattle.dcx_graph.specs.Answers.{rows_of, IsAnswered, IsRead}
 use Rattle.dcx_cert_build.specs.Built.{IsBuilt}
 use Rattle.dcx_cache.specs.Programs.{SessionGives}
 use Rattle.dcx_cache.specs.Answers.{IsAnswerOf}
+use Rattle.dcx_cache.specs.Warm.{IsWarmAnswer}
 use Rattle.dcx_cert_check.specs.Checks.{checks_of}
 use Rattle.dcx_cert_complete.specs.Demanded.{HasDualGraph, GiveFractions}
 use Rattle.dcx_cert_complete.specs.Bounded.{IsWide, BoundsPrograms}
@@ -65,8 +70,20 @@ SessionProgramsHaveForms = (p : Problem) (setting : Pairs) (q : Program Frac) �
 abbrev pub UnboundedGoesByRays : Type 0
 UnboundedGoesByRays = (p : Problem) → IsAccepted p → (s : Setting) → Fits p s → (x d : Point) (b e : ℚ) → IsUnbounded p s x d b e → IsRay (convex_problem p) s x d b e
 
--- the certificate that is built of an answer of a session is accepted, or an operation passes 128 bits: its checks fail with nothing
--- else
-abbrev pub BuiltIsCertified : Type 0
-BuiltIsCertified = (p : Problem) (setting : Pairs) (limit : ℕ) (q : Program Frac) (s : Solved) (a : Answer) (cert : Cert) → IsAccepted p → IsAnswerOf p setting limit q s a → IsBuilt p setting q.origins s.answer a cert →
-    IsCertified (checks_of p setting cert)
+-- a program of whose answers certificates are built: that of a session at the setting, or the one that the problem is reduced to there,
+-- whether it has a map or not
+abbrev pub IsProgramThere : Problem → Pairs → Program Frac → Type 0
+IsProgramThere p setting q = SessionGives p setting (Ok q) ⊎ ReducesNumbers p setting (Ok q)
+
+-- the certificate that is built of an answer is accepted, or an operation passes 128 bits: its checks fail with nothing else
+pub record BuiltIsCertified : Type 0 where
+  -- however the answer of the rows was found: the setting fits, the program is one of the problem there and names unknowns of its own
+  -- alone, the answer is right for its integer rows, and this is read from it
+  pub rows : (p : Problem) (setting : Pairs) (q : Program Frac) (lp : LpAnswer) (a : Answer) (cert : Cert) → IsAccepted p → FitsParameters p.parameters setting → IsProgramThere p setting q → HasKinds (rows_of q) →
+      IsAnswered p (setting_of p setting) q lp → IsRead p q.kinds lp a → IsBuilt p setting q.origins lp a cert → IsCertified (checks_of p setting cert)
+  -- the answer of a session
+  pub solved : (p : Problem) (setting : Pairs) (limit : ℕ) (q : Program Frac) (s : Solved) (a : Answer) (cert : Cert) → IsAccepted p → IsAnswerOf p setting limit q s a → IsBuilt p setting q.origins s.answer a cert →
+      IsCertified (checks_of p setting cert)
+  -- and from the columns that it keeps
+  pub warm : (p : Problem) (setting : Pairs) (limit : ℕ) (columns : List ℕ) (q : Program Frac) (s : Solved) (a : Answer) (cert : Cert) → IsAccepted p → IsWarmAnswer p setting limit columns q s a →
+      IsBuilt p setting q.origins s.answer a cert → IsCertified (checks_of p setting cert)

@@ -31,8 +31,9 @@ pub fn unbounded_goes_by_rays()
     ensures { UnboundedGoesByRays }
 {}
 
-/// The certificate that is built of an answer of a session is accepted, or an operation passes 128 bits: its checks fail with nothing
-/// else.
+/// The certificate that is built of an answer is accepted, or an operation passes 128 bits: its checks fail with nothing else. This holds
+/// of each answer that is right for the rows of a program of the problem, that of a session or that of a setting's numbers; so of what a
+/// session answers, and of what it answers from the columns that it keeps.
 pub fn built_is_certified()
     ensures { BuiltIsCertified }
 {}

@@ -9,7 +9,7 @@
 //!
 //! | what must hold | where |
 //! |---|---|
-//! | the certificate that is built of an answer of a session is accepted, or an operation passes | `laws::built_is_certified`, `specs/Certified.antt` |
+//! | the certificate that is built of an answer of a session, from its columns too, or of the numbers of a setting, is accepted, or an operation passes | `laws::built_is_certified`, `specs/Certified.antt` |
 //! | the program of a session is that of forms that meet the equations of the nodes, and its rows come from the constraints and the graphs | `laws::session_programs_have_forms`, `specs/Programs.antt` |
 //! | what bounds the forms of a program at all unknowns bounds it at all points and unknowns of the graphs | `laws::forms_bound_programs` |
 //! | where multipliers and weights bound the program, the bound checks fail with nothing but an operation that passes 128 bits | `laws::bounds_fail_wide` |
