@@ -5,8 +5,8 @@
 
 `glpsol`, of Debian's glpk-utils, writes each MathProg model out as an MPS file; that becomes a script, which is answered.
 The table has a row for each linear program: rows and columns, who answers (`program`, `certificate`, an interval, or
-why nothing is shown), the seconds that took, the value, and that of `glpsol`. Models in whole numbers, and those that
-`glpsol` doesn't write within a minute, are counted below it. With `--scripts` the scripts are kept in a folder.
+why nothing is shown), the seconds that took, the value, and that of `glpsol`. Models in whole numbers, and those of
+which `glpsol` writes no program within a minute, are counted below it. With `--scripts` the scripts are kept in a folder.
 """
 from __future__ import annotations
 
@@ -107,7 +107,8 @@ class Model:
                 left = self.product([terms for terms, _ in listed])
                 right = Constant(Array((len(listed),), tuple(value for _, value in listed)))
                 rules.append(left == right if op == "E" else left <= right if op == "L" else left >= right)
-        cost = self.product([self.rows[self.objective]])[0] - self.right.get(self.objective, Fraction(0))
+        aim = self.product([self.rows[self.objective]] if self.objective else [{}])
+        cost = (0 if aim is None else aim[0]) - self.right.get(self.objective, Fraction(0))
         return cp.Problem(cp.Maximize(cost) if self.is_maximized else cp.Minimize(cost), rules)
 
     def sides(self) -> dict[str, list]:
@@ -170,16 +171,16 @@ def solved(path: Path, folder: Path) -> tuple[Optional[float], bool, str]:
     except subprocess.TimeoutExpired:
         return None, False, "no end in a minute"
     text = out.read_text() if out.exists() else ""
-    found = re.search(r"^Objective: .* = (\S+) \((MIN|MAX)imum\)", text, re.M)
+    found = re.search(r"^Objective: +(?:\S+ +)?= +(\S+) \((MIN|MAX)imum\)", text, re.M)
     status = re.search(r"^Status: +(.*)$", text, re.M)
     if found is None:
         return None, False, "no report"
     return float(found[1]), found[2] == "MAX", status[1].strip().lower() if status else ""
 
 
-def row_of(name: str, problem: cp.Problem, seconds: float, theirs: str) -> str:
-    """A row of the table."""
-    began = time.perf_counter()
+def row_of(name: str, problem: cp.Problem, seconds: float, theirs: str) -> tuple[str, str]:
+    """A row of the table, and the script, empty where a limit keeps it from being written."""
+    began, script = time.perf_counter(), ""
     try:
         script = problem.script()
         problem.solve(time_limit=seconds)
@@ -187,7 +188,7 @@ def row_of(name: str, problem: cp.Problem, seconds: float, theirs: str) -> str:
         value = problem.status if problem.status in ("infeasible", "unbounded") else f"{problem.value:.10g}"
         shown += f" {problem.interval.width:.0e}" if problem.interval else ""
     except LimitError as error:
-        script, shown, value = "", "passes a limit of the language", ""
+        shown, value = "passes a limit of the language", ""
         print(f"{name}: {error.reason[:160]}", file=sys.stderr)
     except DCXError as error:
         shown, value = "no", ""
@@ -217,6 +218,9 @@ def main() -> None:
                 continue
             value, is_maximized, status = solved(path, Path(folder))
             model = Model(text, is_maximized)
+            if not model.columns:
+                without.append(path.stem)
+                continue
             theirs = status if value is None or status != "optimal" else f"{value:.10g}"
             row, script = row_of(path.stem, model.problem(), arguments.seconds, theirs)
             print(row, flush=True)
@@ -224,7 +228,7 @@ def main() -> None:
                 arguments.scripts.mkdir(parents=True, exist_ok=True)
                 (arguments.scripts / f"{path.stem}.py").write_text(script)
     print(f"\n{len(whole)} models in whole numbers: {' '.join(whole)}")
-    print(f"{len(without)} models that glpsol doesn't write out: {' '.join(without)}")
+    print(f"{len(without)} models of which glpsol writes no program: {' '.join(without)}")
 
 
 if __name__ == "__main__":

@@ -1,6 +1,6 @@
 """What becomes of problems as the digits of their data and their dense columns grow.
 
-    PYTHONPATH=python python3 bench/digits.py [--kinds fit blend cvar flow] [--columns 2 4 6 8] [--digits 1 2 3 4 5 6]
+    PYTHONPATH=python python3 bench/shown.py [--kinds fit blend cvar flow] [--columns 2 4 6 8] [--digits 1 2 3 4 5 6]
                                               [--rows 30] [--draws 1] [--seconds 60]
 
 For each kind, number of columns and number of digits behind the point problems are drawn, and the table says who
