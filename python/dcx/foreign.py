@@ -37,6 +37,8 @@ _WRITE = {
     "clip": "cp.minimum and cp.maximum", "linalg.norm": "cp.norm1 or cp.norm_inf", "diagonal": "cp.diag",
     "block": "cp.bmat",
     "triu": "cp.multiply", "tril": "cp.multiply", "average": "cp.mean",
+    # what SciPy asks for where one of its sparse arrays stands before `*`
+    "atleast_2d": "S @ x, or cp.multiply(S, x), where a sparse array S stands before x",
 }
 
 
@@ -61,6 +63,9 @@ def ufunc(expression, function, method: str, inputs: tuple, options: dict):
     out = options.pop("out", None)
     in_place = out is not None and len(out) == 1 and out[0] is inputs[0]
     if method == "__call__" and len(inputs) == 2 and not options and (out is None or in_place):
+        if name == "equal" and inputs[1] is expression:
+            # what `==` does where the array leaves it to the expression, so that multipliers have the same sign
+            inputs = inputs[::-1]
         if name in _OPERATORS:
             return getattr(operators, _OPERATORS[name])(*inputs)
         if name in _COMPARISONS:

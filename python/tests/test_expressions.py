@@ -33,6 +33,14 @@ def cvxpy_pair(a, b):
     return a, b
 
 
+def cvxpy_product(a, b):
+    """What CVXPY's `*` makes of two arrays of which one has one entry: the matrix product where their sides fit."""
+    if a.ndim and b.ndim and a.shape[-1] == b.shape[0]:
+        return a @ b
+    p, q = cvxpy_pair(a, b)
+    return p * q
+
+
 class Operators(unittest.TestCase):
     """Python's operators between expressions, arrays and numbers, in both orders."""
 
@@ -93,8 +101,8 @@ class Operators(unittest.TestCase):
                 else:
                     self.same(x / b, wanted)
                 if a.size == 1 or b.size == 1:
-                    self.same(x * b, p * q)
-                    self.same(b * x, p * q)
+                    self.same(x * b, cvxpy_product(a, b))
+                    self.same(b * x, cvxpy_product(b, a))
                 try:
                     wanted = a @ b
                 except ValueError:
@@ -147,6 +155,10 @@ class Operators(unittest.TestCase):
         self.same(np.matmul(a, x), a @ [1, 2, 3], False)
         self.same(np.divide(x, 2), [0.5, 1, 1.5], False)
         self.same(np.multiply(2.0, x), [2, 4, 6], False)
+        # the expression comes first, as where a list stands before `==`
+        for made in (a == x, np.equal(a, x), np.equal(x, a), np.float64(3) == x, np.array(3) == x, [1, 2, 3] == x):
+            self.assertIs(made.args[0], x)
+        self.assertEqual([side is x for made in (a <= x, a >= x) for side in made.args], [False, True, True, False])
         total = np.zeros(3)
         total += x
         self.same(total, [1, 2, 3], False)
