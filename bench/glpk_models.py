@@ -26,6 +26,7 @@ from dcx.errors import DCXError, LimitError
 from dcx.expressions import Constant
 from dcx.shown import CERTIFICATE, INTERVAL, PROGRAM
 
+LARGE = 4_000_000  # bytes of an MPS file: what is larger has far more entries than a script may have
 DATA = {"sudoku": "sudoku.dat", "misp": "misp1.dat"}
 
 
@@ -148,7 +149,7 @@ class Model:
 
 
 def written(path: Path, folder: Path) -> Optional[str]:
-    """The MPS file of a model, None where glpsol doesn't write one in time."""
+    """The MPS file of a model, its front alone where it is large; None where glpsol doesn't write one in time."""
     out = folder / "model.mps"
     out.unlink(missing_ok=True)
     data = ["-d", str(path.parent / DATA[path.stem])] if path.stem in DATA else []
@@ -157,7 +158,10 @@ def written(path: Path, folder: Path) -> Optional[str]:
         subprocess.run(words, capture_output=True, timeout=60, cwd=path.parent)
     except subprocess.TimeoutExpired:
         return None
-    return out.read_text() if out.exists() else None
+    if not out.exists():
+        return None
+    with out.open() as file:
+        return file.read(LARGE)
 
 
 def solved(path: Path, folder: Path) -> tuple[Optional[float], bool, str]:
@@ -171,7 +175,7 @@ def solved(path: Path, folder: Path) -> tuple[Optional[float], bool, str]:
     except subprocess.TimeoutExpired:
         return None, False, "no end in a minute"
     text = out.read_text() if out.exists() else ""
-    found = re.search(r"^Objective: +(?:\S+ +)?= +(\S+) \((MIN|MAX)imum\)", text, re.M)
+    found = re.search(r"^Objective: +(?:.*= +)?(\S+) \((MIN|MAX)imum\)", text, re.M)
     status = re.search(r"^Status: +(.*)$", text, re.M)
     if found is None:
         return None, False, "no report"
@@ -215,6 +219,9 @@ def main() -> None:
             text = written(path, Path(folder))
             if text is None or "'MARKER'" in text or re.search(r"^ (BV|LI|UI) ", text, re.M):
                 (without if text is None else whole).append(path.stem)
+                continue
+            if len(text) == LARGE:
+                print(f"| {path.stem} | | | passes a limit of the language | | | |", flush=True)
                 continue
             value, is_maximized, status = solved(path, Path(folder))
             model = Model(text, is_maximized)
