@@ -195,6 +195,25 @@ class Operators(unittest.TestCase):
             self.assertEqual((X <= make(M)).shape, (2, 2))
             self.assertEqual(cp.Constant(make(M)).array.nonzeros, 2)
 
+    def test_sparse_matrices_before_a_comparison(self):
+        X = cp.Variable((2, 2))
+        dense = np.array([[0, 1.5], [2, 0]])
+        for make in (sparse.csr_matrix, sparse.csc_matrix, sparse.coo_matrix, sparse.dok_matrix, sparse.lil_matrix,
+                     sparse.dia_matrix, sparse.bsr_matrix, sparse.csr_array):
+            S = make(dense)
+            for made, text in ((S == X, "=="), (S <= X, ">="), (S >= X, "<=")):
+                self.assertIsInstance(made, Constraint)
+                self.assertEqual(made.name().split()[1], text)
+            np.testing.assert_array_equal((S == 1.5).toarray(), dense == 1.5)
+
+    def test_tables_before_an_operator(self):
+        """Code of a file in a folder `pandas` stands for pandas, which would repeat the outcome for each row."""
+        for line in ("np.array([1, 2]) * x", "np.array([1, 2]) - x", "np.array([1, 2]) <= x"):
+            code = compile(line, os.path.join(os.sep, "pandas", "core", "ops.py"), "eval")
+            with self.assertRaisesRegex(UnsupportedError, "table.values") as caught:
+                eval(code, {"np": np, "x": cp.Variable(2)})
+            self.assertEqual(caught.exception.site.file, __file__)
+
     def test_in_place_makes_a_new_expression(self):
         x = cp.Variable(2)
         x.value = [1, 2]
