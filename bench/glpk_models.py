@@ -5,8 +5,8 @@
 
 `glpsol`, of Debian's glpk-utils, writes each MathProg model out as an MPS file; that becomes a script, which is answered.
 The table has a row for each linear program: rows and columns, who answers (`program`, `certificate`, an interval, or
-why nothing is shown), the seconds that took, the value, and that of `glpsol`. Models in whole numbers, and those that
-`glpsol` doesn't write within a minute, are counted below it. With `--scripts` the scripts are kept in a folder.
+why nothing is shown), the seconds that took, the value, and that of `glpsol`. Models in whole numbers, and those of
+which `glpsol` writes no program within a minute, are counted below it. With `--scripts` the scripts are kept in a folder.
 """
 from __future__ import annotations
 
@@ -26,6 +26,7 @@ from dcx.errors import DCXError, LimitError
 from dcx.expressions import Constant
 from dcx.shown import CERTIFICATE, INTERVAL, PROGRAM
 
+LARGE = 4_000_000  # bytes of an MPS file: what is larger has far more entries than a script may have
 DATA = {"sudoku": "sudoku.dat", "misp": "misp1.dat"}
 
 
@@ -107,7 +108,8 @@ class Model:
                 left = self.product([terms for terms, _ in listed])
                 right = Constant(Array((len(listed),), tuple(value for _, value in listed)))
                 rules.append(left == right if op == "E" else left <= right if op == "L" else left >= right)
-        cost = self.product([self.rows[self.objective]])[0] - self.right.get(self.objective, Fraction(0))
+        aim = self.product([self.rows[self.objective]] if self.objective else [{}])
+        cost = (0 if aim is None else aim[0]) - self.right.get(self.objective, Fraction(0))
         return cp.Problem(cp.Maximize(cost) if self.is_maximized else cp.Minimize(cost), rules)
 
     def sides(self) -> dict[str, list]:
@@ -147,7 +149,7 @@ class Model:
 
 
 def written(path: Path, folder: Path) -> Optional[str]:
-    """The MPS file of a model, None where glpsol doesn't write one in time."""
+    """The MPS file of a model, its front alone where it is large; None where glpsol doesn't write one in time."""
     out = folder / "model.mps"
     out.unlink(missing_ok=True)
     data = ["-d", str(path.parent / DATA[path.stem])] if path.stem in DATA else []
@@ -156,7 +158,10 @@ def written(path: Path, folder: Path) -> Optional[str]:
         subprocess.run(words, capture_output=True, timeout=60, cwd=path.parent)
     except subprocess.TimeoutExpired:
         return None
-    return out.read_text() if out.exists() else None
+    if not out.exists():
+        return None
+    with out.open() as file:
+        return file.read(LARGE)
 
 
 def solved(path: Path, folder: Path) -> tuple[Optional[float], bool, str]:
@@ -170,16 +175,16 @@ def solved(path: Path, folder: Path) -> tuple[Optional[float], bool, str]:
     except subprocess.TimeoutExpired:
         return None, False, "no end in a minute"
     text = out.read_text() if out.exists() else ""
-    found = re.search(r"^Objective: .* = (\S+) \((MIN|MAX)imum\)", text, re.M)
+    found = re.search(r"^Objective: +(?:.*= +)?(\S+) \((MIN|MAX)imum\)", text, re.M)
     status = re.search(r"^Status: +(.*)$", text, re.M)
     if found is None:
         return None, False, "no report"
     return float(found[1]), found[2] == "MAX", status[1].strip().lower() if status else ""
 
 
-def row_of(name: str, problem: cp.Problem, seconds: float, theirs: str) -> str:
-    """A row of the table."""
-    began = time.perf_counter()
+def row_of(name: str, problem: cp.Problem, seconds: float, theirs: str) -> tuple[str, str]:
+    """A row of the table, and the script, empty where a limit keeps it from being written."""
+    began, script = time.perf_counter(), ""
     try:
         script = problem.script()
         problem.solve(time_limit=seconds)
@@ -187,7 +192,7 @@ def row_of(name: str, problem: cp.Problem, seconds: float, theirs: str) -> str:
         value = problem.status if problem.status in ("infeasible", "unbounded") else f"{problem.value:.10g}"
         shown += f" {problem.interval.width:.0e}" if problem.interval else ""
     except LimitError as error:
-        script, shown, value = "", "passes a limit of the language", ""
+        shown, value = "passes a limit of the language", ""
         print(f"{name}: {error.reason[:160]}", file=sys.stderr)
     except DCXError as error:
         shown, value = "no", ""
@@ -215,8 +220,14 @@ def main() -> None:
             if text is None or "'MARKER'" in text or re.search(r"^ (BV|LI|UI) ", text, re.M):
                 (without if text is None else whole).append(path.stem)
                 continue
+            if len(text) == LARGE:
+                print(f"| {path.stem} | | | passes a limit of the language | | | |", flush=True)
+                continue
             value, is_maximized, status = solved(path, Path(folder))
             model = Model(text, is_maximized)
+            if not model.columns:
+                without.append(path.stem)
+                continue
             theirs = status if value is None or status != "optimal" else f"{value:.10g}"
             row, script = row_of(path.stem, model.problem(), arguments.seconds, theirs)
             print(row, flush=True)
@@ -224,7 +235,7 @@ def main() -> None:
                 arguments.scripts.mkdir(parents=True, exist_ok=True)
                 (arguments.scripts / f"{path.stem}.py").write_text(script)
     print(f"\n{len(whole)} models in whole numbers: {' '.join(whole)}")
-    print(f"{len(without)} models that glpsol doesn't write out: {' '.join(without)}")
+    print(f"{len(without)} models of which glpsol writes no program: {' '.join(without)}")
 
 
 if __name__ == "__main__":

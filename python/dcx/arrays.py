@@ -173,6 +173,8 @@ def _limited(shape: Sequence[int]) -> tuple[int, ...]:
 
 def _of_numpy(data) -> Array:
     shape = _limited(data.shape)
+    if sys.modules["numpy"].any(getattr(data, "mask", False)):
+        raise ValueError("an array with masked entries has no numbers there: write array.filled(..) with one for them")
     if data.dtype.kind in "mM":
         raise TypeError("dates and spans of time are no numbers: write how many days or hours they are")
     # a matrix of NumPy's own class stays one under `reshape`

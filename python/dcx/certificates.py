@@ -109,15 +109,18 @@ def certified(script: str, settings: str, text: str) -> None:
 
 
 def certificate(problem: Any, max_iters: Optional[int] = None) -> Certificate:
-    """A certificate of the problem's answer at the parameters' values.
+    """A certificate of the problem's answer at the parameters' values: the program's, or, where it stops, that of the
+    exact solver, which the program has accepted.
 
     Raises as `Problem.solve`; `UnsupportedError` where variables are to be whole, of which there are no certificates.
     """
     script, settings, run = _run(problem, "certificate", max_iters)
     section = read(run, script).sections[0]
+    text = run.report.decode()
     if section.status == "none":
-        raise _without(script, settings, max_iters)
-    return Certificate(run.report.decode(), script.text, settings, section, problem._maximized)
+        text = _from_exact_solver(problem, script, settings, max_iters)
+        section = read_report(text).sections[0]
+    return Certificate(text, script.text, settings, section, problem._maximized)
 
 
 def irreducible(problem: Any, max_iters: Optional[int] = None) -> Irreducible:
@@ -161,6 +164,22 @@ def _answer(run: program.Run, script: Script) -> Any:
     if answer.stop is not None:
         raise stopped(answer.stop, script)
     return answer
+
+
+def _from_exact_solver(problem: Any, script: Script, settings: str, max_iters: Optional[int]) -> str:
+    """The text of a certificate where the program has none. Raises the program's stop where there is none either."""
+    from .shown import fallback
+
+    error = _without(script, settings, max_iters)
+    if not fallback.helps(error.stop, max_iters is not None):
+        raise error
+    try:
+        found = fallback.shown(script.text, settings, problem._maximized, fallback.Wishes())
+    except SolverError as cause:
+        raise SolverError(f"{error.reason} Behind that, {cause.reason}", error.site, error.stop) from None
+    if found.certificate is None:
+        raise SolverError(f"{error.reason} Behind that, the exact solver's answer passes 128 bits.", error.site, error.stop)
+    return found.certificate
 
 
 def _without(script: Script, settings: str, max_iters: Optional[int]) -> SolverError:

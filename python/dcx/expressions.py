@@ -344,7 +344,7 @@ def refuse_lists_of_expressions(value) -> None:
     if isinstance(value, (list, tuple)):
         items = value
     elif getattr(getattr(value, "dtype", None), "kind", "") == "O" and getattr(value, "shape", ()):
-        items = value.reshape(-1)
+        items = arrays.numpy().asarray(value).reshape(-1)
     else:
         return
     for item in items:

@@ -1,9 +1,14 @@
 """What NumPy's operators and functions do where they meet an expression."""
 from __future__ import annotations
 
+import functools
+import os
+import sys
+
 from . import sites
 from .arrays import numpy
 from .errors import UnsupportedError
+from .questions import Questions
 
 # NumPy's functions of two operands that stand for Python's operators
 _OPERATORS = {
@@ -37,11 +42,48 @@ _WRITE = {
     "clip": "cp.minimum and cp.maximum", "linalg.norm": "cp.norm1 or cp.norm_inf", "diagonal": "cp.diag",
     "block": "cp.bmat",
     "triu": "cp.multiply", "tril": "cp.multiply", "average": "cp.mean",
+    # what SciPy asks for where one of its sparse arrays stands before `*`
+    "atleast_2d": "S @ x, or cp.multiply(S, x), where a sparse array S stands before x",
 }
+
+
+_PANDAS = os.sep + "pandas" + os.sep
+_SPARSE = ("bsr", "coo", "csc", "csr", "dia", "dok", "lil")
+_COMPARED_BY = ("__eq__", "__le__", "__ge__")
+_yielding: set = set()
+
+
+def yield_comparisons() -> None:
+    """Has SciPy's sparse matrices leave `==`, `<=` and `>=` to an expression on the right, as CVXPY has them do: by
+    themselves they answer False, or that it can't be compared. Nothing is done before SciPy is loaded."""
+    module = sys.modules.get("scipy.sparse")
+    for name in () if module is None or module in _yielding else _SPARSE:
+        for kind in ("matrix", "array"):
+            sort = getattr(module, f"{name}_{kind}", None)
+            for word in () if sort is None else _COMPARED_BY:
+                setattr(sort, word, _yielding_to_expressions(getattr(sort, word)))
+    _yielding.add(module)
+
+
+def _yielding_to_expressions(method):
+    @functools.wraps(method)
+    def compared(self, other):
+        return NotImplemented if isinstance(other, Questions) else method(self, other)
+    return compared
+
+
+def _refuse_to_pandas(frame, words: tuple = ()) -> None:
+    """UnsupportedError where a table of pandas asks, in a function of one of these names if any are given: it would
+    repeat the outcome for each row, or fail with words of its own."""
+    if _PANDAS in frame.f_code.co_filename and (not words or frame.f_code.co_name in words):
+        raise UnsupportedError("a table of pandas before an operator takes an expression apart: write table.values, "
+                               "or the expression first", sites.here())
 
 
 def boxed(expression):
     """An array of NumPy without a side that holds the expression, so that NumPy and SciPy leave it whole."""
+    # behind this function and `__array__` stands who asks
+    _refuse_to_pandas(sys._getframe(2), ("dot",))
     module = numpy()
     if module is None:
         raise TypeError("an expression is no array")
@@ -57,10 +99,15 @@ def ufunc(expression, function, method: str, inputs: tuple, options: dict):
     UnsupportedError for every other function, with what to write.
     """
     from . import operators
+    # behind this function and `__array_ufunc__` stands who asks
+    _refuse_to_pandas(sys._getframe(2))
     name = function.__name__
     out = options.pop("out", None)
     in_place = out is not None and len(out) == 1 and out[0] is inputs[0]
     if method == "__call__" and len(inputs) == 2 and not options and (out is None or in_place):
+        if name == "equal" and inputs[1] is expression:
+            # what `==` does where the array leaves it to the expression, so that multipliers have the same sign
+            inputs = inputs[::-1]
         if name in _OPERATORS:
             return getattr(operators, _OPERATORS[name])(*inputs)
         if name in _COMPARISONS:

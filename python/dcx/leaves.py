@@ -3,7 +3,7 @@ from __future__ import annotations
 
 from fractions import Fraction
 
-from . import arrays, shapes, sites
+from . import arrays, foreign, shapes, sites
 from .arrays import Array, Sparse
 from .constraints import Constraint
 from .errors import UnsupportedError
@@ -38,6 +38,7 @@ class Leaf(Expression):
         if name is not None and not isinstance(name, str):
             raise TypeError(f"Variable name {name!r} must be a string.")
         super().__init__(kind, (), (), shapes.declared(shape))
+        foreign.yield_comparisons()
         self.given_name = name
         self.id = next_number()
         self._value: Array | None = None

@@ -72,9 +72,17 @@ def negated(value) -> Expression:
 
 def multiplied(left, right) -> Expression:
     """`left * right`: where one side has one entry the product with it, else the matrix product, with CVXPY's warning.
+
+    As in CVXPY, a side of one entry whose own sides fit is a factor of the matrix product too: a column times a vector
+    of one entry is a vector.
     """
     left, right = as_expression(left), as_expression(right)
-    if not (left.is_scalar() or right.is_scalar()):
+    is_single = left.is_scalar() or right.is_scalar()
+    if is_single and left.shape and right.shape and left.shape[-1] == right.shape[0]:
+        shape = shapes.product(left.shape, right.shape)
+        factors = (single(left) if left.is_scalar() else left), (single(right) if right.is_scalar() else right)
+        return by_rows(multiplied(*factors), shape)
+    if not is_single:
         # ValueError before a warning where the shapes don't fit
         shapes.product(left.shape, right.shape)
         site = sites.here()

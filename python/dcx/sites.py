@@ -8,7 +8,7 @@ from typing import NamedTuple
 
 _PACKAGE = os.path.dirname(os.path.abspath(__file__)) + os.sep
 _INNER = ("<frozen", "<__array_function__")
-_FOREIGN = tuple(os.sep + name + os.sep for name in ("numpy", "scipy"))
+_FOREIGN = tuple(os.sep + name + os.sep for name in ("numpy", "scipy", "pandas"))
 
 
 class Site(NamedTuple):

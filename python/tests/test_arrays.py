@@ -61,6 +61,7 @@ class In(unittest.TestCase):
         self.assertEqual(array_of(np.array([0.1], dtype=np.float32)).entries, (Fraction(1, 10),))
         self.assertEqual(array_of([Decimal("0.3"), Fraction(1, 7)]).entries, (Fraction(3, 10), Fraction(1, 7)))
         self.assertEqual(array_of(np.array([2**63], dtype=np.uint64)).entries, (Fraction(2**63),))
+        self.assertEqual(array_of(np.ma.array([1, 2], mask=[False, False])).entries, (Fraction(1), Fraction(2)))
 
     def test_sparse(self):
         dense = np.array([[0, 1.5, 0], [0, 0, 0], [2, 0, -0.1]])
@@ -85,7 +86,7 @@ class In(unittest.TestCase):
 
     def test_refused(self):
         for data in [[[1, 2], [3]], [1, [2]], np.ones((2, 2, 2)), [[[1]]], [1, float("nan")], np.array([np.inf]),
-                     sparse.csr_matrix([[np.nan]])]:
+                     sparse.csr_matrix([[np.nan]]), np.ma.array([1, 2], mask=[False, True])]:
             self.assertRaises(ValueError, array_of, data)
         for data in ["abc", {"a": 1}, {1, 2}, None, [None], ["1"], np.array(["1"]), np.array([1j]), iter([1]),
                      object(), np.array([{}]),

@@ -102,6 +102,14 @@ class Run(Folder):
         self.assertEqual((told.count('  File "'), status), (1, 1))
         self.assertIn("ValueError", told)
 
+    def test_types_and_divisors_show_the_users_line_alone(self):
+        for line, name in (("x + None", "TypeError"), ("cp.Variable(3, nonnegative=True)", "TypeError"),
+                           ("x / 0", "ZeroDivisionError")):
+            told = run("run", self.script(f"import cvxpy as cp\nx = cp.Variable(3)\n{line}\n"))[1]
+            self.assertEqual(told.count('  File "'), 1, told)
+            self.assertIn('model.py", line 3', told)
+            self.assertIn(f"\n{name}: ", told)
+
     def test_causes_are_shown_too(self):
         told = run("run", self.script(CAUSED))[1]
         self.assertIn("direct cause", told)

@@ -33,6 +33,14 @@ def cvxpy_pair(a, b):
     return a, b
 
 
+def cvxpy_product(a, b):
+    """What CVXPY's `*` makes of two arrays of which one has one entry: the matrix product where their sides fit."""
+    if a.ndim and b.ndim and a.shape[-1] == b.shape[0]:
+        return a @ b
+    p, q = cvxpy_pair(a, b)
+    return p * q
+
+
 class Operators(unittest.TestCase):
     """Python's operators between expressions, arrays and numbers, in both orders."""
 
@@ -93,8 +101,8 @@ class Operators(unittest.TestCase):
                 else:
                     self.same(x / b, wanted)
                 if a.size == 1 or b.size == 1:
-                    self.same(x * b, p * q)
-                    self.same(b * x, p * q)
+                    self.same(x * b, cvxpy_product(a, b))
+                    self.same(b * x, cvxpy_product(b, a))
                 try:
                     wanted = a @ b
                 except ValueError:
@@ -147,6 +155,10 @@ class Operators(unittest.TestCase):
         self.same(np.matmul(a, x), a @ [1, 2, 3], False)
         self.same(np.divide(x, 2), [0.5, 1, 1.5], False)
         self.same(np.multiply(2.0, x), [2, 4, 6], False)
+        # the expression comes first, as where a list stands before `==`
+        for made in (a == x, np.equal(a, x), np.equal(x, a), np.float64(3) == x, np.array(3) == x, [1, 2, 3] == x):
+            self.assertIs(made.args[0], x)
+        self.assertEqual([side is x for made in (a <= x, a >= x) for side in made.args], [False, True, True, False])
         total = np.zeros(3)
         total += x
         self.same(total, [1, 2, 3], False)
@@ -182,6 +194,25 @@ class Operators(unittest.TestCase):
             self.same(cp.multiply(make(M), X), M * X.value)
             self.assertEqual((X <= make(M)).shape, (2, 2))
             self.assertEqual(cp.Constant(make(M)).array.nonzeros, 2)
+
+    def test_sparse_matrices_before_a_comparison(self):
+        X = cp.Variable((2, 2))
+        dense = np.array([[0, 1.5], [2, 0]])
+        for make in (sparse.csr_matrix, sparse.csc_matrix, sparse.coo_matrix, sparse.dok_matrix, sparse.lil_matrix,
+                     sparse.dia_matrix, sparse.bsr_matrix, sparse.csr_array):
+            S = make(dense)
+            for made, text in ((S == X, "=="), (S <= X, ">="), (S >= X, "<=")):
+                self.assertIsInstance(made, Constraint)
+                self.assertEqual(made.name().split()[1], text)
+            np.testing.assert_array_equal((S == 1.5).toarray(), dense == 1.5)
+
+    def test_tables_before_an_operator(self):
+        """Code of a file in a folder `pandas` stands for pandas, which would repeat the outcome for each row."""
+        for line in ("np.array([1, 2]) * x", "np.array([1, 2]) - x", "np.array([1, 2]) <= x"):
+            code = compile(line, os.path.join(os.sep, "pandas", "core", "ops.py"), "eval")
+            with self.assertRaisesRegex(UnsupportedError, "table.values") as caught:
+                eval(code, {"np": np, "x": cp.Variable(2)})
+            self.assertEqual(caught.exception.site.file, __file__)
 
     def test_in_place_makes_a_new_expression(self):
         x = cp.Variable(2)

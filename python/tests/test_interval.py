@@ -15,6 +15,7 @@ from dcx.exact.answers import solve
 from dcx.exact.commands import Accepted
 from dcx.reports import read_report
 from dcx.shown import INTERVAL
+from dcx.shown.intervals import Interval
 from dcx.shown.making import AIM, Maker
 from dcx.shown.multipliers import fitted
 from dcx.shown.texts import Text
@@ -147,6 +148,19 @@ class Ends(unittest.TestCase):
         interval = problem.interval
         problem.solve(trust="python")
         self.holds(interval, problem.exact)
+
+    def test_what_is_too_wide_is_no_answer(self):
+        """The least value is 0, and its multiplier passes 128 bits."""
+        x = cp.Variable(name="x")
+        problem = cp.Problem(cp.Minimize(1e20 * x), [x / 1e20 >= 0])
+        with self.assertRaises(SolverError) as error:
+            problem.solve()
+        self.assertEqual((error.exception.stop.number, problem.status, problem.interval), (26, "solver_error", None))
+        self.assertIsNone(x.value)
+        self.assertIn("too wide for an answer: from -inf to 0", str(error.exception))
+        for low, high, wanted in ((1, 1 + 1e-9, True), (1, 1.01, False), (-1e-13, 1e-13, True), (-1, None, False)):
+            ends = (None if end is None else Fraction(end) for end in (low, high))
+            self.assertEqual(Interval(*ends, None, None).is_narrow, wanted)
 
     def test_ends_that_are_changed(self):
         problem, _, _ = wide.fit(3, 9, 12, 6)

@@ -66,6 +66,15 @@ class Stops(unittest.TestCase):
                 self.assertFalse(np.any(constraint.exact_residual))
             self.assertIsNone(problem.interval)
 
+    def test_certificates(self):
+        problem, _, found = wide.fit(1)
+        certificate = problem.certificate()
+        self.assertEqual(certificate.check().status, "optimal")
+        self.assertAlmostEqual(float(certificate.check().value), found.fun, places=7)
+        with self.assertRaises(SolverError) as error:
+            wide.fit(3, 9, 12, 6)[0].certificate()
+        self.assertEqual(error.exception.stop.number, 26)
+
     def test_more_rows_than_the_program_takes(self):
         least = np.arange(601) % 7
         x = cp.Variable(601)

@@ -107,7 +107,7 @@ def print_users(error: BaseException) -> None:
         if part is None or cause is None or id(part) in seen:
             continue
         seen.add(id(part))
-        is_meant = is_of_package(cause)
+        is_meant = is_of_package(cause, part.stack)
         frames = [frame for frame in part.stack if not is_left_out(frame.filename, is_meant)]
         part.stack = traceback.StackSummary.from_list(frames)
         waiting += [(part.__cause__, cause.__cause__), (part.__context__, cause.__context__)]
@@ -115,15 +115,24 @@ def print_users(error: BaseException) -> None:
     print("".join(told.format()), end="", file=sys.stderr)
 
 
-def is_of_package(error: BaseException) -> bool:
-    """Whether the package raises such errors on purpose: its own, and those of shapes and indices, as CVXPY does."""
+def is_of_package(error: BaseException, stack: traceback.StackSummary) -> bool:
+    """Whether the package raises such errors on purpose: its own, those of shapes and indices, as CVXPY does, and
+    whatever a `raise` of its own raised."""
     from ..errors import DCXError
 
-    return isinstance(error, (DCXError, ValueError, IndexError))
+    if isinstance(error, (DCXError, ValueError, IndexError)):
+        return True
+    last = stack[-1] if stack else None
+    return last is not None and is_inner(last.filename) and (last.line or "").startswith("raise ")
+
+
+def is_inner(filename: str) -> bool:
+    """Whether a file is one of the package."""
+    return os.path.abspath(filename).startswith(PACKAGE + os.sep)
 
 
 def is_left_out(filename: str, is_meant: bool) -> bool:
     """Whether a frame of this file isn't shown."""
     if filename in ABOVE or filename.startswith("<frozen "):
         return True
-    return is_meant and os.path.abspath(filename).startswith(PACKAGE + os.sep)
+    return is_meant and is_inner(filename)

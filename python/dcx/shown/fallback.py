@@ -82,6 +82,10 @@ def shown(script: str, settings: str, maximized: bool, wishes: Wishes) -> Shown:
         raise SolverError(f'{told}; trust="python" takes the answer at Python\'s word')
     if interval.point is None:
         raise SolverError(f"{told}. {_without(made, interval)}")
+    if not interval.is_narrow:
+        why = f" ({made.why})" if made.why else ""
+        reason = f"{told}. The interval that is shown is too wide for an answer: {interval}{why}. "
+        raise SolverError(f'{reason}trust="python" takes the exact answer at Python\'s word')
     answer = _near(made, found)
     return Shown(answer, INTERVAL, interval=interval, seconds=time.perf_counter() - start)
 

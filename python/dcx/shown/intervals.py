@@ -2,9 +2,19 @@
 from __future__ import annotations
 
 from fractions import Fraction
+from math import floor, log10
 from typing import NamedTuple, Optional
 
-__all__ = ["End", "Interval"]
+__all__ = ["End", "Interval", "relative"]
+
+NARROW = 1e-6
+LEAST = Fraction(1, 10**12)
+
+
+def relative(low: Fraction, high: Fraction) -> float:
+    """How far apart two numbers are, relative to the greater of them in magnitude."""
+    most = max(abs(low), abs(high))
+    return float(abs(high - low) / most) if most else 0.0
 
 
 class End(NamedTuple):
@@ -42,16 +52,26 @@ class Interval(NamedTuple):
         """How far apart the ends are, relative to the greater of them in magnitude; None where one isn't shown."""
         if self.low is None or self.high is None:
             return None
-        most = max(abs(self.low), abs(self.high))
-        return float((self.high - self.low) / most) if most else 0.0
+        return relative(self.low, self.high)
+
+    @property
+    def is_narrow(self) -> bool:
+        """Whether both ends are shown and a millionth of the value apart at the most, or 1e-12 where that is more: what
+        is wider is no answer."""
+        if self.low is None or self.high is None:
+            return False
+        return self.width <= NARROW or self.high - self.low <= LEAST
 
     def told(self) -> dict:
         """What there is to tell of it, but for the texts."""
         return {"low": self.low, "high": self.high, "width": self.width, "box": self.box, "boxed": self.boxed}
 
     def __str__(self) -> str:
-        ends = ["-inf" if self.low is None else f"{float(self.low):.12g}"]
-        ends.append("inf" if self.high is None else f"{float(self.high):.12g}")
+        digits = 3 - floor(log10(self.width)) if self.width else 12
+        ends = [
+            without if end is None else f"{float(end):.{min(max(digits, 6), 16)}g}"
+            for end, without in ((self.low, "-inf"), (self.high, "inf"))
+        ]
         width = "" if self.width is None else f", relative width {self.width:.1e}"
         box = "" if not self.boxed else f", where |{'|, |'.join(self.boxed)}| <= {self.box}"
         return f"from {ends[0]} to {ends[1]}{width}{box}"

@@ -18,6 +18,7 @@ from ..exact.session import Session
 from ..exact.settings import parse_settings
 from ..exact.solver import solved
 from . import multipliers, points
+from .intervals import relative
 from .multipliers import Bound
 from .points import Margins
 from .texts import OBJECTIVE, Text, Unwritten
@@ -26,7 +27,9 @@ ZERO = Fraction(0)
 BOX = Fraction(10**6)
 AIM = 1e-9
 # The finest first: what is too fine passes 128 bits, and what is too coarse makes the interval wider.
-TRIALS = (Margins(14, 18, 3), Margins(12, 15, 2), Margins(15, 21, 4), Margins(10, 12, 2), Margins(9, 10, 1))
+TRIALS = (
+    Margins(15, 19, 1), Margins(14, 18, 3), Margins(12, 15, 2), Margins(15, 21, 4), Margins(10, 12, 2), Margins(9, 10, 1)
+)
 
 
 @dataclass
@@ -51,8 +54,7 @@ class Made:
         """The relative width; without end where an end is missing."""
         if self.value is None or self.bound is None:
             return float("inf")
-        most = max(abs(self.value), abs(self.bound))
-        return float(abs(self.value - self.bound) / most) if most else 0.0
+        return relative(self.value, self.bound)
 
 
 class Maker:
@@ -80,10 +82,14 @@ class Maker:
         best = Made(found.kind, why="its numbers pass 128 bits in every way that was tried")
         if found.kind != "optimal":
             return best
+        itself = Made()
+        if all(map(OF_LANGUAGE.has, found.point)):
+            self.put_point(itself, found.point)
         for margins in TRIALS:
             near, _ = points.tightened(self.problem, self.program, found, margins)
-            made = Made()
-            self.put_point(made, points.rounded(self.problem, self.program, near.point, margins.point))
+            made = Made(value=itself.value, point=itself.point, upper=itself.upper)
+            if itself.value is None:
+                self.put_point(made, points.rounded(self.problem, self.program, near.point, margins.point))
             self.put_bound(made, self.rows_of(near.multipliers), margins.multipliers)
             if best.value is None and best.bound is None or made.width() < best.width():
                 best = made
@@ -120,7 +126,7 @@ class Maker:
         except (Fault, Refused, LimitError, Unwritten) as fault:
             made.why = _said(fault)
             return
-        made.value, made.upper = value, (script, certificate)
+        made.value, made.upper, made.why = value, (script, certificate), ""
 
     def tried(self, arrays) -> tuple[dict, Fraction]:
         """What a point lacks of constraints, by number from 1, and of variables' own signs and forms, by name, the

@@ -23,6 +23,7 @@ from .sides import rows
 from .style import STYLE
 
 MOST_BYTES = 1_000_000  # of the answers that are folded up below each other
+MANY, MOST_BYTES_OF_MANY = 200, 300_000  # the same where so many answers have a table and plots that take their time
 AROUND = 4  # lines of a settings file around the one that is told of
 
 
@@ -254,7 +255,7 @@ def others(found: Found, chosen: Answer) -> tuple[Optional[Markup], set[int]]:
             class_="answer",
         )
         length += len(part)
-        if length > MOST_BYTES:
+        if length > (MOST_BYTES if len(found.answers) <= MANY else MOST_BYTES_OF_MANY):
             break
         parts.append(part)
         places.add(answer.index)
