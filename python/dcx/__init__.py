@@ -22,6 +22,8 @@ _MODULES = {
     "ParameterError": "errors",
     "UnsupportedError": "errors",
     "LimitError": "errors",
+    "ProgramError": "program",
+    "CertificateError": "certificates",
 }
 __all__ = ["__version__", *_MODULES]
 
