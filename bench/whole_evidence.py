@@ -7,6 +7,7 @@ seconds until the answer, the size of the evidence, the seconds of its check, an
 has at most SECONDS. Names are those of the table's first column, without blanks, as `commitment4x12`.
 """
 import random
+import re
 import subprocess
 import sys
 import tempfile
@@ -16,13 +17,12 @@ from pathlib import Path
 import numpy as np
 
 import dcx.cvxpy as cp
-from dcx.whole.boxes import Relaxation
 from dcx.whole.evidence import evidence
-from dcx.whole.rows import Rows
+from dcx.whole.rows import rows_of
 from dcx.whole.search import Over, Search
 from dcx.whole.steps import step_of
 
-SECONDS = 300
+SECONDS = 60
 
 
 def knapsack(n, seed):
@@ -120,40 +120,43 @@ def glpk(rows):
     return "\n".join([*lines, "Generals", *(f" x{u}" for u in rows.whole), "End", ""])
 
 
-def seconds_of_glpsol(rows):
-    """How long `glpsol` takes, with its cuts; None where it has no answer in time."""
+def seconds_of_glpsol(rows, best):
+    """How long `glpsol` takes, with its cuts; None where it has no answer in time. Its value is to be the same."""
     with tempfile.TemporaryDirectory() as folder:
-        path = Path(folder, "model.lp")
+        path, said = Path(folder, "model.lp"), Path(folder, "said.txt")
         path.write_text(glpk(rows))
         begun = time.monotonic()
-        said = subprocess.run(
-            ["glpsol", "--lp", path, "--cuts", "--tmlim", str(SECONDS)], capture_output=True, text=True
-        ).stdout
-        return time.monotonic() - begun if "OPTIMAL SOLUTION FOUND" in said else None
+        words = ["glpsol", "--lp", path, "--cuts", "--tmlim", str(SECONDS), "-o", said]
+        printed = subprocess.run(words, capture_output=True, text=True).stdout
+        spent = time.monotonic() - begun
+        if "INTEGER OPTIMAL SOLUTION FOUND" not in printed:
+            return f"over {SECONDS}"
+        value = float(re.search(r"^Objective:  cost = (\S+)", said.read_text(), re.M).group(1)) + rows.cost_constant
+        if best is not None and abs(value - float(best * rows.cost_multiple)) > 1e-6 * abs(value):
+            raise SystemExit(f"glpsol has another value: {value}, and not {best}")
+        return f"{spent:.2f}"
 
 
 def line(name, problem):
+    """A line of the table."""
     script, settings = problem.script(), problem.settings()
     begun = time.monotonic()
-    rows = Rows(Relaxation(script, settings, has_goal=True))
+    rows = rows_of(script, settings)
+    count = len(rows.whole) - len(rows.relaxation.added)
     search = Search(rows, step_of(script, settings), seconds=SECONDS)
     try:
         search.run()
     except Over:
-        return f"| {name} | {len(rows.whole)} | {search.nodes:,} | | over {SECONDS} | | | {glpsol(rows)} |"
+        gap = 100 * search.progress().gap
+        return f"| {name} | {count} | {search.nodes:,} | | over {SECONDS}, gap {gap:.1f} % | | | {seconds_of_glpsol(rows, None)} |"
     found = evidence(search, script, settings)
     answered = time.monotonic()
     shown = found.check()
     over = time.monotonic()
     return (
-        f"| {name} | {len(rows.whole)} | {search.nodes:,} | {shown.leaves:,} | {answered - begun:.1f} | "
-        f"{found.size / 1e6:.2f} | {over - answered:.1f} | {glpsol(rows)} |"
+        f"| {name} | {count} | {search.nodes:,} | {shown.leaves:,} | {answered - begun:.1f} | {found.size / 1e6:.2f} | "
+        f"{over - answered:.1f} | {seconds_of_glpsol(rows, search.best)} |"
     )
-
-
-def glpsol(rows):
-    seconds = seconds_of_glpsol(rows)
-    return f"over {SECONDS}" if seconds is None else f"{seconds:.1f}"
 
 
 def main():

@@ -12,10 +12,10 @@ from ..reports import Answer, read_report
 from ..statuses import USER_LIMIT
 from ..values import Entries
 from . import EVIDENCE, POINT
-from .boxes import Relaxation, Unfit
+from .boxes import Unfit
 from .checking import EvidenceError
 from .evidence import Evidence, evidence, point_of
-from .rows import Rows
+from .rows import rows_of
 from .search import Over, Progress, Search, Unbounded
 from .steps import step_of
 
@@ -66,7 +66,7 @@ def shown(
     """
     begun = time.monotonic()
     try:
-        rows = Rows(Relaxation(script, settings, has_goal=True))
+        rows = rows_of(script, settings)
     except Unfit as error:
         raise SolverError(f"there is no search for whole numbers in this script: {error}") from None
     search = Search(rows, step_of(script, settings), seconds, most, told)

@@ -66,7 +66,7 @@ def evidence(search: Search, script: str, settings: str) -> Evidence:
     is_optimal = search.best is not None
     if not is_optimal:
         # without a goal: what is shown to be empty is so without it
-        relaxation = Relaxation(script, settings, has_goal=False)
+        relaxation = Relaxation(script, settings, has_goal=False, sums=relaxation.sums)
         rows = Rows(relaxation)
     side = -1 if relaxation.is_maximized else 1
     files = {"model.py": script, "setting.txt": settings, "relaxed.py": relaxation.text}
@@ -84,6 +84,8 @@ def evidence(search: Search, script: str, settings: str) -> Evidence:
     said = {"status": "optimal" if is_optimal else "infeasible"}
     if is_optimal:
         said.update(value=str(side * search.best), goal=str(goal))
+    if relaxation.sums:
+        said["sums"] = relaxation.sums
     said.update(files=len(parts), tree=tree)
     files["tree.json"] = _json(said)
     for number, part in enumerate(parts, 1):
