@@ -3,8 +3,8 @@
     PYTHONPATH=python /usr/bin/python3 bench/whole_evidence.py [NAME ..]
 
 For each problem: how many yes-or-no and whole variables it has, the boxes that were solved, the leaves of the tree, the
-seconds until the answer, the size of the evidence, the seconds of its check, and the seconds that `glpsol` takes, which
-has at most SECONDS. Names are those of the table's first column, without blanks, as `commitment4x12`.
+seconds until the answer, the size of the evidence, the seconds of its check, and the seconds that the program's own
+branch and bound and `glpsol` take, which have at most PROGRAM_SECONDS and SECONDS. Names are those of the table's first column, without blanks, as `commitment4x12`.
 """
 import random
 import re
@@ -17,12 +17,15 @@ from pathlib import Path
 import numpy as np
 
 import dcx.cvxpy as cp
+from dcx import program
+from dcx.reports import read_report
 from dcx.whole.evidence import evidence
 from dcx.whole.rows import rows_of
 from dcx.whole.search import Over, Search
 from dcx.whole.steps import step_of
 
-SECONDS = 60
+SECONDS = 240
+PROGRAM_SECONDS = 10
 
 
 def knapsack(n, seed):
@@ -137,6 +140,16 @@ def seconds_of_glpsol(rows, best):
         return f"{spent:.2f}"
 
 
+def seconds_of_program(script, settings):
+    """How long the program's own branch and bound takes, or what it stops with."""
+    begun = time.monotonic()
+    try:
+        (answer,) = read_report(program.run("resolve", script, settings, timeout=PROGRAM_SECONDS).report).answers
+    except program.TimedOut:
+        return f"over {PROGRAM_SECONDS}"
+    return f"{time.monotonic() - begun:.2f}" if answer.stop is None else f"`{answer.stop.name}`"
+
+
 def line(name, problem):
     """A line of the table."""
     script, settings = problem.script(), problem.settings()
@@ -147,21 +160,22 @@ def line(name, problem):
     try:
         search.run()
     except Over:
-        gap = 100 * search.progress().gap
-        return f"| {name} | {count} | {search.nodes:,} | | over {SECONDS}, gap {gap:.1f} % | | | {seconds_of_glpsol(rows, None)} |"
+        gap = f"over {SECONDS}, gap {100 * search.progress().gap:.3f} %"
+        others = f"{seconds_of_program(script, settings)} | {seconds_of_glpsol(rows, None)}"
+        return f"| {name} | {count} | {search.nodes:,} | | {gap} | | | {others} |"
     found = evidence(search, script, settings)
     answered = time.monotonic()
     shown = found.check()
     over = time.monotonic()
     return (
         f"| {name} | {count} | {search.nodes:,} | {shown.leaves:,} | {answered - begun:.1f} | {found.size / 1e6:.2f} | "
-        f"{over - answered:.1f} | {seconds_of_glpsol(rows, search.best)} |"
+        f"{over - answered:.1f} | {seconds_of_program(script, settings)} | {seconds_of_glpsol(rows, search.best)} |"
     )
 
 
 def main():
-    print("| problem | whole variables | boxes | leaves | seconds | MB of evidence | check, seconds | `glpsol` |")
-    print("|---|---|---|---|---|---|---|---|")
+    print("| problem | whole variables | boxes | leaves | seconds | MB of evidence | check, seconds | `dcx solve` | `glpsol` |")
+    print("|---|---|---|---|---|---|---|---|---|")
     asked = sys.argv[1:]
     for name, problem in PROBLEMS.items():
         if not asked or name.replace(" ", "") in asked:

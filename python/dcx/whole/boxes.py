@@ -48,7 +48,7 @@ class Relaxation:
         self.marked: list[Marked] = []
         self.has_goal = has_goal
         tail = "_" * next(n for n in range(100) if not re.search(rf"\b(goal|sums|\w+_low|\w+_high){'_' * n}\b", script))
-        self._sums = f"sums{tail}"
+        self.sums_name = f"sums{tail}"
         self._goal, self._low, self._high = f"goal{tail}", f"_low{tail}", f"_high{tail}"
         self.is_maximized = False
         self.sums = [[(name, entry) for name, entry in listed] for listed in sums]
@@ -97,7 +97,7 @@ class Relaxation:
         """The variable of the sums, whose entries are within the sums of the bounds of what is added."""
         own, count = self.root, len(self.sums)
         self.added = [[self.place(name, entry) for name, entry in listed] for listed in self.sums]
-        self.marked.append(Marked(self._sums, str(count), count, count, None, None))
+        self.marked.append(Marked(self.sums_name, str(count), count, count, None, None))
         ends = [[own[at] for at in listed] for listed in self.added]
         self.of_sums = tuple(
             tuple(None if None in (side := [pair[i] for pair in listed]) else sum(side) for i in (0, 1)) for listed in ends
@@ -112,7 +112,7 @@ class Relaxation:
 
     def _declarations(self) -> Iterator[str]:
         if self.sums:
-            yield f"{self._sums} = cp.Variable({len(self.sums)})"
+            yield f"{self.sums_name} = cp.Variable({len(self.sums)})"
         if self.has_goal:
             yield f"{self._goal} = cp.Parameter()"
         for item in self.marked:
@@ -133,7 +133,7 @@ class Relaxation:
 
     def _constraints(self, problem) -> Iterator[str]:
         for number, listed in enumerate(self.sums):
-            yield f"    {' + '.join(self._entry(*of) for of in listed)} == {self._sums}[{number}],"
+            yield f"    {' + '.join(self._entry(*of) for of in listed)} == {self.sums_name}[{number}],"
         if self.has_goal:
             yield f"    {problem.group(3)} {'>=' if self.is_maximized else '<='} {self._goal},"
         for item in self.marked:

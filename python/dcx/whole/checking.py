@@ -110,7 +110,8 @@ def _best(folder: Path, relaxed: Relaxation, text: str, value: Fraction, least: 
         and all((low is None or n >= low) and (high is None or n <= high) for n, (low, high) in inside),
         "the best point isn't in the box of all whole points",
     )
-    return "".join(line + "\n" for line in _text(folder, "point.cert").split("\n") if line.startswith("var "))
+    points = (line for line in _text(folder, "point.cert").split("\n") if line.startswith("var "))
+    return "".join(line + "\n" for line in points if line.split(" ")[1] != relaxed.sums_name)
 
 
 def _certified(folder: Path, name: str, script: str) -> tuple[list[str], list[Section]]:
