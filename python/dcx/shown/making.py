@@ -97,6 +97,25 @@ class Maker:
                 break
         return best
 
+    def refuted(self) -> Optional[str]:
+        """A certificate that no point is feasible, of multipliers of few digits; None where none is found."""
+        for margins in TRIALS:
+            near = solved(points.elastic(self.problem, self.program, margins))
+            if near.kind != "optimal":
+                continue
+            duals, weights = self.rows_of(near.multipliers)
+            found = multipliers.bound(
+                self.problem, self.setting, self.program, duals, weights, margins.multipliers, BOX, False
+            )
+            if found.payments or found.total <= 0:
+                continue
+            try:
+                gap = _simple(found.total)
+                return self._certificate(self.script, "infeasible", gap, lambda _, f=found: f.duals, found.weights)
+            except Fault:
+                continue
+        return None
+
     def rows_of(self, row_multipliers):
         """Multipliers by constraint, and weights by node."""
         weights: dict = {}

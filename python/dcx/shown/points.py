@@ -49,7 +49,7 @@ def tightened(problem, program, found: Solution, margins: Margins) -> tuple[Solu
     step = Fraction(1, 10 ** unit(found.point[:own], margins.point))
     wide = 10**margins.wider
     without: set[int] = set()
-    shares = _shares(program, own, Fraction(wide, 10**margins.multipliers), found)
+    shares = _shares(program, own, Fraction(wide, 10**margins.multipliers))
     is_shared = True
     for _ in range(MOST_ROUNDS):
         rows = [
@@ -73,7 +73,7 @@ def tightened(problem, program, found: Solution, margins: Margins) -> tuple[Solu
     return found, program
 
 
-def _shares(program, own: int, margin: Fraction, found: Solution) -> dict[int, Fraction]:
+def _shares(program, own: int, margin: Fraction) -> dict[int, Fraction]:
     """By how much the cost of each unknown of a variable with a sign is lowered."""
     sums = dict.fromkeys(range(own), ZERO)
     for row in program.rows:
@@ -146,6 +146,23 @@ def _solved(rows, near, kinds) -> Optional[dict[int, Fraction]]:
     for u, terms, right in reversed(pivots):
         moves[u] = right - sum((c * moves.get(w, ZERO) for w, c in terms.items() if w != u), ZERO)
     return moves
+
+
+def elastic(problem, program, margins: Margins) -> Program:
+    """The program in which each constraint may be broken at a cost of 1, and nothing else costs anything but the
+    margins: its multipliers show that no point is feasible, where none is."""
+    kinds, rows, costs = list(program.kinds), [], {}
+    for row in program.rows:
+        terms = dict(row.form.terms)
+        if row.origin[0] == "constraint":
+            for side in (-1, 1) if row.is_equal else (-1,):
+                terms[len(kinds)] = Fraction(side)
+                costs[len(kinds)] = Fraction(1)
+                kinds.append("nonneg")
+        rows.append(Row(row.is_equal, Form(row.form.constant, terms), row.origin))
+    for u, share in _shares(program, count_of(problem), Fraction(10**margins.wider, 10**margins.multipliers)).items():
+        costs[u] = -share if kinds[u] == "nonneg" else share
+    return Program(kinds, rows, Form(ZERO, costs))
 
 
 def nearest(problem, program, point: Sequence[Fraction], margins: Margins) -> Optional[list[Fraction]]:
