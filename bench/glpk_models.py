@@ -6,7 +6,8 @@
 `glpsol`, of Debian's glpk-utils, writes each model out as a free MPS file; that becomes a script, which is answered.
 The table has a row for each linear program: rows and columns, who answers (`program`, `certificate`, an interval, or
 why nothing is shown), the seconds that took, the value, and that of `glpsol`. Models in whole numbers, and those of
-which `glpsol` writes no program within a minute, are counted below it. With `--scripts` the scripts are kept in a folder.
+which `glpsol` writes no program within a minute, are counted below it. With `--scripts` the scripts are kept in a
+folder.
 """
 from __future__ import annotations
 
@@ -32,7 +33,8 @@ DATA = {"sudoku": "sudoku.dat", "misp": "misp1.dat"}
 
 
 class Model:
-    """A linear program of an MPS file: rows by name with their type, coefficients and right sides; bounds of columns."""
+    """A linear program of an MPS file: rows by name with their type, coefficients and right sides, bounds of columns.
+    """
 
     def __init__(self, text: str, is_maximized: bool):
         self.is_maximized = is_maximized

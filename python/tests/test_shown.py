@@ -251,7 +251,8 @@ class Lies(unittest.TestCase):
             reply = asked(*arguments, **options)
             script, certificate = reply["made"].lower
             cut = next(line for line in script.split("\n") if "dcx_objective <=" in line)
-            reply["made"].lower = (script.replace(cut, cut.replace("dcx_objective <= ", "dcx_objective <= 9")), certificate)
+            changed = script.replace(cut, cut.replace("dcx_objective <= ", "dcx_objective <= 9"))
+            reply["made"].lower = (changed, certificate)
             return reply
 
         with mock.patch.object(asking, "asked", lie), self.assertRaises(CertificateError):

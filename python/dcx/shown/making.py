@@ -28,7 +28,12 @@ BOX = Fraction(10**6)
 AIM = 1e-9
 # The finest first: what is too fine passes 128 bits, and what is too coarse makes the interval wider.
 TRIALS = (
-    Margins(15, 19, 1), Margins(14, 18, 3), Margins(12, 15, 2), Margins(15, 21, 4), Margins(10, 12, 2), Margins(9, 10, 1)
+    Margins(15, 19, 1),
+    Margins(14, 18, 3),
+    Margins(12, 15, 2),
+    Margins(15, 21, 4),
+    Margins(10, 12, 2),
+    Margins(9, 10, 1),
 )
 
 
@@ -86,7 +91,7 @@ class Maker:
         if all(map(OF_LANGUAGE.has, found.point)):
             self.put_point(itself, found.point)
         for margins in TRIALS:
-            near, _ = points.tightened(self.problem, self.program, found, margins)
+            near = points.tightened(self.problem, self.program, found, margins)
             made = Made(value=itself.value, point=itself.point, upper=itself.upper)
             if itself.value is None:
                 self.put_point(made, points.rounded(self.problem, self.program, near.point, margins.point))

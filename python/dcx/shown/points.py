@@ -42,7 +42,7 @@ def unit(values: Sequence[Fraction], digits: int) -> int:
     return digits - whole + zeros
 
 
-def tightened(problem, program, found: Solution, margins: Margins) -> tuple[Solution, Program]:
+def tightened(problem, program, found: Solution, margins: Margins) -> Solution:
     """The solution of the program with margins, from the basis of the one without. Where no point keeps a margin, the
     constraints that are in its way have none."""
     own = count_of(problem)
@@ -62,7 +62,7 @@ def tightened(problem, program, found: Solution, margins: Margins) -> tuple[Solu
         objective = _shared(program, shares) if is_shared else program.objective
         result = solved(Program(program.kinds, rows, objective), True, found.basis)
         if result.kind == "optimal":
-            return result, program
+            return result
         if result.kind == "unbounded":
             is_shared = False
         else:
@@ -70,7 +70,7 @@ def tightened(problem, program, found: Solution, margins: Margins) -> tuple[Solu
             if not more - without:
                 break
             without |= more
-    return found, program
+    return found
 
 
 def _shares(program, own: int, margin: Fraction) -> dict[int, Fraction]:
@@ -178,5 +178,4 @@ def nearest(problem, program, point: Sequence[Fraction], margins: Margins) -> Op
     first = solved(moving)
     if first.kind != "optimal":
         return None
-    result, _ = tightened(problem, moving, first, margins)
-    return result.point[:own]
+    return tightened(problem, moving, first, margins).point[:own]
