@@ -2,9 +2,10 @@
 
     PYTHONPATH=python /usr/bin/python3 bench/whole_evidence.py [NAME ..]
 
-For each problem: how many yes-or-no and whole variables it has, the boxes that were solved, the leaves of the tree, the
-seconds until the answer, the size of the evidence, the seconds of its check, and the seconds that the program's own
-branch and bound and `glpsol` take, which have at most PROGRAM_SECONDS and SECONDS. Names are those of the table's first column, without blanks, as `commitment4x12`.
+For each problem: how many yes-or-no and whole variables it has, the relaxations that were solved, the leaves of the
+tree, the seconds until the evidence is made, its size, the seconds of its check, and the seconds that the program's own
+branch and bound and `glpsol` take, which have at most PROGRAM_SECONDS and SECONDS. Names are those of the table's first
+column, without blanks, as `commitment4x12`.
 """
 import random
 import re
@@ -169,7 +170,8 @@ def line(name, problem):
     over = time.monotonic()
     return (
         f"| {name} | {count} | {search.nodes:,} | {shown.leaves:,} | {answered - begun:.1f} | {found.size / 1e6:.2f} | "
-        f"{over - answered:.1f} | {seconds_of_program(script, settings)} | {seconds_of_glpsol(rows, search.best)} |"
+        f"{over - answered:.1f} | {seconds_of_program(script, settings)} | "
+        f"{seconds_of_glpsol(rows, search.best)} |"
     )
 
 

@@ -225,7 +225,8 @@ class Problem:
             self._keep(Result(script, None, self._maximized, error=error))
             raise error from None
         except KeyboardInterrupt:
-            self._keep(Result(script, None, self._maximized, error=SolverError("the search was interrupted", self.site)))
+            error = SolverError("the solve was interrupted", self.site)
+            self._keep(Result(script, None, self._maximized, error=error))
             raise
         answer = answer if shown is None else shown.answer
         self._keep(Result(script, answer, self._maximized, seconds=time.perf_counter() - start, shown=shown))

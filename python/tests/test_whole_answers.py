@@ -14,8 +14,9 @@ from pathlib import Path
 import dcx.cvxpy as cp
 from dcx import program
 from dcx.errors import SolverError
+from dcx.lines import read_stop
 from dcx.reports import read_report
-from dcx.whole import EVIDENCE, POINT
+from dcx.whole import EVIDENCE, POINT, answering
 from dcx.whole.boxes import Relaxation, Unfit
 from dcx.whole.evidence import evidence
 from dcx.whole.search import Over, Search
@@ -124,6 +125,25 @@ class Answers(unittest.TestCase):
                 problem.solve(**wrong)
         with self.assertRaises(TypeError):
             problem.solve(progress=3)
+
+    def test_behind_which_stops(self):
+        def helps(text, is_limited=False):
+            return answering.helps(read_stop(text.split()), is_limited)
+
+        node = "33 Branch node 7 26 Wide pivot 4 row 1 column 2"
+        self.assertTrue(all(map(helps, ("32 NodeLimit 10000", node, "28 TooLarge rows 700 columns 900"))))
+        self.assertFalse(helps("30 RelaxationUnbounded"))
+        self.assertFalse(helps("24 ParamSign p entry 0 value -1"))
+        self.assertFalse(helps("27 PivotLimit 5", is_limited=True))
+        self.assertFalse(answering.helps(None, False))
+
+    def test_more_rows_than_the_program_has(self):
+        """Bounds of 700 entries are rows of the program's branch and bound, and bounds here."""
+        take = cp.Variable(700, boolean=True)
+        problem = cp.Problem(cp.Minimize(cp.sum(take)), [take[0] + take[699] >= Fraction(3, 2)])
+        self.assertEqual(problem.solve(), 2)
+        self.assertIn(b"33 Branch node 1 28 TooLarge", problem.report)
+        self.assertEqual(problem.shown_by, EVIDENCE)
 
     def test_over(self):
         with self.assertRaises(Over) as caught:

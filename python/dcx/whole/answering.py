@@ -7,6 +7,7 @@ from typing import Callable, NamedTuple, Optional
 
 from .. import program
 from ..errors import SolverError
+from ..exact.faults import Refused
 from ..lines import Stop
 from ..reports import Answer, read_report
 from ..statuses import USER_LIMIT
@@ -68,6 +69,9 @@ def shown(
         rows = rows_of(script, settings)
     except Unfit as error:
         raise SolverError(f"there is no search for whole numbers in this script: {error}") from None
+    except Refused as refused:
+        told = refused.text("script").strip()
+        raise SolverError(f"with parameters for bounds the script passes what the language holds: {told}") from None
     search = Search(rows, step_of(script, settings), seconds, most, told)
     try:
         search.run()

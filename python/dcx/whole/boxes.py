@@ -98,10 +98,9 @@ class Relaxation:
         own, count = self.root, len(self.sums)
         self.added = [[self.place(name, entry) for name, entry in listed] for listed in self.sums]
         self.marked.append(Marked(self.sums_name, str(count), count, count, None, None))
-        ends = [[own[at] for at in listed] for listed in self.added]
-        self.of_sums = tuple(
-            tuple(None if None in (side := [pair[i] for pair in listed]) else sum(side) for i in (0, 1)) for listed in ends
-        )
+        for listed in self.added:
+            sides = [[own[at][side] for at in listed] for side in (0, 1)]
+            self.of_sums += (tuple(None if None in side else sum(side) for side in sides),)
 
     def _entry(self, name: str, entry: int) -> str:
         """An entry of a variable, as a script says it."""

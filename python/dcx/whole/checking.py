@@ -103,7 +103,8 @@ def _best(folder: Path, relaxed: Relaxation, text: str, value: Fraction, least: 
     demand(sections[0].kind == "optimal" and sections[0].value == least, "the best point hasn't the value that is said")
     whole = json.loads(_text(folder, "point.json"))
     demand(all(isinstance(n, int) for n in whole), "an entry of the best point isn't whole")
-    demand(lines[0] == relaxed.setting(tuple((n, n) for n in whole), value), "point.txt isn't the box of the best point")
+    box = tuple((n, n) for n in whole)
+    demand(lines[0] == relaxed.setting(box, value), "point.txt isn't the box of the best point")
     inside = zip(whole, relaxed.root)
     demand(
         len(whole) == len(relaxed.root)

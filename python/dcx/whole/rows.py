@@ -14,6 +14,7 @@ from typing import NamedTuple, Optional, Sequence
 from ..exact import shapes
 from ..exact.affine import Form
 from ..exact.commands import Accepted, laid_over
+from ..exact.faults import Refused
 from ..exact.limits import NONE
 from ..exact.reduce import Layout, Program, Row
 from ..exact.session import Session
@@ -40,7 +41,10 @@ def rows_of(script: str, settings: str) -> Rows:
     """The rows of a script's relaxation, with the sums that may be worth a split."""
     rows = Rows(Relaxation(script, settings, has_goal=True))
     sums = rows.sums()
-    return Rows(Relaxation(script, settings, has_goal=True, sums=sums)) if sums else rows
+    try:
+        return Rows(Relaxation(script, settings, has_goal=True, sums=sums)) if sums else rows
+    except Refused:  # with them it passes a limit of the language
+        return rows
 
 
 class Rows:
@@ -247,11 +251,6 @@ class Rows:
     def is_whole(self, point: Sequence) -> bool:
         """Whether the marked entries of a point are whole."""
         return all(Fraction(point[u]).denominator == 1 for u in self.whole)
-
-    def costs_at(self, point: Sequence) -> Fraction:
-        """What is minimized, at a point."""
-        terms = self.objective.terms.items()
-        return self.objective.constant + sum((Fraction(v) * point[u] for u, v in terms), ZERO)
 
     # Sections
 
