@@ -10,6 +10,7 @@ import unittest
 from fractions import Fraction
 from itertools import product
 from pathlib import Path
+from unittest import mock
 
 import dcx.cvxpy as cp
 from dcx import program
@@ -149,6 +150,18 @@ class Answers(unittest.TestCase):
         with self.assertRaises(Over) as caught:
             searched(knapsack(12, 2), seconds=0)
         self.assertEqual(caught.exception.reason, "time")
+
+
+class Files(unittest.TestCase):
+    def test_leaves_in_several_files(self):
+        problem = knapsack(9, 1)
+        search, script = searched(problem), problem.script()
+        for limit in ({"MOST": 2}, {"MOST_BYTES": 500}):
+            with mock.patch.multiple("dcx.whole.evidence", **limit):
+                found = evidence(search, script, "{}\n")
+            count = sum(name.endswith(".cert") for name in found.files) - 1
+            self.assertGreater(count, 2)
+            self.assertEqual(found.check().value, search.best * -1)
 
 
 class Steps(unittest.TestCase):
