@@ -3,10 +3,11 @@
     PYTHONPATH=python python3 bench/glpk_models.py [--folder /usr/share/doc/glpk-utils/examples] [--models diet ..]
                                                    [--scripts FOLDER] [--seconds 60]
 
-`glpsol`, of Debian's glpk-utils, writes each MathProg model out as an MPS file; that becomes a script, which is answered.
+`glpsol`, of Debian's glpk-utils, writes each model out as a free MPS file; that becomes a script, which is answered.
 The table has a row for each linear program: rows and columns, who answers (`program`, `certificate`, an interval, or
 why nothing is shown), the seconds that took, the value, and that of `glpsol`. Models in whole numbers, and those of
-which `glpsol` writes no program within a minute, are counted below it. With `--scripts` the scripts are kept in a folder.
+which `glpsol` writes no program within a minute, are counted below it. With `--scripts` the scripts are kept in a
+folder.
 """
 from __future__ import annotations
 
@@ -27,11 +28,13 @@ from dcx.expressions import Constant
 from dcx.shown import CERTIFICATE, INTERVAL, PROGRAM
 
 LARGE = 4_000_000  # bytes of an MPS file: what is larger has far more entries than a script may have
+FORMS = {".mod": "-m", ".mps": "--mps", ".lp": "--lp"}
 DATA = {"sudoku": "sudoku.dat", "misp": "misp1.dat"}
 
 
 class Model:
-    """A linear program of an MPS file: rows by name with their type, coefficients and right sides; bounds of columns."""
+    """A linear program of an MPS file: rows by name with their type, coefficients and right sides, bounds of columns.
+    """
 
     def __init__(self, text: str, is_maximized: bool):
         self.is_maximized = is_maximized
@@ -153,7 +156,7 @@ def written(path: Path, folder: Path) -> Optional[str]:
     out = folder / "model.mps"
     out.unlink(missing_ok=True)
     data = ["-d", str(path.parent / DATA[path.stem])] if path.stem in DATA else []
-    words = ["glpsol", "--check", "--wfreemps", str(out), "-m", str(path), *data]
+    words = ["glpsol", "--check", "--wfreemps", str(out), FORMS[path.suffix], str(path), *data]
     try:
         subprocess.run(words, capture_output=True, timeout=60, cwd=path.parent)
     except subprocess.TimeoutExpired:
@@ -170,7 +173,7 @@ def solved(path: Path, folder: Path) -> tuple[Optional[float], bool, str]:
     out.unlink(missing_ok=True)
     try:
         subprocess.run(
-            ["glpsol", "-m", str(path), "-o", str(out)], capture_output=True, timeout=60, cwd=path.parent
+            ["glpsol", FORMS[path.suffix], str(path), "-o", str(out)], capture_output=True, timeout=60, cwd=path.parent
         )
     except subprocess.TimeoutExpired:
         return None, False, "no end in a minute"
@@ -189,7 +192,7 @@ def row_of(name: str, problem: cp.Problem, seconds: float, theirs: str) -> tuple
         script = problem.script()
         problem.solve(time_limit=seconds)
         shown = {PROGRAM: "program", CERTIFICATE: "certificate", INTERVAL: "interval"}[problem.shown_by]
-        value = problem.status if problem.status in ("infeasible", "unbounded") else f"{problem.value:.10g}"
+        value = problem.status if problem.status in ("infeasible", "unbounded") else f"{problem.value:.9g}"
         shown += f" {problem.interval.width:.0e}" if problem.interval else ""
     except LimitError as error:
         shown, value = "passes a limit of the language", ""
@@ -213,23 +216,23 @@ def main() -> None:
     print("| model | rows | columns | answered by | seconds | value | glpsol |\n|---|---|---|---|---|---|---|")
     whole, without = [], []
     with tempfile.TemporaryDirectory() as folder:
-        for path in sorted(arguments.folder.glob("*.mod")):
-            if arguments.models and path.stem not in arguments.models:
+        for path in sorted(path for path in arguments.folder.iterdir() if path.suffix in FORMS):
+            if arguments.models and path.stem not in arguments.models and path.name not in arguments.models:
                 continue
             text = written(path, Path(folder))
             if text is None or "'MARKER'" in text or re.search(r"^ (BV|LI|UI) ", text, re.M):
-                (without if text is None else whole).append(path.stem)
+                (without if text is None else whole).append(path.name)
                 continue
             if len(text) == LARGE:
-                print(f"| {path.stem} | | | passes a limit of the language | | | |", flush=True)
+                print(f"| {path.name} | | | passes a limit of the language | | | |", flush=True)
                 continue
             value, is_maximized, status = solved(path, Path(folder))
             model = Model(text, is_maximized)
             if not model.columns:
-                without.append(path.stem)
+                without.append(path.name)
                 continue
-            theirs = status if value is None or status != "optimal" else f"{value:.10g}"
-            row, script = row_of(path.stem, model.problem(), arguments.seconds, theirs)
+            theirs = status if value is None or status != "optimal" else f"{value:.9g}"
+            row, script = row_of(path.name, model.problem(), arguments.seconds, theirs)
             print(row, flush=True)
             if arguments.scripts and script:
                 arguments.scripts.mkdir(parents=True, exist_ok=True)

@@ -5,7 +5,8 @@
 
 For each kind, number of columns and number of digits behind the point problems are drawn, and the table says who
 answers: `program`, `certificate` (one that the program accepted in this run), or the relative width of an interval
-whose ends the program accepted. `no` is a problem for which none of these was shown; of several draws each has its word.
+whose ends the program accepted. `no` is a problem for which none of these was shown; of several draws each has its
+word.
 """
 from __future__ import annotations
 
@@ -68,11 +69,9 @@ def flow(draw: Draw, columns: int, rows: int) -> cp.Problem:
     f = cp.Variable(len(arcs), nonneg=True)
     wants = draw.vector(columns - 1, -2, 2)
     wants.append(round(-sum(wants), draw.digits))
-    rules = [
-        sum(f[k] for k, (_, j) in enumerate(arcs) if j == place) - sum(f[k] for k, (i, _) in enumerate(arcs) if i == place)
-        == wants[place]
-        for place in range(columns)
-    ]
+    comes = [sum(f[k] for k, (_, j) in enumerate(arcs) if j == place) for place in range(columns)]
+    goes = [sum(f[k] for k, (i, _) in enumerate(arcs) if i == place) for place in range(columns)]
+    rules = [comes[place] - goes[place] == wants[place] for place in range(columns)]
     cost = cp.Constant(draw.vector(len(arcs), 1, 9)) @ f
     return cp.Problem(cp.Minimize(cost), rules + [f <= draw.vector(len(arcs), 2, 3)])
 
@@ -104,7 +103,8 @@ def main() -> None:
         for columns in arguments.columns:
             began, cells = time.perf_counter(), []
             for digits in arguments.digits:
-                drawn = (globals()[kind](Draw(digits, seed), columns, arguments.rows) for seed in range(arguments.draws))
+                draws = (Draw(digits, seed) for seed in range(arguments.draws))
+                drawn = (globals()[kind](draw, columns, arguments.rows) for draw in draws)
                 cells.append(", ".join(word_of(problem, arguments.seconds) for problem in drawn))
             print(f"| {kind} | {columns} | {' | '.join(cells)} | {time.perf_counter() - began:.1f} |", flush=True)
 

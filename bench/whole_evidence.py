@@ -2,11 +2,13 @@
 
     PYTHONPATH=python /usr/bin/python3 bench/whole_evidence.py [NAME ..]
 
-For each problem: how many yes-or-no and whole variables it has, the boxes that were solved, the leaves of the tree, the
-seconds until the answer, the size of the evidence, the seconds of its check, and the seconds that `glpsol` takes, which
-has at most SECONDS. Names are those of the table's first column, without blanks, as `commitment4x12`.
+For each problem: how many yes-or-no and whole variables it has, the relaxations that were solved, the leaves of the
+tree, the seconds until the evidence is made, its size, the seconds of its check, and the seconds that the program's own
+branch and bound and `glpsol` take, which have at most PROGRAM_SECONDS and SECONDS. Names are those of the table's first
+column, without blanks, as `commitment4x12`.
 """
 import random
+import re
 import subprocess
 import sys
 import tempfile
@@ -16,13 +18,15 @@ from pathlib import Path
 import numpy as np
 
 import dcx.cvxpy as cp
-from dcx.whole.boxes import Relaxation
+from dcx import program
+from dcx.reports import read_report
 from dcx.whole.evidence import evidence
-from dcx.whole.rows import Rows
+from dcx.whole.rows import rows_of
 from dcx.whole.search import Over, Search
 from dcx.whole.steps import step_of
 
-SECONDS = 300
+SECONDS = 240
+PROGRAM_SECONDS = 10
 
 
 def knapsack(n, seed):
@@ -120,45 +124,60 @@ def glpk(rows):
     return "\n".join([*lines, "Generals", *(f" x{u}" for u in rows.whole), "End", ""])
 
 
-def seconds_of_glpsol(rows):
-    """How long `glpsol` takes, with its cuts; None where it has no answer in time."""
+def seconds_of_glpsol(rows, best):
+    """How long `glpsol` takes, with its cuts; None where it has no answer in time. Its value is to be the same."""
     with tempfile.TemporaryDirectory() as folder:
-        path = Path(folder, "model.lp")
+        path, said = Path(folder, "model.lp"), Path(folder, "said.txt")
         path.write_text(glpk(rows))
         begun = time.monotonic()
-        said = subprocess.run(
-            ["glpsol", "--lp", path, "--cuts", "--tmlim", str(SECONDS)], capture_output=True, text=True
-        ).stdout
-        return time.monotonic() - begun if "OPTIMAL SOLUTION FOUND" in said else None
+        words = ["glpsol", "--lp", path, "--cuts", "--tmlim", str(SECONDS), "-o", said]
+        printed = subprocess.run(words, capture_output=True, text=True).stdout
+        spent = time.monotonic() - begun
+        if "INTEGER OPTIMAL SOLUTION FOUND" not in printed:
+            return f"over {SECONDS}"
+        value = float(re.search(r"^Objective:  cost = (\S+)", said.read_text(), re.M).group(1)) + rows.cost_constant
+        if best is not None and abs(value - float(best * rows.cost_multiple)) > 1e-6 * abs(value):
+            raise SystemExit(f"glpsol has another value: {value}, and not {best}")
+        return f"{spent:.2f}"
+
+
+def seconds_of_program(script, settings):
+    """How long the program's own branch and bound takes, or what it stops with."""
+    begun = time.monotonic()
+    try:
+        (answer,) = read_report(program.run("resolve", script, settings, timeout=PROGRAM_SECONDS).report).answers
+    except program.TimedOut:
+        return f"over {PROGRAM_SECONDS}"
+    return f"{time.monotonic() - begun:.2f}" if answer.stop is None else f"`{answer.stop.name}`"
 
 
 def line(name, problem):
+    """A line of the table."""
     script, settings = problem.script(), problem.settings()
     begun = time.monotonic()
-    rows = Rows(Relaxation(script, settings, has_goal=True))
+    rows = rows_of(script, settings)
+    count = len(rows.whole) - len(rows.relaxation.added)
     search = Search(rows, step_of(script, settings), seconds=SECONDS)
     try:
         search.run()
     except Over:
-        return f"| {name} | {len(rows.whole)} | {search.nodes:,} | | over {SECONDS} | | | {glpsol(rows)} |"
+        gap = f"over {SECONDS}, gap {100 * search.progress().gap:.3f} %"
+        others = f"{seconds_of_program(script, settings)} | {seconds_of_glpsol(rows, None)}"
+        return f"| {name} | {count} | {search.nodes:,} | | {gap} | | | {others} |"
     found = evidence(search, script, settings)
     answered = time.monotonic()
     shown = found.check()
     over = time.monotonic()
     return (
-        f"| {name} | {len(rows.whole)} | {search.nodes:,} | {shown.leaves:,} | {answered - begun:.1f} | "
-        f"{found.size / 1e6:.2f} | {over - answered:.1f} | {glpsol(rows)} |"
+        f"| {name} | {count} | {search.nodes:,} | {shown.leaves:,} | {answered - begun:.1f} | {found.size / 1e6:.2f} | "
+        f"{over - answered:.1f} | {seconds_of_program(script, settings)} | "
+        f"{seconds_of_glpsol(rows, search.best)} |"
     )
 
 
-def glpsol(rows):
-    seconds = seconds_of_glpsol(rows)
-    return f"over {SECONDS}" if seconds is None else f"{seconds:.1f}"
-
-
 def main():
-    print("| problem | whole variables | boxes | leaves | seconds | MB of evidence | check, seconds | `glpsol` |")
-    print("|---|---|---|---|---|---|---|---|")
+    print("| problem | whole variables | boxes | leaves | seconds | MB of evidence | check, seconds | `dcx solve` | `glpsol` |")
+    print("|---|---|---|---|---|---|---|---|---|")
     asked = sys.argv[1:]
     for name, problem in PROBLEMS.items():
         if not asked or name.replace(" ", "") in asked:

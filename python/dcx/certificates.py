@@ -178,7 +178,8 @@ def _from_exact_solver(problem: Any, script: Script, settings: str, max_iters: O
     except SolverError as cause:
         raise SolverError(f"{error.reason} Behind that, {cause.reason}", error.site, error.stop) from None
     if found.certificate is None:
-        raise SolverError(f"{error.reason} Behind that, the exact solver's answer passes 128 bits.", error.site, error.stop)
+        reason = f"{error.reason} Behind that, the exact solver's answer passes 128 bits."
+        raise SolverError(reason, error.site, error.stop)
     return found.certificate
 
 

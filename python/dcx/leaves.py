@@ -130,7 +130,8 @@ class Leaf(Expression):
     @property
     def exact(self):
         """The value in fractions."""
-        return None if self._value is None else arrays.to_fractions(self._value)
+        array = self._array()
+        return None if array is None else arrays.to_fractions(array)
 
     def save_value(self, value) -> None:
         """Sets the value as an answer does: its shape is tested, and no attribute."""
@@ -265,12 +266,35 @@ class Parameter(Leaf):
     """Numbers that may vary: `Parameter(shape=(), name=None, value=None, **attributes)`. The attributes nonneg and
     nonpos are what the rules know of it; every attribute is tested where a value is set."""
 
-    __slots__ = ()
+    __slots__ = ("_shown",)
 
     def __init__(self, shape=(), name: str | None = None, value=None, id=None, **attributes):
         if id is not None:
             raise UnsupportedError("id isn't offered: a parameter has a number of its own", sites.here())
+        # a value, and the array of floats that the user was given for it
+        self._shown = (None, None)
         super().__init__("parameter", shape, name, value, **attributes)
+
+    @Leaf.value.getter
+    def value(self):
+        """The value in floats. Entries that are set in this array are the parameter's, as in CVXPY."""
+        array = self._array()
+        if array is not None and self._shown[0] is not array:
+            self._shown = array, arrays.to_floats(array)
+        return None if array is None else self._shown[1]
+
+    def _array(self) -> Array | Sparse | None:
+        array, shown = self._shown
+        if array is None or array is not self._value or not self.shape:
+            return self._value
+        rows = shown if isinstance(shown, list) else shown.tolist()
+        numbers = rows if self.ndim == 1 else [number for row in rows for number in row]
+        pairs = list(zip(array.entries, numbers))
+        if any(float(old) != new for old, new in pairs):
+            kept = (old if float(old) == new else arrays.exact(new) for old, new in pairs)
+            self._value = self._tested(Array(self.shape, kept))
+            self._shown = self._value, shown
+        return self._value
 
     def _judge(self, word: str) -> None:
         super()._judge(word)

@@ -19,7 +19,6 @@ from .results import Farkas, Ray, Result
 from .scripts import Script, written
 from .shown import fallback
 from .shown.intervals import Interval
-from .whole import answering
 
 __all__ = ["Problem", "SizeMetrics", "Solution", "SolverStats"]
 
@@ -191,18 +190,24 @@ class Problem:
         `max_iters` is the most pivots that a run may take, 200,000 by itself, and `time_limit` the seconds after
         which it is ended. Where the program stops since its own numbers pass 128 bits, its rows are too many or its
         own limit of pivots is passed, the exact solver is asked, in Python, and the program checks its certificate;
-        `exact=False` leaves that out. With whole variables the program has `program_seconds` for its own branch and
-        bound, five by itself; behind that boxes are searched here (docs/PYTHON.md, "Whole numbers"), of which
-        `max_nodes` are solved at the most, in 600 s by itself, and `progress` is called with how far that is. `shown_by` tells on what the answer stands. Where an answer's numbers pass 128
+        `exact=False` leaves that out. `shown_by` tells on what the answer stands. Where an answer's numbers pass 128
         bits an `interval` is shown: the status is `optimal_inaccurate`, and the point is feasible. There `box` is the
         greatest magnitude of entries that have no bounds, a million by itself, and `trust="python"` takes the exact
-        answer as it is found. The exact solver has `time_limit` seconds too, 120 by itself. The other arguments of CVXPY's solve and of its solvers are taken and have no meaning here,
-        since there is one solver and its answers are exact; `verbose` says so, and what is done.
+        answer as it is found. The exact solver has `time_limit` seconds too, 120 by itself.
+
+        With whole variables the program has `program_seconds` for its own branch and bound, five by itself. Behind
+        that boxes are searched here, for `time_limit` seconds or 600, and `evidence` has what shows the answer.
+        `max_nodes` boxes are solved at the most, and `progress` is called with a `dcx.whole.search.Progress` as it
+        goes. Where a limit is passed, or Python is interrupted, the best point is kept, with the status `user_limit`.
+
+        The other arguments of CVXPY's solve and of its solvers are taken and have no meaning here, since there is one
+        solver and its answers are exact; `verbose` says so, and what is done.
 
         Raises `DCPError` where the rules refuse the problem, `ParameterError` where a parameter has no value,
         `LimitError` where the model passes a limit of the language, `SolverError` where there is no answer (then there
-        are no values), `CertificateError` where the program refuses what the exact solver says, `ProgramError` where it can't be run, `UnsupportedError` where an argument
-        asks for what isn't offered, `TypeError` where one isn't known.
+        are no values), `CertificateError` where the program refuses what the exact solver says, `ProgramError` where
+        it can't be run, `UnsupportedError` where an argument asks for what isn't offered, `TypeError` where one isn't
+        known.
         """
         given = Arguments(solver, arguments)
         script = self.written
@@ -220,7 +225,8 @@ class Problem:
             self._keep(Result(script, None, self._maximized, error=error))
             raise error from None
         except KeyboardInterrupt:
-            self._keep(Result(script, None, self._maximized, error=SolverError("the search was interrupted", self.site)))
+            error = SolverError("the solve was interrupted", self.site)
+            self._keep(Result(script, None, self._maximized, error=error))
             raise
         answer = answer if shown is None else shown.answer
         self._keep(Result(script, answer, self._maximized, seconds=time.perf_counter() - start, shown=shown))
@@ -239,6 +245,8 @@ class Problem:
         is_searched = given.exact and self.is_mixed_integer()
         seconds = given.time_limit
         if is_searched:
+            from .whole import answering
+
             seconds = given.program_seconds or min(answering.FIRST, (seconds or 2 * answering.FIRST) / 2)
         start = time.monotonic()
         self._report, self._asked, self._progress = None, settings, None

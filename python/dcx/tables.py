@@ -164,7 +164,8 @@ class Tables:
         if answer.status == "optimal":
             return f"optimal{whole}: {BEST[sense]} is {self.number(answer.value)}{nodes}"
         if answer.status == OPTIMAL_INACCURATE:
-            return f"nearly optimal: the objective at this point, which keeps the constraints, is {self.number(answer.value)}"
+            value = self.number(answer.value)
+            return f"nearly optimal: the objective at this point, which keeps the constraints, is {value}"
         if answer.status == "infeasible" and answer.gap is None:
             return f"infeasible{whole}: no point keeps the constraints{nodes}"
         if answer.status == "infeasible":

@@ -91,6 +91,15 @@ class Run(unittest.TestCase):
         # Behind the script the words are the script's own.
         self.assertEqual(Fraction(self.start("model.py", "--digits", "12").stdout), 3 * Fraction(repr(1 - 0.9)))
 
+    def test_digits_in_processes_that_the_script_starts(self):
+        self.SCRIPT = ("import multiprocessing\nimport cvxpy as cp\ndef read(number):\n    "
+                       "return str(cp.Constant(number).exact)\n"
+                       "if __name__ == '__main__':\n    with multiprocessing.get_context('spawn').Pool(1) as pool:\n"
+                       "        print(pool.map(read, [1 - 0.9]))\n")
+        for words in (["--digits", "12"], ["--decimals", "12"]):
+            self.assertEqual(self.start(*words, "model.py").stdout, "['1/10']\n")
+        self.assertEqual(self.start("model.py").stdout, f"['{Fraction(repr(1 - 0.9))}']\n")
+
     def test_refused(self):
         for digits in ("0", "18", "few", "-3"):
             done = self.start("--digits", digits, "model.py")

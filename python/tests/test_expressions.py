@@ -529,6 +529,25 @@ class Leaves(unittest.TestCase):
         self.assertIsInstance(y.value, np.ndarray)
         self.assertIsInstance(p.value, float)
 
+    def test_entries_that_are_set_in_a_parameters_value(self):
+        p, q = cp.Parameter(3, value=[Fraction(1, 3), 2, 3]), cp.Parameter((2, 2), value=np.eye(2), nonneg=True)
+        p.value[1] = 0.5
+        p.value[1:] *= 2
+        self.assertEqual(list(p.exact), [Fraction(1, 3), 1, 6])
+        self.assertEqual((cp.sum(p) * 3).exact, 22)
+        q.value[0, 1] = 4
+        q.value[0, 0] += 0.1
+        self.assertEqual(q.exact.tolist(), [[Fraction(11, 10), 4], [0, 1]])
+        x = cp.Variable(2)
+        prob = cp.Problem(cp.Minimize(cp.sum(x)), [x >= q @ np.ones(2)])
+        self.assertEqual(prob.solve(), 6.1)
+        before = q.value
+        q.value = np.ones((2, 2))
+        before[0, 0] = 9
+        self.assertEqual(prob.solve(), 4)
+        q.value[1, 1] = -1
+        self.assertRaisesRegex(ValueError, "nonnegative", prob.solve)
+
     def test_values_that_do_not_fit(self):
         for made, value, words in [
             (cp.Parameter(2), [1, 2, 3], "Invalid dimensions"), (cp.Parameter(2), 3, "Invalid dimensions"),

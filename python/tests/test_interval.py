@@ -47,7 +47,8 @@ X = cp.Variable((2, 2), symmetric=True)
 D = cp.Variable((2, 2), diag=True)
 n = cp.Variable((1, 2), nonpos=True)
 C = np.array([[1, 2/3], [0.25, 3]])
-prob = cp.Problem(cp.Minimize(cp.norm_inf(X + D - C) + cp.norm1(n + 1/9) + cp.trace(D)/5), [cp.diag(D) >= 1/3, X[0, 1] >= 1])
+rules = [cp.diag(D) >= 1/3, X[0, 1] >= 1]
+prob = cp.Problem(cp.Minimize(cp.norm_inf(X + D - C) + cp.norm1(n + 1/9) + cp.trace(D)/5), rules)
 """,
     "folds": """
 x = cp.Variable(4)
@@ -174,7 +175,7 @@ class Texts(unittest.TestCase):
     def test_values_stand_where_variables_were(self):
         script = HEAD + FORMS["matrices"]
         problem = Accepted(script.encode()).problem
-        numbers = [[Fraction(1, 3), Fraction(1), Fraction(1), Fraction(2)], [Fraction(v) for v in (3, 0, 0, 4)], [Fraction(-1)] * 2]
+        numbers = [[Fraction(1, 3), 1, 1, 2], [3, 0, 0, 4], [-1, -1]]
         text = Text(script, problem).with_values(numbers)
         self.assertIn("X = cp.Constant(dcx_np.array([[1/3, 1], [1, 2]]))", text)
         self.assertIn("X == X.T, D == cp.diag(cp.diag(D)), n <= 0", text)
@@ -186,7 +187,7 @@ class Weights(unittest.TestCase):
     def test_fitted_weights_keep_every_condition(self):
         draw = random.Random(4)
         for _ in range(300):
-            word = draw.choice(["abs", "pos", "maximum", "minimum", "max", "min", "norm1", "norm_inf", "sum_largest", "cummax"])
+            word = draw.choice("abs pos maximum minimum max min norm1 norm_inf sum_largest cummax".split())
             size = draw.randint(1, 5)
             args = [(size,)] * (draw.randint(1, 3) if word in ("maximum", "minimum") else 1)
             call = (word, draw.randint(1, size)) if word == "sum_largest" else (word, None)

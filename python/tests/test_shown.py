@@ -111,6 +111,31 @@ class Stops(unittest.TestCase):
         lower, upper = (rows.farkas.multipliers[c] for c in rows.constraints)
         self.assertEqual(lower[600] * 1 - upper * Fraction(1, 2), rows.farkas.gap)
 
+    def test_infeasible_beyond_128_bits(self):
+        """Farkas' multipliers of many digits are rounded, where signs of variables leave room for that."""
+        draw = np.random.default_rng(1)
+        A, b = wide.numbers(draw, 7, 9, 11), wide.numbers(draw, 7, 9)
+        found = wide.linprog(np.zeros(11), A_eq=A, b_eq=b, bounds=(0, None))
+        self.assertEqual(found.status, 2)
+        x = cp.Variable(11, nonneg=True)
+        problem = cp.Problem(cp.Minimize(cp.sum(x)), [A @ x == b])
+        problem.solve(trust="python")
+        self.assertEqual((problem.status, problem.shown_by), ("infeasible", PYTHON))
+        self.assertGreater(max(abs(v) for v in problem.farkas.multipliers[problem.constraints[0]]), 2**127)
+        problem.solve()
+        self.assertEqual((problem.status, problem.shown_by), ("infeasible", CERTIFICATE))
+        (multipliers,) = problem.farkas.multipliers.values()
+        left = [sum((Fraction(repr(float(a))) * y for a, y in zip(row, multipliers)), Fraction(0)) for row in A.T]
+        self.assertTrue(all(rest >= 0 for rest in left))
+        right = sum((Fraction(repr(float(a))) * y for a, y in zip(b, multipliers)), Fraction(0))
+        self.assertGreaterEqual(-right, problem.farkas.gap)
+
+    def test_interrupted(self):
+        problem, x, _ = wide.fit(1)
+        with mock.patch.object(asking, "asked", side_effect=KeyboardInterrupt), self.assertRaises(KeyboardInterrupt):
+            problem.solve()
+        self.assertEqual((problem.value, problem.exact, x.value, problem.shown_by), (None, None, None, None))
+
     def test_the_word_of_python(self):
         problem, x, found = wide.fit(3, 9, 12, 6)
         problem.solve(trust="python")
@@ -226,7 +251,8 @@ class Lies(unittest.TestCase):
             reply = asked(*arguments, **options)
             script, certificate = reply["made"].lower
             cut = next(line for line in script.split("\n") if "dcx_objective <=" in line)
-            reply["made"].lower = (script.replace(cut, cut.replace("dcx_objective <= ", "dcx_objective <= 9")), certificate)
+            changed = script.replace(cut, cut.replace("dcx_objective <= ", "dcx_objective <= 9"))
+            reply["made"].lower = (changed, certificate)
             return reply
 
         with mock.patch.object(asking, "asked", lie), self.assertRaises(CertificateError):

@@ -38,8 +38,8 @@ class Outside(unittest.TestCase):
     def keeps(self, point):
         """The point keeps the constraints, in fractions."""
         self.assertEqual(sum(point), 3)
-        for row, bound in zip(self.A, self.b):
-            self.assertLessEqual(sum(Fraction(repr(float(a))) * v for a, v in zip(row, point)), Fraction(repr(float(bound))))
+        for row, bound in zip(self.A.tolist(), self.b.tolist()):
+            self.assertLessEqual(sum(Fraction(repr(a)) * v for a, v in zip(row, point)), Fraction(repr(bound)))
 
     def test_right_values(self):
         verified = self.problem.verify({"x": self.found.x})
@@ -71,7 +71,8 @@ class Outside(unittest.TestCase):
         verified = self.problem.verify({"x": self.found.x + 0.3})
         self.assertFalse(verified.feasible)
         self.assertAlmostEqual(float(verified.broken[self.rules[1]]), 1.2, delta=1e-9)
-        self.assertEqual((verified.point, verified.moved, verified.gap, verified.interval.point), (None, None, None, None))
+        self.assertEqual((verified.point, verified.moved, verified.gap), (None, None, None))
+        self.assertIsNone(verified.interval.point)
         self.assertGreaterEqual(verified.interval.high, self.best)
         self.assertIn("nearest feasible point", verified.why)
         negative = self.problem.verify({"x": [-1, 2, 1, 1]})

@@ -10,12 +10,14 @@ import unittest
 from fractions import Fraction
 from itertools import product
 from pathlib import Path
+from unittest import mock
 
 import dcx.cvxpy as cp
 from dcx import program
 from dcx.errors import SolverError
+from dcx.lines import read_stop
 from dcx.reports import read_report
-from dcx.whole import EVIDENCE, POINT
+from dcx.whole import EVIDENCE, POINT, answering
 from dcx.whole.boxes import Relaxation, Unfit
 from dcx.whole.evidence import evidence
 from dcx.whole.search import Over, Search
@@ -125,10 +127,41 @@ class Answers(unittest.TestCase):
         with self.assertRaises(TypeError):
             problem.solve(progress=3)
 
+    def test_behind_which_stops(self):
+        def helps(text, is_limited=False):
+            return answering.helps(read_stop(text.split()), is_limited)
+
+        node = "33 Branch node 7 26 Wide pivot 4 row 1 column 2"
+        self.assertTrue(all(map(helps, ("32 NodeLimit 10000", node, "28 TooLarge rows 700 columns 900"))))
+        self.assertFalse(helps("30 RelaxationUnbounded"))
+        self.assertFalse(helps("24 ParamSign p entry 0 value -1"))
+        self.assertFalse(helps("27 PivotLimit 5", is_limited=True))
+        self.assertFalse(answering.helps(None, False))
+
+    def test_more_rows_than_the_program_has(self):
+        """Bounds of 700 entries are rows of the program's branch and bound, and bounds here."""
+        take = cp.Variable(700, boolean=True)
+        problem = cp.Problem(cp.Minimize(cp.sum(take)), [take[0] + take[699] >= Fraction(3, 2)])
+        self.assertEqual(problem.solve(), 2)
+        self.assertIn(b"33 Branch node 1 28 TooLarge", problem.report)
+        self.assertEqual(problem.shown_by, EVIDENCE)
+
     def test_over(self):
         with self.assertRaises(Over) as caught:
             searched(knapsack(12, 2), seconds=0)
         self.assertEqual(caught.exception.reason, "time")
+
+
+class Files(unittest.TestCase):
+    def test_leaves_in_several_files(self):
+        problem = knapsack(9, 1)
+        search, script = searched(problem), problem.script()
+        for limit in ({"MOST": 2}, {"MOST_BYTES": 500}):
+            with mock.patch.multiple("dcx.whole.evidence", **limit):
+                found = evidence(search, script, "{}\n")
+            count = sum(name.endswith(".cert") for name in found.files) - 1
+            self.assertGreater(count, 2)
+            self.assertEqual(found.check().value, search.best * -1)
 
 
 class Steps(unittest.TestCase):

@@ -6,8 +6,7 @@ from fractions import Fraction
 from itertools import product
 
 import dcx.cvxpy as cp
-from dcx.whole.boxes import Relaxation
-from dcx.whole.rows import Rows
+from dcx.whole.rows import rows_of
 from dcx.whole.search import Search
 from dcx.whole.steps import step_of
 
@@ -68,7 +67,7 @@ class Small:
 def searched(problem, use_floats: bool = True, **arguments) -> Search:
     """The search of a problem, at its end."""
     script, settings = problem.script(), problem.settings()
-    rows = Rows(Relaxation(script, settings, has_goal=True))
+    rows = rows_of(script, settings)
     search = Search(rows, step_of(script, settings), use_floats=use_floats, **arguments)
     search.run()
     return search

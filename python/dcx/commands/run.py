@@ -9,6 +9,7 @@ import traceback
 from importlib import import_module
 from importlib.abc import MetaPathFinder
 from types import ModuleType
+from typing import Optional
 
 from ..numbers import float_digits
 
@@ -17,6 +18,8 @@ PACKAGE = os.path.dirname(os.path.dirname(os.path.abspath(__file__)))
 ABOVE = {os.path.abspath(__file__), os.path.join(PACKAGE, "__main__.py"), os.path.abspath(runpy.__file__)}
 FAILED = 1
 INTERRUPTED = 130
+# What tells processes that the script starts how floats are read.
+TOLD = ("DCX_RUN_DIGITS", "DCX_RUN_DECIMALS")
 
 
 def add_arguments(parser: argparse.ArgumentParser) -> None:
@@ -51,7 +54,7 @@ def run(arguments: argparse.Namespace) -> int:
         print(f"dcx: {script} can't be read: no such file", file=sys.stderr)
         return 3
     stand_in()
-    float_digits(arguments.digits, arguments.decimals)
+    round_floats(arguments.digits, arguments.decimals)
     sys.argv = [script, *arguments.arguments]
     set_path(os.path.dirname(os.path.abspath(script)))
     try:
@@ -73,6 +76,20 @@ def set_path(folder: str) -> None:
         sys.path[:1] = [folder, os.path.join(PACKAGE, "instead")]
     if os.path.dirname(PACKAGE) not in sys.path:
         sys.path.append(os.path.dirname(PACKAGE))
+
+
+def round_floats(*counts: Optional[int]) -> None:
+    """Sets the digits that a float keeps, also for the processes that the script starts."""
+    for name, count in zip(TOLD, counts):
+        os.environ.pop(name, None)
+        if count is not None:
+            os.environ[name] = str(count)
+    float_digits(*counts)
+
+
+def round_floats_as_told() -> None:
+    """Sets the digits that a float keeps in a process that a script started, as they are in the script's own."""
+    float_digits(*(int(os.environ[name]) if name in os.environ else None for name in TOLD))
 
 
 class OneModule(MetaPathFinder):

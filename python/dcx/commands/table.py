@@ -38,7 +38,7 @@ def add_arguments(parser: argparse.ArgumentParser) -> None:
     parser.add_argument("--no-exact", action="store_true", help="leave a stop a stop: the exact solver isn't asked")
     parser.add_argument("--trust", choices=["python"], help="take what the exact solver finds, where nothing shows it")
     parser.add_argument("--box", metavar="N", type=up_to(10**9), help="the box of an interval; 1000000 without it")
-    parser.add_argument("--time-limit", metavar="N", type=up_to(10**6), help="seconds of the exact solver; 120 without it")
+    parser.add_argument("--time-limit", metavar="N", type=up_to(10**6), help="seconds of the exact solver; or 120")
     parser.add_argument("--sort", choices=["multiplier"], help="constraints with the greatest multipliers first")
 
 

@@ -75,8 +75,8 @@ def shown(script: str, settings: str, maximized: bool, wishes: Wishes) -> Shown:
     made = reply["made"]
     interval = None if made is None else checked(made, settings, maximized)
     told = (
-        f"the exact solver finds the problem {found.status}, but the numbers that show it pass 128 bits ({found.wide}), "
-        "so that the program can't check them"
+        f"the exact solver finds the problem {found.status}, but the numbers that show it pass 128 bits "
+        f"({found.wide}), so that the program can't check them"
     )
     if interval is None:
         raise SolverError(f'{told}; trust="python" takes the answer at Python\'s word')
@@ -127,7 +127,8 @@ def _near(made: Any, found: Answer) -> Answer:
         name: Entries(array.shape, tuple(map(Fraction, entries)))
         for (name, array), entries in zip(found.variables.items(), made.point)
     }
-    duals = {} if made.duals is None else {
-        number: Entries(array.shape, tuple(entries)) for (number, array), entries in zip(found.duals.items(), made.duals)
+    duals = {
+        number: Entries(array.shape, tuple(entries))
+        for (number, array), entries in zip(found.duals.items(), made.duals or ())
     }
     return Answer("setting", 1, OPTIMAL_INACCURATE, value=made.value, variables=variables, duals=duals)

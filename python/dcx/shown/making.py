@@ -28,7 +28,12 @@ BOX = Fraction(10**6)
 AIM = 1e-9
 # The finest first: what is too fine passes 128 bits, and what is too coarse makes the interval wider.
 TRIALS = (
-    Margins(15, 19, 1), Margins(14, 18, 3), Margins(12, 15, 2), Margins(15, 21, 4), Margins(10, 12, 2), Margins(9, 10, 1)
+    Margins(15, 19, 1),
+    Margins(14, 18, 3),
+    Margins(12, 15, 2),
+    Margins(15, 21, 4),
+    Margins(10, 12, 2),
+    Margins(9, 10, 1),
 )
 
 
@@ -86,7 +91,7 @@ class Maker:
         if all(map(OF_LANGUAGE.has, found.point)):
             self.put_point(itself, found.point)
         for margins in TRIALS:
-            near, _ = points.tightened(self.problem, self.program, found, margins)
+            near = points.tightened(self.problem, self.program, found, margins)
             made = Made(value=itself.value, point=itself.point, upper=itself.upper)
             if itself.value is None:
                 self.put_point(made, points.rounded(self.problem, self.program, near.point, margins.point))
@@ -96,6 +101,25 @@ class Maker:
             if best.width() <= AIM:
                 break
         return best
+
+    def refuted(self) -> Optional[str]:
+        """A certificate that no point is feasible, of multipliers of few digits; None where none is found."""
+        for margins in TRIALS:
+            near = solved(points.elastic(self.problem, self.program, margins))
+            if near.kind != "optimal":
+                continue
+            duals, weights = self.rows_of(near.multipliers)
+            found = multipliers.bound(
+                self.problem, self.setting, self.program, duals, weights, margins.multipliers, BOX, False
+            )
+            if found.payments or found.total <= 0:
+                continue
+            try:
+                gap = _simple(found.total)
+                return self._certificate(self.script, "infeasible", gap, lambda _, f=found: f.duals, found.weights)
+            except Fault:
+                continue
+        return None
 
     def rows_of(self, row_multipliers):
         """Multipliers by constraint, and weights by node."""

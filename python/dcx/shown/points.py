@@ -42,14 +42,14 @@ def unit(values: Sequence[Fraction], digits: int) -> int:
     return digits - whole + zeros
 
 
-def tightened(problem, program, found: Solution, margins: Margins) -> tuple[Solution, Program]:
+def tightened(problem, program, found: Solution, margins: Margins) -> Solution:
     """The solution of the program with margins, from the basis of the one without. Where no point keeps a margin, the
     constraints that are in its way have none."""
     own = count_of(problem)
     step = Fraction(1, 10 ** unit(found.point[:own], margins.point))
     wide = 10**margins.wider
     without: set[int] = set()
-    shares = _shares(program, own, Fraction(wide, 10**margins.multipliers), found)
+    shares = _shares(program, own, Fraction(wide, 10**margins.multipliers))
     is_shared = True
     for _ in range(MOST_ROUNDS):
         rows = [
@@ -62,7 +62,7 @@ def tightened(problem, program, found: Solution, margins: Margins) -> tuple[Solu
         objective = _shared(program, shares) if is_shared else program.objective
         result = solved(Program(program.kinds, rows, objective), True, found.basis)
         if result.kind == "optimal":
-            return result, program
+            return result
         if result.kind == "unbounded":
             is_shared = False
         else:
@@ -70,10 +70,10 @@ def tightened(problem, program, found: Solution, margins: Margins) -> tuple[Solu
             if not more - without:
                 break
             without |= more
-    return found, program
+    return found
 
 
-def _shares(program, own: int, margin: Fraction, found: Solution) -> dict[int, Fraction]:
+def _shares(program, own: int, margin: Fraction) -> dict[int, Fraction]:
     """By how much the cost of each unknown of a variable with a sign is lowered."""
     sums = dict.fromkeys(range(own), ZERO)
     for row in program.rows:
@@ -148,6 +148,23 @@ def _solved(rows, near, kinds) -> Optional[dict[int, Fraction]]:
     return moves
 
 
+def elastic(problem, program, margins: Margins) -> Program:
+    """The program in which each constraint may be broken at a cost of 1, and nothing else costs anything but the
+    margins: its multipliers show that no point is feasible, where none is."""
+    kinds, rows, costs = list(program.kinds), [], {}
+    for row in program.rows:
+        terms = dict(row.form.terms)
+        if row.origin[0] == "constraint":
+            for side in (-1, 1) if row.is_equal else (-1,):
+                terms[len(kinds)] = Fraction(side)
+                costs[len(kinds)] = Fraction(1)
+                kinds.append("nonneg")
+        rows.append(Row(row.is_equal, Form(row.form.constant, terms), row.origin))
+    for u, share in _shares(program, count_of(problem), Fraction(10**margins.wider, 10**margins.multipliers)).items():
+        costs[u] = -share if kinds[u] == "nonneg" else share
+    return Program(kinds, rows, Form(ZERO, costs))
+
+
 def nearest(problem, program, point: Sequence[Fraction], margins: Margins) -> Optional[list[Fraction]]:
     """The point that keeps the constraints with a margin and is nearest to the given one in the greatest of its
     entries' moves; None where there is none."""
@@ -161,5 +178,4 @@ def nearest(problem, program, point: Sequence[Fraction], margins: Margins) -> Op
     first = solved(moving)
     if first.kind != "optimal":
         return None
-    result, _ = tightened(problem, moving, first, margins)
-    return result.point[:own]
+    return tightened(problem, moving, first, margins).point[:own]

@@ -92,7 +92,7 @@ class Verifier(Maker):
         if found.kind != "optimal":
             made.why = f"the problem is {found.kind}"
             return
-        near, _ = points.tightened(self.problem, self.program, found, TRIALS[0])
+        near = points.tightened(self.problem, self.program, found, TRIALS[0])
         self.put_best_bound(made, self.rows_of(near.multipliers))
 
     def completed(self, duals: dict[int, list]):
@@ -105,7 +105,8 @@ class Verifier(Maker):
         for number, entries in enumerate(stated):
             count = sum(1 for row in rows if row.origin[1] == number)
             entries = entries or [ZERO] * count
-            stated[number] = [v if row.is_equal else max(v, ZERO) for v, row in zip(entries, (next(at) for _ in entries))]
+            its = [next(at) for _ in entries]
+            stated[number] = [v if row.is_equal else max(v, ZERO) for v, row in zip(entries, its)]
         for value, row in zip((v for entries in stated for v in entries), rows):
             objective.constant += value * row.form.constant
             for u, coefficient in row.form.terms.items():

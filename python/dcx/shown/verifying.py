@@ -44,7 +44,8 @@ class Verified(NamedTuple):
         told = f"the values keep all constraints, with the value {float(self.value):.12g}"
         if not self.feasible:
             worst = max(self.broken, key=self.broken.__getitem__)
-            told = f"the values break {len(self.broken)} of the constraints, `{worst}` by {float(self.broken[worst]):.3g}"
+            most = float(self.broken[worst])
+            told = f"the values break {len(self.broken)} of the constraints, `{worst}` by {most:.3g}"
             if self.moved is not None:
                 told += f"; a point that keeps all of them is at most {float(self.moved):.1e} away"
         why = f"; {self.why}" if self.why else ""
@@ -73,7 +74,8 @@ def verify(
     `Problem.solve`.
     """
     if problem.is_mixed_integer():
-        raise UnsupportedError("verify(..) isn't offered of a problem in whole numbers: no multipliers show its best value")
+        reason = "verify(..) isn't offered of a problem in whole numbers: no multipliers show its best value"
+        raise UnsupportedError(reason, problem.site)
     script = problem.written
     settings = script.settings_line()
     read(program.run("check", script.text), script)
@@ -131,6 +133,7 @@ def _duals(script: Any, duals: Mapping[Any, Any]) -> dict[int, list[Fraction]]:
             continue
         entries = arrays.array_of(value).dense().entries
         if len(entries) != size_of(constraint.shape):
-            raise ValueError(f"{len(entries)} multipliers are given for {constraint}, which has {constraint.size} entries")
+            count = f"{len(entries)} multipliers are given for {constraint}"
+            raise ValueError(f"{count}, which has {constraint.size} entries")
         found[number] = list(entries)
     return found

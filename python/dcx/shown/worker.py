@@ -24,6 +24,8 @@ def answered(script: str, settings: str, box: Optional[Fraction], wants_interval
         reply["certificate"] = found.certificate().decode()
     elif answer.stop is None and wants_interval and answer.status == "optimal":
         reply["made"] = making.Maker(script, settings, box).interval()
+    elif answer.stop is None and wants_interval and answer.status == "infeasible":
+        reply["certificate"] = making.Maker(script, settings, box).refuted()
     return reply
 
 

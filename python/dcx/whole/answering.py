@@ -2,20 +2,20 @@
 from __future__ import annotations
 
 import time
-from fractions import Fraction
-from typing import Any, Callable, NamedTuple, Optional
+from dataclasses import replace
+from typing import Callable, NamedTuple, Optional
 
 from .. import program
 from ..errors import SolverError
+from ..exact.faults import Refused
 from ..lines import Stop
 from ..reports import Answer, read_report
 from ..statuses import USER_LIMIT
-from ..values import Entries
 from . import EVIDENCE, POINT
-from .boxes import Relaxation, Unfit
+from .boxes import Unfit
 from .checking import EvidenceError
 from .evidence import Evidence, evidence, point_of
-from .rows import Rows
+from .rows import Rows, rows_of
 from .search import Over, Progress, Search, Unbounded
 from .steps import step_of
 
@@ -66,9 +66,12 @@ def shown(
     """
     begun = time.monotonic()
     try:
-        rows = Rows(Relaxation(script, settings, has_goal=True))
+        rows = rows_of(script, settings)
     except Unfit as error:
         raise SolverError(f"there is no search for whole numbers in this script: {error}") from None
+    except Refused as refused:
+        told = refused.text("script").strip()
+        raise SolverError(f"with parameters for bounds the script passes what the language holds: {told}") from None
     search = Search(rows, step_of(script, settings), seconds, most, told)
     try:
         search.run()
@@ -85,7 +88,7 @@ def shown(
         return _so_far(search, over.reason, begun)
     answer = Answer("setting", 1, checked.status, whole=True, nodes=search.nodes, value=checked.value)
     if checked.status == "optimal":
-        answer = _at(answer, read_report(found.files["point.cert"]).sections[0].variables)
+        answer = _at(answer, found.files["point.cert"], rows)
     return Shown(answer, EVIDENCE, search.progress(), found, seconds=time.monotonic() - begun)
 
 
@@ -105,10 +108,12 @@ def _so_far(search: Search, reason: str, begun: float) -> Shown:
     if said != "certified 1":
         raise SolverError(f"the best point so far isn't accepted: {said}")
     answer = Answer("setting", 1, USER_LIMIT, whole=True, nodes=search.nodes, value=progress.best)
-    answer = _at(answer, read_report(certificate).sections[0].variables)
+    answer = _at(answer, certificate, search.rows)
     return Shown(answer, POINT, progress, why=reason, seconds=time.monotonic() - begun)
 
 
-def _at(answer: Answer, variables: dict[str, Any]) -> Answer:
-    answer.variables.update({name: Entries(a.shape, tuple(map(Fraction, a.entries))) for name, a in variables.items()})
-    return answer
+def _at(answer: Answer, certificate: str, rows: Rows) -> Answer:
+    """The answer with the point of a certificate."""
+    found = dict(read_report(certificate).sections[0].variables)
+    found.pop(rows.relaxation.sums_name, None)
+    return replace(answer, variables=found)

@@ -6,7 +6,7 @@ side is open. A tree is a list of its nodes: behind a split come the nodes below
 from __future__ import annotations
 
 import re
-from typing import Iterator, NamedTuple, Optional
+from typing import Iterator, NamedTuple, Optional, Sequence
 
 OPEN = 10**6  # what a setting says of an open side, whose multipliers are 0
 Box = tuple  # of pairs (least, greatest), by entry of the marked variables, one variable behind the other
@@ -38,20 +38,30 @@ class Relaxation:
     line of settings; each marked variable x has parameters x_low and x_high, and the constraints x >= x_low and
     x <= x_high behind all others. Where `has_goal`, the objective is to be no worse than the parameter `goal`, by a
     constraint in front of those. Names that are taken have a further `_`.
+
+    `sums` are lists of entries, each as [NAME, ENTRY], of marked variables. There is a variable `sums` with an entry
+    for each of them, which a constraint in front of the goal says to be their sum, so that it is whole where they are.
+    Its entries have bounds as those of a marked variable have, and boxes may be split at them.
     """
 
-    def __init__(self, script: str, settings: str, has_goal: bool):
+    def __init__(self, script: str, settings: str, has_goal: bool, sums: Sequence = ()):
         self.marked: list[Marked] = []
         self.has_goal = has_goal
-        tail = "_" * next(n for n in range(100) if not re.search(rf"\b(goal|\w+_low|\w+_high){'_' * n}\b", script))
+        tail = "_" * next(n for n in range(100) if not re.search(rf"\b(goal|sums|\w+_low|\w+_high){'_' * n}\b", script))
+        self.sums_name = f"sums{tail}"
         self._goal, self._low, self._high = f"goal{tail}", f"_low{tail}", f"_high{tail}"
         self.is_maximized = False
+        self.sums = [[(name, entry) for name, entry in listed] for listed in sums]
+        self.added: list = []
+        self.of_sums: Box = ()
         lines, stated = [], None
         for line in script.split("\n"):
             code = line.split("  # ")[0]
             problem, declared = _PROBLEM.fullmatch(code), _MARKED.fullmatch(code)
             if problem is not None:
                 stated, self.is_maximized = problem, problem.group(2) == "Maximize"
+                if sums:
+                    self._add_sums()
                 lines += [*self._declarations(), *self._values(settings), self._opened(code, problem)]
                 if problem.group(4) == ")":
                     lines += [*self._constraints(problem), "])"]
@@ -83,7 +93,25 @@ class Relaxation:
         kept = ["nonneg=True"] if is_boolean else [word for word in attributes if word != "integer=True"]
         return f"{name} = cp.Variable({', '.join(filter(None, [shape, *kept]))})"
 
+    def _add_sums(self) -> None:
+        """The variable of the sums, whose entries are within the sums of the bounds of what is added."""
+        own, count = self.root, len(self.sums)
+        self.added = [[self.place(name, entry) for name, entry in listed] for listed in self.sums]
+        self.marked.append(Marked(self.sums_name, str(count), count, count, None, None))
+        for listed in self.added:
+            sides = [[own[at][side] for at in listed] for side in (0, 1)]
+            self.of_sums += (tuple(None if None in side else sum(side) for side in sides),)
+
+    def _entry(self, name: str, entry: int) -> str:
+        """An entry of a variable, as a script says it."""
+        item = next(item for item in self.marked if item.name == name)
+        if not item.shape:
+            return name
+        return f"{name}[{entry // item.width}, {entry % item.width}]" if "(" in item.shape else f"{name}[{entry}]"
+
     def _declarations(self) -> Iterator[str]:
+        if self.sums:
+            yield f"{self.sums_name} = cp.Variable({len(self.sums)})"
         if self.has_goal:
             yield f"{self._goal} = cp.Parameter()"
         for item in self.marked:
@@ -103,6 +131,8 @@ class Relaxation:
         return code if problem.group(4) != ")" else f"{code[:-1]}, ["
 
     def _constraints(self, problem) -> Iterator[str]:
+        for number, listed in enumerate(self.sums):
+            yield f"    {' + '.join(self._entry(*of) for of in listed)} == {self.sums_name}[{number}],"
         if self.has_goal:
             yield f"    {problem.group(3)} {'>=' if self.is_maximized else '<='} {self._goal},"
         for item in self.marked:
@@ -114,7 +144,8 @@ class Relaxation:
     @property
     def root(self) -> Box:
         """The box of all whole points, by the declarations."""
-        return tuple((item.low, item.high) for item in self.marked for _ in range(item.size))
+        listed = [(item.low, item.high) for item in self.marked for _ in range(item.size)]
+        return tuple(listed[: len(listed) - len(self.of_sums)]) + self.of_sums
 
     def setting(self, box: Box, goal) -> str:
         """The line of settings of a box, with the goal where there is one."""

@@ -4,14 +4,15 @@ them, and has the program check certificates.
 The folder has
     model.py         the script, with its marks, and setting.txt, the values of its parameters
     relaxed.py       the script without marks, with parameters for bounds (`boxes.Relaxation` says how it is made)
-    tree.json        what is said: status, value, goal, and the tree
+    tree.json        what is said: status, value, goal, sums, and the tree
     leaves-N.txt     a line of settings for each leaf of the tree, in order, at most 1,000 in a file
     leaves-N.cert    the certificate of these lines
     point.txt        a setting whose box is the best point alone, and point.cert, its certificate
 
 Why that is enough, where what is minimized has the value v at the best point: a whole point that keeps the constraints
-of model.py is in the box of a leaf, since it is in one of the sides of each split. Without its marks it keeps the
-constraints of relaxed.py at the leaf's setting, but for the goal. Where the leaf's section is `infeasible`, it breaks
+of model.py is in the box of a leaf, since it is in one of the sides of each split, also of one of a sum of its entries,
+which is whole. Without its marks, and with these sums, it keeps the constraints of relaxed.py at the leaf's setting,
+but for the goal. Where the leaf's section is `infeasible`, it breaks
 the goal, so it is worse than the goal; where that is less than v, the next value that it can have is v, as `steps`
 says. Where the section is `optimal`, it breaks the goal or has at least the section's value, which is at least v.
 """
@@ -62,7 +63,7 @@ def check(folder: Union[str, Path]) -> Checked:
     script, settings, said = _text(folder, "model.py"), _text(folder, "setting.txt"), _said(folder)
     is_optimal = said["status"] == "optimal"
     demand(is_optimal or said["status"] == "infeasible", "tree.json says neither optimal nor infeasible")
-    relaxed = Relaxation(script, settings, has_goal=is_optimal)
+    relaxed = Relaxation(script, settings, has_goal=is_optimal, sums=said.get("sums", []))
     text = _text(folder, "relaxed.py")
     demand(text == relaxed.text, "relaxed.py isn't model.py without its marks")
     side = -1 if relaxed.is_maximized else 1
@@ -102,14 +103,16 @@ def _best(folder: Path, relaxed: Relaxation, text: str, value: Fraction, least: 
     demand(sections[0].kind == "optimal" and sections[0].value == least, "the best point hasn't the value that is said")
     whole = json.loads(_text(folder, "point.json"))
     demand(all(isinstance(n, int) for n in whole), "an entry of the best point isn't whole")
-    demand(lines[0] == relaxed.setting(tuple((n, n) for n in whole), value), "point.txt isn't the box of the best point")
+    box = tuple((n, n) for n in whole)
+    demand(lines[0] == relaxed.setting(box, value), "point.txt isn't the box of the best point")
     inside = zip(whole, relaxed.root)
     demand(
         len(whole) == len(relaxed.root)
         and all((low is None or n >= low) and (high is None or n <= high) for n, (low, high) in inside),
         "the best point isn't in the box of all whole points",
     )
-    return "".join(line + "\n" for line in _text(folder, "point.cert").split("\n") if line.startswith("var "))
+    points = (line for line in _text(folder, "point.cert").split("\n") if line.startswith("var "))
+    return "".join(line + "\n" for line in points if line.split(" ")[1] != relaxed.sums_name)
 
 
 def _certified(folder: Path, name: str, script: str) -> tuple[list[str], list[Section]]:

@@ -13,7 +13,8 @@ from .checking import Checked, EvidenceError, checked
 from .rows import Rows, Shown
 from .search import Node, Search
 
-MOST = 1000  # settings in a file
+MOST = 1000  # settings in a file, which has so many bytes at the most
+MOST_BYTES = 1_000_000
 
 
 class Leaf(NamedTuple):
@@ -66,7 +67,7 @@ def evidence(search: Search, script: str, settings: str) -> Evidence:
     is_optimal = search.best is not None
     if not is_optimal:
         # without a goal: what is shown to be empty is so without it
-        relaxation = Relaxation(script, settings, has_goal=False)
+        relaxation = Relaxation(script, settings, has_goal=False, sums=relaxation.sums)
         rows = Rows(relaxation)
     side = -1 if relaxation.is_maximized else 1
     files = {"model.py": script, "setting.txt": settings, "relaxed.py": relaxation.text}
@@ -80,15 +81,17 @@ def evidence(search: Search, script: str, settings: str) -> Evidence:
             place, k, _, _ = node.split
             tree.append([*names[place], k])
     goal = side * search.goal if is_optimal else None
-    parts = [leaves[at : at + MOST] for at in range(0, len(leaves), MOST)]
+    parts = list(_parts([(relaxation.setting(node.box, goal) + "\n", node) for node in leaves]))
     said = {"status": "optimal" if is_optimal else "infeasible"}
     if is_optimal:
         said.update(value=str(side * search.best), goal=str(goal))
+    if relaxation.sums:
+        said["sums"] = relaxation.sums
     said.update(files=len(parts), tree=tree)
     files["tree.json"] = _json(said)
     for number, part in enumerate(parts, 1):
-        files[f"leaves-{number}.txt"] = "".join(relaxation.setting(node.box, goal) + "\n" for node in part)
-        files[f"leaves-{number}.cert"] = _certificate(rows, part, search.goal)
+        files[f"leaves-{number}.txt"] = "".join(line for line, _ in part)
+        files[f"leaves-{number}.cert"] = _certificate(rows, [node for _, node in part], search.goal)
     if is_optimal:
         files["point.json"] = json.dumps([int(search.point[u]) for u in rows.whole]) + "\n"
         files["point.txt"], files["point.cert"] = point_of(search)
@@ -116,6 +119,18 @@ def _listed(root: Node) -> Iterator[Node]:
         yield node
         if node.split is not None:
             waiting += [node.split[3], node.split[2]]
+
+
+def _parts(listed: list) -> Iterator[list]:
+    """Lines of settings with their leaves, by files of the size that the program reads."""
+    part, size = [], 0
+    for line, node in listed:
+        if part and (len(part) == MOST or size + len(line.encode()) > MOST_BYTES):
+            yield part
+            part, size = [], 0
+        part.append((line, node))
+        size += len(line.encode())
+    yield part
 
 
 def _certificate(rows: Rows, leaves: list, goal: Optional[Fraction]) -> str:

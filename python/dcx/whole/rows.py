@@ -14,6 +14,7 @@ from typing import NamedTuple, Optional, Sequence
 from ..exact import shapes
 from ..exact.affine import Form
 from ..exact.commands import Accepted, laid_over
+from ..exact.faults import Refused
 from ..exact.limits import NONE
 from ..exact.reduce import Layout, Program, Row
 from ..exact.session import Session
@@ -22,6 +23,7 @@ from ..exact.solver import Solution, solved
 from .boxes import Box, Relaxation
 
 ZERO = Fraction(0)
+MOST_ADDED = 2000  # entries of all sums together
 
 
 class Shown(NamedTuple):
@@ -33,6 +35,16 @@ class Shown(NamedTuple):
     rows: dict
     least: Fraction
     point: Optional[list] = None
+
+
+def rows_of(script: str, settings: str) -> Rows:
+    """The rows of a script's relaxation, with the sums that may be worth a split."""
+    rows = Rows(Relaxation(script, settings, has_goal=True))
+    sums = rows.sums()
+    try:
+        return Rows(Relaxation(script, settings, has_goal=True, sums=sums)) if sums else rows
+    except Refused:  # with them it passes a limit of the language
+        return rows
 
 
 class Rows:
@@ -69,7 +81,7 @@ class Rows:
         for i, terms in enumerate(self.terms):
             for u, value in terms:
                 self.columns[u].append((i, value))
-        self.clean = {u: self._clean(u) for u in range(len(self.kinds)) if u not in self.place}
+        self.clean: dict = {}
 
     def _take(self, form: Form) -> None:
         values = [Fraction(v) for v in (*form.terms.values(), form.constant)]
@@ -83,10 +95,14 @@ class Rows:
 
     def _clean(self, u: int) -> list:
         """The rows of an unknown, those first in which all others are to be whole, which pay by their bounds."""
+        if u in self.clean:
+            return self.clean[u]
+
         def others(item):
             return sum(v not in self.place for v, _ in self.terms[item[0]]), len(self.terms[item[0]])
 
-        return sorted(self.columns[u], key=others)
+        self.clean[u] = sorted(self.columns[u], key=others)
+        return self.clean[u]
 
     # Multipliers
 
@@ -157,7 +173,7 @@ class Rows:
 
     def _move(self, u: int, value, rows: dict) -> Optional[tuple]:
         """A row and by how much its multiplier moves, so that the coefficient of an unknown is 0."""
-        for i, coefficient in self.clean[u] if u in self.clean else self._clean(u):
+        for i, coefficient in self._clean(u):
             by = -value // coefficient if value % coefficient == 0 else Fraction(-value) / coefficient
             if self.rows[i].is_equal or rows.get(i, 0) + by >= 0:
                 return i, by
@@ -210,14 +226,31 @@ class Rows:
             return found, None
         return found, self._summed(box, weight, mine, rest, found.point)
 
+    def with_sums(self, whole: Sequence) -> list:
+        """The marked entries of a point, with the sums that they have."""
+        own = len(whole) - len(self.relaxation.added)
+        return [*whole[:own], *(sum(whole[at] for at in listed) for listed in self.relaxation.added)]
+
+    def sums(self) -> list:
+        """Sums that may be worth a split: of the entries of a row of marked entries whose numbers are of one sign, and
+        not all the same in the least whole numbers, in which case the row says it already."""
+        names = [[item.name, entry] for item in self.relaxation.marked for entry in range(item.size)]
+        found: dict = {}
+        for row, terms in zip(self.rows, self.terms):
+            values = {v for _, v in terms}
+            if row.origin[0] == "constraint" and len(terms) > 1 and all(u in self.place for u, _ in terms):
+                if values not in ({1}, {-1}) and (min(values) > 0 or max(values) < 0):
+                    found[tuple(sorted(self.place[u] for u, _ in terms))] = None
+        listed, total = [], 0
+        for places in found:
+            total += len(places)
+            if total <= MOST_ADDED:
+                listed.append([names[at] for at in places])
+        return listed
+
     def is_whole(self, point: Sequence) -> bool:
         """Whether the marked entries of a point are whole."""
         return all(Fraction(point[u]).denominator == 1 for u in self.whole)
-
-    def costs_at(self, point: Sequence) -> Fraction:
-        """What is minimized, at a point."""
-        terms = self.objective.terms.items()
-        return self.objective.constant + sum((Fraction(v) * point[u] for u, v in terms), ZERO)
 
     # Sections
 

@@ -12,6 +12,7 @@ from .engines import Found, engine
 from .rows import Rows, Shown
 
 NEAR = 1e-6  # of a whole number, in floating point
+KNOWN = 1  # so often both sides of an entry are tried until what they raise bounds is known well enough
 TRIED = 6  # entries of which both sides are tried before one of them is chosen, where little is known of them
 
 
@@ -201,6 +202,7 @@ class Search:
 
     def _offer(self, whole: list) -> None:
         """Takes the best point with these marked entries, where it is better than the best one so far."""
+        whole = self.rows.with_sums(whole)
         inside = zip(whole, self.rows.relaxation.root)
         if not all((low is None or n >= low) and (high is None or n <= high) for n, (low, high) in inside):
             return
@@ -232,7 +234,9 @@ class Search:
         place, sides = self._chosen(node, listed)
         k = self._at(node, place)
         boxes = self._sides(node.box, place, k)
-        sides = sides or [self._solved(box) for box in boxes]
+        if sides is None:
+            sides = [self._solved(box) for box in boxes]
+            self._note(node, place, dict(listed)[place], sides)
         value = found.value
         node.found = None
         nodes = [Node(box, side) for box, side in zip(boxes, sides)]
@@ -276,7 +280,7 @@ class Search:
         best = None
         tried = 0
         for place, f in ranked:
-            is_known = all(self.gains.get((place, side), (0, 0))[0] >= 1 for side in (0, 1))
+            is_known = all(self.gains.get((place, side), (0, 0))[0] >= KNOWN for side in (0, 1))
             if is_known:
                 score, sides = estimate(place, f)[0], None
             elif tried < TRIED:
@@ -302,12 +306,16 @@ class Search:
         return max(float(self.best) - node.found.value, 1e-6)
 
     def _tried(self, node: Node, place: int, f: float) -> list:
-        """Both sides of a split, solved; how much the bound rises is noted."""
+        """Both sides of a split, solved."""
         sides = [self._solved(box) for box in self._sides(node.box, place, self._at(node, place))]
+        self._note(node, place, f, sides)
+        return sides
+
+    def _note(self, node: Node, place: int, f: float, sides: list) -> None:
+        """Notes how much the bound rises for each unit at the sides of a split."""
         for side, (found, part) in enumerate(zip(sides, (f, 1 - f))):
             most = self._most(node)
             rise = most if found.kind != "optimal" else min(max(found.value - node.found.value, 0.0), most)
             n, total = self.gains.get((place, side), (0, 0.0))
             if rise < 1e29:
                 self.gains[place, side] = (n + 1, total + rise / max(float(part), 1e-6))
-        return sides
