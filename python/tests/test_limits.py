@@ -320,7 +320,7 @@ class Places(unittest.TestCase):
 
     def stopped(self, problem):
         with self.assertRaises(SolverError) as caught:
-            problem.solve()
+            problem.solve(exact=False)
         return caught.exception
 
     def test_stops(self):
