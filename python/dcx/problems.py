@@ -3,6 +3,7 @@
 from __future__ import annotations
 
 import time
+import warnings
 from fractions import Fraction
 from typing import Any, Callable, Iterable, Mapping, NamedTuple, Optional
 
@@ -21,6 +22,11 @@ from .shown import fallback
 from .shown.intervals import Interval
 
 __all__ = ["Problem", "SizeMetrics", "Solution", "SolverStats"]
+
+_NEVER = (
+    "One of the constraints is False, so nothing is feasible. NumPy says False where an array of expressions stands "
+    "beside `==`: write cp.hstack(array) == numbers."
+)
 
 
 class SolverStats(NamedTuple):
@@ -524,9 +530,13 @@ for _name, _reason in _REFUSED.items():
 
 
 def _constraint(item: Any) -> Constraint:
-    """A constraint of the list; a truth value is one that always or never holds, as in CVXPY."""
+    """A constraint of the list; a truth value is one that always or never holds, as in CVXPY, with a warning where it
+    never does: NumPy says False where it can't compare."""
     if isinstance(item, Constraint):
         return item
     if isinstance(item, bool) or type(item).__name__ in ("bool_", "bool"):
+        if not item:
+            site = sites.here()
+            warnings.warn_explicit(_NEVER, UserWarning, site.file, site.line)
         return Constraint("<=", Constant(0 if item else 1), Constant(1 if item else 0))
     raise ValueError(f"Problem has an invalid constraint of type {type(item)}")

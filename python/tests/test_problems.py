@@ -218,7 +218,9 @@ class Answers(unittest.TestCase):
     def test_truth_values_as_constraints(self):
         x = cp.Variable()
         self.assertEqual(cp.Problem(cp.Minimize(x), [x >= 1, True, np.bool_(True)]).solve(), 1)
-        self.assertEqual(cp.Problem(cp.Minimize(x), [x >= 1, False]).solve(), INFINITY)
+        with self.assertWarnsRegex(UserWarning, "One of the constraints is False") as caught:
+            self.assertEqual(cp.Problem(cp.Minimize(x), [x >= 1, False]).solve(), INFINITY)
+        self.assertEqual(caught.filename, __file__)
 
     def test_what_is_multiplied_by_zeros_alone(self):
         """It doesn't stand in the script, and has the value 0, or one within its bounds."""

@@ -4,7 +4,7 @@ from __future__ import annotations
 import heapq
 import time
 from fractions import Fraction
-from math import floor, inf
+from math import ceil, floor, inf
 from typing import Callable, NamedTuple, Optional
 
 from .boxes import Box
@@ -125,10 +125,11 @@ class Search:
             raise Unbounded
         if found.kind == "optimal":
             self.bound = found.value
-            fractions = [v for v in found.whole if abs(v - round(v)) > NEAR]
-            guess = self.engine.guess(min(30.0, self.seconds)) if fractions else None
-            for whole in filter(None, (guess, [round(v) for v in found.whole])):
-                self._offer(whole)
+            if any(abs(v - round(v)) > NEAR for v in found.whole):
+                guess = self.engine.guess(min(30.0, self.seconds))
+                near = ([way(v) for v in found.whole] for way in (round, floor, ceil))
+                for whole in near if guess is None else [guess]:
+                    self._offer(whole)
         self.root = Node(box, found)
         self._put(self.root)
         while self.waiting:
