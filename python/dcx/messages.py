@@ -179,8 +179,8 @@ REFUSALS_OF = {
 # Stops, by number.
 
 WIDE_ADVICE = (
-    "Numbers with many digits, or large and tiny ones side by side, do this: write fewer digits, choose units in which "
-    "the data are near to 1, or scale a constraint."
+    "Numbers with many digits, or large and tiny ones side by side, do this: write fewer digits, since the digits of an "
+    "entry count once for each dense column that enters a basis; scaling a row changes nothing."
 )
 STOPS = {
     21: (
