@@ -176,8 +176,9 @@ def line(name, problem):
 
 
 def main():
-    print("| problem | whole variables | boxes | leaves | seconds | MB of evidence | check, seconds | `dcx solve` | `glpsol` |")
-    print("|---|---|---|---|---|---|---|---|---|")
+    heads = "problem|whole variables|boxes|leaves|seconds|MB of evidence|check, seconds|`dcx solve`|`glpsol`".split("|")
+    print(f"| {' | '.join(heads)} |")
+    print("|" + "---|" * len(heads))
     asked = sys.argv[1:]
     for name, problem in PROBLEMS.items():
         if not asked or name.replace(" ", "") in asked:

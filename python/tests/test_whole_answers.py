@@ -210,6 +210,15 @@ class Boxes(unittest.TestCase):
                 with self.assertRaises(Unfit):
                     list(relaxation.leaves(wrong))
 
+    def test_a_name_means_one_variable(self):
+        """Where a marked variable's name is bound again, its bounds would be those of another one."""
+        x = cp.Variable(2, integer=True, name="x")
+        script = cp.Problem(cp.Minimize(cp.sum(x)), [x >= 1]).script()
+        Relaxation(script, "{}\n", True)
+        for more in ("y = x\nx = cp.Variable(2)\n", "x += 1\n", "for x in [1]:\n    y = x\n", "y = [x for x in [1]]\n"):
+            with self.assertRaisesRegex(Unfit, "binds a name twice"):
+                Relaxation(script.replace("prob = ", f"{more}prob = "), "{}\n", True)
+
     def test_names_that_are_taken(self):
         goal, x_low = cp.Variable(name="goal"), cp.Parameter(name="x_low", value=Fraction(1, 3))
         x = cp.Variable(2, integer=True, name="x")

@@ -12,6 +12,7 @@ OPEN = 10**6  # what a setting says of an open side, whose multipliers are 0
 Box = tuple  # of pairs (least, greatest), by entry of the marked variables, one variable behind the other
 
 _MARKED = re.compile(r"(\w+) = cp\.Variable\((\((?:\d+), (?:\d+)\)|\d*)(?:, )?((?:\w+=True(?:, )?)*)\)")
+_BOUND = re.compile(r"\s*(\w+)\s*\+?=(?!=)")
 _PROBLEM = re.compile(r"(\w+) = cp\.Problem\(cp\.(Minimize|Maximize)\((.*)\)(\)|, \[)")
 
 
@@ -71,6 +72,10 @@ class Relaxation:
                 lines.append(self._unmarked(line, declared) if declared else line)
         if stated is None:
             raise Unfit("the script has no line that states its problem")
+        code = [line.split("  # ")[0] for line in script.split("\n")]
+        bound = [found.group(1) for line in code if (found := _BOUND.match(line))]
+        if len(set(bound)) < len(bound) or any(re.search(r"\bfor\b", line) for line in code):
+            raise Unfit("the script binds a name twice, or in a loop: bounds may be those of another variable then")
         if "import numpy as np" not in lines:
             lines.insert(1, "import numpy as np")
         self.text = "\n".join(lines)
