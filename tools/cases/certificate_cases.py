@@ -8,7 +8,7 @@ import random
 import re
 import sys
 
-sys.path.insert(0, os.path.join(os.path.dirname(os.path.abspath(__file__)), "..", "python"))
+sys.path.insert(0, os.path.join(os.path.dirname(os.path.abspath(__file__)), "..", "..", "python"))
 
 import random_cases
 from dcx.exact.cases import IMPORTS
@@ -139,7 +139,7 @@ def other_number(k, text):
 
 def numbers():
     print("# Certificates with one number changed, each with the fault that comes first.")
-    print("# Written by bench/certificate_cases.py.\n")
+    print("# Written by tools/cases/certificate_cases.py.\n")
     for comment, script, settings in PROBLEMS:
         data = right(script, settings)
         print(comment)
@@ -162,7 +162,7 @@ def replaced(data, old, new):
 
 def texts():
     print("# Bytes that are no certificate of the problem at its settings, each with the line up to which they begin none,")
-    print("# and some that are one. Written by bench/certificate_cases.py.\n")
+    print("# and some that are one. Written by tools/cases/certificate_cases.py.\n")
     script, settings = SMALL
     data = right(script, settings)
     lines = data.split(b"\n")[:-1]
@@ -240,7 +240,7 @@ def drawn_case():
 
 def drawn(seed, count):
     random.seed(int(seed))
-    print(f"# Certificates of scripts drawn at random from the seed {seed}, by bench/certificate_cases.py.")
+    print(f"# Certificates of scripts drawn at random from the seed {seed}, by tools/cases/certificate_cases.py.")
     for _ in range(int(count)):
         script, settings, text = drawn_case()
         print("\ncase certificate model.py settings.txt")
