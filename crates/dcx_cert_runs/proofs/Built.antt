@@ -162,6 +162,9 @@ all_of p limit settings i flag le h = subst (λ (z : List Pairs). IsTrue flag �
 pub counts_mapped : (p q : Problem) (cached : Bool) (old begun new : ℕ) → q ≡ p → (IsTrue cached → begun ≡ old + length p.tree) → (IsTrue cached ↔ HasMap p) → (HasMap q → new ≡ begun) → HasMap p → new ≡ old + length p.tree
 counts_mapped p q cached old begun new same counted exact kept h = kept (subst (λ (z : Problem). HasMap z) (sym same) h) ∙ counted (exact.1 h)
 
+pub counts_few : (p q : Problem) (old begun new : ℕ) → q ≡ p → begun ≤ old + length p.tree → (HasMap q → new ≡ begun) → HasMap p → new ≤ old + length p.tree
+counts_few p q old begun new same few kept h = subst (λ k. k ≤ old + length p.tree) (sym (kept (subst (λ (z : Problem). HasMap z) (sym same) h))) few
+
 pub counts_anew : (p q : Problem) (n old begun new : ℕ) → q ≡ p → begun ≤ old + length p.tree → new ≤ begun + n * length q.tree → new ≤ old + length p.tree + n * length p.tree
 counts_anew p q n old begun new same few more = within (subst (λ (z : Problem). new ≤ begun + n * length z.tree) same more)
   where

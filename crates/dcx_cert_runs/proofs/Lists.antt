@@ -1,5 +1,5 @@
 -- One item more of a list, and items of two lists that stand at one place.
-use Rattle.std.proofs.Common.{◌≡◌, ◌⊎◌, inl, inr, ℕ, zero, suc, ◌+◌, ◌*◌, ◌<◌, ◌≤◌, List, [], ◌∷◌, ◌++◌, length, take, get_or, Some, refl, sym, ap, ap₂, ◌∙◌, subst, add-one, arith}
+use Rattle.std.proofs.Common.{◌≡◌, ◌⊎◌, inl, inr, ℕ, zero, suc, ◌+◌, ◌-◌, ◌*◌, ◌<◌, ◌≤◌, List, [], ◌∷◌, ◌++◌, length, take, get_or, Some, refl, sym, ap, ap₂, ◌∙◌, subst, add-one, arith}
 use native.Mathlib.Decide.{dec_lt}
 use Rattle.std.specs.List.{slice_get, All}
 use Rattle.std.proofs.Math.Seq.{take-suc}
@@ -143,3 +143,16 @@ module _ {X Y Z : Type 0} (F : X → Y → Z) (xs : List X) (ys : List Y) where
 -- ---- steps
 pub steps_more : (i n start before after : ℕ) → before ≤ start + i * n → after ≤ before + n → after ≤ start + (i + 1) * n
 steps_more i n start before after few more = omega (arith, few, more)
+
+-- ---- where memory is wanting
+pub at_least : (start more : ℕ) → start ≤ start + more
+at_least start more = omega arith
+
+further : (i d n start now : ℕ) → now ≤ start + i * n → now ≤ start + (i + d) * n
+further i d n start now h = omega (arith, h)
+
+-- the steps of some of the settings are no more than those of all
+pub few_within : (i all n start now : ℕ) → i ≤ all → now ≤ start + i * n → now ≤ start + all * n
+few_within i all n start now le h =
+    let e : i + (all - i) ≡ all = omega (arith, le) in
+    subst (λ z. now ≤ start + z * n) e (further i (all - i) n start now h)

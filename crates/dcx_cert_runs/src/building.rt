@@ -125,8 +125,8 @@ fn sections<S: Ledger>(
 ) -> Result<(SectionList, bool), AllocError>
     ensures sections { IfOk result (λ r. AreSectionsAt session.old.problem limit settings.now r.0) }
     ensures stopped { IfOk result (λ r. IsTrue r.1 ↔ StopsSomewhere session.old.problem limit settings.now) }
-    ensures counted { OnOk result (HasMap session.old.problem → steps.new ≡ steps.old) }
-    ensures few { OnOk result (steps.new ≤ steps.old + length settings.now * length session.old.problem.tree) }
+    ensures counted { HasMap session.old.problem → steps.new ≡ steps.old }
+    ensures few { steps.new ≤ steps.old + length settings.now * length session.old.problem.tree }
 {
     let mut list = Vec::with_capacity(alloc, settings.len())?;
     let mut stopped = false;
@@ -154,7 +154,8 @@ pub fn certificate<S: Ledger>(
     ensures certificate { IfOk result (λ f. IsCertificateAt problem limit settings.now f.certificate) }
     ensures stopped { IfOk result (λ f. IsTrue f.stopped ↔ StopsSomewhere problem limit settings.now) }
     ensures mapped { OnOk result (HasMap problem → steps.new ≡ steps.old + length problem.tree) }
-    ensures anew { OnOk result (steps.new ≤ steps.old + length problem.tree + length settings.now * length problem.tree) }
+    ensures few { HasMap problem → steps.new ≤ steps.old + length problem.tree }
+    ensures anew { steps.new ≤ steps.old + length problem.tree + length settings.now * length problem.tree }
 {
     match Session::begin(alloc, problem, verdict, steps) {
         Ok(session) => {

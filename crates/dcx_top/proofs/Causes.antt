@@ -1,9 +1,10 @@
 -- What each command gives has its cause.
-use Rattle.std.proofs.Common.{◌≡◌, ◌↔◌, ◌⊎◌, ◌∙◌, ◌≤◌, ◌+◌, ◌*◌, length, count_by, None, inl, inr, ℕ, Bool, true, false, IsTrue, List, Option, Some, Ok, Err, refl, sym, ap, subst}
+use Rattle.std.proofs.Common.{◌≡◌, ◌↔◌, ◌⊎◌, ◌∙◌, ◌≤◌, ◌+◌, ◌*◌, length, count_by, None, inl, inr, ℕ, Bool, true, false, IsTrue, List, [], Option, Some, Ok, Err, refl, sym, ap, subst, arith}
 use Rattle.std.specs.Prelude.{⊤}
 use Rattle.std.proofs.lemmas.Option.{none-some}
 use Rattle.dcx_point.specs.Pairs.{Pairs}
 use Rattle.dcx_tree.specs.declared.problem.Problem.{Problem}
+use Rattle.dcx_tree.specs.declared.constraint.Sense.{Sense}
 use Rattle.dcx_elab.specs.declared.work.Work.{Work}
 use Rattle.dcx_answer.specs.declared.cert_fault.CertFault.{CertFault}
 use Rattle.dcx_cert_sections.specs.declared.section.Sections.{Sections}
@@ -11,7 +12,7 @@ use Rattle.dcx_answer.specs.declared.cert_fault.CertFault.TheVariants as faults
 use Rattle.dcx_cert_sections.specs.declared.section.Section.{Section}
 use Rattle.dcx_cert_lines.specs.CertText.{cert_text}
 use Rattle.dcx_cache.specs.Programs.{HasMap}
-use Rattle.dcx_outcomes.specs.Outcomes.{Counts}
+use Rattle.dcx_outcomes.specs.Outcomes.{Counts, CountsNoMore}
 use Rattle.dcx_outcomes.specs.Warm.{AreFound}
 use Rattle.dcx_outcomes.specs.Wholes.{AreWholeOutcomes}
 use Rattle.dcx_cert_runs.specs.Sections.{StopsSomewhere, IsCertificateAt}
@@ -33,21 +34,52 @@ use Rattle.dcx_report.specs.declared.run.Run.{Run}
 use Rattle.dcx_report.specs.declared.run.Run.TheVariants as run
 use Rattle.dcx_report.specs.declared.run.Word.{Word}
 use Rattle.dcx_report.specs.declared.run.Word.TheVariants as word
-use Rattle.dcx_words.specs.Commands.{Command, check, solve, resolve, certify, migrate, trial, range, command_of}
+use Rattle.dcx_words.specs.Commands.{Command, check, solve, resolve, certificate, certify, migrate, trial, iis, range, command_of}
 use Rattle.dcx_words.specs.Laws.{is_warm_command}
 use Rattle.dcx_trial.specs.Trial.{trial_text}
 use Rattle.dcx_top.specs.Commands.{IsScriptOf, script_name, settings_name, certificate_name, parameter_name, AreOfFile, AreSettingsOf, limit_of, TellsOutcomes, TellsWholes}
 use Rattle.dcx_top.specs.Files.{run_of, RefusesScript, RefusesSettings, EndsAt, refused_at, HasTextOf, ReadsCertificate}
+use Rattle.dcx_top.proofs.Counting.{no_more_of, begun_no_more}
 use Rattle.dcx_top.proofs.Reading.{told_fault}
 use Rattle.dcx_top.specs.NoRange.{AllowsRange}
 use Rattle.dcx_top.proofs.Named.{unasked, allowed, allowed_reading}
 use Rattle.dcx_top.specs.Whole.{HasNoWhole, HasWhole, IsRefusedForWhole, RefusesWhole, Takes}
+use Rattle.dcx_top.specs.Ended.{IsToldOf}
 use Rattle.dcx_top.specs.declared.solving.Task.{Task}
 use Rattle.dcx_top.specs.declared.solving.Task.TheVariants as tasks
-use Rattle.dcx_top.specs.Runs.{GivesProblem, IsSolvedRun, IsBranchedRun, OrWhole, SolvesAt, BranchesAt, AnswersAt, TriesAt, CertifiesAt, DoesAt, DoesFrom, task_refuses, command_for, GivesSettings, GivesSections, EndsFiles, at_script, at_whole, at_settings, at_certificate, at_memory, HasCertificate, ReadsSections, HasPassed, misread, failed, long_script, bad_script, for_whole, for_range, bad_settings, long_certificate, no_script, no_settings, no_certificate, CountsAtMostBeginning, RangesFrom, lacking, ending, ranging, wanting, Causes}
+use Rattle.dcx_top.specs.Runs.{GivesProblem, IsSolvedRun, IsBranchedRun, OrWhole, SolvesAt, BranchesAt, AnswersAt, TriesAt, CertifiesAt, DoesAt, DoesFrom, task_refuses, command_for, GivesSettings, GivesSections, EndsFiles, at_script, at_whole, at_settings, at_certificate, at_memory, HasCertificate, ReadsSections, HasPassed, misread, failed, long_script, bad_script, for_whole, for_range, bad_settings, long_certificate, no_script, no_settings, no_certificate, CountsAtMostBeginning, RangesFrom, lacking, ending, ranging, wanting, CountsAtMost, none, beginning, solving, Causes}
 
 pub judged_of : (bytes : List ℕ) (a : Accepted) → Gives bytes (Ok a) → IsJudged a.work.problem a.verdict
 judged_of bytes a g = (acceptance bytes a g).judged
+
+-- ---- steps
+-- a command that solves reads no certificate
+solves_uncertified : (command : Command) (sense : Sense) (os : List Outcome) (count : Option ℕ) (r : Run) → TellsOutcomes command sense os count r → certificate_name command ≡ None
+solves_uncertified (check script) sense os count r h = refl
+solves_uncertified (solve script limit) sense os count r h = refl
+solves_uncertified (resolve script name limit warm) sense os count r h = refl
+solves_uncertified (certificate script name limit) sense os count r h = refl
+solves_uncertified (certify script name file) sense os count r h = absurd h
+solves_uncertified (migrate script name file) sense os count r h = absurd h
+solves_uncertified (trial size limit) sense os count r h = refl
+solves_uncertified (iis script name limit) sense os count r h = refl
+solves_uncertified (range script name parameter limit) sense os count r h = refl
+
+branches_uncertified : (command : Command) (sense : Sense) (os : List WholeOutcome) (r : Run) → TellsWholes command sense os r → certificate_name command ≡ None
+branches_uncertified (check script) sense os r h = refl
+branches_uncertified (solve script limit) sense os r h = refl
+branches_uncertified (resolve script name limit warm) sense os r h = refl
+branches_uncertified (certificate script name limit) sense os r h = refl
+branches_uncertified (certify script name file) sense os r h = absurd h
+branches_uncertified (migrate script name file) sense os r h = absurd h
+branches_uncertified (trial size limit) sense os r h = refl
+branches_uncertified (iis script name limit) sense os r h = refl
+branches_uncertified (range script name parameter limit) sense os r h = refl
+
+at_most_beginning : (words : List (List ℕ)) (told : Option Files) (old new : ℕ) → CountsAtMostBeginning words told old new → CountsAtMost words told old new
+at_most_beginning words told old new (inl same) = none same
+at_most_beginning words told old new (inr h) =
+    beginning (range h.script h.name h.parameter h.limit) h.accepted h.parameter h.form h.problem refl (no_more_of h.accepted.work.problem 0 old new h.steps)
 
 module _ (words : List (List ℕ)) (told : Option Files) (risen : Type 0) (command : Command) (form : command_of words ≡ Some command) where
   -- ---- the script ends the run
@@ -56,7 +88,7 @@ module _ (words : List (List ℕ)) (told : Option Files) (risen : Type 0) (comma
   script_ends name n run.ReadFault is of h = (no_script command name form is h, inl refl)
   script_ends name n (run.Refused r) is of (inl long) = (long_script command name form is long, inl refl)
   script_ends name n (run.Refused r) is of (inr (bytes, there, h)) = (bad_script command bytes form (of bytes there) h, inl refl)
-  script_ends name n run.Memory is of h = tt
+  script_ends name n run.Memory is of h = none refl
   script_ends name n run.Usage is of h = absurd h
   script_ends name n (run.Checked c) is of h = absurd h
   script_ends name n (run.Solved word sense outcomes warm) is of h = absurd h
@@ -71,13 +103,13 @@ module _ (words : List (List ℕ)) (told : Option Files) (risen : Type 0) (comma
   -- a script that is made, and not fetched
   pub made_ends : (bytes : List ℕ) (n : ℕ) (fault : FrontFault) → IsScriptOf told command bytes → Gives bytes (Err fault) → Causes words told risen n n (run_of fault)
   made_ends bytes n (front.Refused r) of h = (bad_script command bytes form of h, inl refl)
-  made_ends bytes n front.Memory of h = tt
+  made_ends bytes n front.Memory of h = none refl
 
   module _ (a : Accepted) (gives : GivesProblem told command a) where
     -- ---- a variable that is to be whole ends it
     pub whole_ends : (old new : ℕ) (r : Run) → RefusesWhole command → (t : Refusal) × IsRefusedForWhole a.work.problem t × (r ≡ run.Refused t) × (new ≡ old) → Causes words told risen old new r
-    whole_ends old new r solving (t, h, e, same) =
-        subst (Causes words told risen old new) (sym e) (for_whole command a form gives solving h, inl same)
+    whole_ends old new r refusing (t, h, e, same) =
+        subst (Causes words told risen old new) (sym e) (for_whole command a form gives refusing h, inl same)
 
     -- ---- the settings file ends it
     -- behind the steps of a session's beginning, where one was begun
@@ -85,7 +117,7 @@ module _ (words : List (List ℕ)) (told : Option Files) (risen : Type 0) (comma
         EndsAt told risen Settings name RefusesSettings r → Causes words told risen old new r
     settings_end taken allows name old new run.ReadFault steps is h = (no_settings command a name form gives taken allows is h, steps)
     settings_end taken allows name old new (run.Refused r) steps is h = (bad_settings command a name form gives taken allows is h, steps)
-    settings_end taken allows name old new run.Memory steps is h = tt
+    settings_end taken allows name old new run.Memory steps is h = at_most_beginning words told old new steps
     settings_end taken allows name old new run.Usage steps is h = absurd h
     settings_end taken allows name old new (run.Checked c) steps is h = absurd h
     settings_end taken allows name old new (run.Solved word sense outcomes warm) steps is h = absurd h
@@ -119,7 +151,8 @@ module _ (words : List (List ℕ)) (told : Option Files) (risen : Type 0) (comma
 
       pub solved_so : (old new : ℕ) (r : Run) → ((outcomes : List Outcome) (count : Option ℕ) → IsSolvedRun words told old new (tells outcomes count) → Causes words told risen old new (tells outcomes count)) →
           SolvesAt (is_warm_command command) a.work.problem (limit_of command) settings tells old new r → Causes words told risen old new r
-      solved_so old new r caused (inl e) = subst (Causes words told risen old new) (sym e) tt
+      solved_so old new r caused (inl (e, few)) =
+          subst (Causes words told risen old new) (sym e) (solving command a settings form gives (solves_uncertified command a.work.problem.sense [] None (tells [] None) (told_so [] None)) asked few)
       solved_so old new r caused (inr (outcomes, count, are, steps, e)) = subst (Causes words told risen old new) (sym e) (caused outcomes count (solved_run old new outcomes count are steps))
 
     -- ---- it is solved by branch and bound
@@ -142,7 +175,8 @@ module _ (words : List (List ℕ)) (told : Option Files) (risen : Type 0) (comma
 
       pub branched_so : (old new : ℕ) (r : Run) → ((outcomes : List WholeOutcome) → IsBranchedRun words told old new (tells outcomes) → Causes words told risen old new (tells outcomes)) →
           BranchesAt a.work.problem (limit_of command) settings tells old new r → Causes words told risen old new r
-      branched_so old new r caused (inl e) = subst (Causes words told risen old new) (sym e) tt
+      branched_so old new r caused (inl (e, few)) =
+          subst (Causes words told risen old new) (sym e) (solving command a settings form gives (branches_uncertified command a.work.problem.sense [] (tells []) (told_so [])) asked few)
       branched_so old new r caused (inr (outcomes, are, steps, e)) = subst (Causes words told risen old new) (sym e) (caused outcomes (branched_run old new outcomes are steps))
 
 -- ---- a certificate that is read
@@ -166,7 +200,7 @@ module _ (words : List (List ℕ)) (told : Option Files) (risen : Type 0) (comma
   certificate_ends a settings n (run.Refused r) g (inl long) = (long_certificate command (has_certificate a settings g) long, inl refl)
   certificate_ends a settings n (run.Refused r) g (inr (bytes, there, h)) = absurd h
   certificate_ends a settings n (run.CertRefused section fault) g h = (misread command (has_certificate a settings g) h, refl)
-  certificate_ends a settings n run.Memory g h = tt
+  certificate_ends a settings n run.Memory g h = none refl
   certificate_ends a settings n run.Usage g h = absurd h
   certificate_ends a settings n (run.Checked c) g h = absurd h
   certificate_ends a settings n (run.Solved word sense outcomes warm) g h = absurd h
@@ -183,7 +217,7 @@ module _ (words : List (List ℕ)) (told : Option Files) (risen : Type 0) (comma
   files_end n r (at_whole a bytes t there gives h e) = whole_ends words told risen command form a (record { bytes = bytes; are_of = of bytes there; gives = gives }) n n r refuses (t, h, e, refl)
   files_end n r (at_settings a bytes there gives free h) = settings_end words told risen command form a (record { bytes = bytes; are_of = of bytes there; gives = gives }) (λ refusing. free) (allowed_reading command a.work.problem file named) name n n r (inl refl) set h
   files_end n r (at_certificate a settings g h) = certificate_ends a settings n r g h
-  files_end n r (at_memory e) = subst (Causes words told risen n n) (sym e) tt
+  files_end n r (at_memory e) = subst (Causes words told risen n n) (sym e) (none refl)
 
   -- the sections are read
   abbrev pub reads_sections : (p : Problem) (settings : List Pairs) (sections : Sections) (g : GivesSections told script name file p settings sections) → ReadsSections words told command sections
@@ -200,14 +234,14 @@ module _ (words : List (List ℕ)) (told : Option Files) (risen : Type 0) (comma
 
   section_tells : (p : Problem) (settings : List Pairs) (sections : Sections) (list : List Section) (number n : ℕ) (fault : CertFault) (r : Run) → GivesSections told script name file p settings sections → list ≡ sections.list →
       IsFirstRefused p settings list number fault → r ≡ refused_at number fault → (refused_at number fault ≡ run.Memory) ⊎ (refused_at number fault ≡ run.CertRefused number fault) → Causes words told risen n n r
-  section_tells p settings sections list number n fault r g same h is (inl e) = subst (Causes words told risen n n) (sym (is ∙ e)) tt
+  section_tells p settings sections list number n fault r g same h is (inl e) = subst (Causes words told risen n n) (sym (is ∙ e)) (none refl)
   section_tells p settings sections list number n fault r g same h is (inr e) =
       subst (Causes words told risen n n) (sym (is ∙ e)) (section_fails p settings sections number n fault g (subst (λ xs. IsFirstRefused p settings xs number fault) same h))
 
   -- it is told with its fault, or memory is wanting
   pub section_told : (p : Problem) (settings : List Pairs) (sections : Sections) (list : List Section) (number n : ℕ) (fault : CertFault) (r : Run) → GivesSections told script name file p settings sections → list ≡ sections.list →
       (fault ≡ faults.Memory) ⊎ IsFirstRefused p settings list number fault → r ≡ refused_at number fault → Causes words told risen n n r
-  section_told p settings sections list number n fault r g same (inl e) is = subst (Causes words told risen n n) (sym (is ∙ ap (refused_at number) e)) tt
+  section_told p settings sections list number n fault r g same (inl e) is = subst (Causes words told risen n n) (sym (is ∙ ap (refused_at number) e)) (none refl)
   section_told p settings sections list number n fault r g same (inr h) is = section_tells p settings sections list number n fault r g same h is (told_fault number fault)
 
   -- or all pass
@@ -221,7 +255,7 @@ module _ (words : List (List ℕ)) (told : Option Files) (risen : Type 0) (comma
 -- it is told, or memory is wanting
 told_at : (p : Problem) (limit : ℕ) (settings : List Pairs) (c : Sections) (stopped : Bool) (old new : ℕ) (r : Run) → IsCertificateAt p limit settings c → (IsTrue stopped ↔ StopsSomewhere p limit settings) → Counts p (length settings) old new →
     (r ≡ run.Memory) ⊎ (r ≡ run.Certificates (cert_text c) stopped) → CertifiesAt p limit settings old new r
-told_at p limit settings c stopped old new r is flag steps (inl e) = inl e
+told_at p limit settings c stopped old new r is flag steps (inl e) = inl (e, no_more_of p (length settings) old new steps)
 told_at p limit settings c stopped old new r is flag steps (inr e) = inr (c, stopped, is, flag, steps, e)
 
 pub certificate_at : (p : Problem) (limit : ℕ) (settings : List Pairs) (c : Sections) (stopped : Bool) (old new : ℕ) (r : Run) → IsCertificateAt p limit settings c → (IsTrue stopped ↔ StopsSomewhere p limit settings) →
@@ -295,7 +329,8 @@ module _ (words : List (List ℕ)) (told : Option Files) (risen : Type 0) where
   does_at (tasks.Resolve true) script name bytes limit a settings old new r form there gives free are h =
       solved_so words told risen (resolve script name limit true) form a (record { bytes = bytes; are_of = there; gives = gives }) settings are (λ os count. run.Solved word.Setting a.work.problem.sense os count) (free refl)
       (λ os count. refl) old new r (λ os count k. k) h
-  does_at tasks.Certificate script name bytes limit a settings old new r form there gives free are (inl e) = subst (Causes words told risen old new) (sym e) tt
+  does_at tasks.Certificate script name bytes limit a settings old new r form there gives free are (inl (e, few)) =
+      subst (Causes words told risen old new) (sym e) (solving (certificate script name limit) a settings form (record { bytes = bytes; are_of = there; gives = gives }) refl are few)
   does_at tasks.Certificate script name bytes limit a settings old new r form there gives free are (inr (c, stopped, is, flag, steps, e)) =
       subst (Causes words told risen old new) (sym e) (inl (record {
         script = script;
@@ -313,7 +348,8 @@ module _ (words : List (List ℕ)) (told : Option Files) (risen : Type 0) where
         text = refl;
         steps = steps;
       }))
-  does_at tasks.Filter script name bytes limit a settings old new r form there gives free are (inl e) = subst (Causes words told risen old new) (sym e) tt
+  does_at tasks.Filter script name bytes limit a settings old new r form there gives free are (inl (e, few)) =
+      subst (Causes words told risen old new) (sym e) (solving (iis script name limit) a settings form (record { bytes = bytes; are_of = there; gives = gives }) refl are few)
   does_at tasks.Filter script name bytes limit a settings old new r form there gives free are (inr (outcomes, is, steps, e)) =
       subst (Causes words told risen old new) (sym e) (record {
         script = script;
@@ -385,7 +421,8 @@ module _ (words : List (List ℕ)) (told : Option Files) (risen : Type 0) where
         sense_is = refl;
         steps = steps.mapped (has.map, has.is_map);
       })
-  ranged script name parameter bytes limit a old new r form there gives (inl (free, wanting e)) = subst (Causes words told risen old new) (sym e) tt
+  ranged script name parameter bytes limit a old new r form there gives (inl (free, wanting e few)) =
+      subst (Causes words told risen old new) (sym e) (beginning (range script name parameter limit) a parameter form (record { bytes = bytes; are_of = there; gives = gives }) refl few)
 
   pub certified : (script name file : List ℕ) (p : Problem) (settings : List Pairs) (sections : Sections) (list : List Section) (n certs : ℕ) → command_of words ≡ Some (certify script name file) →
       GivesSections told script name file p settings sections → list ≡ sections.list → ArePassed p settings list → certs ≡ count_by is_cert list → Causes words told risen n n (run.Certified certs)
@@ -404,7 +441,7 @@ module _ (words : List (List ℕ)) (told : Option Files) (risen : Type 0) where
   pub migrated_told : (script name file : List ℕ) (p : Problem) (settings : List Pairs) (sections : Sections) (list : List Section) (n : ℕ) (r : Run) → command_of words ≡ Some (migrate script name file) →
       GivesSections told script name file p settings sections → list ≡ sections.list → ArePassed p settings list →
       (r ≡ run.Memory) ⊎ ((after : Sections) × IsMigrated p settings sections after × (r ≡ run.Certificates (cert_text after) false)) → Causes words told risen n n r
-  migrated_told script name file p settings sections list n r form g same passed (inl e) = subst (Causes words told risen n n) (sym e) tt
+  migrated_told script name file p settings sections list n r form g same passed (inl e) = subst (Causes words told risen n n) (sym e) (none refl)
   migrated_told script name file p settings sections list n r form g same passed (inr (after, are, e)) =
       subst (Causes words told risen n n) (sym e) (inr (
         record {
@@ -423,7 +460,7 @@ module _ (words : List (List ℕ)) (told : Option Files) (risen : Type 0) where
 
   pub tried : (size limit : ℕ) (a : Accepted) (old new : ℕ) (r : Run) → command_of words ≡ Some (trial size limit) → Gives (trial_text size) (Ok a) →
       OrWhole ⊤ a.work.problem (TriesAt a.work size limit old new) old new r → Causes words told risen old new r
-  tried size limit a old new r form gives (inl (free, inl e)) = subst (Causes words told risen old new) (sym e) tt
+  tried size limit a old new r form gives (inl (free, inl (e, same))) = subst (Causes words told risen old new) (sym e) (none same)
   tried size limit a old new r form gives (inl (free, inr (settings, are, h))) =
       solved_so words told risen (trial size limit) form a (record { bytes = trial_text size; are_of = refl; gives = gives }) settings are (λ os count. run.Trial size os) (free tt) (λ os count. refl)
       old new r (λ os count k. k) h
@@ -433,3 +470,42 @@ module _ (words : List (List ℕ)) (told : Option Files) (risen : Type 0) where
 -- a run with a cause tells the usage line exactly where the words are no plain form
 pub usage_of : (words : List (List ℕ)) (told : Option Files) (risen : Type 0) (old new : ℕ) (command : Command) (r : Run) → command_of words ≡ Some command → Causes words told risen old new r → (r ≡ run.Usage) ↔ (command_of words ≡ None)
 usage_of words told risen old new command r form h = (λ e. (subst (Causes words told risen old new) e h).0, λ e. absurd (none-some command (sym e ∙ form)))
+
+-- ---- what is told of a run
+solved_within : (words : List (List ℕ)) (told : Option Files) (old new : ℕ) (r : Run) → IsSolvedRun words told old new r → CountsAtMost words told old new
+solved_within words told old new r h =
+    solving h.command h.accepted h.settings h.form h.problem (solves_uncertified h.command h.accepted.work.problem.sense h.outcomes h.warm r h.tells) h.asked
+    (no_more_of h.accepted.work.problem (length h.settings) old new h.steps)
+
+-- where there is no memory for its report
+wanting_caused : (words : List (List ℕ)) (told : Option Files) (risen : Type 0) (old new : ℕ) (r : Run) → Causes words told risen old new r → Causes words told risen old new run.Memory
+wanting_caused words told risen old new run.Usage h = none h.1
+wanting_caused words told risen old new (run.Refused r) h = at_most_beginning words told old new h.1
+wanting_caused words told risen old new (run.Checked c) h = none h.1
+wanting_caused words told risen old new (run.Solved word sense outcomes warm) h = solved_within words told old new (run.Solved word sense outcomes warm) h
+wanting_caused words told risen old new (run.Branched word sense outcomes) h =
+    solving h.command h.accepted h.settings h.form h.problem (branches_uncertified h.command h.accepted.work.problem.sense h.outcomes (run.Branched word sense outcomes) h.tells) h.asked
+    (no_more_of h.accepted.work.problem (length h.settings) old new h.steps)
+wanting_caused words told risen old new (run.Certificates text stopped) (inl h) =
+    solving (certificate h.script h.name h.limit) h.accepted h.settings h.form h.problem refl h.asked (no_more_of h.accepted.work.problem (length h.settings) old new h.steps)
+wanting_caused words told risen old new (run.Certificates text stopped) (inr (h, whole, same)) = none same
+wanting_caused words told risen old new (run.Certified n) h = none h.1
+wanting_caused words told risen old new (run.CertRefused section fault) h = none h.1
+wanting_caused words told risen old new (run.Trial size outcomes) h = solved_within words told old new (run.Trial size outcomes) h
+wanting_caused words told risen old new (run.Filtered outcomes) h =
+    solving (iis h.script h.name h.limit) h.accepted h.settings h.form h.problem refl h.asked (no_more_of h.accepted.work.problem (length h.settings) old new h.steps)
+wanting_caused words told risen old new (run.Ranged parameter sense outcomes) h =
+    beginning (range h.script h.name parameter h.limit) h.accepted parameter h.form h.problem refl (begun_no_more h.accepted.work.problem old new (within h.steps))
+  where
+    within : {a b : ℕ} → a ≡ b → a ≤ b
+    within e = omega (arith, e)
+wanting_caused words told risen old new run.ReadFault h = at_most_beginning words told old new h.1
+wanting_caused words told risen old new run.Memory h = h
+
+pub told_caused : (words : List (List ℕ)) (told : Option Files) (risen : Type 0) (old new : ℕ) (r s : Run) → Causes words told risen old new r → IsToldOf r s → Causes words told risen old new s
+told_caused words told risen old new r s h (inl e) = subst (Causes words told risen old new) (sym e) h
+told_caused words told risen old new r s h (inr (e, other)) = subst (Causes words told risen old new) (sym e) (wanting_caused words told risen old new r h)
+
+pub told_usage : (r s : Run) (A : Type 0) → (r ≡ run.Usage) ↔ A → IsToldOf r s → (s ≡ run.Usage) ↔ A
+told_usage r s A h (inl e) = (λ u. h.0 (sym e ∙ u), λ a. e ∙ h.1 a)
+told_usage r s A h (inr (e, other)) = (λ u. let f : run.Memory ≡ run.Usage = sym e ∙ u in absurd (cc), λ a. absurd (other (h.1 a)))

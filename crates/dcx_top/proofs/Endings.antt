@@ -24,6 +24,7 @@ use Rattle.dcx_cache.specs.Programs.{HasMap}
 use Rattle.dcx_outcomes.specs.Outcomes.{Counts}
 use Rattle.dcx_outcomes.specs.Ranges.{HasRange, AreRangeOutcomes}
 use Rattle.dcx_top.specs.Whole.{HasNoWhole}
+use Rattle.dcx_top.proofs.Counting.{no_more_of}
 use Rattle.dcx_top.specs.Runs.{OrWhole, FromFile, RangesFrom, lacking, ending, ranging, wanting}
 
 -- a file whose bytes aren't had ends the run, whatever its bytes would be refused for
@@ -119,7 +120,7 @@ module _ (work : Work) (name parameter : List ℕ) (limit old new : ℕ) (r : Ru
   ranges_rising told risen rose more (lacking t h e steps) = lacking t h e steps
   ranges_rising told risen rose more (ending has h steps) = ending has (ends_rising told risen rose Settings name RefusesSettings r more h) steps
   ranges_rising told risen rose more (ranging has settings outcomes asked are e steps) = ranging has settings outcomes asked are e steps
-  ranges_rising told risen rose more (wanting e) = wanting e
+  ranges_rising told risen rose more (wanting e few) = wanting e few
 
   -- the files that are told are the same after a part
   pub ranges_moved : (was told : Option Files) (risen rose : Type 0) → was ≡ told → (risen → rose) → OrWhole ⊤ work.problem (RangesFrom was risen work name parameter limit old new) old new r →
@@ -134,10 +135,10 @@ begun_counts p cached old new counted exact few = record { mapped = λ h. counte
 -- the range is told at the lines of a settings file
 pub lines_ranged : (told : Option Files) (risen : Type 0) (work : Work) (name parameter bytes : List ℕ) (lines : List (List SettingItem)) (limit old mid new : ℕ) (r : Run) (p : Problem) (last : Pairs) → work.problem ≡ p → work.last ≡ last →
     HasRange p parameter → IsTold told name bytes → SpellSettings bytes lines → Counts work.problem 0 old mid →
-    (r ≡ run.Memory)
+    ((r ≡ run.Memory) × (new ≡ mid))
     ⊎ ((settings : List Pairs) × (outcomes : List RangeOutcome) × AreLaidOver last lines settings × AreRangeOutcomes p parameter limit settings outcomes × (r ≡ run.Ranged parameter p.sense outcomes) × (new ≡ mid)) →
     RangesFrom told risen work name parameter limit old new r
-lines_ranged told risen work name parameter bytes lines limit old mid new r p last same ends has there spelled steps (inl e) = wanting e
+lines_ranged told risen work name parameter bytes lines limit old mid new r p last same ends has there spelled steps (inl (e, still)) = wanting e (no_more_of work.problem 0 old new (subst (Counts work.problem 0 old) (sym still) steps))
 lines_ranged told risen work name parameter bytes lines limit old mid new r p last same ends has there spelled steps (inr (settings, outcomes, laid, are, e, still)) =
     ranging (subst (λ (z : Problem). HasRange z parameter) (sym same) has) settings outcomes
     (record { bytes = bytes; are_told = there; lines = lines; spelled = spelled; laid = subst (λ (s : Pairs). AreLaidOver s lines settings) (sym ends) laid })

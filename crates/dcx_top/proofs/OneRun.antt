@@ -16,7 +16,8 @@ use Rattle.dcx_report.specs.declared.run.Run.{Run}
 use Rattle.dcx_report.specs.declared.run.Run.TheVariants as run
 use Rattle.dcx_words.specs.Commands.{check, migrate, command_of}
 use Rattle.dcx_top.specs.Runs.{GivesProblem, IsChecked, IsSolvedRun, IsBranchedRun, IsFilteredRun, IsRangedRun, AreBytesOf, IsCertifiedRun, IsCertRefusedRun, IsRefusedRun, Causes}
-use Rattle.dcx_top.specs.OneRun.{IsAnswered, AreOneRun, IsOnlyRun}
+use Rattle.dcx_top.specs.OneRun.{IsAnswered, AreOneRun, no_files, IsOnlyRun}
+use Rattle.dcx_top.proofs.Trials.{trial_caused}
 use Rattle.dcx_top.proofs.OneFiltered.{filtered_once}
 use Rattle.dcx_top.proofs.OneRanged.{ranged_once}
 use Rattle.dcx_top.proofs.Refusals.{one_problem, same_command}
@@ -353,5 +354,6 @@ module _ (words : List (List ℕ)) (files : Files) where
     one risen old new run.Memory s h k i j = absurd i
 
 pub only_run : (words : List (List ℕ)) (told : Option Files) (risen : Type 0) (old new : ℕ) (r : Run) → Causes words told risen old new r → IsOnlyRun words told r
-only_run words None risen old new r h = tt
+only_run words None risen old new r h = λ size limit form i s before after was now k j.
+    one words no_files (Rose before after) was now risen old new r s (trial_caused words size limit form risen old new r h) (trial_caused words size limit form (Rose before after) was now s k) i j
 only_run words (Some files) risen old new r h = λ i s before after was now k j. one words files (Rose before after) was now risen old new r s h k i j

@@ -25,7 +25,7 @@ use Rattle.dcx_report.specs.declared.run.Run.{Run}
 use Rattle.dcx_report.specs.declared.run.Run.TheVariants as run
 use Rattle.dcx_point.specs.Pairs.{Pairs}
 use Rattle.dcx_cert_sections.specs.declared.section.Sections.{Sections}
-use Rattle.dcx_words.specs.Commands.{Command, check, certificate as certificate_command, certify, migrate, iis, range, command_of}
+use Rattle.dcx_words.specs.Commands.{Command, check, certificate as certificate_command, certify, migrate, trial, iis, range, command_of}
 use Rattle.dcx_top.specs.Commands.{settings_name, certificate_name, AreSettingsOf}
 use Rattle.dcx_top.specs.Files.{most_bytes, RefusesScript}
 use Rattle.dcx_refusal.specs.declared.refusal.RefusalSource.TheVariants.{Certificate}
@@ -35,7 +35,9 @@ use Rattle.dcx_outcomes.specs.Ranges.{LacksRange}
 use Rattle.dcx_outcomes.proofs.RangeEnds.{range_is_told}
 use Rattle.dcx_top.specs.NoRange.{AllowsRange}
 use Rattle.dcx_top.proofs.Named.{unasked, allowed, allowed_reading, tells_no_parameter, wholes_no_parameter}
-use Rattle.dcx_top.specs.OneRun.{IsAnswered}
+use Rattle.dcx_top.specs.OneRun.{IsAnswered, no_files}
+use Rattle.dcx_trial.specs.Trial.{trial_text}
+use Rattle.dcx_top.proofs.Trials.{trial_caused, trial_has}
 use Rattle.dcx_top.specs.Verdicts.{IsRefusal, IsAcceptance, Has, AreFaultless, AreAtFault, bad_script, has_whole, lacks_range, bad_settings, long_certificate, AreWithoutFault, IsVerdictOn, IsRightVerdict}
 use Rattle.dcx_top.proofs.Refusals.{one_script, spelled_by, same_command, Refuses, in_script, in_problem, in_range, in_settings, in_length, IsShort, refuses}
 use Rattle.dcx_top.proofs.OneRefusal.{tells_none, wholes_none, wholes_taken}
@@ -171,5 +173,6 @@ module _ (files : Files) (command : Command) (script settings certificate : List
     verdict_on run.Memory h i = absurd i
 
 pub right_verdict : (words : List (List ℕ)) (told : Option Files) (risen : Type 0) (old new : ℕ) (r : Run) → Causes words told risen old new r → IsRightVerdict words told r
-right_verdict words None risen old new r h = tt
+right_verdict words None risen old new r h = λ i size limit settings certificate form.
+    verdict_on no_files (trial size limit) (trial_text size) settings certificate (trial_has size limit settings certificate) words form risen old new r (trial_caused words size limit form risen old new r h) i
 right_verdict words (Some files) risen old new r h = λ i command script settings certificate form has. verdict_on files command script settings certificate has words form risen old new r h i

@@ -1,5 +1,5 @@
 -- How a run ends: its status, and what of its report is written.
-use Rattle.std.specs.Prelude.{◌≡◌, ℕ, Bool, true, false, ◌⊎◌, List, ◌++◌, if◌then◌else◌}
+use Rattle.std.specs.Prelude.{◌≡◌, ◌≢◌, ◌<◌, ℕ, Bool, true, false, ◌⊎◌, List, length, ◌++◌, if◌then◌else◌}
 use Rattle.std.specs.List.{list_any}
 use Rattle.std.specs.declared.option.Option.{Option}
 use Rattle.std.specs.Io.KnownBytes.{Appends}
@@ -87,11 +87,19 @@ status_of Memory = 5
 abbrev pub EndsWhole : Option (List ℕ) → Option (List ℕ) → Ended → Type 0
 EndsWhole old new ended = (ended.status ≡ status_of ended.run) × Appends old new (text_of ended.run)
 
--- a front of the report is written, since a write failed or memory ran out
+-- the status where not all of the report is written: 4 where a write failed, over every other status but the 5 of a run that wants memory;
+-- and 5 where memory is wanting, for the run or for a write
+abbrev pub IsCutStatus : Type 0 → Ended → Type 0
+IsCutStatus risen ended = (risen × (status_of ended.run ≢ 5) × (ended.status ≡ 4)) ⊎ (ended.status ≡ 5)
+
+-- a front of the report is written, and something is left, since a write failed or memory ran out
 abbrev pub EndsEarly : Option (List ℕ) → Option (List ℕ) → Type 0 → Ended → Type 0
-EndsEarly old new risen ended =
-    (((ended.status ≡ 4) × risen) ⊎ (ended.status ≡ 5)) × ((front rest : List ℕ) × (text_of ended.run ≡ front ++ rest) × Appends old new front)
+EndsEarly old new risen ended = IsCutStatus risen ended × ((front rest : List ℕ) × (0 < length rest) × (text_of ended.run ≡ front ++ rest) × Appends old new front)
 
 -- `risen` says that the sink's count of faults rose in this run
 abbrev pub Reports : Option (List ℕ) → Option (List ℕ) → Type 0 → Ended → Type 0
 Reports old new risen ended = EndsWhole old new ended ⊎ EndsEarly old new risen ended
+
+-- the run that is told of a run: itself, or, where there is no memory for its report, that memory is wanting; the usage line wants none
+abbrev pub IsToldOf : Run → Run → Type 0
+IsToldOf run told = (told ≡ run) ⊎ ((told ≡ Memory) × (run ≢ Usage))

@@ -7,5 +7,6 @@ pub mod NoRange
 pub mod Runs
 pub mod Headline
 pub mod OneRun
+pub mod Migrated
 pub mod Verdicts
 pub mod Ended

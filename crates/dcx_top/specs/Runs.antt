@@ -22,7 +22,7 @@ use Rattle.dcx_report.specs.declared.run.Word.TheVariants as word
 use Rattle.dcx_words.specs.Commands.{Command, check, resolve, certificate, certify, migrate, iis, range, command_of}
 use Rattle.dcx_words.specs.Laws.{is_warm_command}
 use Rattle.dcx_overlay.specs.Settings.{AreTrialSettings}
-use Rattle.dcx_outcomes.specs.Outcomes.{Counts}
+use Rattle.dcx_outcomes.specs.Outcomes.{Counts, CountsNoMore}
 use Rattle.dcx_outcomes.specs.Warm.{AreFound}
 use Rattle.dcx_outcomes.specs.Filters.{AreFilterOutcomes}
 use Rattle.dcx_outcomes.specs.Wholes.{AreWholeOutcomes}
@@ -217,12 +217,12 @@ OrWhole Refuses p Next old new r = ((Refuses → HasNoWhole p) × Next r) ⊎ (R
 -- a problem is solved at settings, warm or not, and its outcomes are told so; want of memory is free
 abbrev pub SolvesAt : Bool → Problem → ℕ → List Pairs → (List Outcome → Option ℕ → Run) → ℕ → ℕ → Run → Type 0
 SolvesAt warm p limit settings tells old new r =
-    (r ≡ run.Memory) ⊎ ((outcomes : List Outcome) × (count : Option ℕ) × AreFound warm p limit settings outcomes count × Counts p (length settings) old new × (r ≡ tells outcomes count))
+    ((r ≡ run.Memory) × CountsNoMore p (length settings) old new) ⊎ ((outcomes : List Outcome) × (count : Option ℕ) × AreFound warm p limit settings outcomes count × Counts p (length settings) old new × (r ≡ tells outcomes count))
 
 -- a problem is solved by branch and bound at settings, and its outcomes are told so; want of memory is free
 abbrev pub BranchesAt : Problem → ℕ → List Pairs → (List WholeOutcome → Run) → ℕ → ℕ → Run → Type 0
 BranchesAt p limit settings tells old new r =
-    (r ≡ run.Memory) ⊎ ((outcomes : List WholeOutcome) × AreWholeOutcomes p limit settings outcomes × Counts p (length settings) old new × (r ≡ tells outcomes))
+    ((r ≡ run.Memory) × CountsNoMore p (length settings) old new) ⊎ ((outcomes : List WholeOutcome) × AreWholeOutcomes p limit settings outcomes × Counts p (length settings) old new × (r ≡ tells outcomes))
 
 -- it is solved so where a variable is to be whole, and else as ever
 abbrev pub AnswersAt : Word → Problem → ℕ → List Pairs → ℕ → ℕ → Run → Type 0
@@ -237,18 +237,18 @@ ResolvesAt true p limit settings old new r = SolvesAt true p limit settings (λ 
 
 -- the trial problem is solved at its two settings; want of memory is free
 abbrev pub TriesAt : Work → ℕ → ℕ → ℕ → ℕ → Run → Type 0
-TriesAt work size limit old new r = (r ≡ run.Memory) ⊎ ((settings : List Pairs) × AreTrialSettings work.last settings × SolvesAt false work.problem limit settings (λ os count. run.Trial size os) old new r)
+TriesAt work size limit old new r = ((r ≡ run.Memory) × (new ≡ old)) ⊎ ((settings : List Pairs) × AreTrialSettings work.last settings × SolvesAt false work.problem limit settings (λ os count. run.Trial size os) old new r)
 
 -- the certificate of a problem at settings is told; want of memory is free
 abbrev pub CertifiesAt : Problem → ℕ → List Pairs → ℕ → ℕ → Run → Type 0
 CertifiesAt p limit settings old new r =
-    (r ≡ run.Memory)
+    ((r ≡ run.Memory) × CountsNoMore p (length settings) old new)
     ⊎ ((c : Sections) × (stopped : Bool) × IsCertificateAt p limit settings c × (IsTrue stopped ↔ StopsSomewhere p limit settings) × Counts p (length settings) old new × (r ≡ run.Certificates (cert_text c) stopped))
 
 -- the constraints of a problem are filtered at settings; want of memory is free
 abbrev pub FiltersAt : Problem → ℕ → List Pairs → ℕ → ℕ → Run → Type 0
 FiltersAt p limit settings old new r =
-    (r ≡ run.Memory) ⊎ ((outcomes : List FilterOutcome) × AreFilterOutcomes p limit settings outcomes × Counts p (length settings) old new × (r ≡ run.Filtered outcomes))
+    ((r ≡ run.Memory) × CountsNoMore p (length settings) old new) ⊎ ((outcomes : List FilterOutcome) × AreFilterOutcomes p limit settings outcomes × Counts p (length settings) old new × (r ≡ run.Filtered outcomes))
 
 -- what a problem with a session gives, whose beginning is counted: the parameter has no range, and the script is refused; or it has one, and
 -- the settings file ends the run, or the range is told at its settings; want of memory is free
@@ -257,7 +257,7 @@ pub data RangesFrom (told : Option Files) (risen : Type 0) (work : Work) (name p
   ending : HasRange work.problem parameter → EndsAt told risen Settings name RefusesSettings r → Counts work.problem 0 old new → RangesFrom told risen work name parameter limit old new r
   ranging : HasRange work.problem parameter → (settings : List Pairs) (outcomes : List RangeOutcome) → AreOfFile told name work.last settings → AreRangeOutcomes work.problem parameter limit settings outcomes →
       r ≡ run.Ranged parameter work.problem.sense outcomes → Counts work.problem 0 old new → RangesFrom told risen work name parameter limit old new r
-  wanting : r ≡ run.Memory → RangesFrom told risen work name parameter limit old new r
+  wanting : r ≡ run.Memory → CountsNoMore work.problem 0 old new → RangesFrom told risen work name parameter limit old new r
 
 -- the settings of a file give this run, or the file ends it, and no step is counted
 abbrev pub FromFile : Option Files → Type 0 → Work → List ℕ → (List Pairs → ℕ → ℕ → Run → Type 0) → ℕ → ℕ → Run → Type 0
@@ -330,8 +330,17 @@ pub data IsReadFault (words : List (List ℕ)) (told : Option Files) (risen : Ty
       IsReadFault words told risen
   no_certificate : (command : Command) (files : HasCertificate words told command) → IsNotHad told risen files.name → IsReadFault words told risen
 
+-- ---- steps where memory is wanting
+-- no step was counted; or no more than those of the session of a `range`, which is begun before its settings are had; or, where a command
+-- solves at settings, no more than are counted there. A check counts none, and where a certificate is read none is counted either.
+pub data CountsAtMost (words : List (List ℕ)) (told : Option Files) (old new : ℕ) : Type 0 where
+  none : new ≡ old → CountsAtMost words told old new
+  beginning : (command : Command) (a : Accepted) (name : List ℕ) → command_of words ≡ Some command → GivesProblem told command a → parameter_name command ≡ Some name → CountsNoMore a.work.problem 0 old new → CountsAtMost words told old new
+  solving : (command : Command) (a : Accepted) (settings : List Pairs) → command_of words ≡ Some command → GivesProblem told command a → certificate_name command ≡ None → AreSettingsOf told command a.work settings →
+      CountsNoMore a.work.problem (length settings) old new → CountsAtMost words told old new
+
 -- Each run with its cause. `risen` says that the library's count of faults rose in this run; the counter of steps goes from `old` to
--- `new`. Want of memory alone is free.
+-- `new`. Want of memory alone is free, and counts no more steps than the command does.
 abbrev pub Causes : List (List ℕ) → Option Files → Type 0 → ℕ → ℕ → Run → Type 0
 Causes words told risen old new run.Usage = (command_of words ≡ None) × (new ≡ old)
 Causes words told risen old new (run.Refused r) = IsRefusedRun words told r × CountsAtMostBeginning words told old new
@@ -345,4 +354,4 @@ Causes words told risen old new (run.Trial size outcomes) = IsSolvedRun words to
 Causes words told risen old new (run.Filtered outcomes) = IsFilteredRun words told old new outcomes
 Causes words told risen old new (run.Ranged parameter sense outcomes) = IsRangedRun words told old new parameter sense outcomes
 Causes words told risen old new run.ReadFault = IsReadFault words told risen × CountsAtMostBeginning words told old new
-Causes words told risen old new run.Memory = ⊤
+Causes words told risen old new run.Memory = CountsAtMost words told old new

@@ -8,7 +8,8 @@ use Rattle.dcx_settings.specs.File.{IsRefused, SpellSettings}
 use Rattle.dcx_front.specs.OneAnswer.{IsAtFault, IsWithoutFault}
 use Rattle.dcx_report.specs.declared.run.Run.{Run}
 use Rattle.dcx_report.specs.declared.run.Run.TheVariants as run
-use Rattle.dcx_words.specs.Commands.{Command, command_of}
+use Rattle.dcx_words.specs.Commands.{Command, trial, command_of}
+use Rattle.dcx_trial.specs.Trial.{trial_text}
 use Rattle.dcx_refusal.specs.declared.refusal.RefusalSource.TheVariants.{Certificate}
 use Rattle.dcx_answer.specs.declared.not_ranged.NotRanged.{NotRanged}
 use Rattle.dcx_outcomes.specs.Ranges.{LacksRange}
@@ -93,7 +94,7 @@ pub record IsVerdictOn (command : Command) (script settings certificate : List �
   pub refused : IsRefusal r ↔ AreAtFault command script settings certificate
   pub accepted : IsAcceptance r ↔ AreWithoutFault command script settings certificate
 
--- where the run is answered and files are told
+-- where the run is answered and files are told; of a trial, which has its text, whatever is told
 abbrev pub IsRightVerdict : List (List ℕ) → Option Files → Run → Type 0
-IsRightVerdict words None r = ⊤
+IsRightVerdict words None r = IsAnswered r → (size limit : ℕ) (settings certificate : List ℕ) → command_of words ≡ Some (trial size limit) → IsVerdictOn (trial size limit) (trial_text size) settings certificate r
 IsRightVerdict words (Some files) r = IsAnswered r → (command : Command) (script settings certificate : List ℕ) → command_of words ≡ Some command → Has files command script settings certificate → IsVerdictOn command script settings certificate r

@@ -13,24 +13,25 @@
 //! | a problem with variables that are to be whole is solved by branch and bound: a whole optimum, or that there is no whole point, with the number of nodes of the run | `headline`, `causes` |
 //! | an `iis` tells of each setting a feasible point, or the filter's set with a point for each member that keeps the others | `headline`, `causes` |
 //! | no file changes | `same` |
-ghost use Rattle.std.specs.Prelude.{◌≡◌, ◌↔◌, map, string_bytes, None};
+ghost use Rattle.std.specs.Prelude.{◌≡◌, ◌↔◌, IsTrue, map, string_bytes, None};
 ghost use Rattle.dcx_host.specs.Faults.{Rose};
 ghost use Rattle.dcx_words.specs.Commands.{command_of};
 ghost use Rattle.dcx_top.specs.Runs.{Causes};
 ghost use Rattle.dcx_top.specs.Headline.{IsRightRun};
 ghost use Rattle.dcx_top.specs.OneRun.{IsOnlyRun};
 ghost use Rattle.dcx_top.specs.Verdicts.{IsRightVerdict};
-ghost use Rattle.dcx_top.specs.Ended.{Reports};
+ghost use Rattle.dcx_report.specs.ReportText.{text_of};
+ghost use Rattle.dcx_top.specs.Ended.{Reports, IsToldOf};
 
 use crate::certifying::{certify, migrate};
 use crate::checking::check;
 use crate::ended::Ended;
 use crate::ranging::range;
 use crate::solving::{Task, resolve, solve, trial};
-use crate::status::status;
+use crate::status::{failed_status, status};
 use crate::write::write_all;
 use dcx_host::{Library, Sink, SinkFault};
-use dcx_report::{Run, report_text};
+use dcx_report::{Run, memory_report, report_text, usage_report};
 use dcx_steps::Steps;
 use dcx_words::{Form, plain_form};
 use std::alloc::Global;
@@ -105,12 +106,61 @@ fn answer<L: Library, S: Ledger>(
     }
 }
 
+/// Writes the report of a run, whose bytes are these.
+fn written<K: Sink>(run: Run, report: &[u8], sink: &mut K) -> Ended
+    requires { report.now ≡ text_of run }
+    ensures run { result.run ≡ run }
+    ensures reports { Reports (K.written sink.old) (K.written sink.new) (Rose (K.faults sink.old) (K.faults sink.new)) result }
+{
+    match write_all(report, sink) {
+        Ok(()) => Ended {
+            status: status(&run),
+            run,
+        },
+        Err(SinkFault::Failed) => Ended {
+            status: failed_status(&run),
+            run,
+        },
+        Err(SinkFault::Memory) => Ended { status: 5, run },
+    }
+}
+
+/// Whether a run tells the usage line.
+fn is_usage(run: &Run) -> bool
+    ensures { IsTrue result ↔ (run.now ≡ Run.Usage) }
+{
+    matches!(run, Run::Usage)
+}
+
+/// Writes what is told of a run for whose report there is no memory, which its values take until they are dropped.
+fn written_in_short<K: Sink>(run: Run, sink: &mut K) -> Ended
+    ensures told { IsToldOf run result.run }
+    ensures reports { Reports (K.written sink.old) (K.written sink.new) (Rose (K.faults sink.old) (K.faults sink.new)) result }
+{
+    if is_usage(&run) {
+        return written(run, usage_report(), sink);
+    }
+    drop(run);
+    written(Run::Memory, memory_report(), sink)
+}
+
+/// Writes the report of a run, or what is told of it where there is no memory for that.
+fn reported<K: Sink>(alloc: Global, run: Run, sink: &mut K) -> Ended
+    ensures told { IsToldOf run result.run }
+    ensures reports { Reports (K.written sink.old) (K.written sink.new) (Rose (K.faults sink.old) (K.faults sink.new)) result }
+{
+    match report_text(alloc, &run) {
+        Ok(report) => written(run, report.as_slice(), sink),
+        Err(_) => written_in_short(run, sink),
+    }
+}
+
 /// All that the program does: it carries out the words and writes the report of the run to the sink.
 ///
 /// `words` are the words after the program's name. Files are fetched from `library`: the script first, the settings file once the
 /// script gives an accepted problem, which for a `range` has a range for its parameter, and the certificate once the settings are
-/// read. `steps` counts the nodes that are reduced. Want of memory is the one free answer: as `Run::Memory`, as the stop of an
-/// outcome, or in place of the report, and each has the status 5.
+/// read. `steps` counts the nodes that are reduced. Want of memory is the one free answer: as `Run::Memory`, also where there is no
+/// memory for the report, as the stop of an outcome, or where the sink wants it, and each has the status 5.
 pub fn run<L: Library, K: Sink, S: Ledger>(
     alloc: Global,
     words: &[String],
@@ -127,15 +177,5 @@ pub fn run<L: Library, K: Sink, S: Ledger>(
     ensures same { L.told library.new ≡ L.told library.old }
 {
     let run = answer(alloc, words, library, steps);
-    let Ok(text) = report_text(alloc, &run) else {
-        return Ended { status: 5, run };
-    };
-    match write_all(text.as_slice(), sink) {
-        Ok(()) => Ended {
-            status: status(&run),
-            run,
-        },
-        Err(SinkFault::Failed) => Ended { status: 4, run },
-        Err(SinkFault::Memory) => Ended { status: 5, run },
-    }
+    reported(alloc, run, sink)
 }

@@ -8,6 +8,7 @@ ghost use Rattle.dcx_report.specs.declared.run.Run.{Run};
 ghost use Rattle.dcx_top.specs.Runs.{Causes};
 ghost use Rattle.dcx_top.specs.Headline.{IsRightRun};
 ghost use Rattle.dcx_top.specs.OneRun.{IsOnlyRun};
+ghost use Rattle.dcx_top.specs.Migrated.{MigrateRefusesAsCertify};
 ghost use Rattle.dcx_top.specs.Verdicts.{IsRightVerdict};
 
 /// Whatever run has its cause is right: so is its answer at each setting.
@@ -23,4 +24,9 @@ pub fn one_run()
 /// A run with its cause refuses its files exactly where they are at fault, and goes on exactly where they are not.
 pub fn right_verdict()
     ensures { (words : List (List ℕ)) (told : Option Files) (before now old new : ℕ) (run : Run) → Causes words told (Rose before now) old new run → IsRightVerdict words told run }
+{}
+
+/// Of the same files `migrate` refuses exactly where `certify` does, with the same contents.
+pub fn migrate_refuses_as_certify()
+    ensures { MigrateRefusesAsCertify }
 {}

@@ -52,7 +52,7 @@ fn range_lines<S: Ledger>(
 ) -> Run
     requires ranged { HasRange session.old.problem name }
     requires full { Every (Every IsFull) lines.now }
-    ensures { (result ≡ Run.Memory) ⊎ ((settings : List Pairs) × (outcomes : List RangeOutcome) × AreLaidOver last.now lines.now settings × AreRangeOutcomes session.old.problem name limit settings outcomes × (result ≡ Run.Ranged name session.old.problem.sense outcomes) × (steps.new ≡ steps.old)) }
+    ensures { ((result ≡ Run.Memory) × (steps.new ≡ steps.old)) ⊎ ((settings : List Pairs) × (outcomes : List RangeOutcome) × AreLaidOver last.now lines.now settings × AreRangeOutcomes session.old.problem name limit settings outcomes × (result ≡ Run.Ranged name session.old.problem.sense outcomes) × (steps.new ≡ steps.old)) }
 {
     let Ok(settings) = all_laid_over(alloc, last, lines.as_slice()) else {
         return Run::Memory;

@@ -1,5 +1,5 @@
 //! The status of a run whose whole report is written.
-ghost use Rattle.std.specs.Prelude.{◌≡◌, Bool};
+ghost use Rattle.std.specs.Prelude.{◌≡◌, ◌≢◌, ◌⊎◌, Bool};
 ghost use Rattle.std.specs.List.{list_any};
 ghost use Rattle.dcx_top.specs.Ended.{status_of_all as status_of_outcomes, status_of, is_stop, wants_memory, is_filter_stop, filter_wants_memory, is_range_stop, range_wants_memory, is_whole_stop, whole_wants_memory};
 
@@ -135,5 +135,15 @@ pub(crate) fn status(run: &Run) -> u8
         Run::Ranged { outcomes, .. } => status_of_all(outcomes.as_slice()),
         Run::ReadFault => 3,
         Run::Memory => 5,
+    }
+}
+
+/// The status of a run whose report can't be written: 5 where the run wants memory, else 4.
+pub(crate) fn failed_status(run: &Run) -> u8
+    ensures { ((status_of run.now ≢ 5) × (result ≡ 4)) ⊎ ((status_of run.now ≡ 5) × (result ≡ 5)) }
+{
+    match status(run) {
+        5 => 5,
+        _ => 4,
     }
 }

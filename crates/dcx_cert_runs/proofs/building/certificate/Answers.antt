@@ -3,13 +3,21 @@ use Rattle.std.proofs.Common.{IsTrue, length, refl, subst}
 use Rattle.std.specs.Prelude.{◌↔◌}
 use Rattle.dcx_tree.specs.declared.problem.Problem.{Problem}
 use Rattle.dcx_cert_runs.specs.Sections.{StopsSomewhere, AreSectionsAt}
-use Rattle.dcx_cert_runs.proofs.Built.{counts_mapped, counts_anew}
+use Rattle.dcx_cert_runs.proofs.Built.{counts_mapped, counts_few, counts_anew}
 use Rattle.dcx_cert_runs.proofs.building.certificate.Goals as goal
 
 pub returns-in_ok-list-in-Ok-clause-mapped : goal.returns-in_ok-list-in-Ok-clause-mapped
 returns-in_ok-list-in-Ok-clause-mapped g c =
     counts_mapped c.args.problem c.in-Ok.session.problem c.in-Ok.session.cached c.args.steps.now c.begin.new.steps c.sections-found.new.steps c.in-Ok.ensures.problem c.in-Ok.ensures.counted c.in-Ok.ensures.cached
     c.in_ok-list-in-Ok.ensures.counted
+
+pub returns-in_ok-list-in-Ok-clause-few : goal.returns-in_ok-list-in-Ok-clause-few
+returns-in_ok-list-in-Ok-clause-few g c =
+    counts_few c.args.problem c.in-Ok.session.problem c.args.steps.now c.begin.new.steps c.sections-found.new.steps c.in-Ok.ensures.problem c.begin.ensures.few c.sections-found.ensures.counted
+
+pub returns-in_err-list-in-Ok-clause-few : goal.returns-in_err-list-in-Ok-clause-few
+returns-in_err-list-in-Ok-clause-few g c =
+    counts_few c.args.problem c.in-Ok.session.problem c.args.steps.now c.begin.new.steps c.sections-found.new.steps c.in-Ok.ensures.problem c.begin.ensures.few c.sections-found.ensures.counted
 
 pub returns-in_ok-list-in-Ok-clause-anew : goal.returns-in_ok-list-in-Ok-clause-anew
 returns-in_ok-list-in-Ok-clause-anew g c =

@@ -6,7 +6,7 @@ use Rattle.dcx_tree.specs.declared.problem.Problem.{Problem}
 use Rattle.dcx_cert_sections.specs.declared.section.Section.{Section}
 use Rattle.dcx_cache.specs.Programs.{HasMap}
 use Rattle.dcx_cert_runs.specs.Sections.{IsToldAt, AreSectionsAt}
-use Rattle.dcx_cert_runs.proofs.Lists.{steps_more, take_all}
+use Rattle.dcx_cert_runs.proofs.Lists.{steps_more, at_least, few_within, take_all}
 use Rattle.dcx_cert_runs.proofs.Built.{no_sections, none_before, sections_step, flag_step, all_of}
 use Rattle.dcx_cert_runs.proofs.building.sections.Goals as goal
 
@@ -46,10 +46,10 @@ pub returns-in_err-list-clause-stopped : goal.returns-in_err-list-clause-stopped
 returns-in_err-list-clause-stopped g c = let p = err_from_is_err_and c.from_residual.result c.from_residual.ensures.1 in rw p.1 tt
 
 pub returns-in_err-list-clause-counted : goal.returns-in_err-list-clause-counted
-returns-in_err-list-clause-counted g c = let p = err_from_is_err_and c.from_residual.result c.from_residual.ensures.1 in rw p.1 tt
+returns-in_err-list-clause-counted g c = λ h. refl
 
 pub returns-in_err-list-clause-few : goal.returns-in_err-list-clause-few
-returns-in_err-list-clause-few g c = let p = err_from_is_err_and c.from_residual.result c.from_residual.ensures.1 in rw p.1 tt
+returns-in_err-list-clause-few g c = at_least c.args.steps.now (length c.args.settings.now * length c.args.session.now.problem.tree)
 
 pub returns-in_err-told-clause-sections : goal.returns-in_err-told-clause-sections
 returns-in_err-told-clause-sections g c = let p = err_from_is_err_and c.from_residual-in_err-told.result c.from_residual-in_err-told.ensures.1 in rw p.1 tt
@@ -58,10 +58,17 @@ pub returns-in_err-told-clause-stopped : goal.returns-in_err-told-clause-stopped
 returns-in_err-told-clause-stopped g c = let p = err_from_is_err_and c.from_residual-in_err-told.result c.from_residual-in_err-told.ensures.1 in rw p.1 tt
 
 pub returns-in_err-told-clause-counted : goal.returns-in_err-told-clause-counted
-returns-in_err-told-clause-counted g c = let p = err_from_is_err_and c.from_residual-in_err-told.result c.from_residual-in_err-told.ensures.1 in rw p.1 tt
+returns-in_err-told-clause-counted g c =
+    let before = c.loop-setting.invariant in
+    λ h. c.section.ensures.counted (subst (λ (z : Problem). HasMap z) (sym before.same) h) ∙ before.counted h
 
 pub returns-in_err-told-clause-few : goal.returns-in_err-told-clause-few
-returns-in_err-told-clause-few g c = let p = err_from_is_err_and c.from_residual-in_err-told.result c.from_residual-in_err-told.ensures.1 in rw p.1 tt
+returns-in_err-told-clause-few g c =
+    let before = c.loop-setting.invariant in
+    let p = c.args.session.now.problem in
+    few_within (c.loop-setting.setting-index + 1) (length c.args.settings.now) (length p.tree) c.args.steps.now c.section.new.steps (omega arith)
+    (steps_more c.loop-setting.setting-index (length p.tree) c.args.steps.now c.loop-setting.steps c.section.new.steps before.few
+    (subst (λ (z : Problem). c.section.new.steps ≤ c.loop-setting.steps + length z.tree) before.same c.section.ensures.few))
 
 pub returns-in_err-push-clause-sections : goal.returns-in_err-push-clause-sections
 returns-in_err-push-clause-sections g c = let p = err_from_is_err_and c.from_residual-in_err-push.result c.from_residual-in_err-push.ensures.1 in rw p.1 tt
@@ -70,10 +77,17 @@ pub returns-in_err-push-clause-stopped : goal.returns-in_err-push-clause-stopped
 returns-in_err-push-clause-stopped g c = let p = err_from_is_err_and c.from_residual-in_err-push.result c.from_residual-in_err-push.ensures.1 in rw p.1 tt
 
 pub returns-in_err-push-clause-counted : goal.returns-in_err-push-clause-counted
-returns-in_err-push-clause-counted g c = let p = err_from_is_err_and c.from_residual-in_err-push.result c.from_residual-in_err-push.ensures.1 in rw p.1 tt
+returns-in_err-push-clause-counted g c =
+    let before = c.loop-setting.invariant in
+    λ h. c.section.ensures.counted (subst (λ (z : Problem). HasMap z) (sym before.same) h) ∙ before.counted h
 
 pub returns-in_err-push-clause-few : goal.returns-in_err-push-clause-few
-returns-in_err-push-clause-few g c = let p = err_from_is_err_and c.from_residual-in_err-push.result c.from_residual-in_err-push.ensures.1 in rw p.1 tt
+returns-in_err-push-clause-few g c =
+    let before = c.loop-setting.invariant in
+    let p = c.args.session.now.problem in
+    few_within (c.loop-setting.setting-index + 1) (length c.args.settings.now) (length p.tree) c.args.steps.now c.section.new.steps (omega arith)
+    (steps_more c.loop-setting.setting-index (length p.tree) c.args.steps.now c.loop-setting.steps c.section.new.steps before.few
+    (subst (λ (z : Problem). c.section.new.steps ≤ c.loop-setting.steps + length z.tree) before.same c.section.ensures.few))
 
 pub returns-clause-sections : goal.returns-clause-sections
 returns-clause-sections g c =

@@ -1,0 +1,25 @@
+-- How many steps are counted at most where memory is wanting.
+use Rattle.std.proofs.Common.{◌≡◌, ℕ, ◌+◌, ◌*◌, ◌≤◌, length, sym, subst, arith}
+use Rattle.dcx_tree.specs.declared.problem.Problem.{Problem}
+use Rattle.dcx_outcomes.specs.Outcomes.{Counts, CountsNoMore}
+
+-- those that are counted for settings are no more than that
+pub no_more_of : (p : Problem) (n old new : ℕ) → Counts p n old new → CountsNoMore p n old new
+no_more_of p n old new steps = record { mapped = λ h. subst (λ k. k ≤ old + length p.tree) (sym (steps.mapped h)) (within (old + length p.tree)); anew = steps.anew }
+  where
+    within : (k : ℕ) → k ≤ k
+    within k = omega arith
+
+-- no step at all
+pub no_step : (p : Problem) (n old : ℕ) → CountsNoMore p n old old
+no_step p n old = record { mapped = λ h. few (length p.tree); anew = more (length p.tree) (n * length p.tree) }
+  where
+    few : (k : ℕ) → old ≤ old + k
+    few k = omega arith
+
+    more : (k m : ℕ) → old ≤ old + k + m
+    more k m = omega arith
+
+-- those of a session's beginning
+pub begun_no_more : (p : Problem) (old new : ℕ) → new ≤ old + length p.tree → CountsNoMore p 0 old new
+begun_no_more p old new few = record { mapped = λ h. few; anew = omega (arith, few) }
