@@ -1,23 +1,33 @@
 """The example models of GLPK as scripts of the language, and what becomes of them.
 
     PYTHONPATH=python python3 bench/glpk_models.py [--folder /usr/share/doc/glpk-utils/examples] [--models diet ..]
-                                                   [--scripts FOLDER] [--seconds 60]
+                                                   [--scripts FOLDER] [--seconds 60] [--whole] [--jobs 1]
 
 `glpsol`, of Debian's glpk-utils, writes each model out as a free MPS file; that becomes a script, which is answered.
 The table has a row for each linear program: rows and columns, who answers (`program`, `certificate`, an interval, or
 why nothing is shown), the seconds that took, the value, and that of `glpsol`. Models in whole numbers, and those of
 which `glpsol` writes no program within a minute, are counted below it. With `--scripts` the scripts are kept in a
 folder.
+
+With `--whole` it has the models in whole numbers instead: rows, columns and how many of these are whole; who shows the
+answer, `program` or `boxes`, or why nothing is shown; the leaves of the tree; the seconds until the evidence is made,
+its size, and the seconds of its check; the value, and that of `glpsol --cuts` with its seconds. The program has
+PROGRAM_SECONDS for its own branch and bound, all of a solve `--seconds`, and `glpsol` as many. A search is interrupted
+at twice that, where a box takes it past its clock. `limit` is a search that ended so, whose value is that of its best
+point. `--jobs` models are answered at once.
 """
 from __future__ import annotations
 
 import argparse
 import re
+import signal
 import subprocess
 import sys
 import tempfile
 import time
+from concurrent.futures import ProcessPoolExecutor
 from fractions import Fraction
+from functools import partial
 from pathlib import Path
 from typing import Optional
 
@@ -26,15 +36,23 @@ from dcx.arrays import Array, Sparse
 from dcx.errors import DCXError, LimitError
 from dcx.expressions import Constant
 from dcx.shown import CERTIFICATE, INTERVAL, PROGRAM
+from dcx.whole import EVIDENCE
+from dcx.whole.checking import checked
 
 LARGE = 4_000_000  # bytes of an MPS file: what is larger has far more entries than a script may have
 FORMS = {".mod": "-m", ".mps": "--mps", ".lp": "--lp"}
 DATA = {"sudoku": "sudoku.dat", "misp": "misp1.dat"}
+PROGRAM_SECONDS = 2
+NEAR = 1e-6  # of the other value, relatively: glpsol prints floats
+KINDS = {
+    "x": {"nonneg": True}, "y": {}, "b": {"boolean": True}, "n": {"integer": True, "nonneg": True},
+    "z": {"integer": True},
+}  # the variables, by name, with what is said of their entries
 
 
 class Model:
-    """A linear program of an MPS file: rows by name with their type, coefficients and right sides, bounds of columns.
-    """
+    """A program of an MPS file: rows by name with their type, coefficients and right sides, bounds of columns, and
+    which columns are whole."""
 
     def __init__(self, text: str, is_maximized: bool):
         self.is_maximized = is_maximized
@@ -46,7 +64,8 @@ class Model:
         self.columns: dict[str, int] = {}
         self.low: dict[int, Optional[Fraction]] = {}
         self.high: dict[int, Optional[Fraction]] = {}
-        self.is_whole = False
+        self.whole: set[int] = set()
+        self.is_marked = False
         part = ""
         for line in text.splitlines():
             if line.startswith("*") or not line.strip():
@@ -66,9 +85,11 @@ class Model:
 
     def _columns(self, words):
         if "'MARKER'" in words:
-            self.is_whole = True
+            self.is_marked = "'INTORG'" in words
             return
         number = self.columns.setdefault(words[0], len(self.columns))
+        if self.is_marked:
+            self.whole.add(number)
         self.low.setdefault(number, Fraction(0))
         self.high.setdefault(number, None)
         for name, value in zip(words[1::2], words[2::2]):
@@ -91,19 +112,21 @@ class Model:
             value = Fraction(rest.pop())
         column = self.columns[rest[-1]]
         if kind in ("BV", "LI", "UI"):
-            self.is_whole = True
+            raise ValueError(f"glpsol writes no bounds of the kind {kind}")
         if kind in ("LO", "FX", "FR", "MI"):
             self.low[column] = value if kind in ("LO", "FX") else None
         if kind in ("UP", "FX", "FR", "PL"):
             self.high[column] = value if kind in ("UP", "FX") else None
 
     def problem(self) -> cp.Problem:
-        """The model, recorded: columns of at least 0 are one variable, all others another one."""
-        signed = [c for c in self.low if self.low[c] == 0]
-        free = [c for c in self.low if self.low[c] != 0]
+        """The model, recorded: columns of at least 0 are one variable, all others another one, and so it is with whole
+        columns, those of 0 and 1 apart."""
+        kinds: dict[str, list] = {kind: [] for kind in KINDS}
+        for column in self.low:
+            kinds[self.kind(column)].append(column)
         self.parts = [
-            (cp.Variable(len(columns), nonneg=is_signed, name=name), {c: i for i, c in enumerate(columns)})
-            for columns, is_signed, name in ((signed, True, "x"), (free, False, "y")) if columns
+            (cp.Variable(len(columns), name=kind, **KINDS[kind]), {c: i for i, c in enumerate(columns)})
+            for kind, columns in kinds.items() if columns
         ]
         rules = []
         for op, listed in self.sides().items():
@@ -114,6 +137,13 @@ class Model:
         aim = self.product([self.rows[self.objective]] if self.objective else [{}])
         cost = (0 if aim is None else aim[0]) - self.right.get(self.objective, Fraction(0))
         return cp.Problem(cp.Maximize(cost) if self.is_maximized else cp.Minimize(cost), rules)
+
+    def kind(self, column: int) -> str:
+        """The variable that a column is an entry of."""
+        is_signed = self.low[column] == 0
+        if column not in self.whole:
+            return "x" if is_signed else "y"
+        return "b" if is_signed and self.high[column] == 1 else "n" if is_signed else "z"
 
     def sides(self) -> dict[str, list]:
         """Rows with their right sides, by their type; ranges and bounds are rows too."""
@@ -136,7 +166,7 @@ class Model:
         for column in self.low:
             if self.low[column] not in (None, 0):
                 found["G"].append(({column: Fraction(1)}, self.low[column]))
-            if self.high[column] is not None:
+            if self.high[column] is not None and self.kind(column) != "b":
                 found["L"].append(({column: Fraction(1)}, self.high[column]))
         return found
 
@@ -167,16 +197,16 @@ def written(path: Path, folder: Path) -> Optional[str]:
         return file.read(LARGE)
 
 
-def solved(path: Path, folder: Path) -> tuple[Optional[float], bool, str]:
-    """glpsol's value, whether the model is maximized, and how it ends."""
+def solved(path: Path, folder: Path, *options: str, limit: float = 60) -> tuple[Optional[float], bool, str]:
+    """glpsol's value, whether the model is maximized, and how it ends; it is ended after `limit` seconds."""
     out = folder / "report.txt"
     out.unlink(missing_ok=True)
+    data = ["-d", str(path.parent / DATA[path.stem])] if path.stem in DATA else []
+    words = ["glpsol", FORMS[path.suffix], str(path), *data, "-o", str(out), *options]
     try:
-        subprocess.run(
-            ["glpsol", FORMS[path.suffix], str(path), "-o", str(out)], capture_output=True, timeout=60, cwd=path.parent
-        )
+        subprocess.run(words, capture_output=True, timeout=limit, cwd=path.parent)
     except subprocess.TimeoutExpired:
-        return None, False, "no end in a minute"
+        return None, False, f"no end in {limit:.0f} s"
     text = out.read_text() if out.exists() else ""
     found = re.search(r"^Objective: +(?:.*= +)?(\S+) \((MIN|MAX)imum\)", text, re.M)
     status = re.search(r"^Status: +(.*)$", text, re.M)
@@ -206,21 +236,102 @@ def row_of(name: str, problem: cp.Problem, seconds: float, theirs: str) -> tuple
     return f"| {name} | {rows} | {size.num_scalar_variables} | {shown} | {spent:.1f} | {value} | {theirs} |", script
 
 
+def whole_row(seconds: float, path: Path) -> str:
+    """A row of the table of models in whole numbers, empty where the model is none."""
+    with tempfile.TemporaryDirectory() as name:
+        folder = Path(name)
+        text = written(path, folder)
+        if text is None or "'MARKER'" not in text:
+            return ""
+        if len(text) == LARGE:
+            return f"| {path.name} | | | | passes a limit of the language | | | | | | |"
+        begun = time.perf_counter()
+        theirs, is_maximized, status = solved(
+            path, folder, "--cuts", "--tmlim", f"{seconds:.0f}", limit=2 * seconds
+        )
+        spent = time.perf_counter() - begun
+        model = Model(text, is_maximized)
+        problem = model.problem()
+        told, value = answered(problem, seconds, path.name, folder / "evidence")
+    size = problem.size_metrics
+    rows = size.num_scalar_eq_constr + size.num_scalar_leq_constr
+    is_shown = status == "integer optimal"
+    if is_shown and value is not None and abs(value - theirs) > NEAR * max(1, abs(theirs)):
+        raise SystemExit(f"{path.name}: glpsol has the value {theirs:.12g}, and not {value:.12g}")
+    ends = {"integer empty": "infeasible", "integer undefined": "no point"}.get(status)
+    if ends is None:
+        ends = status if theirs is None else f"{theirs:.9g}" + ("" if is_shown else ", not shown")
+    return f"| {path.name} | {rows} | {len(model.low)} | {len(model.whole)} | {told} | {ends} | {spent:.1f} |"
+
+
+def answered(problem: cp.Problem, seconds: float, name: str, folder: Path) -> tuple[str, Optional[float]]:
+    """Who shows the answer, leaves, seconds, megabytes of evidence, seconds of its check, and the value, as cells of
+    the table; and the value, None where none is shown to be best."""
+    def late(number, frame):
+        raise KeyboardInterrupt
+
+    signal.signal(signal.SIGALRM, late)
+    signal.alarm(round(2 * seconds))
+    begun, leaves, megabytes, checking = time.perf_counter(), "", "", ""
+    shown, value = "", None
+    try:
+        problem.solve(program_seconds=PROGRAM_SECONDS, time_limit=seconds)
+        shown = {PROGRAM: "program", EVIDENCE: "boxes"}.get(problem.shown_by, "")
+    except KeyboardInterrupt:
+        pass
+    except LimitError as error:
+        shown = "passes a limit of the language"
+        print(f"{name}: {error.reason[:200]}", file=sys.stderr)
+    except DCXError as error:
+        shown = "nothing"
+        print(f"{name}: {str(error)[:400]}", file=sys.stderr)
+    finally:
+        signal.alarm(0)
+    spent = time.perf_counter() - begun
+    if shown in ("program", "boxes"):
+        value = problem.value
+    elif not shown:
+        gap = None if problem.progress is None else problem.progress.gap
+        shown = "limit" if gap is None else f"limit, gap {100 * gap:.3g} %"
+    if shown == "boxes":
+        problem.evidence.write(folder)
+        begun = time.perf_counter()
+        leaves = f"{checked(folder).leaves:,}"
+        checking, megabytes = f"{time.perf_counter() - begun:.1f}", f"{problem.evidence.size / 1e6:.2f}"
+    text = "" if problem.value is None else f"{problem.value:.9g}" if abs(problem.value) < 1e300 else problem.status
+    return f"{shown} | {leaves} | {spent:.1f} | {megabytes} | {checking} | {text}", value
+
+
+def table(heads: str) -> None:
+    """Prints the head of a table, whose columns are parted by `|`."""
+    heads = heads.split("|")
+    print(f"| {' | '.join(heads)} |\n|{'---|' * len(heads)}", flush=True)
+
+
 def main() -> None:
     parser = argparse.ArgumentParser(description=__doc__.partition("\n")[0])
     parser.add_argument("--folder", type=Path, default=Path("/usr/share/doc/glpk-utils/examples"))
     parser.add_argument("--models", nargs="+")
     parser.add_argument("--scripts", type=Path)
     parser.add_argument("--seconds", type=float, default=60)
+    parser.add_argument("--whole", action="store_true")
+    parser.add_argument("--jobs", type=int, default=1)
     arguments = parser.parse_args()
-    print("| model | rows | columns | answered by | seconds | value | glpsol |\n|---|---|---|---|---|---|---|")
+    asked = arguments.models
+    paths = sorted(path for path in arguments.folder.iterdir() if path.suffix in FORMS)
+    paths = [path for path in paths if not asked or path.stem in asked or path.name in asked]
+    if arguments.whole:
+        table("model|rows|columns|whole|shown by|leaves|seconds|MB|check, seconds|value|`glpsol`|its seconds")
+        with ProcessPoolExecutor(arguments.jobs) as pool:
+            for row in filter(None, pool.map(partial(whole_row, arguments.seconds), paths)):
+                print(row, flush=True)
+        return
+    table("model|rows|columns|answered by|seconds|value|glpsol")
     whole, without = [], []
     with tempfile.TemporaryDirectory() as folder:
-        for path in sorted(path for path in arguments.folder.iterdir() if path.suffix in FORMS):
-            if arguments.models and path.stem not in arguments.models and path.name not in arguments.models:
-                continue
+        for path in paths:
             text = written(path, Path(folder))
-            if text is None or "'MARKER'" in text or re.search(r"^ (BV|LI|UI) ", text, re.M):
+            if text is None or "'MARKER'" in text:
                 (without if text is None else whole).append(path.name)
                 continue
             if len(text) == LARGE:

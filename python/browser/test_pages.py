@@ -39,9 +39,14 @@ addEventListener('load', () => setTimeout(async () => {
   seen.text = document.body.innerText;
   seen.resources = performance.getEntriesByType('resource').map((one) => one.name);
   seen.plots = [...document.querySelectorAll('svg')].map((svg) => {
-    const middle = (one) => { const box = one.getBoundingClientRect(); return [(box.left + box.right) / 2, (box.top + box.bottom) / 2]; };
-    const texts = [...svg.querySelectorAll('text:not(.label)')].map((one) => [one.textContent, one.getAttribute('text-anchor'), ...middle(one)]);
-    return {texts, points: [...svg.querySelectorAll('circle')].map((one) => [one.dataset.x, one.dataset.y, ...middle(one)])};
+    const middle = (one) => {
+      const box = one.getBoundingClientRect();
+      return [(box.left + box.right) / 2, (box.top + box.bottom) / 2];
+    };
+    const text = (one) => [one.textContent, one.getAttribute('text-anchor'), ...middle(one)];
+    const point = (one) => [one.dataset.x, one.dataset.y, ...middle(one)];
+    const texts = [...svg.querySelectorAll('text:not(.label)')].map(text);
+    return {texts, points: [...svg.querySelectorAll('circle')].map(point)};
   });
   const table = document.querySelector('table.sortable');
   seen.orders = [];
@@ -66,7 +71,8 @@ addEventListener('load', () => setTimeout(async () => {
   }
   const tall = document.querySelector('#fractions');
   if (tall) {
-    const small = () => [...document.querySelectorAll('.listing small')].filter((one) => getComputedStyle(one).display !== 'none').length;
+    const listed = [...document.querySelectorAll('.listing small')];
+    const small = () => listed.filter((one) => getComputedStyle(one).display !== 'none').length;
     const before = small();
     tall.click();
     seen.fractions = [before, small()];
@@ -83,12 +89,16 @@ addEventListener('load', () => setTimeout(async () => {
 }, 0));
 </script>
 """
-FIRST = "<script>window.probeErrors = []; addEventListener('error', (e) => probeErrors.push(e.message)); window.alert = () => probeErrors.push('alert');</script>"
+FIRST = (
+    "<script>window.probeErrors = []; addEventListener('error', (e) => probeErrors.push(e.message)); "
+    "window.alert = () => probeErrors.push('alert');</script>"
+)
 
 
 def chromium(*words):
     """What Chromium prints."""
-    command = [os.environ.get("CHROMIUM", "chromium"), "--headless", "--no-sandbox", "--disable-gpu", "--window-size=1200,1000", *words]
+    command = [os.environ.get("CHROMIUM", "chromium"), "--headless", "--no-sandbox", "--disable-gpu"]
+    command += ["--window-size=1200,1000", *words]
     try:
         done = subprocess.run(command, stdout=subprocess.PIPE, stderr=subprocess.DEVNULL, timeout=240)
     except FileNotFoundError:
@@ -205,14 +215,19 @@ class Made(unittest.TestCase):
 
     def test_hostile(self):
         evil = "</script><script>alert(1)</script><img src=x onerror=alert(1)>"
-        script = f"# {evil}\nimport cvxpy as cp\nx = cp.Variable()  # {evil}\np = cp.Parameter()\nprob = cp.Problem(cp.Minimize(x), [x >= p])\n"
-        one = seen(page(found(script.encode(), f"p = 1 # {evil}\np = 2\n".encode(), (f"{evil}/{evil}.py", evil), parameter="p"), "p"))
+        script = (
+            f"# {evil}\nimport cvxpy as cp\nx = cp.Variable()  # {evil}\np = cp.Parameter()\n"
+            "prob = cp.Problem(cp.Minimize(x), [x >= p])\n"
+        )
+        settings, names = f"p = 1 # {evil}\np = 2\n", (f"{evil}/{evil}.py", evil)
+        one = seen(page(found(script.encode(), settings.encode(), names, parameter="p"), "p"))
         self.assertEqual((one["errors"], one["resources"]), ([], []))
         self.assertIn(evil, one["text"])
 
     def test_thousand_settings(self):
         script = (TOP / "examples/guide/hours.py").read_text()
-        text = page(found(script.encode(), "".join(f"hours = {at}/7\n" for at in range(1000)).encode(), ("model.py", "settings.txt")))
+        settings = "".join(f"hours = {at}/7\n" for at in range(1000))
+        text = page(found(script.encode(), settings.encode(), ("model.py", "settings.txt")))
         one = seen(text)
         self.assertEqual(one["errors"], [])
         opened = one["opened"]

@@ -8,8 +8,8 @@ from typing import Optional, Sequence
 
 from . import __version__
 
-# The package's own commands, each with a module of that name in `commands` (`_` for `-`), which has `add_arguments(parser)` and
-# `run(arguments) -> status`; it is loaded when the command is asked for.
+# The package's own commands, each with a module of that name in `commands` (`_` for `-`), which has
+# `add_arguments(parser)` and `run(arguments) -> status`; it is loaded when the command is asked for.
 COMMANDS = {
     "run": "run a CVXPY script as it stands: MODEL.py with its arguments",
     "table": "answer a script of the language, and show the answers as tables",

@@ -45,8 +45,9 @@ class Arguments:
     """The arguments of one call of `solve`.
 
     `options` are the program's words, `time_limit` the seconds that it may take or None, `meaningless` the names of
-    those that have no meaning here. `exact`, `trust` and `box` are what is said of the exact solver. Raises `TypeError` where an argument isn't known, `UnsupportedError` where it
-    asks for what isn't offered, `SolverError` where the solver's name is none, `ValueError` where a limit is none.
+    those that have no meaning here. `exact`, `trust` and `box` are what is said of the exact solver. Raises `TypeError`
+    where an argument isn't known, `UnsupportedError` where it asks for what isn't offered, `SolverError` where the
+    solver's name is none, `ValueError` where a limit is none.
     """
 
     def __init__(self, solver: Optional[str], given: Mapping[str, Any]):

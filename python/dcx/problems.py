@@ -381,8 +381,8 @@ class Problem:
 
     @property
     def status(self) -> Optional[str]:
-        """`optimal`, `infeasible`, `unbounded`, `optimal_inaccurate` where an interval is shown, or `solver_error` where
-        there is no answer; None before one."""
+        """`optimal`, `infeasible`, `unbounded`, `optimal_inaccurate` where an interval is shown, or `solver_error`
+        where there is no answer; None before one."""
         return None if self._result is None else self._result.status
 
     @property

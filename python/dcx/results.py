@@ -48,10 +48,10 @@ class Result:
 
     `setting` is the setting as it was given, `index` its number from 0. `status` is `optimal`, `infeasible`,
     `unbounded`, `optimal_inaccurate` (a feasible point with an `interval` that holds the best value) or
-    `solver_error`, where `error` says why there is no answer. `shown_by` says on what the answer stands. `value` is the objective's value as a
-    float, infinite where the problem is infeasible or unbounded, None where there is no answer, and `exact` the
-    fraction, None where there is none. `result[x]` is the value of a variable in floats, None where it has none.
-    `nodes` is how many nodes the search for whole numbers took, `seconds` how long the run took.
+    `solver_error`, where `error` says why there is no answer. `shown_by` says on what the answer stands. `value` is the
+    objective's value as a float, infinite where the problem is infeasible or unbounded, None where there is no answer,
+    and `exact` the fraction, None where there is none. `result[x]` is the value of a variable in floats, None where it
+    has none. `nodes` is how many nodes the search for whole numbers took, `seconds` how long the run took.
     """
 
     def __init__(

@@ -1,4 +1,5 @@
-"""Pages that show an answer: their text is read by Python's own parser, and what they add to the report is worked out here."""
+"""Pages that show an answer: their text is read by Python's own parser, and what they add to the report is worked out
+here."""
 from __future__ import annotations
 
 import base64
@@ -83,7 +84,8 @@ def read(text):
 def of(script, settings=None, **words):
     """The page of a script, read."""
     parameter, chosen = words.pop("parameter", None), words.pop("chosen", 1)
-    shown = found(script.encode(), settings and settings.encode(), ("model.py", "settings.txt"), parameter=parameter, chosen=chosen, **words)
+    texts = script.encode(), settings and settings.encode(), ("model.py", "settings.txt")
+    shown = found(*texts, parameter=parameter, chosen=chosen, **words)
     return read(page(shown, parameter, chosen))
 
 
@@ -120,7 +122,8 @@ def contrast(one, other):
 
     def light(colour):
         parts = [int(colour[at : at + 2], 16) / 255 for at in (1, 3, 5)]
-        return sum(w * (c / 12.92 if c <= 0.04045 else ((c + 0.055) / 1.055) ** 2.4) for w, c in zip((0.2126, 0.7152, 0.0722), parts))
+        linear = (c / 12.92 if c <= 0.04045 else ((c + 0.055) / 1.055) ** 2.4 for c in parts)
+        return sum(w * c for w, c in zip((0.2126, 0.7152, 0.0722), linear))
 
     darker, lighter = sorted((light(one), light(other)))
     return (lighter + 0.05) / (darker + 0.05)
@@ -139,7 +142,8 @@ late = cp.Variable()
 rules = [need @ made <= have]
 for i in range(2):
     rules += [made[i] >= i + 1]
-prob = cp.Problem(cp.Maximize(price*made[0] + 3*made[1] - late), rules + [late >= cp.abs(made[0] - made[1]), late == 2*made[0] - 3])
+prob = cp.Problem(cp.Maximize(price*made[0] + 3*made[1] - late), rules + [\
+late >= cp.abs(made[0] - made[1]), late == 2*made[0] - 3])
 """
 
 
@@ -159,8 +163,8 @@ class Answers(unittest.TestCase):
         rows = cells(next(lines[10][2].all("table")))
         self.assertEqual(rows[0][:3], ["entry", "slack", "multiplier"])
         for at in range(3):
-            wanted = [f"[{at}]", shown(slack[at]), shown(answer.duals[1].entries[at]), "binds" if slack[at] == 0 else ""]
-            self.assertEqual(rows[at + 1], wanted)
+            multiplier, binds = answer.duals[1].entries[at], "binds" if slack[at] == 0 else ""
+            self.assertEqual(rows[at + 1], [f"[{at}]", shown(slack[at]), shown(multiplier), binds])
         # A row for each turn of the loop.
         rows = cells(next(lines[12][2].all("table")))
         for i in range(2):
@@ -169,17 +173,22 @@ class Answers(unittest.TestCase):
         self.assertIn("greatest objective " + shown(answer.value), lines[13][1])
         distance = answer.variables["late"].entries[0] - abs(made[0] - made[1])
         rows = cells(next(lines[13][2].all("table")))
-        self.assertEqual(rows[1][:3], ["late >= cp.abs(made[0] - made[1])", shown(distance), shown(answer.duals[4].entries[0])])
+        multiplier = answer.duals[4].entries[0]
+        self.assertEqual(rows[1][:3], ["late >= cp.abs(made[0] - made[1])", shown(distance), shown(multiplier)])
         self.assertEqual(rows[2][:3], ["late == 2*made[0] - 3", "0", shown(answer.duals[5].entries[0])])
 
     def test_ranks_are_exact(self):
         """Multipliers that floats don't tell apart are put in order all the same."""
         script = (
-            "import cvxpy as cp\nx = cp.Variable(3)\nprob = cp.Problem(cp.Maximize(100000000000000000001*x[0] + 100000000000000000002*x[1]"
+            "import cvxpy as cp\nx = cp.Variable(3)\n"
+            "prob = cp.Problem(cp.Maximize(100000000000000000001*x[0] + 100000000000000000002*x[1]"
             " - 100000000000000000000*x[2]), [x[0] <= 1, x[1] <= 1, x[2] >= 1])\n"
         )
         table = next(table for table in of(script, "{}\n").all("table", "sortable"))
-        keys = [[int(cell.attributes["data-k"]) for cell in row.all("td") if "data-k" in cell.attributes] for row in next(table.all("tbody")).all("tr")]
+        keys = [
+            [int(cell.attributes["data-k"]) for cell in row.all("td") if "data-k" in cell.attributes]
+            for row in next(table.all("tbody")).all("tr")
+        ]
         self.assertEqual([row[-1] for row in keys], [2, 3, 1])
 
     def test_infeasible(self):
@@ -200,16 +209,19 @@ class Answers(unittest.TestCase):
         self.assertRegex(lines[20][2].text(), r"start 6 entries \[0\] 0 \[1\] 2 \[2\] 2 \[3\] 3 \[4\] 6 \[5\] 7")
 
     def test_unbounded(self):
-        tree = of("import cvxpy as cp\nx = cp.Variable(nonneg=True)\nprob = cp.Problem(cp.Minimize(1 - 2*x), [x >= 3])\n", "{}\n")
-        lines = listing(tree)
-        beside = lines[2][1]
-        point, ray = (Fraction(n) for n in re.search(r"x at the point = (\S+) x along the ray = (\S+)", beside).groups())
+        script = "import cvxpy as cp\nx = cp.Variable(nonneg=True)\nprob = cp.Problem(cp.Minimize(1 - 2*x), [x >= 3])\n"
+        lines = listing(of(script, "{}\n"))
+        told = re.search(r"x at the point = (\S+) x along the ray = (\S+)", lines[2][1])
+        point, ray = (Fraction(number) for number in told.groups())
         self.assertGreaterEqual(point, 3)
         self.assertGreater(ray, 0)
         self.assertIn(f"falls for ever: {shown(1 - 2*point)} at the point, {shown(2*ray)} for each step", lines[3][1])
 
     def test_whole(self):
-        script = "import cvxpy as cp\nx = cp.Variable(integer=True)\nprob = cp.Problem(cp.Minimize(x), [2*x >= 5, x <= 9])\nprob.solve()\n"
+        script = (
+            "import cvxpy as cp\nx = cp.Variable(integer=True)\n"
+            "prob = cp.Problem(cp.Minimize(x), [2*x >= 5, x <= 9])\nprob.solve()\n"
+        )
         tree = of(script)
         lines = listing(tree)
         self.assertEqual(lines[2][1], "x = 3")
@@ -241,7 +253,8 @@ class Answers(unittest.TestCase):
         dots = list(next(tree.all("svg")).all("circle"))
         report = read_report(program.run("solve", (TOP / "examples/guide/hours.py").read_text()).report)
         values = [answer.value for answer in report.answers]
-        self.assertEqual({(dot.attributes["data-x"], dot.attributes["data-y"]) for dot in dots}, {("60", str(values[0])), ("45", str(values[1]))})
+        places = {(dot.attributes["data-x"], dot.attributes["data-y"]) for dot in dots}
+        self.assertEqual(places, {("60", str(values[0])), ("45", str(values[1]))})
 
 
 def shown(value):
@@ -251,6 +264,11 @@ def shown(value):
         return str(value.numerator)
     told = f"{float(value):.6g}"
     return f"{told} {'=' if Fraction(told) == value else '≈'} {value}"
+
+
+def weighted(numbers):
+    """The sum of the entries of x, each times its number, as a script says it."""
+    return " + ".join(f"{number}*x[{at}]" for at, number in enumerate(numbers))
 
 
 class Ranges(unittest.TestCase):
@@ -263,13 +281,15 @@ class Ranges(unittest.TestCase):
         for seed in range(6):
             chance = random.Random(seed)
             rows = [[chance.randint(-3, 4) for _ in range(3)] for _ in range(4)]
-            sides = [f"{' + '.join(f'{k}*x[{j}]' for j, k in enumerate(row))} >= {chance.randint(-4, 6)} + {chance.randint(-2, 2)}*p" for row in rows]
+            sides = [
+                f"{weighted(row)} >= {chance.randint(-4, 6)} + {chance.randint(-2, 2)}*p" for row in rows
+            ]
             sense, sign = (("Minimize", 1), ("Maximize", -1))[seed % 2]
             costs = [sign * chance.randint(1, 5) for _ in range(3)]
             attribute = ("", "nonneg=True", "nonpos=True")[seed % 3]
             script = (
                 f"import cvxpy as cp\np = cp.Parameter({attribute})\nx = cp.Variable(3, nonneg=True)\n"
-                f"prob = cp.Problem(cp.{sense}({' + '.join(f'{c}*x[{j}]' for j, c in enumerate(costs))}), [{', '.join(sides)}])\n"
+                f"prob = cp.Problem(cp.{sense}({weighted(costs)}), [{', '.join(sides)}])\n"
             )
             one = self.course(script, "p = 0\n", "p")
             if one.refused is not None:
@@ -285,9 +305,13 @@ class Ranges(unittest.TestCase):
                     asked.append(place + Fraction(-1 if end == "low" else 1, 10**9))
             if attribute:
                 asked = [abs(place) if attribute == "nonneg=True" else -abs(place) for place in asked]
-            answers = read_report(program.run("resolve", script, "".join(f"p = {place}\n" for place in asked)).report).answers
+            settings = "".join(f"p = {place}\n" for place in asked)
+            answers = read_report(program.run("resolve", script, settings).report).answers
             for place, answer in zip(asked, answers):
-                there = [piece for piece in one.pieces if (piece.low is None or piece.low <= place) and (piece.high is None or place <= piece.high)]
+                there = [
+                    piece for piece in one.pieces
+                    if (piece.low is None or piece.low <= place) and (piece.high is None or place <= piece.high)
+                ]
                 self.assertEqual(bool(there), answer.status == "optimal", (seed, place, one))
                 for piece in there:
                     self.assertEqual(piece.at(place), answer.value, (seed, place))
@@ -297,30 +321,38 @@ class Ranges(unittest.TestCase):
         self.assertLessEqual({None, "infeasible", "sign"}, seen)
 
     def test_degenerate(self):
-        """Where bases that differ have one plan, ranges may be single points: the value is |p| + |p - 1| all the same."""
+        """Where bases that differ have one plan, ranges may be single points: the value is |p| + |p - 1| anyway."""
         script = (
             "import cvxpy as cp\np = cp.Parameter()\nx = cp.Variable(2)\n"
-            "prob = cp.Problem(cp.Minimize(cp.abs(x[0]) + cp.abs(x[1])), [x[0] == p, x[1] == p - 1, x[0] + x[1] == 2*p - 1, x[0] >= p])\n"
+            "prob = cp.Problem(cp.Minimize(cp.abs(x[0]) + cp.abs(x[1])), "
+            "[x[0] == p, x[1] == p - 1, x[0] + x[1] == 2*p - 1, x[0] >= p])\n"
         )
         one = self.course(script, "p = 0\n", "p")
-        self.assertEqual([(piece.low, piece.high, piece.value, piece.slope) for piece in one.pieces], [(None, 0, 1, -2), (0, 1, 1, 0), (1, None, -1, 2)])
+        pieces = [(piece.low, piece.high, piece.value, piece.slope) for piece in one.pieces]
+        self.assertEqual(pieces, [(None, 0, 1, -2), (0, 1, 1, 0), (1, None, -1, 2)])
 
     def test_page(self):
         """The stall's prices: the breakpoints 12/5, 3 and 18/5 by hand, in the table and as points of the plot."""
         files = [(TOP / f"examples/prices/{name}").read_text() for name in ("model.py", "settings.txt")]
         tree = of(*files, parameter="neighbour")
         section = next(part for part in tree.all("section") if part.attributes["id"] == "range")
-        corners = [(Fraction(dot.attributes["data-x"]), Fraction(dot.attributes["data-y"])) for dot in section.all("circle", "corner")]
+        corners = [
+            tuple(Fraction(dot.attributes[key]) for key in ("data-x", "data-y"))
+            for dot in section.all("circle", "corner")
+        ]
         self.assertEqual(corners, [(Fraction(12, 5), 288), (3, 360), (Fraction(18, 5), 408)])
         rows = cells(next(section.all("table")))
         self.assertEqual([row[:3] for row in rows[1:]], [
-            ["2.4 = 12/5", "3", "120 × neighbour"], ["3", "3.6 = 18/5", "120 + 80 × neighbour"], ["3.6 = 18/5", "without end", "408"],
+            ["2.4 = 12/5", "3", "120 × neighbour"], ["3", "3.6 = 18/5", "120 + 80 × neighbour"],
+            ["3.6 = 18/5", "without end", "408"],
         ])
         # The dots lie where their numbers say: on one line between two ticks' places.
         dots = [tuple(float(dot.attributes[key]) for key in ("cx", "cy")) for dot in section.all("circle", "corner")]
-        for (x, y), (at, down) in zip(corners, dots):
-            self.assertAlmostEqual(float((x - corners[0][0]) / (corners[2][0] - corners[0][0])), (at - dots[0][0]) / (dots[2][0] - dots[0][0]), delta=1e-3)
-            self.assertAlmostEqual(float((y - corners[0][1]) / (corners[2][1] - corners[0][1])), (down - dots[0][1]) / (dots[2][1] - dots[0][1]), delta=1e-3)
+        for axis in (0, 1):
+            told, drawn = ([float(one[axis]) for one in listed] for listed in (corners, dots))
+            for number, place in zip(told, drawn):
+                part = (place - drawn[0]) / (drawn[2] - drawn[0])
+                self.assertAlmostEqual((number - told[0]) / (told[2] - told[0]), part, delta=1e-3)
         self.assertIn("There is no point below 2.4 = 12/5", section.text())
         self.assertIn("no range", of(*files, parameter="neighbour", chosen=4).text())
         self.assertIn("no parameter of this name", of(*files, parameter="price").text())
@@ -330,8 +362,12 @@ class Pages(unittest.TestCase):
     def test_hostile(self):
         """Names, comments and file names are text, whatever they look like; nothing is fetched."""
         evil = "</script></style><script>alert(1)</script><img src=x onerror=alert(1)>\"'&lt;"
-        script = f"# {evil}\nimport cvxpy as cp\nx = cp.Variable()  # {evil}\np = cp.Parameter()\nprob = cp.Problem(cp.Minimize(x), [x >= p])\n"
-        shown_page = found(script.encode(), f"p = 1 # {evil}\np = 2\n".encode(), (f"{evil}/a<b>.py", '"s<i>.txt'), parameter="p")
+        script = (
+            f"# {evil}\nimport cvxpy as cp\nx = cp.Variable()  # {evil}\np = cp.Parameter()\n"
+            "prob = cp.Problem(cp.Minimize(x), [x >= p])\n"
+        )
+        names = f"{evil}/a<b>.py", '"s<i>.txt'
+        shown_page = found(script.encode(), f"p = 1 # {evil}\np = 2\n".encode(), names, parameter="p")
         for text in (page(shown_page, "p"), page(found(f"{script}{evil}".encode(), None, (f"a{evil[:30]}.py", "")))):
             tree = read(text)
             self.assertEqual(len(list(tree.all("script"))), 1)
@@ -375,7 +411,8 @@ class Pages(unittest.TestCase):
         column = [cell.text() for cell in rows[0].parts].index("greatest objective")
         self.assertEqual([row.parts[column].text() for row in rows[1:]], [shown(value) for value in values])
         order = sorted(set(values))
-        self.assertEqual([int(row.parts[column].attributes["data-k"]) for row in rows[1:]], [order.index(value) + 1 for value in values])
+        ranks = [int(row.parts[column].attributes["data-k"]) for row in rows[1:]]
+        self.assertEqual(ranks, [order.index(value) + 1 for value in values])
         for svg in list(tree.all("svg"))[:1]:
             self.assertEqual([Fraction(dot.attributes["data-y"]) for dot in svg.all("circle")], values)
         self.assertIn("The page would grow too large", tree.text())
@@ -391,7 +428,10 @@ class Pages(unittest.TestCase):
         schemes = re.findall(r":root \{(.*?)\}", STYLE, re.S)
         self.assertEqual(len(schemes), 3)
         for scheme in schemes:
-            colours = {name: "#" + "".join(c * 2 for c in code) if len(code) == 3 else f"#{code}" for name, code in re.findall(r"--(\w+): #(\w+)", scheme)}
+            colours = {
+                name: "#" + "".join(c * 2 for c in code) if len(code) == 3 else f"#{code}"
+                for name, code in re.findall(r"--(\w+): #(\w+)", scheme)
+            }
             for ink in ("ink", "quiet", "accent"):
                 for ground in ("paper", "soft", "tint"):
                     self.assertGreaterEqual(contrast(colours[ink], colours[ground]), 4.5, (ink, ground))
@@ -446,8 +486,8 @@ class Pages(unittest.TestCase):
                 prob.view(file, cp.Parameter())
 
     def test_kept_pages(self):
-        """The pages of docs/pages/ are those that `tools/pages` makes, but for the program's checksum. The one of a hundred
-        settings, which takes longest, is left out."""
+        """The pages of docs/pages/ are those that `tools/pages` makes, but for the program's checksum. The one of a
+        hundred settings, which takes longest, is left out."""
         before = os.getcwd()
         os.chdir(TOP)
         try:

@@ -123,7 +123,7 @@ def shown_ends(session, settings):
 
 
 def shown_certificate(session, settings):
-    """The status and the certificate of what the exact solver finds, in which numbers that pass 128 bits show nothing."""
+    """The status and the certificate of what the exact solver finds, where numbers that pass 128 bits show nothing."""
     ends = shown_ends(session, settings)
     return status_of(ends), written(session.problem, "2", sections_to_show(session.problem, settings, ends))
 
