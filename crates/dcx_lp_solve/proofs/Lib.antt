@@ -1,5 +1,6 @@
 -- The lemmas.
 pub mod Counts
+pub mod Right
 pub mod Ends
 pub mod OneReading
 pub mod OneSolution
