@@ -16,4 +16,5 @@ pub mod Between
 pub mod Few
 pub mod Spans
 pub mod Ranges
+pub mod Right
 pub mod OneRange

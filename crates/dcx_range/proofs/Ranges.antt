@@ -1,4 +1,4 @@
--- What is answered of a range is what is told of it.
+-- What is answered of a range is what is told of it, and it is right.
 use Rattle.std.proofs.Common.{◌≡◌, ℕ, ◌<◌, ◌≤◌, ◌^◌, false, List, length, Ok, Err, Result, IfOk, IfErr, sym, ap, ◌∙◌, subst, arith, unsigned_abs}
 use Rattle.dcx_math.specs.Rational.{ℚ, ◌+ℚ◌, ◌*ℚ◌}
 use Rattle.dcx_frac.specs.declared.fraction.Frac.{Frac}
@@ -39,6 +39,7 @@ use Rattle.dcx_lp_solve.specs.declared.solving.Solved.{Solved}
 use Rattle.dcx_lp_solve.specs.declared.stop.SolveStop.{SolveStop}
 use Rattle.dcx_lp_solve.specs.declared.stop.SolveStop.TheVariants as solves
 use Rattle.dcx_lp_solve.specs.Solved.{IsSolved, Stops}
+use Rattle.dcx_lp_solve.proofs.Right.{answers_are_right}
 use Rattle.dcx_unknowns.specs.Unknowns.{point_at}
 use Rattle.dcx_postsolve.specs.Programs.{multipliers_of}
 use Rattle.dcx_graph.specs.Program.{Program}
@@ -59,7 +60,7 @@ use Rattle.dcx_range.specs.Parameters.{scales, IsRanged}
 use Rattle.dcx_right.specs.Ranges.{IsNumber, DifferAt, IsBetween, HasValue, HasNoPoint, HasNoLeast, HoldsOn}
 use Rattle.dcx_range.specs.Stops.{StopsAt, IsOfRun, IsToldAs}
 use Rattle.dcx_range.specs.Operations.{rates_of, ends_from, no_ends, sign_ends, slope_of, constant_of, span, finished, operations}
-use Rattle.dcx_range.specs.Range.{IsMapOf, IsAsked, IsKnown, formed, EndsInfeasible, EndsUnbounded, RangeGives}
+use Rattle.dcx_range.specs.Range.{IsMapOf, IsAsked, IsSolvedAs, IsKnown, formed, RangeGives}
 use Rattle.dcx_range.proofs.Exact.{both_formed}
 use Rattle.dcx_range.proofs.Few.{is_fitting}
 use Rattle.dcx_range.proofs.Law.{row_kinds, rows_count}
@@ -83,20 +84,6 @@ module _ (limit : ℕ) (t : Table) (rows : List IntRow) (kinds : List ColumnKind
   optimal_end (lp.Unbounded n c) run read is = absurd (let d = sym read.0.status ∙ is in cc)
   optimal_end (lp.Wide n r c) run read is = absurd read
   optimal_end (lp.PivotLimit n) run read is = absurd read
-
-  pub infeasible_end : (e : LpEnd) → RunEnds limit t u e → IsRead rows kinds u e a → a.status ≡ status.Infeasible → (n : ℕ) × RunEnds limit t u (lp.Infeasible n)
-  infeasible_end (lp.Optimal n) run read is = absurd (let d = sym read.0.status ∙ is in cc)
-  infeasible_end (lp.Infeasible n) run read is = (n, run)
-  infeasible_end (lp.Unbounded n c) run read is = absurd (let d = sym read.0.status ∙ is in cc)
-  infeasible_end (lp.Wide n r c) run read is = absurd read
-  infeasible_end (lp.PivotLimit n) run read is = absurd read
-
-  pub unbounded_end : (e : LpEnd) → RunEnds limit t u e → IsRead rows kinds u e a → a.status ≡ status.Unbounded → (n : ℕ) × (c : ℕ) × RunEnds limit t u (lp.Unbounded n c)
-  unbounded_end (lp.Optimal n) run read is = absurd (let d = sym read.0.status ∙ is in cc)
-  unbounded_end (lp.Infeasible n) run read is = absurd (let d = sym read.0.status ∙ is in cc)
-  unbounded_end (lp.Unbounded n c) run read is = (n, c, run)
-  unbounded_end (lp.Wide n r c) run read is = absurd read
-  unbounded_end (lp.PivotLimit n) run read is = absurd read
 
 -- ---- the last operations
 abbrev and_then_constant : Asked → Frac → Frac → Ends → Result Ranged Passes
@@ -125,15 +112,8 @@ module _ (p : Problem) (setting : Pairs) (name : List ℕ) (m : Program ParamFor
   has_few = is_fitting p map.unread m map.reduces r (row_kinds p setting fits.shaped m (affine_are_known p map.unread m map.reduces) r put) put.0.2
 
   module _ (limit : ℕ) (s : Solved) (is : IsSolved limit (rows_of r) s) where
-    pub told_infeasible : s.answer.status ≡ status.Infeasible → EndsInfeasible r limit
-    told_infeasible e =
-        let end = infeasible_end limit (first_tableau s.program) s.program.rows s.program.columns (table_of s.tableau) s.answer is.solved.end is.solved.run is.solved.read e in
-        record { integer = s.program; made = is.made; pivots = end.0; ends = record { last = table_of s.tableau; run = end.1 } }
-
-    pub told_unbounded : s.answer.status ≡ status.Unbounded → EndsUnbounded r limit
-    told_unbounded e =
-        let end = unbounded_end limit (first_tableau s.program) s.program.rows s.program.columns (table_of s.tableau) s.answer is.solved.end is.solved.run is.solved.read e in
-        record { integer = s.program; made = is.made; pivots = end.0; column = end.1; ends = record { last = table_of s.tableau; run = end.2 } }
+    abbrev pub solved_as : HasKinds (rows_of r) → (t : LpStatus) → s.answer.status ≡ t → IsSolvedAs r limit t
+    solved_as known t e = record { known = known; solved = s; is_solved = is; status = e }
 
     -- ---- what is right for the rows is right for the problem
     carries_over : CarriesOver p (setting_of p setting) (linear_program (rows_of r))
@@ -143,7 +123,7 @@ module _ (p : Problem) (setting : Pairs) (name : List ℕ) (m : Program ParamFor
 
     pub has_no_point : HasKinds (rows_of r) → s.answer.status ≡ status.Infeasible → HasNoPoint p (setting_of p setting)
     has_no_point known e =
-        let right = subst (λ (t : LpStatus). IsRightForRowsAs t (rows_of r) s.program s.answer) e (shown_of (rows_of r) s.program known (scaled_program (rows_of r) s.program is.made) s.answer is.solved.right) in
+        let right = subst (λ (t : LpStatus). IsRightForRowsAs t (rows_of r) s.program s.answer) e (shown_of (rows_of r) s.program known (scaled_program (rows_of r) s.program is.made) s.answer (answers_are_right limit (rows_of r) s is)) in
         record {
           multipliers = multipliers_of (convex_problem p) (multiplier_at s.program.columns s.answer);
           gap = value s.answer.number;
@@ -154,7 +134,7 @@ module _ (p : Problem) (setting : Pairs) (name : List ℕ) (m : Program ParamFor
     has_no_least known e =
         let x = unknowns_at s.program.columns (numbers s.answer.columns) in
         let d = unknowns_at s.program.columns (numbers s.answer.ray) in
-        let right = subst (λ (t : LpStatus). IsRightForRowsAs t (rows_of r) s.program s.answer) e (shown_of (rows_of r) s.program known (scaled_program (rows_of r) s.program is.made) s.answer is.solved.right) in
+        let right = subst (λ (t : LpStatus). IsRightForRowsAs t (rows_of r) s.program s.answer) e (shown_of (rows_of r) s.program known (scaled_program (rows_of r) s.program is.made) s.answer (answers_are_right limit (rows_of r) s is)) in
         record {
           point = point_at p.variables x;
           ray = point_at p.variables d;
@@ -179,18 +159,7 @@ module _ (p : Problem) (setting : Pairs) (name : List ℕ) (m : Program ParamFor
           omega (arith, a, b)
 
       is_known : IsKnown p r setting name limit
-      is_known = record {
-        number = of.number;
-        at = asked.at;
-        at_is = of.at_is;
-        integer = s.program;
-        made = is.made;
-        last = table_of s.tableau;
-        pivots = ending.0;
-        run = ending.1;
-        cost = s.answer.number;
-        cost_is = ending.2.number;
-      }
+      is_known = record { number = of.number; at = asked.at; at_is = of.at_is; run = solved_as known status.Optimal optimal }
 
       abbrev question : Asked
       question = record { position = of.number.at; attribute = of.number.parameter.attribute; at = asked.at }
@@ -223,9 +192,9 @@ module _ (p : Problem) (setting : Pairs) (name : List ℕ) (m : Program ParamFor
           let same = λ (k : IsNumber p name). same_place p name n.at k.at n.named.place k.named.place in (
             record {
               known = is_known;
+              constants = constants;
               numbers = numbers;
               interval = interval p setting name m map.unread map.dpp map.reduces fits r put n free constants at of.at_is s.program is.made known limit ending.0 u ending.1 s.answer ending.2 small hs rates e ends;
-              holds = within;
             },
             record {
               here = λ k. between n k (same k) (sign_ends n.parameter.attribute e) (value at) (at_value p setting name m map.unread map.dpp map.reduces fits r put n free constants at of.at_is) within;
@@ -272,7 +241,3 @@ module _ (p : Problem) (setting : Pairs) (name : List ℕ) (m : Program ParamFor
       pub told_result : (x : Result Ranged RangeStop) → IfOk x (λ a. shown_operations ≡ Ok a) → IfOk x (λ a. HasConstants m) → IfErr x (StopsAt shown_operations) → RangeGives p m r setting name limit x
       told_result (Ok x) given constants stop = (told_span constants x given).0
       told_result (Err e) given constants stop = told_stop e stop
-
-      pub holds_result : (x : Result Ranged RangeStop) → IfOk x (λ a. shown_operations ≡ Ok a) → IfOk x (λ a. HasConstants m) → IfOk x (HoldsOn p (setting_of p setting) name)
-      holds_result (Ok x) given constants = (told_span constants x given).1
-      holds_result (Err e) given constants = tt

@@ -11,9 +11,9 @@
 //! | one thing is told of a name | `laws::tells_once` |
 //! | the numbers of a span are formed in the written order of operations, or the first that passes is told | `range`, `specs/Operations.antt`: `operations` |
 //! | the span is the interval of values at which the last basis stays feasible | `range`, `specs/Interval.antt`: `IsInInterval` |
-//! | the value at the setting is in the span, and at each fitting setting that differs by a value in the span alone some point and some multipliers show that the problem has the value on the line | `range`, `HoldsAlong` in `Ranges` of `dcx_right` |
-//! | where infeasible is told, some multipliers show that no point is feasible; where unbounded is, the objective falls for ever from some feasible point along some ray | `range`, `HasNoPoint` and `HasNoLeast` in `Ranges` of `dcx_right` |
 //! | infeasible, unbounded and the stops of the run come where the run at the setting ends so | `range`, `specs/Range.antt`: `RangeGives` |
+//! | what a run tells so is right: the value at the setting is in the span, and at each fitting setting that differs by a value in the span alone some point and some multipliers show that the problem has the value on the line | `laws::ranges_are_right`, `range`, `HoldsAlong` in `Ranges` of `dcx_right` |
+//! | where infeasible is told, some multipliers show that no point is feasible; where unbounded is, the objective falls for ever from some feasible point along some ray | `laws::ranges_are_right`, `range`, `HasNoPoint` and `HasNoLeast` in `Ranges` of `dcx_right` |
 //! | a parameter has one range at a setting under a limit, or one stop | `laws::ranges_are_one` |
 #![tactic(auto)]
 

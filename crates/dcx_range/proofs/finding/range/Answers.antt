@@ -19,10 +19,12 @@ use Rattle.dcx_graph.specs.Program.{Program}
 use Rattle.dcx_graph.specs.Answers.{rows_of}
 use Rattle.dcx_graph.specs.Fixing.{FixGives}
 use Rattle.dcx_graph.proofs.Mapped.{given_rows, known_of}
+use Rattle.dcx_answer.specs.declared.ranged.Ranged.TheVariants.{Infeasible, Unbounded}
 use Rattle.dcx_range.specs.declared.asked.Asked.{Asked}
 use Rattle.dcx_range.specs.Parameters.{IsRanged}
 use Rattle.dcx_range.specs.Range.{IsMapOf, IsAsked}
-use Rattle.dcx_range.proofs.Ranges.{of_run, has_few, rows_enough, shown, told_infeasible, told_unbounded, has_no_point, has_no_least, told_result, holds_result}
+use Rattle.dcx_range.proofs.Ranges.{of_run, has_few, rows_enough, shown, solved_as, told_result}
+use Rattle.dcx_range.proofs.Right.{ranges_are_right}
 use Rattle.dcx_range.proofs.finding.range.Goals as goal
 
 -- where the run of the rows that the program lends is optimal, its tableau can be read
@@ -106,7 +108,8 @@ returns-in-Optimal-clause-optimal c =
     let same = given_rows r lent.kinds lent.rows lent.objective c.rows.ensures.kinds c.rows.ensures.rows c.rows.ensures.objective in
     let is = subst (λ g. IsSolved limit g c.in-Ok.solved) same c.in-Ok.ensures.solved in
     let known = known_of r lent.kinds lent.rows lent.objective c.rows.ensures.kinds c.rows.ensures.rows c.rows.ensures.objective lent.rows_known lent.objective_known in
-    holds_result p s name m c.requires.map c.requires.fits r c.requires.program limit c.in-Ok.solved is known c.requires.ranged c.in-Optimal.is c.asked.result c.asked.ensures c.span-told.result c.span-told.ensures.formed c.span-told.ensures.rising
+    ranges_are_right p m r s name limit c.span-told.result c.requires.map c.requires.fits c.requires.program c.requires.ranged
+    (told_result p s name m c.requires.map c.requires.fits r c.requires.program limit c.in-Ok.solved is known c.requires.ranged c.in-Optimal.is c.asked.result c.asked.ensures c.span-told.result c.span-told.ensures.formed c.span-told.ensures.rising c.span-told.ensures.stops)
 
 pub returns-in-Infeasible-clause-given : goal.returns-in-Infeasible-clause-given
 returns-in-Infeasible-clause-given c =
@@ -119,7 +122,8 @@ returns-in-Infeasible-clause-given c =
     let lent = c.rows.result.now in
     let same = given_rows r lent.kinds lent.rows lent.objective c.rows.ensures.kinds c.rows.ensures.rows c.rows.ensures.objective in
     let is = subst (λ g. IsSolved limit g c.in-Ok.solved) same c.in-Ok.ensures.solved in
-    told_infeasible p s name m c.requires.map c.requires.fits r c.requires.program limit c.in-Ok.solved is c.in-Infeasible.is
+    let known = known_of r lent.kinds lent.rows lent.objective c.rows.ensures.kinds c.rows.ensures.rows c.rows.ensures.objective lent.rows_known lent.objective_known in
+    solved_as p s name m c.requires.map c.requires.fits r c.requires.program limit c.in-Ok.solved is known status.Infeasible c.in-Infeasible.is
 
 pub returns-in-Unbounded-clause-given : goal.returns-in-Unbounded-clause-given
 returns-in-Unbounded-clause-given c =
@@ -132,7 +136,8 @@ returns-in-Unbounded-clause-given c =
     let lent = c.rows.result.now in
     let same = given_rows r lent.kinds lent.rows lent.objective c.rows.ensures.kinds c.rows.ensures.rows c.rows.ensures.objective in
     let is = subst (λ g. IsSolved limit g c.in-Ok.solved) same c.in-Ok.ensures.solved in
-    told_unbounded p s name m c.requires.map c.requires.fits r c.requires.program limit c.in-Ok.solved is c.in-Unbounded.is
+    let known = known_of r lent.kinds lent.rows lent.objective c.rows.ensures.kinds c.rows.ensures.rows c.rows.ensures.objective lent.rows_known lent.objective_known in
+    solved_as p s name m c.requires.map c.requires.fits r c.requires.program limit c.in-Ok.solved is known status.Unbounded c.in-Unbounded.is
 
 pub returns-in-Infeasible-clause-optimal : goal.returns-in-Infeasible-clause-optimal
 returns-in-Infeasible-clause-optimal c =
@@ -146,7 +151,8 @@ returns-in-Infeasible-clause-optimal c =
     let same = given_rows r lent.kinds lent.rows lent.objective c.rows.ensures.kinds c.rows.ensures.rows c.rows.ensures.objective in
     let is = subst (λ g. IsSolved limit g c.in-Ok.solved) same c.in-Ok.ensures.solved in
     let known = known_of r lent.kinds lent.rows lent.objective c.rows.ensures.kinds c.rows.ensures.rows c.rows.ensures.objective lent.rows_known lent.objective_known in
-    has_no_point p s name m c.requires.map c.requires.fits r c.requires.program limit c.in-Ok.solved is known c.in-Infeasible.is
+    ranges_are_right p m r s name limit (Ok Infeasible) c.requires.map c.requires.fits c.requires.program c.requires.ranged
+    (solved_as p s name m c.requires.map c.requires.fits r c.requires.program limit c.in-Ok.solved is known status.Infeasible c.in-Infeasible.is)
 
 pub returns-in-Unbounded-clause-optimal : goal.returns-in-Unbounded-clause-optimal
 returns-in-Unbounded-clause-optimal c =
@@ -160,4 +166,5 @@ returns-in-Unbounded-clause-optimal c =
     let same = given_rows r lent.kinds lent.rows lent.objective c.rows.ensures.kinds c.rows.ensures.rows c.rows.ensures.objective in
     let is = subst (λ g. IsSolved limit g c.in-Ok.solved) same c.in-Ok.ensures.solved in
     let known = known_of r lent.kinds lent.rows lent.objective c.rows.ensures.kinds c.rows.ensures.rows c.rows.ensures.objective lent.rows_known lent.objective_known in
-    has_no_least p s name m c.requires.map c.requires.fits r c.requires.program limit c.in-Ok.solved is known c.in-Unbounded.is
+    ranges_are_right p m r s name limit (Ok Unbounded) c.requires.map c.requires.fits c.requires.program c.requires.ranged
+    (solved_as p s name m c.requires.map c.requires.fits r c.requires.program limit c.in-Ok.solved is known status.Unbounded c.in-Unbounded.is)
