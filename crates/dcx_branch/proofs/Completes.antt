@@ -14,7 +14,7 @@ use Rattle.dcx_answer.specs.declared.branch_tree.BranchNode.{BranchNode}
 use Rattle.dcx_answer.specs.declared.branch_tree.BranchNode.TheVariants.{Split}
 use Rattle.dcx_right.specs.WholeAnswers.{split}
 use Rattle.dcx_right.specs.WholeAnswers.{Lists, Shows}
-use Rattle.dcx_branch.specs.Searches.{IsBelow, Fills, no_boxes, one_box, Completes}
+use Rattle.dcx_branch.proofs.Known.{IsBelow, Fills, no_boxes, one_box, Completes}
 
 pub below_itself : (b : Option ℚ) → IsBelow b b
 below_itself None = tt

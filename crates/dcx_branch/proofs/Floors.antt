@@ -25,7 +25,7 @@ use Rattle.dcx_branch.specs.declared.bound.BoundAt.{BoundAt}
 use Rattle.dcx_branch.specs.Places.{places}
 use Rattle.dcx_branch.specs.Nodes.{bound_number, node_program}
 use Rattle.dcx_branch.specs.Run.{bounds_in}
-use Rattle.dcx_branch.specs.Searches.{IsNested, HasFloor}
+use Rattle.dcx_branch.proofs.Known.{IsNested, HasFloor}
 use Rattle.dcx_branch.proofs.Members.{Each, each_append, each_place}
 use Rattle.dcx_branch.proofs.Bounds.{Keeps, kept_within, within_keeps}
 use Rattle.dcx_branch.proofs.Found.{root_at}

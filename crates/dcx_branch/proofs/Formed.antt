@@ -13,8 +13,7 @@ use Rattle.dcx_branch.specs.declared.bound.BoundAt.{BoundAt}
 use Rattle.dcx_answer.specs.declared.branch_tree.BoundWeight.{BoundWeight}
 use Rattle.dcx_answer.specs.declared.branch_tree.BranchNode.{BranchNode}
 use Rattle.dcx_answer.specs.declared.branch_tree.BranchNode.TheVariants.{Bound, Empty, Split}
-use Rattle.dcx_branch.specs.Leaves.{bound_multipliers, or_else, first_passing, IsLeaf, leaf_stop, StopsLeaf}
-use Rattle.dcx_branch.specs.Taken.{IsLeafOf}
+use Rattle.dcx_branch.specs.Leaves.{bound_multipliers, IsLeaf, IsLeafOf, or_else, first_passing, leaf_stop, StopsLeaf}
 
 passing_formed : (i : ℕ) (ws : List Frac) → passing_from {A = Frac} i (map Ok ws) ≡ None
 passing_formed i [] = refl

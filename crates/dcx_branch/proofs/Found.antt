@@ -17,7 +17,7 @@ use Rattle.dcx_branch.specs.declared.side.Side.{Side}
 use Rattle.dcx_branch.specs.Places.{places}
 use Rattle.dcx_branch.specs.Sides.{box_of, sided, box_bounds}
 use Rattle.dcx_branch.specs.Run.{bounds_in}
-use Rattle.dcx_branch.specs.Searches.{IsIn, IsNested}
+use Rattle.dcx_branch.proofs.Known.{IsIn, IsNested}
 use Rattle.dcx_branch.proofs.Boxes.{box_sided, bounds_same}
 use Rattle.dcx_branch.proofs.Members.{IsPlaceOf, each_place}
 

@@ -4,6 +4,7 @@ pub mod Entries
 pub mod Leaves
 pub mod Between
 pub mod Boxes
+pub mod Known
 pub mod Members
 pub mod Linear
 pub mod Bounds
@@ -13,8 +14,11 @@ pub mod Completes
 pub mod Found
 pub mod Rooms
 pub mod Told
+pub mod Splits
 pub mod Floors
 pub mod Marks
+pub mod Turns
+pub mod Right
 pub mod Units
 pub mod Formed
 pub mod Taking

@@ -30,7 +30,7 @@ use Rattle.dcx_branch.specs.Nodes.{excess, bound_number, node_program}
 pub fits_representable : (n : ℤ) → Fits n → IsRepresentable (whole n)
 fits_representable n h = representable (whole n) n (pos 1) (record { positive = record { lt = tt }; coprime = λ d a b. eq-one_of_dvd-one b; is = sym (ratio-one n (record { lt = tt })) }) h (lit< tt)
 
-same_size : (n : ℤ) → unsigned_abs (neg_ℤ n) ≡ unsigned_abs n
+pub same_size : (n : ℤ) → unsigned_abs (neg_ℤ n) ≡ unsigned_abs n
 same_size (pos zero) = refl
 same_size (pos (suc n)) = refl
 same_size (negsuc n) = refl

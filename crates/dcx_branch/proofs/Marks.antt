@@ -29,7 +29,7 @@ use Rattle.dcx_branch.specs.declared.place.Place.{Place}
 use Rattle.dcx_branch.specs.Places.{places}
 use Rattle.dcx_branch.specs.Run.{AreWhole}
 use Rattle.dcx_branch.specs.Answers.{IsPointAt}
-use Rattle.dcx_branch.specs.Searches.{IsNested}
+use Rattle.dcx_branch.proofs.Known.{IsNested}
 use Rattle.dcx_branch.proofs.Members.{Each, place_at, place_listed}
 use Rattle.dcx_branch.proofs.Entries.{entry_unknown}
 

@@ -16,7 +16,7 @@ use Rattle.dcx_unknowns.proofs.Places.{place_within, own_before-lt}
 use Rattle.dcx_unknowns.proofs.Sources.{Owns, source_own}
 use Rattle.dcx_unknowns.proofs.Owners.{count_of, first_fits}
 use Rattle.dcx_branch.specs.declared.place.Place.{Place}
-use Rattle.dcx_branch.specs.Searches.{IsIn}
+use Rattle.dcx_branch.proofs.Known.{IsIn}
 use Rattle.dcx_branch.specs.Places.{places_of, entry_places, marked_places, variable_places, places_from, places}
 
 -- the place of an entry

@@ -27,6 +27,7 @@ use Rattle.dcx_graph.specs.Program.{Program}
 use Rattle.dcx_graph.specs.Answers.{IsSamePoint}
 use Rattle.dcx_right.specs.Boxes.{Box, root_box}
 use Rattle.dcx_branch.specs.declared.place.Place.{Place}
+use Rattle.dcx_answer.specs.declared.branch_tree.BranchNode.{BranchNode}
 use Rattle.dcx_answer.specs.declared.whole_answer.WholeAnswer.TheVariants.{Optimal, Infeasible}
 use Rattle.dcx_answer.specs.declared.whole_answer.BranchStop.TheVariants.{RelaxationUnbounded, NodeLimit, Node, Memory}
 use Rattle.dcx_branch.specs.Places.{places}
@@ -34,7 +35,7 @@ use Rattle.dcx_branch.specs.Rows.{node_rows}
 use Rattle.dcx_branch.specs.Between.{IsBetween}
 use Rattle.dcx_branch.specs.Leaves.{first_passing}
 use Rattle.dcx_lp_solve.specs.Stops.{run_stop}
-use Rattle.dcx_branch.specs.Run.{Best, State, start, best_value, IsPruned, IsBetter, AreWhole, IsFirstSplit, unknowns_in, Turn, Cut, Found, Divided, TurnsOut, after, IsLeafTurn, bounds_in, IsNode, leaf_passing, FormsLeaf, Steps, Reaches, here, next, Ends, PassesNodes, FallsAtRoot, NodeStops, at_rows, at_leaf, StopsAtNode}
+use Rattle.dcx_branch.specs.Run.{Best, State, start, best_value, IsPruned, IsBetter, AreWhole, IsFirstSplit, unknowns_in, Turn, Cut, Found, Divided, TurnsOut, after, IsLeafTurn, bounds_in, IsNode, leaf_passing, FormsLeaf, Steps, Reaches, here, next, Ends, Takes, no_node, one_node, EndsWith, PassesNodes, FallsAtRoot, NodeStops, at_rows, at_leaf, StopsAtNode}
 use Rattle.dcx_branch.specs.Answers.{IsPointAt, EndsAt, RunsAreOne}
 use Rattle.dcx_branch.proofs.Between.{one_between, between_not_whole}
 
@@ -170,6 +171,14 @@ module _ (p : Problem) (q : Program Frac) (limit : ℕ) where
       let before = taken_rises a b r in
       let now = step_taken b c s in
       omega arith
+
+  -- a run whose nodes are listed comes to its state
+  pub reaches : (a : State) (nodes : List BranchNode) → Takes p q limit a nodes → Reaches p q limit (start p) a
+  reaches _ _ no_node = here (start p)
+  reaches b _ (one_node a _ nodes node before step is) = next (start p) a b (reaches a nodes before) step
+
+  ended_by : (best : Option Best) (nodes : ℕ) (tree : List BranchNode) → EndsWith p q limit best nodes tree → Ends p q limit best nodes
+  ended_by best nodes tree h = reaches (record { open_boxes = []; best = best; taken = nodes }) tree h
 
   -- ---- ends
   -- no step leads on
@@ -325,32 +334,33 @@ module _ (p : Problem) (q : Program Frac) (limit : ℕ) where
     some_same : (a b : Best) → ◌≡◌ {A = Option Best} (Some a) (Some b) → a ≡ b
     some_same a b e = same_Some a b e
 
-    optimal_same : (v w : Frac) (x y : Pairs) (nodes count : ℕ) → nodes ≤ allowed → count ≤ allowed → EndsAt p q limit v x nodes → EndsAt p q limit w y count → (value v ≡ value w) × IsSamePoint p x y × (nodes ≡ count)
-    optimal_same v w x y nodes count few less h k =
-        let same = closed_same (Some h.best) (Some k.best) nodes count few less h.ends k.ends in
+    optimal_same : (v w : Frac) (x y : Pairs) (t u : List BranchNode) (nodes count : ℕ) → nodes ≤ allowed → count ≤ allowed → EndsAt p q limit v x t nodes → EndsAt p q limit w y u count →
+        (value v ≡ value w) × IsSamePoint p x y × (nodes ≡ count)
+    optimal_same v w x y t u nodes count few less h k =
+        let same = closed_same (Some h.best) (Some k.best) nodes count few less (ended_by (Some h.best) nodes t h.ends) (ended_by (Some k.best) count u k.ends) in
         let best = some_same h.best k.best same.0 in
         (h.number_is ∙ ap (λ (b : Best). b.value) best ∙ sym k.number_is, same_point h.best.unknowns k.best.unknowns x y (ap (λ (b : Best). b.unknowns) best) h.point_is k.point_is, same.1)
 
 pub runs_are_one : RunsAreOne
-runs_are_one p q limit allowed (Ok (Optimal v x t n)) (Ok (Optimal w y u m)) h k = optimal_same p q limit allowed v w x y n m h.0 k.0 h.1 k.1
-runs_are_one p q limit allowed (Ok (Optimal v x t n)) (Ok (Infeasible u m)) h k = none-some h.1.best (sym (closed_same p q limit allowed (Some h.1.best) None n m h.0 k.0 h.1.ends k.1).0)
-runs_are_one p q limit allowed (Ok (Infeasible t n)) (Ok (Optimal w y u m)) h k = none-some k.1.best (closed_same p q limit allowed None (Some k.1.best) n m h.0 k.0 h.1 k.1.ends).0
-runs_are_one p q limit allowed (Ok (Infeasible t n)) (Ok (Infeasible u m)) h k = (closed_same p q limit allowed None None n m h.0 k.0 h.1 k.1).1
-runs_are_one p q limit allowed (Ok (Optimal v x t n)) (Err RelaxationUnbounded) h k = absurd (closed_falls p q limit allowed (Some h.1.best) n h.0 h.1.ends k.0 k.1)
-runs_are_one p q limit allowed (Ok (Optimal v x t n)) (Err (NodeLimit c)) h k = absurd (closed_passes p q limit allowed (Some h.1.best) n h.0 h.1.ends k.1)
-runs_are_one p q limit allowed (Ok (Optimal v x t n)) (Err (Node m stop)) h k = absurd (closed_stops p q limit allowed (Some h.1.best) n m stop h.0 h.1.ends k.0 k.1)
+runs_are_one p q limit allowed (Ok (Optimal v x t n)) (Ok (Optimal w y u m)) h k = optimal_same p q limit allowed v w x y t u n m h.0 k.0 h.1 k.1
+runs_are_one p q limit allowed (Ok (Optimal v x t n)) (Ok (Infeasible u m)) h k = none-some h.1.best (sym (closed_same p q limit allowed (Some h.1.best) None n m h.0 k.0 (ended_by p q limit (Some h.1.best) n t h.1.ends) (ended_by p q limit None m u k.1)).0)
+runs_are_one p q limit allowed (Ok (Infeasible t n)) (Ok (Optimal w y u m)) h k = none-some k.1.best (closed_same p q limit allowed None (Some k.1.best) n m h.0 k.0 (ended_by p q limit None n t h.1) (ended_by p q limit (Some k.1.best) m u k.1.ends)).0
+runs_are_one p q limit allowed (Ok (Infeasible t n)) (Ok (Infeasible u m)) h k = (closed_same p q limit allowed None None n m h.0 k.0 (ended_by p q limit None n t h.1) (ended_by p q limit None m u k.1)).1
+runs_are_one p q limit allowed (Ok (Optimal v x t n)) (Err RelaxationUnbounded) h k = absurd (closed_falls p q limit allowed (Some h.1.best) n h.0 (ended_by p q limit (Some h.1.best) n t h.1.ends) k.0 k.1)
+runs_are_one p q limit allowed (Ok (Optimal v x t n)) (Err (NodeLimit c)) h k = absurd (closed_passes p q limit allowed (Some h.1.best) n h.0 (ended_by p q limit (Some h.1.best) n t h.1.ends) k.1)
+runs_are_one p q limit allowed (Ok (Optimal v x t n)) (Err (Node m stop)) h k = absurd (closed_stops p q limit allowed (Some h.1.best) n m stop h.0 (ended_by p q limit (Some h.1.best) n t h.1.ends) k.0 k.1)
 runs_are_one p q limit allowed (Ok (Optimal v x t n)) (Err Memory) h k = refl
-runs_are_one p q limit allowed (Ok (Infeasible t n)) (Err RelaxationUnbounded) h k = absurd (closed_falls p q limit allowed None n h.0 h.1 k.0 k.1)
-runs_are_one p q limit allowed (Ok (Infeasible t n)) (Err (NodeLimit c)) h k = absurd (closed_passes p q limit allowed None n h.0 h.1 k.1)
-runs_are_one p q limit allowed (Ok (Infeasible t n)) (Err (Node m stop)) h k = absurd (closed_stops p q limit allowed None n m stop h.0 h.1 k.0 k.1)
+runs_are_one p q limit allowed (Ok (Infeasible t n)) (Err RelaxationUnbounded) h k = absurd (closed_falls p q limit allowed None n h.0 (ended_by p q limit None n t h.1) k.0 k.1)
+runs_are_one p q limit allowed (Ok (Infeasible t n)) (Err (NodeLimit c)) h k = absurd (closed_passes p q limit allowed None n h.0 (ended_by p q limit None n t h.1) k.1)
+runs_are_one p q limit allowed (Ok (Infeasible t n)) (Err (Node m stop)) h k = absurd (closed_stops p q limit allowed None n m stop h.0 (ended_by p q limit None n t h.1) k.0 k.1)
 runs_are_one p q limit allowed (Ok (Infeasible t n)) (Err Memory) h k = refl
-runs_are_one p q limit allowed (Err RelaxationUnbounded) (Ok (Optimal v x t n)) h k = absurd (closed_falls p q limit allowed (Some k.1.best) n k.0 k.1.ends h.0 h.1)
-runs_are_one p q limit allowed (Err (NodeLimit c)) (Ok (Optimal v x t n)) h k = absurd (closed_passes p q limit allowed (Some k.1.best) n k.0 k.1.ends h.1)
-runs_are_one p q limit allowed (Err (Node m stop)) (Ok (Optimal v x t n)) h k = absurd (closed_stops p q limit allowed (Some k.1.best) n m stop k.0 k.1.ends h.0 h.1)
+runs_are_one p q limit allowed (Err RelaxationUnbounded) (Ok (Optimal v x t n)) h k = absurd (closed_falls p q limit allowed (Some k.1.best) n k.0 (ended_by p q limit (Some k.1.best) n t k.1.ends) h.0 h.1)
+runs_are_one p q limit allowed (Err (NodeLimit c)) (Ok (Optimal v x t n)) h k = absurd (closed_passes p q limit allowed (Some k.1.best) n k.0 (ended_by p q limit (Some k.1.best) n t k.1.ends) h.1)
+runs_are_one p q limit allowed (Err (Node m stop)) (Ok (Optimal v x t n)) h k = absurd (closed_stops p q limit allowed (Some k.1.best) n m stop k.0 (ended_by p q limit (Some k.1.best) n t k.1.ends) h.0 h.1)
 runs_are_one p q limit allowed (Err Memory) (Ok (Optimal v x t n)) h k = refl
-runs_are_one p q limit allowed (Err RelaxationUnbounded) (Ok (Infeasible t n)) h k = absurd (closed_falls p q limit allowed None n k.0 k.1 h.0 h.1)
-runs_are_one p q limit allowed (Err (NodeLimit c)) (Ok (Infeasible t n)) h k = absurd (closed_passes p q limit allowed None n k.0 k.1 h.1)
-runs_are_one p q limit allowed (Err (Node m stop)) (Ok (Infeasible t n)) h k = absurd (closed_stops p q limit allowed None n m stop k.0 k.1 h.0 h.1)
+runs_are_one p q limit allowed (Err RelaxationUnbounded) (Ok (Infeasible t n)) h k = absurd (closed_falls p q limit allowed None n k.0 (ended_by p q limit None n t k.1) h.0 h.1)
+runs_are_one p q limit allowed (Err (NodeLimit c)) (Ok (Infeasible t n)) h k = absurd (closed_passes p q limit allowed None n k.0 (ended_by p q limit None n t k.1) h.1)
+runs_are_one p q limit allowed (Err (Node m stop)) (Ok (Infeasible t n)) h k = absurd (closed_stops p q limit allowed None n m stop k.0 (ended_by p q limit None n t k.1) h.0 h.1)
 runs_are_one p q limit allowed (Err Memory) (Ok (Infeasible t n)) h k = refl
 runs_are_one p q limit allowed (Err RelaxationUnbounded) (Err RelaxationUnbounded) h k = λ a b. refl
 runs_are_one p q limit allowed (Err RelaxationUnbounded) (Err (NodeLimit c)) h k = λ a b. absurd (not_passing p q limit allowed (start p) (falls p q limit allowed h.0 h.1) k.1)

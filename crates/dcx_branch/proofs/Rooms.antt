@@ -1,23 +1,27 @@
--- What the bounds of the box of sides are: they fit, and name known unknowns.
+-- What the bounds of a box are: they fit, and name known unknowns.
 use Rattle.std.proofs.Common.{◌≡◌, ℕ, zero, suc, ◌+◌, ◌≤◌, ◌<◌, ◌^◌, Bool, true, false, if◌then◌else◌, List, [], ◌∷◌, Option, Some, None, refl, subst, arith, lit<}
-use Rattle.std.specs.Prelude.{ℤ, pos, negsuc, ◌+ℤ◌, unsigned_abs}
+use Rattle.std.specs.Prelude.{ℤ, pos, negsuc, ◌+ℤ◌, unsigned_abs, nat_lt, slice_get}
 use Rattle.std.specs.List.{All}
 use Rattle.std.proofs.lemmas.Int.{ints}
 use Rattle.std.proofs.lemmas.List.Elements.{All-nil, All-cons, All-head, All-tail, All-append}
 use Rattle.std.proofs.lemmas.Option.{none-some, same_Some}
 use Rattle.dcx_frac.specs.Fits.{Fits}
+use Rattle.dcx_shape.specs.Shape.{sides_of}
+use Rattle.dcx_shape.specs.Sides.{entries_of}
+use Rattle.dcx_call.specs.declared.attribute.Variable.{Variable}
 use Rattle.dcx_call.specs.declared.attribute.Whole.{Whole}
 use Rattle.dcx_call.specs.declared.attribute.Whole.TheVariants.{Not, Integer, Boolean}
-use Rattle.dcx_right.specs.Boxes.{Bounds, mark_bounds, is_entry}
+use Rattle.dcx_tree.specs.declared.problem.Problem.{Problem}
+use Rattle.dcx_right.specs.Boxes.{Bounds, unbounded, Box, mark_bounds, root_bounds, root_box, is_entry, at_most, at_least}
 use Rattle.dcx_branch.specs.declared.place.Place.{Place}
 use Rattle.dcx_branch.specs.declared.bound.BoundAt.{BoundAt}
 use Rattle.dcx_branch.specs.declared.side.Side.{Side}
 use Rattle.dcx_branch.specs.Between.{HasRoom}
-use Rattle.dcx_branch.specs.Rows.{bound_of, bounds_of}
+use Rattle.dcx_branch.specs.Rows.{bound_of, bounds_of, all_bounds}
 use Rattle.dcx_branch.specs.Sides.{side_bounds, sided, box_bounds}
 
 -- ---- limits with room fit, and so do the next integers
-size_fits : (n : ℕ) → n ≤ 2 ^ 126 + 1 → n < 2 ^ 127
+pub size_fits : (n : ℕ) → n ≤ 2 ^ 126 + 1 → n < 2 ^ 127
 size_fits n h = omega arith
 
 next_size : (n : ℤ) → unsigned_abs (n +ℤ pos 1) ≤ unsigned_abs n + 1
@@ -33,12 +37,12 @@ next_fits n h = let s = next_size n in size_fits (unsigned_abs (n +ℤ pos 1)) (
 
 -- ---- bounds of one entry
 -- where there is one, it fits
-abbrev FitsIf : Option ℤ → Type 0
+abbrev pub FitsIf : Option ℤ → Type 0
 FitsIf o = (n : ℤ) → o ≡ Some n → Fits n
 
-record FitBounds (b : Bounds) : Type 0 where
-  lower : FitsIf b.lower
-  upper : FitsIf b.upper
+pub record FitBounds (b : Bounds) : Type 0 where
+  pub lower : FitsIf b.lower
+  pub upper : FitsIf b.upper
 
 fits_none : FitsIf None
 fits_none n e = absurd (none-some n e)
@@ -67,6 +71,29 @@ sided_fits b k j (d ∷ ds) h =
     sided_fits (if is_entry d.place.variable d.place.entry k j then side_bounds d b else b) k j ds
     (chosen (is_entry d.place.variable d.place.entry k j) (side_bounds d b) b (side_fits d b h) h)
 
+-- ---- boxes
+-- the bounds of each entry fit
+abbrev pub FitBox : Box → Type 0
+FitBox box = (k j : ℕ) → FitBounds (box k j)
+
+none_fits : FitBounds unbounded
+none_fits = record { lower = fits_none; upper = fits_none }
+
+pub root_fits : (p : Problem) → FitBox (root_box p)
+root_fits p k j = by (slice_get p.variables k)
+  where
+    by : (o : Option Variable) → FitBounds (root_bounds o j)
+    by None = none_fits
+    by (Some v) = chosen (nat_lt j (entries_of (sides_of v.shape))) (mark_bounds v.whole) unbounded (mark_fits v.whole) none_fits
+
+pub at_most_fits : (box : Box) (k j : ℕ) (n : ℤ) → Fits n → FitBox box → FitBox (at_most box k j n)
+at_most_fits box k j n small h i e =
+    chosen (is_entry k j i e) (record { lower = (box i e).lower; upper = Some n }) (box i e) (record { lower = (h i e).lower; upper = fits_some n small }) (h i e)
+
+pub at_least_fits : (box : Box) (k j : ℕ) (n : ℤ) → Fits n → FitBox box → FitBox (at_least box k j n)
+at_least_fits box k j n small h i e =
+    chosen (is_entry k j i e) (record { lower = Some n; upper = (box i e).upper }) (box i e) (record { lower = fits_some n small; upper = (h i e).upper }) (h i e)
+
 -- ---- all bounds
 -- what holds of each bound of an entry
 module _ (P : BoundAt → Type 0) where
@@ -91,6 +118,13 @@ bounds_fit (q ∷ ps) ds =
     All-append LimitFits (bounds_of q b) (box_bounds ps ds)
     (of_bounds LimitFits q b (λ upper m e. limit_fits b (sided_fits (mark_bounds q.whole) q.variable q.entry ds (mark_fits q.whole)) upper m e))
     (bounds_fit ps ds)
+
+-- those of a box
+pub all_fit : (ps : List Place) (box : Box) → FitBox box → All (λ (b : BoundAt). Fits b.limit) (all_bounds ps box)
+all_fit [] box h = All-nil LimitFits
+all_fit (q ∷ ps) box h =
+    let b = box q.variable q.entry in
+    All-append LimitFits (bounds_of q b) (all_bounds ps box) (of_bounds LimitFits q b (λ upper m e. limit_fits b (h q.variable q.entry) upper m e)) (all_fit ps box h)
 
 pub bounds_known : (n : ℕ) (ps : List Place) (ds : List Side) → All (λ (q : Place). q.unknown < n) ps → All (λ (b : BoundAt). b.place.unknown < n) (box_bounds ps ds)
 bounds_known n [] ds h = All-nil (λ (b : BoundAt). b.place.unknown < n)

@@ -14,6 +14,7 @@ use Rattle.dcx_std.proofs.RightAnswers.{one_sided}
 use Rattle.dcx_lp_solve.specs.declared.solving.Solved.{Solved}
 use Rattle.dcx_lp_solve.specs.Solved.{IsSolved}
 use Rattle.dcx_lp_solve.proofs.Counts.{HasCounts, counts_of}
+use Rattle.dcx_lp_solve.proofs.Right.{answers_are_right}
 use Rattle.dcx_unknowns.specs.Layout.{constraint_rows}
 use Rattle.dcx_postsolve.specs.Programs.{gap_rows, bound_row}
 use Rattle.dcx_postsolve.proofs.ColumnParts.{columns_tell}
@@ -54,6 +55,6 @@ module _ (q : Program Frac) (limit : ℕ) (bs : List BoundAt) (s : Solved) (is :
   tells =
       let t = columns_tell (node_rows q bs) s.program (map value s.answer.columns) is.made (length-map s.answer.columns value ∙ counts.columns) in
       record {
-        columns = record { there = t.there; one_sided = t.one_sided (one_sided s.answer.status s.program s.answer is.solved.right) };
+        columns = record { there = t.there; one_sided = t.one_sided (one_sided s.answer.status s.program s.answer (answers_are_right limit (node_rows q bs) s is)) };
         same = t.same;
       }

@@ -3,16 +3,19 @@ use Rattle.std.specs.Prelude.{◌≡◌, ◌≢◌, ⊤, ℕ, ◌<◌, ◌≤◌
 use Rattle.dcx_frac.specs.declared.fraction.Frac.{Frac}
 use Rattle.dcx_frac.specs.Frac.{value}
 use Rattle.dcx_point.specs.Pairs.{Pairs}
+use Rattle.dcx_convex.specs.Nodes.{Setting}
 use Rattle.dcx_tree.specs.declared.problem.Problem.{Problem}
 use Rattle.dcx_linear.specs.FormTerms.{Unknowns}
 use Rattle.dcx_postsolve.specs.Points.{numbered, IsPointOf}
 use Rattle.dcx_graph.specs.Program.{Program}
-use Rattle.dcx_graph.specs.Answers.{IsSamePoint}
+use Rattle.dcx_graph.specs.Answers.{IsReducedAt, IsSamePoint}
+use Rattle.dcx_right.specs.WholeAnswers.{IsRightFor}
+use Rattle.dcx_answer.specs.declared.branch_tree.BranchNode.{BranchNode}
 use Rattle.dcx_answer.specs.declared.whole_answer.WholeAnswer.{WholeAnswer}
 use Rattle.dcx_answer.specs.declared.whole_answer.WholeAnswer.TheVariants.{Optimal, Infeasible}
 use Rattle.dcx_answer.specs.declared.whole_answer.BranchStop.{BranchStop}
 use Rattle.dcx_answer.specs.declared.whole_answer.BranchStop.TheVariants.{RelaxationUnbounded, NodeLimit, Node, Memory}
-use Rattle.dcx_branch.specs.Run.{Best, Ends, PassesNodes, FallsAtRoot, StopsAtNode}
+use Rattle.dcx_branch.specs.Run.{Best, EndsWith, PassesNodes, FallsAtRoot, StopsAtNode}
 
 -- ---- in words of the run
 -- the point has the arrays of these unknowns
@@ -21,21 +24,27 @@ pub record IsPointAt (p : Problem) (u : Unknowns) (point : Pairs) : Type 0 where
   pub are : (n : ℕ) → numbered numbers n ≡ u n
   pub of_variables : IsPointOf p.variables numbers point
 
--- the run ends with this point
-pub record EndsAt (p : Problem) (q : Program Frac) (limit : ℕ) (number : Frac) (point : Pairs) (nodes : ℕ) : Type 0 where
+-- the run ends with this point and this tree
+pub record EndsAt (p : Problem) (q : Program Frac) (limit : ℕ) (number : Frac) (point : Pairs) (tree : List BranchNode) (nodes : ℕ) : Type 0 where
   pub best : Best
-  pub ends : Ends p q limit (Some best) nodes
+  pub ends : EndsWith p q limit (Some best) nodes tree
   pub number_is : value number ≡ best.value
   pub point_is : IsPointAt p best.unknowns point
 
 -- the run of nodes ends so, or stops so, where so many nodes are allowed; want of memory is free
 abbrev pub IsEndOf : Problem → Program Frac → ℕ → ℕ → Result WholeAnswer BranchStop → Type 0
-IsEndOf p q limit allowed (Ok (Optimal number point tree nodes)) = (nodes ≤ allowed) × EndsAt p q limit number point nodes
-IsEndOf p q limit allowed (Ok (Infeasible tree nodes)) = (nodes ≤ allowed) × Ends p q limit None nodes
+IsEndOf p q limit allowed (Ok (Optimal number point tree nodes)) = (nodes ≤ allowed) × EndsAt p q limit number point tree nodes
+IsEndOf p q limit allowed (Ok (Infeasible tree nodes)) = (nodes ≤ allowed) × EndsWith p q limit None nodes tree
 IsEndOf p q limit allowed (Err RelaxationUnbounded) = (0 < allowed) × FallsAtRoot p q limit
 IsEndOf p q limit allowed (Err (NodeLimit count)) = (count ≡ allowed) × PassesNodes p q limit allowed
 IsEndOf p q limit allowed (Err (Node node stop)) = (node ≤ allowed) × StopsAtNode p q limit node stop
 IsEndOf p q limit allowed (Err Memory) = ⊤
+
+-- ---- right
+-- a run over a reduced program of a problem at a setting has the right end for the problem there: a whole optimum or that there is none,
+-- with a tree that shows it
+abbrev pub RunsAreRight : Type 0
+RunsAreRight = (p : Problem) (s : Setting) (q : Program Frac) (limit allowed : ℕ) (a : WholeAnswer) → IsReducedAt p s q → IsEndOf p q limit allowed (Ok a) → IsRightFor p s a
 
 -- ---- one end
 abbrev pub IsSameAnswer : Problem → WholeAnswer → WholeAnswer → Type 0

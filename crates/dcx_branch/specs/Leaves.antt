@@ -9,12 +9,15 @@ use Rattle.dcx_answer.specs.declared.stop.Stop.TheVariants as why
 use Rattle.dcx_answer.specs.declared.site.Site.TheVariants as sites
 use Rattle.dcx_linear.specs.declared.row.RowKind.TheVariants.{AtMost}
 use Rattle.dcx_lp_answer.specs.declared.answer.LpAnswer.{LpAnswer}
+use Rattle.dcx_lp_answer.specs.declared.answer.LpStatus.TheVariants as status
 use Rattle.dcx_lp_answer.specs.declared.stop.MultiplierStop.{MultiplierStop}
 use Rattle.dcx_lp_answer.specs.declared.stop.MultiplierStop.TheVariants as multipliers
 use Rattle.dcx_lp_answer.specs.Multipliers.{multiplier_of, passing_from}
 use Rattle.dcx_postsolve.specs.Duals.{all_multipliers, AreDuals}
 use Rattle.dcx_branch.specs.declared.bound.BoundAt.{BoundAt}
 use Rattle.dcx_answer.specs.declared.branch_tree.BoundWeight.{BoundWeight}
+use Rattle.dcx_answer.specs.declared.branch_tree.BranchNode.{BranchNode}
+use Rattle.dcx_answer.specs.declared.branch_tree.BranchNode.TheVariants.{Bound, Empty, Split}
 
 -- ---- bounds
 -- bounds with these multipliers
@@ -37,6 +40,12 @@ pub record AreBoundDuals (a : LpAnswer) (first : ℕ) (bs : List BoundAt) (ds : 
 pub record IsLeaf (p : Problem) (a : LpAnswer) (first : ℕ) (bs : List BoundAt) (duals : List Array) (bounds : List BoundWeight) : Type 0 where
   pub constraints : AreDuals a.status p.constraints a.rows duals
   pub bounds_are : AreBoundDuals a first bs bounds
+
+-- the leaf has the multipliers that the answer shows
+abbrev pub IsLeafOf : Problem → LpAnswer → ℕ → List BoundAt → BranchNode → Type 0
+IsLeafOf p a first bs (Bound duals bounds) = (a.status ≡ status.Optimal) × IsLeaf p a first bs duals bounds
+IsLeafOf p a first bs (Empty duals bounds gap) = (a.status ≡ status.Infeasible) × (gap ≡ a.number) × IsLeaf p a first bs duals bounds
+IsLeafOf p a first bs (Split k j n) = ⊥
 
 abbrev pub or_else : {A : Type 0} → Option A → Option A → Option A
 or_else None y = y

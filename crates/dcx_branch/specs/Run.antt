@@ -1,5 +1,6 @@
--- The run of nodes: which boxes are open, the best point so far, and how many nodes are taken. It ends where no box is open.
-use Rattle.std.specs.Prelude.{◌≡◌, ◌≢◌, ⊤, ◌⊎◌, ℕ, suc, ◌<◌, List, [], ◌∷◌, length, map, Option, Some, None, slice_get, ℤ, ◌+ℤ◌, pos}
+-- The run of nodes: which boxes are open, the best point so far, how many nodes are taken, and the tree that they are listed in. It ends
+-- where no box is open.
+use Rattle.std.specs.Prelude.{◌≡◌, ◌≢◌, ⊤, ◌⊎◌, ℕ, suc, ◌<◌, List, [], ◌∷◌, ◌++◌, length, map, Option, Some, None, slice_get, ℤ, ◌+ℤ◌, pos}
 use Rattle.dcx_math.specs.Rational.{ℚ, ◌≤ℚ◌, ◌<ℚ◌}
 use Rattle.dcx_frac.specs.declared.fraction.Frac.{Frac}
 use Rattle.dcx_frac.specs.declared.fraction.Passes.{Passes}
@@ -17,16 +18,18 @@ use Rattle.dcx_lp_solve.specs.declared.stop.SolveStop.{SolveStop}
 use Rattle.dcx_lp_solve.specs.declared.stop.SolveStop.TheVariants as solves
 use Rattle.dcx_lp_solve.specs.Solved.{IsSolved, Stops as RowsStop}
 use Rattle.dcx_lp_solve.specs.Stops.{run_stop}
-use Rattle.dcx_std.specs.Solutions.{unknowns_at}
+use Rattle.dcx_std.specs.Solutions.{HasKinds, unknowns_at}
 use Rattle.dcx_graph.specs.Program.{Program}
 use Rattle.dcx_right.specs.Points.{IsWhole}
 use Rattle.dcx_right.specs.Boxes.{Box, root_box, at_most, at_least}
+use Rattle.dcx_answer.specs.declared.branch_tree.BranchNode.{BranchNode}
+use Rattle.dcx_answer.specs.declared.branch_tree.BranchNode.TheVariants.{Split}
 use Rattle.dcx_branch.specs.declared.place.Place.{Place}
 use Rattle.dcx_branch.specs.declared.bound.BoundAt.{BoundAt}
 use Rattle.dcx_branch.specs.Places.{places}
 use Rattle.dcx_branch.specs.Rows.{node_rows, all_bounds}
 use Rattle.dcx_branch.specs.Between.{IsBetween}
-use Rattle.dcx_branch.specs.Leaves.{first_passing}
+use Rattle.dcx_branch.specs.Leaves.{IsLeafOf, first_passing}
 
 -- ---- states
 -- a point, by the numbers of the unknowns, with its value
@@ -120,12 +123,13 @@ module _ (p : Problem) (q : Program Frac) (limit : ℕ) where
   FormsLeaf box s Found = leaf_passing box s ≡ None
   FormsLeaf box s (Divided place n) = ⊤
 
-  -- one node: of two sides the lower one comes next, with all that follows from it
+  -- one node, whose rows name unknowns of their own alone: of two sides the lower one comes next, with all that follows from it
   pub record Steps (a b : State) : Type 0 where
     pub box : Box
     pub rest : List Box
     pub first : a.open_boxes ≡ box ∷ rest
     pub solved : Solved
+    pub known : HasKinds (node_rows q (bounds_in p box))
     pub node : IsNode box solved
     pub turn : Turn
     pub turns : TurnsOut (places p.variables) (best_value a.best) solved.program solved.answer turn
@@ -139,6 +143,22 @@ pub data Reaches (p : Problem) (q : Program Frac) (limit : ℕ) : State → Stat
 -- the run ends with this best point and so many nodes
 abbrev pub Ends : Problem → Program Frac → ℕ → Option Best → ℕ → Type 0
 Ends p q limit best nodes = Reaches p q limit (start p) (record { open_boxes = []; best = best; taken = nodes })
+
+-- ---- the tree
+-- a node is listed as a leaf with the multipliers that the answer shows, or as its split
+abbrev pub IsListed : Problem → Program Frac → Box → Solved → Turn → BranchNode → Type 0
+IsListed p q box s Cut node = IsLeafOf p s.answer (length q.rows) (bounds_in p box) node
+IsListed p q box s Found node = IsLeafOf p s.answer (length q.rows) (bounds_in p box) node
+IsListed p q box s (Divided place n) node = node ≡ Split place.variable place.entry n
+
+-- the run comes to this state, and the nodes that are taken are listed so, in order
+pub data Takes (p : Problem) (q : Program Frac) (limit : ℕ) : State → List BranchNode → Type 0 where
+  no_node : Takes p q limit (start p) []
+  one_node : (a b : State) (nodes : List BranchNode) (node : BranchNode) → Takes p q limit a nodes → (step : Steps p q limit a b) → IsListed p q step.box step.solved step.turn node → Takes p q limit b (nodes ++ node ∷ [])
+
+-- the run ends with this best point, so many nodes and this tree
+abbrev pub EndsWith : Problem → Program Frac → ℕ → Option Best → ℕ → List BranchNode → Type 0
+EndsWith p q limit best nodes tree = Takes p q limit (record { open_boxes = []; best = best; taken = nodes }) tree
 
 -- ---- stops
 -- the run has more nodes than so many

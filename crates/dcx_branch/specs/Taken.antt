@@ -22,7 +22,6 @@ use Rattle.dcx_graph.specs.Program.{Program}
 use Rattle.dcx_graph.specs.Answers.{TellUnknowns}
 use Rattle.dcx_branch.specs.declared.bound.BoundAt.{BoundAt}
 use Rattle.dcx_answer.specs.declared.branch_tree.BranchNode.{BranchNode}
-use Rattle.dcx_answer.specs.declared.branch_tree.BranchNode.TheVariants.{Bound, Empty, Split}
 use Rattle.dcx_branch.specs.declared.node.Node.{Node}
 use Rattle.dcx_branch.specs.declared.node.Taken.{Taken}
 use Rattle.dcx_branch.specs.declared.node.Taken.TheVariants as taken
@@ -31,7 +30,7 @@ use Rattle.dcx_branch.specs.declared.node.NodeStop.TheVariants as stops
 use Rattle.dcx_branch.specs.Between.{HasRoom}
 use Rattle.dcx_branch.specs.Places.{places}
 use Rattle.dcx_branch.specs.Rows.{node_rows}
-use Rattle.dcx_branch.specs.Leaves.{IsLeaf, first_passing}
+use Rattle.dcx_branch.specs.Leaves.{IsLeafOf, first_passing}
 use Rattle.dcx_branch.specs.Run.{Turn, Cut, Found, Divided, TurnsOut, IsLeafTurn, unknowns_in, NodeStops}
 use Rattle.dcx_branch.specs.Answers.{IsPointAt}
 
@@ -58,12 +57,6 @@ pub record TellsUnknowns (kinds : List UnknownKind) (program : tab.Program) (a :
   pub same : (u : ℕ) → rat_at (unknown_numbers kinds (map value a.columns)) u ≡ unknowns_in program a u
 
 -- ---- leaves
--- the leaf has the multipliers that the answer shows
-abbrev pub IsLeafOf : Problem → LpAnswer → ℕ → List BoundAt → BranchNode → Type 0
-IsLeafOf p a first bs (Bound duals bounds) = (a.status ≡ status.Optimal) × IsLeaf p a first bs duals bounds
-IsLeafOf p a first bs (Empty duals bounds gap) = (a.status ≡ status.Infeasible) × (gap ≡ a.number) × IsLeaf p a first bs duals bounds
-IsLeafOf p a first bs (Split k j n) = ⊥
-
 -- a leaf without a better point
 abbrev pub made_leaf : Result BranchNode Stop → Result Taken NodeStop
 made_leaf (Ok leaf) = Ok (taken.Leaf leaf)

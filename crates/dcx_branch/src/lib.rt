@@ -8,8 +8,8 @@
 //!
 //! | what must hold | where |
 //! |---|---|
-//! | an answer is a whole optimum with a tree that shows it, or a tree that shows that there is no whole point | `branch`, `IsRightFor` in `WholeAnswers` of `dcx_right` |
-//! | the run ends so, with so many nodes; what stops it | `branch`, `specs/Answers.antt`: `IsEndOf`; `specs/Run.antt` |
+//! | the run ends so, with so many nodes, listed in this tree; what stops it | `branch`, `specs/Answers.antt`: `IsEndOf`; `specs/Run.antt` |
+//! | such an end is right: a whole optimum with a tree that shows it, or a tree that shows that there is no whole point | `laws::runs_are_right`, `branch`, `IsRightFor` in `WholeAnswers` of `dcx_right` |
 //! | a run has one end | `laws::runs_are_one` |
 //! | reduced programs have what `branch` asks of them | `laws::programs_have_unknowns` |
 //! | the linear program of a node, and which bounds are those of its box | `specs/Nodes.antt` |

@@ -13,9 +13,9 @@ ghost use Rattle.dcx_branch.specs.Between.{HasRoom, IsBetween};
 ghost use Rattle.dcx_branch.specs.Places.{places as places_by};
 ghost use Rattle.dcx_branch.specs.Rows.{node_rows as rows_by};
 ghost use Rattle.dcx_branch.specs.Sides.{box_bounds};
-ghost use Rattle.dcx_branch.specs.Leaves.{StopsLeaf};
+ghost use Rattle.dcx_branch.specs.Leaves.{StopsLeaf, IsLeafOf};
 ghost use Rattle.dcx_branch.specs.Run.{AreWhole, IsFirstSplit, IsPruned, IsBetter, unknowns_in};
-ghost use Rattle.dcx_branch.specs.Taken.{IsNodeOf, HasNotes, TellsUnknowns, IsLeafOf, made_leaf, IsTaken, StopsJudging, TakenAs, StopsTaking};
+ghost use Rattle.dcx_branch.specs.Taken.{IsNodeOf, HasNotes, TellsUnknowns, made_leaf, IsTaken, StopsJudging, TakenAs, StopsTaking};
 
 use crate::bound::BoundAt;
 use crate::leaf::leaf_of;

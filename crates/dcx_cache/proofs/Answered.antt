@@ -15,6 +15,7 @@ use Rattle.dcx_std.specs.IntegerRows.{IsMade}
 use Rattle.dcx_lp_solve.specs.declared.solving.Solved.{Solved}
 use Rattle.dcx_lp_solve.specs.Solved.{IsSolved}
 use Rattle.dcx_lp_solve.proofs.Counts.{counts_of}
+use Rattle.dcx_lp_solve.proofs.Right.{answers_are_right as solved_right}
 use Rattle.dcx_graph.specs.Program.{Program}
 use Rattle.dcx_graph.specs.Reduced.{Reduction}
 use Rattle.dcx_graph.specs.Answers.{rows_of, HasParts, IsAnswered}
@@ -61,7 +62,7 @@ module _ (p : Problem) (setting : Pairs) (ok : IsAccepted p) (fits : FitsParamet
   pub is_answered : (limit : ℕ) (q : Program Frac) (s : Solved) → SessionGives p setting (Ok q) → IsSolved limit (rows_of q) s → IsAnswered p (setting_of p setting) q s.answer
   is_answered limit q s g h =
       let counts = counts_of s.program _ h.solved.end s.answer h.solved.read in
-      answered_by q s.program s.answer g h.made (record { columns = counts.columns; ray = counts.ray; notes = counts.rows }) h.solved.right
+      answered_by q s.program s.answer g h.made (record { columns = counts.columns; ray = counts.ray; notes = counts.rows }) (solved_right limit (rows_of q) s h)
 
   -- and the setting fits
   pub is_fitting : (q : Program Frac) → SessionGives p setting (Ok q) → IsFitting p setting

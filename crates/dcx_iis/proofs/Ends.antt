@@ -27,11 +27,12 @@ use Rattle.dcx_lp_solve.proofs.OneSolution as one
 use Rattle.dcx_graph.specs.Program.{Program}
 use Rattle.dcx_answer.specs.declared.filtered.Filtered.TheVariants as filtered
 use Rattle.dcx_iis.specs.Sets.{ConstraintSet, every_constraint, set_of, KeepsSet, StayBelow, IsFilterSet}
-use Rattle.dcx_iis.specs.Steps.{kept_of, program_of_set, step_set, HasAnswer, IsReadIn, IsLastImpossible, StopsInStep, StopsAtMultiplier, StopsAt, in_step, at_multiplier}
-use Rattle.dcx_iis.specs.Found.{IsFeasiblePoint, AreFound}
+use Rattle.dcx_iis.specs.Steps.{kept_of, program_of_set, step_set, HasAnswer, IsLastImpossible, StopsInStep, StopsAtMultiplier, StopsAt, in_step, at_multiplier}
+use Rattle.dcx_iis.specs.Found.{IsFeasiblePoint, IsPossible, AreFound}
 use Rattle.dcx_iis.specs.Laws.{FilterSetsAreMinimal, FilterSetsAreOne, ProgramsTell, FoundOrStopped, StopsAreOne}
 use Rattle.dcx_iis.proofs.Sets.{beside_same, filter_set_is_minimal, one_filter_set, same_below}
 use Rattle.dcx_iis.proofs.Kept.{kept_same}
+use Rattle.dcx_iis.proofs.Right.{answers_before, found_is_right}
 use Rattle.dcx_iis.proofs.Telling.{only, solution_keeps, infeasible_only, only_impossible, program_same}
 use Rattle.dcx_postsolve.specs.Programs.{multipliers_of}
 
@@ -138,26 +139,29 @@ module _ (p : Problem) (s : Setting) (q : Program Frac) (limit : ℕ) where
   keeps_all : (point : Pairs) → IsFeasiblePoint p s point → KeepsSet p s every_constraint (point_of p point)
   keeps_all point f = record { domain = f.feasible.domain; keeps = λ k t c at j l. f.feasible.holds k c at j l }
 
-  point_apart : (step : ℕ) (stop : Stop) (point : Pairs) → IsFeasiblePoint p s point → IsReadIn p q limit every_constraint 0 point → StopsAt p s q limit step stop → ⊥
-  point_apart zero stop point f r (in_step h) = answer_apart every_constraint h.set zero refl (r.solved, r.is_solved) h.inner h.some h.stops
+  point_apart : (step : ℕ) (stop : Stop) (point : Pairs) → IsFeasiblePoint p s point → IsPossible p q limit point → StopsAt p s q limit step stop → ⊥
+  point_apart zero stop point f r (in_step h) = answer_apart every_constraint h.set zero refl (r.solved, r.is_step.is_solved) h.inner h.some h.stops
   point_apart (suc k) stop point f r (in_step h) = h.impossible (omega arith) (point_of p point) (keeps_all point f)
   point_apart step stop point f r (at_multiplier h) = h.filter.impossible (point_of p point) (keeps_all point f)
 
   members_apart : (step : ℕ) (stop : Stop) (members : List ℕ) (duals : List Array) (gap : Frac) (points : List Pairs) → IsFilterSet p s (set_of members) →
-      AreFound p q limit (set_of members) members duals gap points → StopsAt p s q limit step stop → ⊥
-  members_apart step stop members duals gap points f found (in_step h) = answered_apart step stop h (set_of members) (of_filter step (set_of members) h.within f) (found.answers step h.within)
+      AreFound p q limit members duals gap points → StopsAt p s q limit step stop → ⊥
+  members_apart step stop members duals gap points f found (in_step h) =
+      answered_apart step stop h (set_of members) (of_filter step (set_of members) h.within f) (answers_before p q limit (set_of members) (length p.constraints) found.first found.decided step h.within)
   members_apart step stop members duals gap points f found (at_multiplier h) =
+      let (solved, is_step, infeasible, same) = found.shown in
       let sets = one_filter_set p s h.set (set_of members) h.filter f in
-      let answers = one_answer h.set (set_of members) h.solved found.solved sets h.is_solved found.is_solved in
+      let answers = one_answer h.set (set_of members) h.solved solved sets h.is_solved is_step.is_solved ∙ sym same in
       let cs = kept_same h.set (set_of members) 0 p.constraints (λ m a b. sets m (omega (arith, b))) in
-      let none = (are_one status.Infeasible (kept_of (set_of members) p.constraints) found.solved.answer.rows).none_passes (kept_of (set_of members) duals) found.formed in
+      let none = (are_one status.Infeasible (kept_of (set_of members) p.constraints) found.answer.rows).none_passes (kept_of (set_of members) duals) found.formed in
       none-some (h.row, h.passes)
       (sym none ∙ ap (λ (a : LpAnswer). passing_from 0 (all_multipliers status.Infeasible (kept_of (set_of members) p.constraints) a.rows)) (sym answers)
       ∙ ap (λ (xs : List Constraint). passing_from 0 (all_multipliers status.Infeasible xs h.solved.answer.rows)) (sym cs) ∙ h.first)
 
 pub found_or_stopped : FoundOrStopped
-found_or_stopped p s q limit step (filtered.Feasible point) stop right found h = point_apart p s q limit step stop point right found h
-found_or_stopped p s q limit step (filtered.Infeasible members duals gap points) stop right found h = members_apart p s q limit step stop members duals gap points right.filter found h
+found_or_stopped p s q limit step (filtered.Feasible point) stop is found h = point_apart p s q limit step stop point (found_is_right p s q limit (filtered.Feasible point) is found) found h
+found_or_stopped p s q limit step (filtered.Infeasible members duals gap points) stop is found h =
+    members_apart p s q limit step stop members duals gap points (found_is_right p s q limit (filtered.Infeasible members duals gap points) is found).filter found h
 
 pub stops_are_one : StopsAreOne
 stops_are_one p s q limit step other stop also h k = one_stop p s q limit step other stop also h k

@@ -23,8 +23,8 @@ use Rattle.dcx_answer.specs.declared.filter_stop.FilterStop.TheVariants as filte
 use Rattle.dcx_iis.specs.declared.trying.Tried.TheVariants as tried
 use Rattle.dcx_iis.specs.declared.left.Left.{Left}
 use Rattle.dcx_iis.specs.Sets.{ConstraintSet, every_constraint, flagged, left_beside}
-use Rattle.dcx_iis.specs.Steps.{kept_of, program_of_set, step_set, IsReadAt}
-use Rattle.dcx_iis.specs.Runs.{IsStep, IsTried, step_stop, StopsTry, IsShownImpossible, IsDecided, numbers_from, IsLeft, StopsRun}
+use Rattle.dcx_iis.specs.Steps.{kept_of, program_of_set, step_set, IsStep, IsShownImpossible, IsDecided, IsReadAt}
+use Rattle.dcx_iis.specs.Runs.{IsTried, step_stop, StopsTry, numbers_from, IsLeft, StopsRun}
 use Rattle.dcx_iis.proofs.Sets.{beside_same, beside_itself, beside_behind}
 use Rattle.dcx_iis.proofs.Flags.{flagged_all, flagged_cleared, flags_restored, numbers_stay, numbers_cleared, numbers_below, zip_push, zip_weaker}
 

@@ -2,11 +2,12 @@
 pub mod Sets
 pub mod Kept
 pub mod Telling
-pub mod Ends
-pub mod OneFound
 pub mod Spread
 pub mod Shown
 pub mod Flags
+pub mod Right
+pub mod Ends
+pub mod OneFound
 pub mod Going
 pub mod Finding
 pub mod Loops

@@ -19,7 +19,6 @@ use Rattle.dcx_right.specs.Answers.{multipliers_in}
 use Rattle.dcx_postsolve.proofs.DualLaws.{are_one}
 use Rattle.dcx_lp_answer.specs.declared.answer.LpStatus.TheVariants as status
 use Rattle.dcx_lp_answer.specs.declared.answer.LpAnswer.{LpAnswer}
-use Rattle.dcx_lp_solve.specs.OneSolution.{IsSameSolution}
 use Rattle.dcx_lp_solve.proofs.OneSolution.{answers_are_one}
 use Rattle.dcx_graph.specs.Program.{Program}
 use Rattle.dcx_graph.specs.Answers.{IsPointRead, IsSamePoint}
@@ -29,10 +28,11 @@ use Rattle.dcx_answer.specs.declared.filtered.Filtered.TheVariants as filtered
 use Rattle.dcx_iis.specs.Sets.{ConstraintSet, every_constraint, set_of}
 use Rattle.dcx_iis.specs.Multipliers.{HasShapeOf}
 use Rattle.dcx_iis.specs.Steps.{kept_from, kept_of, program_of_set, step_set, IsReadIn, IsReadAt}
-use Rattle.dcx_iis.specs.Found.{IsFeasiblePoint, IsIrreducible, AreFound, IsRight, IsFound}
+use Rattle.dcx_iis.specs.Found.{IsFeasiblePoint, IsIrreducible, IsRight, IsPossible, AreFound, IsFound}
 use Rattle.dcx_iis.specs.Laws.{IsSameFiltered, FoundIsOne}
 use Rattle.dcx_iis.proofs.Sets.{one_filter_set}
 use Rattle.dcx_iis.proofs.Kept.{one_if, map-one}
+use Rattle.dcx_iis.proofs.Right.{found_is_right}
 
 -- ---- members
 -- a number below all others isn't among them
@@ -149,12 +149,15 @@ module _ (p : Problem) (s : Setting) (q : Program Frac) (limit : ℕ) where
       by k (inr l) = none_past (length p.constraints) k ms a.within l ∙ sym (none_past (length p.constraints) k ns b.within l)
 
   module _ (ms : List ℕ) (ds es : List Array) (g h : Frac) (xs ys : List Pairs) (a : IsIrreducible p s ms ds g xs) (b : IsIrreducible p s ms es h ys)
-      (f : AreFound p q limit (set_of ms) ms ds g xs) (k : AreFound p q limit (set_of ms) ms es h ys) where
-    same_solution : IsSameSolution f.solved k.solved
-    same_solution = answers_are_one limit (program_of_set p q (set_of ms)) f.solved k.solved f.is_solved k.is_solved
+      (f : AreFound p q limit ms ds g xs) (k : AreFound p q limit ms es h ys) where
+    same_answer : f.answer ≡ k.answer
+    same_answer =
+        let (solved, step, none, same) = f.shown in
+        let (other, beside, also, is) = k.shown in
+        same ∙ (answers_are_one limit (program_of_set p q (set_of ms)) solved other step.is_solved beside.is_solved).answer ∙ sym is
 
     same_gap : g ≡ h
-    same_gap = f.gap_is ∙ ap (λ (x : LpAnswer). x.number) same_solution.answer ∙ sym k.gap_is
+    same_gap = f.gap_is ∙ ap (λ (x : LpAnswer). x.number) same_answer ∙ sym k.gap_is
 
     abbrev entries : Array → List Frac
     entries x = x.entries
@@ -162,8 +165,8 @@ module _ (p : Problem) (s : Setting) (q : Program Frac) (limit : ℕ) where
     same_kept : kept_of (set_of ms) (map entries ds) ≡ kept_of (set_of ms) (map entries es)
     same_kept =
         sym (map-kept (set_of ms) entries 0 ds)
-        ∙ (are_one status.Infeasible (kept_of (set_of ms) p.constraints) f.solved.answer.rows).same (kept_of (set_of ms) ds) (kept_of (set_of ms) es) f.formed
-        (subst (λ (x : LpAnswer). AreDuals status.Infeasible (kept_of (set_of ms) p.constraints) x.rows (kept_of (set_of ms) es)) (sym same_solution.answer) k.formed)
+        ∙ (are_one status.Infeasible (kept_of (set_of ms) p.constraints) f.answer.rows).same (kept_of (set_of ms) ds) (kept_of (set_of ms) es) f.formed
+        (subst (λ (x : LpAnswer). AreDuals status.Infeasible (kept_of (set_of ms) p.constraints) x.rows (kept_of (set_of ms) es)) (sym same_answer) k.formed)
         ∙ map-kept (set_of ms) entries 0 es
 
     same_length : length (map entries ds) ≡ length (map entries es)
@@ -176,15 +179,18 @@ module _ (p : Problem) (s : Setting) (q : Program Frac) (limit : ℕ) where
         by true e = ap (λ (x : List Frac). number_at x j) (kept_places (set_of ms) 0 (map entries ds) (map entries es) [] same_length same_kept i (ap (set_of ms) (zero-add i) ∙ e))
         by false e = a.outside i (λ t. false≢true (sym e ∙ t)) j ∙ sym (b.outside i (λ t. false≢true (sym e ∙ t)) j)
 
+  read_first : (x : Pairs) → IsPossible p q limit x → IsReadIn p q limit every_constraint 0 x
+  read_first x h = record { solved = h.solved; is_solved = h.is_step.is_solved; read = h.read }
+
   one_found : (a b : Filtered) → IsRight p s a → IsRight p s b → IsFound p q limit a → IsFound p q limit b → IsSameFiltered p a b
-  one_found (filtered.Feasible x) (filtered.Feasible y) h g f k = one_read p q limit every_constraint 0 x y f k
+  one_found (filtered.Feasible x) (filtered.Feasible y) h g f k = one_read p q limit every_constraint 0 x y (read_first x f) (read_first y k)
   one_found (filtered.Feasible x) (filtered.Infeasible ms ds g xs) h r f k = apart x ms ds g xs h r
   one_found (filtered.Infeasible ms ds g xs) (filtered.Feasible y) h r f k = apart y ms ds g xs r h
   one_found (filtered.Infeasible ms ds g xs) (filtered.Infeasible ns es u ys) h r f k =
       let members = members_same ms ns ds es g u xs ys h r in
       let right : IsIrreducible p s ms es u ys = subst (λ (z : List ℕ). IsIrreducible p s z es u ys) (sym members) r in
-      let found : AreFound p q limit (set_of ms) ms es u ys = subst (λ (z : List ℕ). AreFound p q limit (set_of z) z es u ys) (sym members) k in
+      let found : AreFound p q limit ms es u ys = subst (λ (z : List ℕ). AreFound p q limit z es u ys) (sym members) k in
       (members, same_multipliers ms ds es g u xs ys h right f found, same_gap ms ds es g u xs ys h right f found, all_read p q limit (set_of ms) ms xs ys f.read found.read)
 
 pub found_is_one : FoundIsOne
-found_is_one p s q limit a b h g f k = one_found p s q limit a b h g f k
+found_is_one p s q limit a b is f k = one_found p s q limit a b (found_is_right p s q limit a is f) (found_is_right p s q limit b is k) f k

@@ -21,7 +21,7 @@ use Rattle.dcx_linear.specs.Rows.{IsSolution}
 use Rattle.dcx_lp_answer.specs.declared.answer.LpStatus.{LpStatus}
 use Rattle.dcx_lp_answer.specs.declared.answer.LpStatus.TheVariants as status
 use Rattle.dcx_lp_answer.specs.declared.answer.RowNote.{RowNote}
-use Rattle.dcx_lp_answer.specs.Right.{multiplier_at}
+use Rattle.dcx_lp_answer.specs.Right.{multiplier_at, IsRight}
 use Rattle.dcx_std.specs.Answers.{IsRightForRowsAs}
 use Rattle.dcx_std.specs.Solutions.{linear_program, unknowns_at}
 use Rattle.dcx_std.proofs.ScaledProgram.{scaled_program}
@@ -39,14 +39,14 @@ use Rattle.dcx_postsolve.proofs.Alike.{arrays_are_points}
 use Rattle.dcx_postsolve.proofs.Carrying.{alike_value, domain_alike}
 use Rattle.dcx_lp_solve.specs.declared.solving.Solved.{Solved}
 use Rattle.dcx_lp_solve.proofs.Counts.{counts_of}
+use Rattle.dcx_lp_solve.proofs.Right.{answers_are_right}
 use Rattle.dcx_graph.specs.Program.{Program}
 use Rattle.dcx_graph.specs.Answers.{HasParts, TellUnknowns, IsPointRead, IsReducedAt}
 use Rattle.dcx_graph.proofs.Mapped.{numbered_same}
 use Rattle.dcx_graph.proofs.Slacks.{rows_enough, have_slacks, multiplier_is}
 use Rattle.dcx_iis.specs.Sets.{ConstraintSet, KeepsSet, IsImpossible}
-use Rattle.dcx_iis.specs.Steps.{kept_of, program_of_set}
+use Rattle.dcx_iis.specs.Steps.{kept_of, program_of_set, IsStep}
 use Rattle.dcx_iis.specs.Multipliers.{HasShapeOf, AreSpread}
-use Rattle.dcx_iis.specs.Runs.{IsStep}
 use Rattle.dcx_iis.proofs.Telling.{only, set_rows, solution_keeps, infeasible_only, only_impossible}
 use Rattle.dcx_iis.proofs.Spread.{spread_infeasible}
 
@@ -92,14 +92,17 @@ module _ (p : Problem) (q : Program Frac) (limit : ℕ) (set : ConstraintSet) (s
   tells : ColumnsTellUnknowns (program_of_set p q set) solved.program (map value solved.answer.columns)
   tells = columns_tell (program_of_set p q set) solved.program (map value solved.answer.columns) step.is_solved.made (length-map solved.answer.columns value ∙ parts.columns)
 
+  right : IsRight solved.program solved.answer
+  right = answers_are_right limit (program_of_set p q set) solved step.is_solved
+
   -- the columns of the answer tell unknowns
   pub columns_told : TellUnknowns q.kinds solved.answer.columns
-  columns_told = record { there = tells.there; one_sided = tells.one_sided (one_sided solved.answer.status solved.program solved.answer step.is_solved.solved.right) }
+  columns_told = record { there = tells.there; one_sided = tells.one_sided (one_sided solved.answer.status solved.program solved.answer right) }
 
   right_rows : (t : LpStatus) → solved.answer.status ≡ t → IsRightForRowsAs t (program_of_set p q set) solved.program solved.answer
   right_rows t e =
       subst (λ t. IsRightForRowsAs t (program_of_set p q set) solved.program solved.answer) e
-      (shown_of (program_of_set p q set) solved.program step.known (scaled_program (program_of_set p q set) solved.program step.is_solved.made) solved.answer step.is_solved.solved.right)
+      (shown_of (program_of_set p q set) solved.program step.known (scaled_program (program_of_set p q set) solved.program step.is_solved.made) solved.answer right)
 
   abbrev unknowns : Unknowns
   unknowns = unknowns_at solved.program.columns (map value solved.answer.columns)

@@ -46,9 +46,13 @@ abbrev pub ProgramsTell : Type 0
 ProgramsTell = (p : Problem) (s : Setting) (q : Program Frac) (set : ConstraintSet) → IsReducedAt p s q → ProgramTells p s q set
 
 -- ---- ends
+-- whatever the steps over a reduced program of a problem at a setting find is right for the problem there
+abbrev pub FoundIsRight : Type 0
+FoundIsRight = (p : Problem) (s : Setting) (q : Program Frac) (limit : ℕ) (found : Filtered) → IsReducedAt p s q → IsFound p q limit found → IsRight p s found
+
 -- where something is found, no step stops and no multiplier passes
 abbrev pub FoundOrStopped : Type 0
-FoundOrStopped = (p : Problem) (s : Setting) (q : Program Frac) (limit step : ℕ) (found : Filtered) (stop : Stop) → IsRight p s found → IsFound p q limit found → ¬ StopsAt p s q limit step stop
+FoundOrStopped = (p : Problem) (s : Setting) (q : Program Frac) (limit step : ℕ) (found : Filtered) (stop : Stop) → IsReducedAt p s q → IsFound p q limit found → ¬ StopsAt p s q limit step stop
 
 -- one step stops, with one stop
 abbrev pub StopsAreOne : Type 0
@@ -65,4 +69,4 @@ IsSameFiltered p (filtered.Infeasible ms ds g xs) (filtered.Infeasible ns es h y
 
 -- the filter finds one thing
 abbrev pub FoundIsOne : Type 0
-FoundIsOne = (p : Problem) (s : Setting) (q : Program Frac) (limit : ℕ) (a b : Filtered) → IsRight p s a → IsRight p s b → IsFound p q limit a → IsFound p q limit b → IsSameFiltered p a b
+FoundIsOne = (p : Problem) (s : Setting) (q : Program Frac) (limit : ℕ) (a b : Filtered) → IsReducedAt p s q → IsFound p q limit a → IsFound p q limit b → IsSameFiltered p a b

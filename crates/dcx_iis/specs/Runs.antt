@@ -1,5 +1,5 @@
 -- What a step shows, and what is left after some steps: in terms of the programs that are solved.
-use Rattle.std.specs.Prelude.{◌≡◌, ◌≢◌, ◌⊎◌, ⊤, ℕ, suc, ◌<◌, ◌≤◌, ◌↔◌, IsTrue, if◌then◌else◌, Bool, List, [], ◌∷◌, ◌++◌, length, take, Some}
+use Rattle.std.specs.Prelude.{◌≡◌, ◌≢◌, ◌⊎◌, ⊤, ℕ, suc, ◌<◌, ◌≤◌, IsTrue, if◌then◌else◌, Bool, List, [], ◌∷◌, ◌++◌, length, take, Some}
 use Rattle.std.specs.List.{AllZip}
 use Rattle.dcx_frac.specs.declared.fraction.Frac.{Frac}
 use Rattle.dcx_frac.specs.declared.fraction.Passes.{Passes}
@@ -7,7 +7,6 @@ use Rattle.dcx_tree.specs.declared.problem.Problem.{Problem}
 use Rattle.dcx_lp_answer.specs.declared.answer.LpStatus.TheVariants as status
 use Rattle.dcx_lp_answer.specs.declared.answer.LpAnswer.{LpAnswer}
 use Rattle.dcx_lp_answer.specs.Multipliers.{passing_from}
-use Rattle.dcx_std.specs.Solutions.{HasKinds}
 use Rattle.dcx_atom.specs.declared.array.Array.{Array}
 use Rattle.dcx_postsolve.specs.Duals.{all_multipliers, AreDuals}
 use Rattle.dcx_answer.specs.declared.stop.Stop.{Stop}
@@ -16,7 +15,7 @@ use Rattle.dcx_answer.specs.declared.site.Site.TheVariants as sites
 use Rattle.dcx_lp_solve.specs.declared.solving.Solved.{Solved}
 use Rattle.dcx_lp_solve.specs.declared.stop.SolveStop.{SolveStop}
 use Rattle.dcx_lp_solve.specs.declared.stop.SolveStop.TheVariants as solves
-use Rattle.dcx_lp_solve.specs.Solved.{IsSolved, Stops}
+use Rattle.dcx_lp_solve.specs.Solved.{Stops}
 use Rattle.dcx_lp_solve.specs.Stops.{run_stop}
 use Rattle.dcx_graph.specs.Program.{Program}
 use Rattle.dcx_graph.specs.Answers.{IsPointRead}
@@ -27,16 +26,11 @@ use Rattle.dcx_answer.specs.declared.filtered.Filtered.TheVariants as filtered
 use Rattle.dcx_iis.specs.declared.trying.Tried.{Tried}
 use Rattle.dcx_iis.specs.declared.trying.Tried.TheVariants as tried
 use Rattle.dcx_iis.specs.declared.left.Left.{Left}
-use Rattle.dcx_iis.specs.Sets.{ConstraintSet, every_constraint, flagged, left_beside}
+use Rattle.dcx_iis.specs.Sets.{ConstraintSet, every_constraint, flagged}
 use Rattle.dcx_iis.specs.Multipliers.{AreSpread}
-use Rattle.dcx_iis.specs.Steps.{kept_of, program_of_set, step_set, IsReadAt, IsLastImpossible}
+use Rattle.dcx_iis.specs.Steps.{kept_of, program_of_set, step_set, IsStep, IsShownImpossible, IsDecided, IsReadAt, IsLastImpossible}
 
 -- ---- one step
--- the program of the set is solved so, and names unknowns of its own alone
-pub record IsStep (p : Problem) (q : Program Frac) (limit : ℕ) (set : ConstraintSet) (solved : Solved) : Type 0 where
-  pub known : HasKinds (program_of_set p q set)
-  pub is_solved : IsSolved limit (program_of_set p q set) solved
-
 -- what an answer shows: the point of its unknowns, or that there is none
 abbrev pub IsShownBy : Problem → Program Frac → LpAnswer → Tried → Type 0
 IsShownBy p q a (tried.Possible point) = (a.status ≢ status.Infeasible) × IsPointRead p q.kinds a.columns point
@@ -55,17 +49,7 @@ abbrev pub StopsTry : Problem → Program Frac → ℕ → ConstraintSet → ℕ
 StopsTry p q limit set step (filter.Step i stop) = (i ≡ step) × (inner : SolveStop) × (inner ≢ solves.Memory) × Stops limit (program_of_set p q set) inner × (stop ≡ run_stop inner)
 StopsTry p q limit set step filter.Memory = ⊤
 
--- ---- steps
--- the program of the set can't be solved, and this is its answer
-abbrev pub IsShownImpossible : Problem → Program Frac → ℕ → ConstraintSet → LpAnswer → Type 0
-IsShownImpossible p q limit set answer = (solved : Solved) × IsStep p q limit set solved × (solved.answer.status ≡ status.Infeasible) × (answer ≡ solved.answer)
-
--- constraint k stays in the set exactly where the program of those that are left beside it can be solved
-pub record IsDecided (p : Problem) (q : Program Frac) (limit : ℕ) (set : ConstraintSet) (k : ℕ) : Type 0 where
-  pub solved : Solved
-  pub is_step : IsStep p q limit (left_beside set k) solved
-  pub stays : IsTrue (set k) ↔ (solved.answer.status ≢ status.Infeasible)
-
+-- ---- what is left
 -- the numbers of the flags that are set, the first of which has the number i
 abbrev pub numbers_from : ℕ → List Bool → List ℕ
 numbers_from i [] = []

@@ -1,5 +1,5 @@
 -- The programs that the filter solves, one in each step, and what stops it.
-use Rattle.std.specs.Prelude.{◌≡◌, ◌≢◌, ⊤, ℕ, zero, suc, ◌<◌, ◌≤◌, IsTrue, if◌then◌else◌, List, [], ◌∷◌, ◌++◌, length, take, drop, Some}
+use Rattle.std.specs.Prelude.{◌≡◌, ◌≢◌, ⊤, ℕ, zero, suc, ◌<◌, ◌≤◌, ◌↔◌, IsTrue, if◌then◌else◌, List, [], ◌∷◌, ◌++◌, length, take, drop, Some}
 use Rattle.dcx_frac.specs.declared.fraction.Frac.{Frac}
 use Rattle.dcx_frac.specs.declared.fraction.Passes.{Passes}
 use Rattle.dcx_atom.specs.Formed.{zero_frac}
@@ -10,8 +10,10 @@ use Rattle.dcx_tree.specs.declared.problem.Problem.{Problem}
 use Rattle.dcx_linear.specs.Forms.{is_constant}
 use Rattle.dcx_unknowns.specs.Layout.{constraint_rows}
 use Rattle.dcx_lp_answer.specs.declared.answer.LpStatus.TheVariants as status
+use Rattle.dcx_lp_answer.specs.declared.answer.LpAnswer.{LpAnswer}
 use Rattle.dcx_lp_answer.specs.Multipliers.{passing_from}
 use Rattle.dcx_std.specs.GivenRows.{GivenRows, given}
+use Rattle.dcx_std.specs.Solutions.{HasKinds}
 use Rattle.dcx_postsolve.specs.Duals.{all_multipliers}
 use Rattle.dcx_answer.specs.declared.stop.Stop.{Stop}
 use Rattle.dcx_answer.specs.declared.stop.Stop.TheVariants as stops
@@ -53,6 +55,21 @@ abbrev pub program_of_set : Problem → Program Frac → ConstraintSet → Given
 program_of_set p q set = given q.kinds (rows_from set 0 p.constraints q.rows) (is_constant zero_frac)
 
 -- ---- steps
+-- the program of the set is solved so, and names unknowns of its own alone
+pub record IsStep (p : Problem) (q : Program Frac) (limit : ℕ) (set : ConstraintSet) (solved : Solved) : Type 0 where
+  pub known : HasKinds (program_of_set p q set)
+  pub is_solved : IsSolved limit (program_of_set p q set) solved
+
+-- the program of the set can't be solved, and this is its answer
+abbrev pub IsShownImpossible : Problem → Program Frac → ℕ → ConstraintSet → LpAnswer → Type 0
+IsShownImpossible p q limit set answer = (solved : Solved) × IsStep p q limit set solved × (solved.answer.status ≡ status.Infeasible) × (answer ≡ solved.answer)
+
+-- constraint k stays in the set exactly where the program of those that are left beside it can be solved
+pub record IsDecided (p : Problem) (q : Program Frac) (limit : ℕ) (set : ConstraintSet) (k : ℕ) : Type 0 where
+  pub solved : Solved
+  pub is_step : IsStep p q limit (left_beside set k) solved
+  pub stays : IsTrue (set k) ↔ (solved.answer.status ≢ status.Infeasible)
+
 -- the program of step i is solved, where the constraints before the one that it tries stay as the set has it
 abbrev pub IsSolvedAt : Problem → Program Frac → ℕ → ConstraintSet → ℕ → Solved → Type 0
 IsSolvedAt p q limit set i solved = IsSolved limit (program_of_set p q (step_set set i)) solved

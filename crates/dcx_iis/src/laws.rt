@@ -1,6 +1,6 @@
 //! The laws above the definitions of `specs/`. There is no code: each clause is a statement about all problems, settings and sets
 //! of constraints.
-ghost use Rattle.dcx_iis.specs.Laws.{FilterSetsAreMinimal, FilterSetsAreOne, ProgramsTell, FoundOrStopped, StopsAreOne, FoundIsOne};
+ghost use Rattle.dcx_iis.specs.Laws.{FilterSetsAreMinimal, FilterSetsAreOne, ProgramsTell, FoundIsRight, FoundOrStopped, StopsAreOne, FoundIsOne};
 
 /// The filter's set is impossible, and is not without any one of its constraints.
 pub fn filter_sets_are_minimal()
@@ -16,6 +16,11 @@ pub fn filter_sets_are_one()
 /// is impossible.
 pub fn programs_tell()
     ensures { ProgramsTell }
+{}
+
+/// Whatever the steps of the filter find over a reduced program of a problem at a setting is right for the problem there.
+pub fn found_is_right()
+    ensures { FoundIsRight }
 {}
 
 /// Where the filter finds something, no step stops and no multiplier passes 128 bits.

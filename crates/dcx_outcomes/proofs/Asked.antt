@@ -87,18 +87,18 @@ outcome_of Gives end place p setting e o h told placed = record {
 
 -- what is found is right, where each answer is
 pub are_right : {F E O : Type 0} (Gives : Problem → Pairs → Program Frac → Result F E → Type 0) (end : O → Result (Result F E) Stop) (place : O → Option Place) (p : Problem) (Right : Pairs → F → Type 0) →
-    ((s : Pairs) (q : Program Frac) (r : Result F E) → Gives p s q r → IfOk r (IsRightAt p s (Right s))) →
+    ((s : Pairs) (q : Program Frac) (r : Result F E) → FitsParameters p.parameters s → SessionGives p s (Ok q) → Gives p s q r → IfOk r (IsRightAt p s (Right s))) →
     (settings : List Pairs) (os : List O) → AreAskedOutcomes Gives end place p settings os → AllZip (λ s o. FindsRight p s (Right s) (end o)) settings os
 are_right {F} {E} Gives end place p Right right settings os h =
     zip_weaker (IsAskedOutcome Gives end place p) (λ s o. FindsRight p s (Right s) (end o)) (λ s o k. by s (end o) k.ends) settings os h
   where
     by : (s : Pairs) (e : Result (Result F E) Stop) → EndsAt Gives p s e → FindsRight p s (Right s) e
-    by s (Ok r) k = right s k.program r k.answers
+    by s (Ok r) k = right s k.program r k.fits k.gives k.answers
     by s (Err stop) k = tt
 
 -- settings have one list of outcomes, where a program has one answer
 pub are_one : {F E O : Type 0} (Gives : Problem → Pairs → Program Frac → Result F E → Type 0) (end : O → Result (Result F E) Stop) (place : O → Option Place) (p : Problem) (memory : E) (Same : F → F → Type 0) →
-    ((s : Pairs) (q : Program Frac) (x y : Result F E) → Gives p s q x → Gives p s q y → AreOneEnd memory Same (Ok x) (Ok y)) →
+    ((s : Pairs) (q : Program Frac) (x y : Result F E) → FitsParameters p.parameters s → SessionGives p s (Ok q) → Gives p s q x → Gives p s q y → AreOneEnd memory Same (Ok x) (Ok y)) →
     (settings : List Pairs) (os qs : List O) → AreAskedOutcomes Gives end place p settings os → AreAskedOutcomes Gives end place p settings qs → AllZip (λ o q. AreOneEnd memory Same (end o) (end q)) os qs
 are_one {F} {E} Gives end place p memory Same one settings os qs h k =
     zip_both (IsAskedOutcome Gives end place p) (λ o q. AreOneEnd memory Same (end o) (end q)) (λ s o q x y. by s (end o) (end q) x.ends y.ends) settings os qs h k
@@ -106,7 +106,7 @@ are_one {F} {E} Gives end place p memory Same one settings os qs h k =
     by : (s : Pairs) (x y : Result (Result F E) Stop) → EndsAt Gives p s x → EndsAt Gives p s y → AreOneEnd memory Same x y
     by s (Ok x) (Ok y) h k n m =
         let same = same_program p s 0 h.program k.program h.gives k.gives in
-        one s h.program x y h.answers (subst (λ (q : Program Frac). Gives p s q y) (sym same) k.answers) n m
+        one s h.program x y h.fits h.gives h.answers (subst (λ (q : Program Frac). Gives p s q y) (sym same) k.answers) n m
     by s (Ok x) (Err e) h k n m = absurd (given_apart p s h.program e m h.fits h.gives k)
     by s (Err e) (Ok y) h k n m = absurd (given_apart p s k.program e n k.fits k.gives h)
     by s (Err e) (Err f) h k n m = same_stop p s e f n m h k

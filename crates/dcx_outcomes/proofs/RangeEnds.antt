@@ -1,9 +1,11 @@
 -- What holds of the outcomes of settings at which a parameter's range is told.
 use Rattle.std.proofs.Common.{◌≡◌, ℕ, List, [], Option, Some, None, Result, Ok, Err, refl, ap, subst}
+use Rattle.std.specs.Prelude.{IfOk}
 use Rattle.dcx_frac.specs.declared.fraction.Frac.{Frac}
 use Rattle.dcx_point.specs.Pairs.{Pairs}
 use Rattle.dcx_tree.specs.declared.problem.Problem.{Problem}
-use Rattle.dcx_tree.specs.Meaning.{setting_of}
+use Rattle.dcx_tree.specs.Meaning.{IsFitting, setting_of}
+use Rattle.dcx_fit.specs.Fit.{FitsParameters}
 use Rattle.dcx_linear.specs.declared.param_form.ParamForm.{ParamForm}
 use Rattle.dcx_answer.specs.declared.not_ranged.NotRanged.{NotRanged}
 use Rattle.dcx_answer.specs.declared.ranged.Ranged.{Ranged}
@@ -14,13 +16,15 @@ use Rattle.dcx_graph.specs.Program.{Program}
 use Rattle.dcx_graph.specs.Fixing.{FixGives}
 use Rattle.dcx_graph.proofs.OneWay.{one_affine}
 use Rattle.dcx_cache.specs.Programs.{IsMapOf, SessionGives, mapped, anew}
+use Rattle.dcx_cache.proofs.DivisorLawsHold.{formed_are_fitting}
 use Rattle.dcx_range.specs.Parameters.{IsRanged, IsFaultOf, IsTold}
 use Rattle.dcx_range.specs.Range.{RangeGives, IsMapOf as IsAffineMapOf}
 use Rattle.dcx_right.specs.Ranges.{HoldsOn}
 use Rattle.dcx_range.specs.Laws.{AreOneRange}
 use Rattle.dcx_range.proofs.Named.{tells_once}
+use Rattle.dcx_range.proofs.Right.{ranges_are_right as right_told}
 use Rattle.dcx_range.proofs.OneRange.{ranges_are_one as one_range}
-use Rattle.dcx_outcomes.specs.Asking.{AreOneEnd}
+use Rattle.dcx_outcomes.specs.Asking.{IsRightAt, AreOneEnd}
 use Rattle.dcx_outcomes.specs.Ranges.{IsKeptProgram, HasRange, LacksRange, TellsOf, range_end}
 use Rattle.dcx_outcomes.specs.RangeLaws.{RangeIsTold, RangesAreRight, RangesAreOne}
 use Rattle.dcx_outcomes.proofs.Asked.{are_right, are_one, right_there}
@@ -77,14 +81,28 @@ fixed_there p setting q r m (anew none h) = absurd (none (q, m))
 pub ranged_there : (p : Problem) (name : List ℕ) (q : Program ParamForm) → IsMapOf p q → HasRange p name → IsRanged p q name
 ranged_there p name q m h = subst (λ (z : Program ParamForm). IsRanged p z name) (one_map p h.map q h.is_map m) h.ranged
 
+-- a setting that fits the parameters fits the problem, which has a map
+fitting_there : (p : Problem) (setting : Pairs) (q : Program ParamForm) → IsMapOf p q → FitsParameters p.parameters setting → IsFitting p setting
+fitting_there p setting q m fits = (formed_are_fitting p).param_forms m.dpp [] setting m.reduces.nodes.table m.reduces.nodes.formed fits
+
+-- what is told is right there
+right_range : (p : Problem) (name : List ℕ) (limit : ℕ) (s : Pairs) (q : Program Frac) (r : Result Ranged RangeStop) → FitsParameters p.parameters s → SessionGives p s (Ok q) → TellsOf name limit p s q r →
+    IfOk r (IsRightAt p s (HoldsOn p (setting_of p s) name))
+right_range p name limit s q r fits given g =
+    let has = g.range in
+    let fitting = fitting_there p s has.map has.is_map fits in
+    right_there p s (HoldsOn p (setting_of p s) name) r fitting
+    (right_told p has.map q s name limit r (affine_map p has.map has.is_map) fitting (fixed_there p s has.map q has.is_map given) has.ranged g.gives)
+
 -- ---- all settings
 pub ranges_are_right : RangesAreRight
 ranges_are_right p name limit settings outcomes h =
-    are_right (TellsOf name limit) (λ (o : RangeOutcome). range_end o.end) (λ (o : RangeOutcome). o.place) p (λ s. HoldsOn p (setting_of p s) name) (λ s q r g. right_there p s (HoldsOn p (setting_of p s) name) r g.fitting g.holds) settings outcomes h
+    are_right (TellsOf name limit) (λ (o : RangeOutcome). range_end o.end) (λ (o : RangeOutcome). o.place) p (λ s. HoldsOn p (setting_of p s) name) (right_range p name limit) settings outcomes h
 
 module _ (p : Problem) (name : List ℕ) (limit : ℕ) (s : Pairs) (q : Program Frac) where
   one_told : (x y : Result Ranged RangeStop) → TellsOf name limit p s q x → TellsOf name limit p s q y → AreOneRange x y
-  one_told x y h k = one_range p h.map q s name limit x y h.gives (subst (λ (z : Program ParamForm). RangeGives p z q s name limit y) (one_map p k.map h.map k.is_map h.is_map) k.gives)
+  one_told x y h k =
+      one_range p h.range.map q s name limit x y h.gives (subst (λ (z : Program ParamForm). RangeGives p z q s name limit y) (one_map p k.range.map h.range.map k.range.is_map h.range.is_map) k.gives)
 
   -- one thing is told for a program, or one stops it
   one_answer : (x y : Result Ranged RangeStop) → TellsOf name limit p s q x → TellsOf name limit p s q y → AreOneEnd range.Memory (λ (a b : Ranged). a ≡ b) (Ok x) (Ok y)
@@ -95,4 +113,4 @@ module _ (p : Problem) (name : List ℕ) (limit : ℕ) (s : Pairs) (q : Program 
 
 pub ranges_are_one : RangesAreOne
 ranges_are_one p name limit settings os qs h k =
-    are_one (TellsOf name limit) (λ (o : RangeOutcome). range_end o.end) (λ (o : RangeOutcome). o.place) p range.Memory (λ (a b : Ranged). a ≡ b) (one_answer p name limit) settings os qs h k
+    are_one (TellsOf name limit) (λ (o : RangeOutcome). range_end o.end) (λ (o : RangeOutcome). o.place) p range.Memory (λ (a b : Ranged). a ≡ b) (λ s q x y fits given. one_answer p name limit s q x y) settings os qs h k

@@ -4,16 +4,20 @@ use Rattle.std.specs.Prelude.{IfOk}
 use Rattle.dcx_frac.specs.declared.fraction.Frac.{Frac}
 use Rattle.dcx_point.specs.Pairs.{Pairs}
 use Rattle.dcx_tree.specs.declared.problem.Problem.{Problem}
+use Rattle.dcx_tree.specs.Meaning.{IsAccepted, setting_of}
+use Rattle.dcx_fit.specs.Fit.{FitsParameters}
 use Rattle.dcx_answer.specs.declared.whole_outcome.WholeOutcome.{WholeOutcome}
 use Rattle.dcx_unknowns.specs.Unknowns.{variable_unknowns}
 use Rattle.dcx_graph.specs.Program.{Program}
 use Rattle.dcx_cache.specs.Programs.{SessionGives, mapped, anew}
+use Rattle.dcx_cache.proofs.Answered.{sound}
 use Rattle.dcx_answer.specs.declared.whole_answer.WholeAnswer.{WholeAnswer}
 use Rattle.dcx_answer.specs.declared.whole_answer.WholeAnswer.TheVariants as answer
 use Rattle.dcx_answer.specs.declared.whole_answer.BranchStop.{BranchStop}
 use Rattle.dcx_answer.specs.declared.whole_answer.BranchStop.TheVariants as branch
 use Rattle.dcx_branch.specs.Answers.{IsEndOf, IsSameAnswer}
 use Rattle.dcx_branch.proofs.Enough.{programs_have_unknowns}
+use Rattle.dcx_branch.proofs.Right.{runs_are_right}
 use Rattle.dcx_branch.proofs.OneRun.{runs_are_one}
 use Rattle.dcx_outcomes.specs.Asking.{IsRightAt, AreOneEnd}
 use Rattle.dcx_outcomes.specs.Wholes.{most_nodes, WholeGives, whole_end}
@@ -30,20 +34,25 @@ speaks : (p : Problem) (q : Program Frac) (limit : ℕ) (a : WholeAnswer) → Is
 speaks p q limit (answer.Optimal number point tree nodes) (few, ends) = record { names = ends.point_is.of_variables.names; shaped = ends.point_is.of_variables.shaped }
 speaks p q limit (answer.Infeasible tree nodes) ends = tt
 
-right_whole : (p : Problem) (limit : ℕ) (s : Pairs) (q : Program Frac) (r : Result WholeAnswer BranchStop) → WholeGives limit p s q r → IfOk r (IsRightAt p s (IsRightWhole p s))
-right_whole p limit s q (Ok a) g = record { fits = g.right.fits; right = record { right = g.right.right; speaks = speaks p q limit a g.ends } }
-right_whole p limit s q (Err e) g = tt
+-- the answer is right there, and speaks of the problem
+right_whole : (p : Problem) (limit : ℕ) (ok : IsAccepted p) (s : Pairs) (q : Program Frac) (r : Result WholeAnswer BranchStop) → FitsParameters p.parameters s → SessionGives p s (Ok q) → WholeGives limit p s q r →
+    IfOk r (IsRightAt p s (IsRightWhole p s))
+right_whole p limit ok s q (Ok a) fits given g =
+    let there = sound p s ok fits q given in
+    record { fits = there.fitting; right = record { right = runs_are_right p (setting_of p s) q limit most_nodes a there.reduced g; speaks = speaks p q limit a g } }
+right_whole p limit ok s q (Err e) fits given g = tt
 
 pub wholes_are_right : WholesAreRight
-wholes_are_right p limit settings outcomes h =
-    are_right (WholeGives limit) (λ (o : WholeOutcome). whole_end o.end) (λ (o : WholeOutcome). o.place) p (IsRightWhole p) (right_whole p limit) settings outcomes h
+wholes_are_right p limit settings outcomes ok h =
+    are_right (WholeGives limit) (λ (o : WholeOutcome). whole_end o.end) (λ (o : WholeOutcome). o.place) p (IsRightWhole p) (right_whole p limit ok) settings outcomes h
 
 -- a run over a program has one end
-one_answer : (p : Problem) (limit : ℕ) (s : Pairs) (q : Program Frac) (x y : Result WholeAnswer BranchStop) → WholeGives limit p s q x → WholeGives limit p s q y → AreOneEnd branch.Memory (IsSameAnswer p) (Ok x) (Ok y)
-one_answer p limit s q (Ok a) (Ok b) h k n m = runs_are_one p q limit most_nodes (Ok a) (Ok b) h.ends k.ends
-one_answer p limit s q (Ok a) (Err e) h k n m = m (runs_are_one p q limit most_nodes (Ok a) (Err e) h.ends k.ends)
-one_answer p limit s q (Err e) (Ok b) h k n m = n (runs_are_one p q limit most_nodes (Err e) (Ok b) h.ends k.ends)
-one_answer p limit s q (Err e) (Err f) h k n m = runs_are_one p q limit most_nodes (Err e) (Err f) h.ends k.ends n m
+one_answer : (p : Problem) (limit : ℕ) (s : Pairs) (q : Program Frac) (x y : Result WholeAnswer BranchStop) → FitsParameters p.parameters s → SessionGives p s (Ok q) → WholeGives limit p s q x → WholeGives limit p s q y →
+    AreOneEnd branch.Memory (IsSameAnswer p) (Ok x) (Ok y)
+one_answer p limit s q (Ok a) (Ok b) fits given h k n m = runs_are_one p q limit most_nodes (Ok a) (Ok b) h k
+one_answer p limit s q (Ok a) (Err e) fits given h k n m = m (runs_are_one p q limit most_nodes (Ok a) (Err e) h k)
+one_answer p limit s q (Err e) (Ok b) fits given h k n m = n (runs_are_one p q limit most_nodes (Err e) (Ok b) h k)
+one_answer p limit s q (Err e) (Err f) fits given h k n m = runs_are_one p q limit most_nodes (Err e) (Err f) h k n m
 
 pub wholes_are_one : WholesAreOne
 wholes_are_one p limit settings os qs h k =

@@ -3,7 +3,7 @@ use Rattle.std.specs.Prelude.{ℕ, List}
 use Rattle.std.specs.List.{AllZip}
 use Rattle.dcx_point.specs.Pairs.{Pairs}
 use Rattle.dcx_tree.specs.declared.problem.Problem.{Problem}
-use Rattle.dcx_tree.specs.Meaning.{setting_of}
+use Rattle.dcx_tree.specs.Meaning.{IsAccepted, setting_of}
 use Rattle.dcx_answer.specs.declared.filter_stop.FilterStop.TheVariants as filter
 use Rattle.dcx_answer.specs.declared.filter_outcome.FilterOutcome.{FilterOutcome}
 use Rattle.dcx_iis.specs.Found.{IsRight}
@@ -15,13 +15,14 @@ use Rattle.dcx_outcomes.specs.Filters.{filter_end, AreFilterOutcomes}
 abbrev pub AreRightFilters : Problem → List Pairs → List FilterOutcome → Type 0
 AreRightFilters p settings outcomes = AllZip (λ s o. FindsRight p s (IsRight p (setting_of p s)) (filter_end o.end)) settings outcomes
 
+-- where the rules accept the problem
 abbrev pub FiltersAreRight : Type 0
-FiltersAreRight = (p : Problem) (limit : ℕ) (settings : List Pairs) (outcomes : List FilterOutcome) → AreFilterOutcomes p limit settings outcomes → AreRightFilters p settings outcomes
+FiltersAreRight = (p : Problem) (limit : ℕ) (settings : List Pairs) (outcomes : List FilterOutcome) → IsAccepted p → AreFilterOutcomes p limit settings outcomes → AreRightFilters p settings outcomes
 
 -- the same is found, with the same numbers, or the same stops, one after the other; want of memory is free
 abbrev pub AreAlikeFilters : Problem → List FilterOutcome → List FilterOutcome → Type 0
 AreAlikeFilters p os qs = AllZip (λ o q. AreOneEnd filter.Memory (IsSameFiltered p) (filter_end o.end) (filter_end q.end)) os qs
 
--- settings have one list of outcomes
+-- settings of an accepted problem have one list of outcomes
 abbrev pub FiltersAreOne : Type 0
-FiltersAreOne = (p : Problem) (limit : ℕ) (settings : List Pairs) (os qs : List FilterOutcome) → AreFilterOutcomes p limit settings os → AreFilterOutcomes p limit settings qs → AreAlikeFilters p os qs
+FiltersAreOne = (p : Problem) (limit : ℕ) (settings : List Pairs) (os qs : List FilterOutcome) → IsAccepted p → AreFilterOutcomes p limit settings os → AreFilterOutcomes p limit settings qs → AreAlikeFilters p os qs

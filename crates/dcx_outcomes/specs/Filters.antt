@@ -12,14 +12,13 @@ use Rattle.dcx_answer.specs.declared.filter_outcome.FilterEnd.TheVariants as the
 use Rattle.dcx_answer.specs.declared.filter_outcome.FilterOutcome.{FilterOutcome}
 use Rattle.dcx_graph.specs.Program.{Program}
 use Rattle.dcx_iis.specs.Steps.{StopsFilter}
-use Rattle.dcx_iis.specs.Found.{IsRight, IsFound}
-use Rattle.dcx_outcomes.specs.Asking.{IsRightAt, AreAskedOutcomes}
+use Rattle.dcx_iis.specs.Found.{IsFound}
+use Rattle.dcx_outcomes.specs.Asking.{AreAskedOutcomes}
 
 -- ---- one setting
--- the program is filtered to this, and it is right for the problem at the setting, which fits; or this stops the filter
+-- the steps over the program find this, or this stops them
 pub record FilterGives (limit : ℕ) (p : Problem) (setting : Pairs) (program : Program Frac) (r : Result Filtered FilterStop) : Type 0 where
   pub found : IfOk r (IsFound p program limit)
-  pub right : IfOk r (IsRightAt p setting (IsRight p (setting_of p setting)))
   pub stops : IfErr r (StopsFilter p (setting_of p setting) program limit)
 
 -- how a setting ends: with what the filter gives, or with what stops the program

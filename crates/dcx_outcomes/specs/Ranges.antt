@@ -1,9 +1,8 @@
 -- The outcomes of settings at which a parameter's range is told.
-use Rattle.std.specs.Prelude.{ℕ, List, Option, Some, None, Result, Ok, Err, IfOk}
+use Rattle.std.specs.Prelude.{ℕ, List, Option, Some, None, Result, Ok, Err}
 use Rattle.dcx_frac.specs.declared.fraction.Frac.{Frac}
 use Rattle.dcx_point.specs.Pairs.{Pairs}
 use Rattle.dcx_tree.specs.declared.problem.Problem.{Problem}
-use Rattle.dcx_tree.specs.Meaning.{IsFitting, setting_of}
 use Rattle.dcx_answer.specs.declared.stop.Stop.{Stop}
 use Rattle.dcx_linear.specs.declared.param_form.ParamForm.{ParamForm}
 use Rattle.dcx_answer.specs.declared.not_ranged.NotRanged.{NotRanged}
@@ -16,7 +15,6 @@ use Rattle.dcx_graph.specs.Program.{Program}
 use Rattle.dcx_cache.specs.Programs.{IsMapOf, HasMap}
 use Rattle.dcx_range.specs.Parameters.{IsRanged, IsFaultOf}
 use Rattle.dcx_range.specs.Range.{RangeGives}
-use Rattle.dcx_right.specs.Ranges.{HoldsOn}
 use Rattle.dcx_outcomes.specs.Asking.{AreAskedOutcomes}
 
 -- ---- whether a parameter has a range
@@ -39,13 +37,10 @@ pub record LacksRange (p : Problem) (name : List ℕ) (fault : NotRanged) : Type
   pub is_fault : IsFaultOf p program name fault
 
 -- ---- one setting
--- the setting fits, and this is told of the parameter for the program, or stops its range; what is told is right for the problem
+-- the parameter has a range, and this is told of it for the program, or stops it
 pub record TellsOf (name : List ℕ) (limit : ℕ) (p : Problem) (setting : Pairs) (program : Program Frac) (told : Result Ranged RangeStop) : Type 0 where
-  pub map : Program ParamForm
-  pub is_map : IsMapOf p map
-  pub gives : RangeGives p map program setting name limit told
-  pub fitting : IsFitting p setting
-  pub holds : IfOk told (HoldsOn p (setting_of p setting) name)
+  pub range : HasRange p name
+  pub gives : RangeGives p range.map program setting name limit told
 
 -- how a setting ends: with what is told, or with what stops the program
 abbrev pub range_end : RangeEnd → Result (Result Ranged RangeStop) Stop

@@ -3,7 +3,7 @@ use Rattle.std.specs.Prelude.{⊤, ℕ, List}
 use Rattle.std.specs.List.{AllZip}
 use Rattle.dcx_point.specs.Pairs.{Pairs}
 use Rattle.dcx_tree.specs.declared.problem.Problem.{Problem}
-use Rattle.dcx_tree.specs.Meaning.{setting_of}
+use Rattle.dcx_tree.specs.Meaning.{IsAccepted, setting_of}
 use Rattle.dcx_answer.specs.declared.whole_outcome.WholeOutcome.{WholeOutcome}
 use Rattle.dcx_answer.specs.declared.whole_answer.BranchStop.TheVariants as branch
 use Rattle.dcx_answer.specs.declared.whole_answer.WholeAnswer.{WholeAnswer}
@@ -28,8 +28,9 @@ pub record IsRightWhole (p : Problem) (setting : Pairs) (a : WholeAnswer) : Type
 abbrev pub AreRightWholes : Problem → List Pairs → List WholeOutcome → Type 0
 AreRightWholes p settings outcomes = AllZip (λ s o. FindsRight p s (IsRightWhole p s) (whole_end o.end)) settings outcomes
 
+-- where the rules accept the problem
 abbrev pub WholesAreRight : Type 0
-WholesAreRight = (p : Problem) (limit : ℕ) (settings : List Pairs) (outcomes : List WholeOutcome) → AreWholeOutcomes p limit settings outcomes → AreRightWholes p settings outcomes
+WholesAreRight = (p : Problem) (limit : ℕ) (settings : List Pairs) (outcomes : List WholeOutcome) → IsAccepted p → AreWholeOutcomes p limit settings outcomes → AreRightWholes p settings outcomes
 
 -- the same answers, but for their trees and for what arrays hold past their ends, with as many nodes, or the same stops, one after the
 -- other; want of memory is free

@@ -1,9 +1,8 @@
 -- The outcomes of settings at which a problem with marked variables is solved.
-use Rattle.std.specs.Prelude.{ℕ, List, Result, Ok, Err, IfOk}
+use Rattle.std.specs.Prelude.{ℕ, List, Result, Ok, Err}
 use Rattle.dcx_frac.specs.declared.fraction.Frac.{Frac}
 use Rattle.dcx_point.specs.Pairs.{Pairs}
 use Rattle.dcx_tree.specs.declared.problem.Problem.{Problem}
-use Rattle.dcx_tree.specs.Meaning.{setting_of}
 use Rattle.dcx_answer.specs.declared.stop.Stop.{Stop}
 use Rattle.dcx_answer.specs.declared.whole_outcome.WholeEnd.{WholeEnd}
 use Rattle.dcx_answer.specs.declared.whole_outcome.WholeEnd.TheVariants as the
@@ -12,18 +11,16 @@ use Rattle.dcx_graph.specs.Program.{Program}
 use Rattle.dcx_answer.specs.declared.whole_answer.WholeAnswer.{WholeAnswer}
 use Rattle.dcx_answer.specs.declared.whole_answer.BranchStop.{BranchStop}
 use Rattle.dcx_branch.specs.Answers.{IsEndOf}
-use Rattle.dcx_right.specs.WholeAnswers.{IsRightFor}
-use Rattle.dcx_outcomes.specs.Asking.{IsRightAt, AreAskedOutcomes}
+use Rattle.dcx_outcomes.specs.Asking.{AreAskedOutcomes}
 
 -- how many nodes a run may have
 abbrev pub most_nodes : ℕ
 most_nodes = 10000
 
 -- ---- one setting
--- the run of nodes over the program ends so, and its answer is right for the problem at the setting, which fits
-pub record WholeGives (limit : ℕ) (p : Problem) (setting : Pairs) (program : Program Frac) (r : Result WholeAnswer BranchStop) : Type 0 where
-  pub ends : IsEndOf p program limit most_nodes r
-  pub right : IfOk r (IsRightAt p setting (IsRightFor p (setting_of p setting)))
+-- the run of nodes over the program ends so, or stops so
+abbrev pub WholeGives : ℕ → Problem → Pairs → Program Frac → Result WholeAnswer BranchStop → Type 0
+WholeGives limit p setting program r = IsEndOf p program limit most_nodes r
 
 -- how a setting ends: with the end of the run, or with what stops the program
 abbrev pub whole_end : WholeEnd → Result (Result WholeAnswer BranchStop) Stop

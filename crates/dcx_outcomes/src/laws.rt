@@ -31,17 +31,17 @@ pub fn warm_outcomes_are_one()
     ensures { WarmOutcomesAreOne }
 {}
 
-/// Whatever the filter finds at settings is right at its setting, which fits.
+/// Whatever the filter finds of an accepted problem at settings is right at its setting, which fits.
 pub fn filters_are_right()
     ensures { FiltersAreRight }
 {}
 
-/// Settings have one list of what the filter finds, or of its stops; want of memory is free.
+/// Settings of an accepted problem have one list of what the filter finds, or of its stops; want of memory is free.
 pub fn filters_are_one()
     ensures { FiltersAreOne }
 {}
 
-/// Each answer of a problem with marked variables at settings is right at its setting, which fits.
+/// Each answer of an accepted problem with marked variables at settings is right at its setting, which fits.
 pub fn wholes_are_right()
     ensures { WholesAreRight }
 {}

@@ -3,6 +3,7 @@ use Rattle.std.proofs.Common.{◌≡◌, ℕ, List, Some, sym, subst}
 use Rattle.dcx_point.specs.Pairs.{Pairs}
 use Rattle.dcx_host.specs.Files.{Files}
 use Rattle.dcx_front.specs.declared.accepted.Accepted.{Accepted}
+use Rattle.dcx_front.proofs.OneVerdict.{acceptance}
 use Rattle.dcx_answer.specs.declared.filter_outcome.FilterOutcome.{FilterOutcome}
 use Rattle.dcx_words.specs.Commands.{Command, iis}
 use Rattle.dcx_outcomes.specs.Filters.{AreFilterOutcomes}
@@ -16,10 +17,10 @@ use Rattle.dcx_top.proofs.OneSettings.{one_settings}
 
 module _ (words : List (List ℕ)) (files : Files) where
   -- the outcomes of one problem at the same settings
-  alike_at : (command : Command) (a : Accepted) (ss ts : List Pairs) (os qs : List FilterOutcome) → AreSettingsOf (Some files) command a.work ss → AreSettingsOf (Some files) command a.work ts →
+  alike_at : (command : Command) (a : Accepted) (ss ts : List Pairs) (os qs : List FilterOutcome) → GivesProblem (Some files) command a → AreSettingsOf (Some files) command a.work ss → AreSettingsOf (Some files) command a.work ts →
       AreFilterOutcomes a.work.problem (limit_of command) ss os → AreFilterOutcomes a.work.problem (limit_of command) ts qs → AreAlikeFilters a.work.problem os qs
-  alike_at command a ss ts os qs asked also h k =
-      filters_are_one a.work.problem (limit_of command) ss os qs h
+  alike_at command a ss ts os qs gives asked also h k =
+      filters_are_one a.work.problem (limit_of command) ss os qs (acceptance gives.bytes a gives.gives).judged.accepted h
       (subst (λ (x : List Pairs). AreFilterOutcomes a.work.problem (limit_of command) x qs) (sym (one_settings files command a.work ss ts asked also)) k)
 
   pub filtered_once : (old new was now : ℕ) (os qs : List FilterOutcome) → IsFilteredRun words (Some files) old new os → IsFilteredRun words (Some files) was now qs → AreAlikeFiltersOver words files os qs
@@ -30,7 +31,7 @@ module _ (words : List (List ℕ)) (files : Files) where
 
       with : (a : Accepted) → h.accepted ≡ a → AreSettingsOf (Some files) here a.work k.settings → AreFilterOutcomes a.work.problem (limit_of here) k.settings qs → AreAlikeFilters h.accepted.work.problem os qs
       with a one asked are =
-          alike_at here h.accepted h.settings k.settings os qs h.asked
+          alike_at here h.accepted h.settings k.settings os qs h.problem h.asked
           (subst (λ (x : Accepted). AreSettingsOf (Some files) here x.work k.settings) (sym one) asked) h.are
           (subst (λ (x : Accepted). AreFilterOutcomes x.work.problem (limit_of here) k.settings qs) (sym one) are)
 

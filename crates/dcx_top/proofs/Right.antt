@@ -50,26 +50,26 @@ solved_right words told old new r h = let w = accepted_work words told h.command
 }
 
 branched_right : (words : List (List ℕ)) (told : Option Files) (old new : ℕ) (r : Run) → IsBranchedRun words told old new r → IsRightlyBranched words told r
-branched_right words told old new r h = record {
+branched_right words told old new r h = let w = accepted_work words told h.command h.accepted h.form h.problem in record {
   command = h.command;
   work = h.accepted.work;
-  accepted = accepted_work words told h.command h.accepted h.form h.problem;
+  accepted = w;
   settings = h.settings;
   asked = h.asked;
   outcomes = h.outcomes;
   tells = h.tells;
-  right = wholes_are_right h.accepted.work.problem (limit_of h.command) h.settings h.outcomes h.are;
+  right = wholes_are_right h.accepted.work.problem (limit_of h.command) h.settings h.outcomes w.accepted h.are;
 }
 
 filtered_right : (words : List (List ℕ)) (told : Option Files) (old new : ℕ) (os : List FilterOutcome) → IsFilteredRun words told old new os → IsRightlyFiltered words told os
-filtered_right words told old new os h = record {
+filtered_right words told old new os h = let w = accepted_work words told (iis h.script h.name h.limit) h.accepted h.form h.problem in record {
   command = iis h.script h.name h.limit;
   work = h.accepted.work;
-  accepted = accepted_work words told (iis h.script h.name h.limit) h.accepted h.form h.problem;
+  accepted = w;
   continuous = h.continuous;
   settings = h.settings;
   asked = h.asked;
-  right = filters_are_right h.accepted.work.problem h.limit h.settings os h.are;
+  right = filters_are_right h.accepted.work.problem h.limit h.settings os w.accepted h.are;
 }
 
 ranged_right : (words : List (List ℕ)) (told : Option Files) (old new : ℕ) (name : List ℕ) (sense : Sense) (os : List RangeOutcome) → IsRangedRun words told old new name sense os → IsRightlyRanged words told name sense os

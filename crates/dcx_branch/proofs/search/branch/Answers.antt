@@ -1,4 +1,4 @@
--- The run begins at the root, and where no box is open its answer is right.
+-- The run begins at the root, and where no box is open it ends, and so its answer is right.
 use Rattle.std.proofs.Common.{◌<◌, List, length, Ok, sym, subst, arith}
 use Rattle.dcx_call.specs.declared.attribute.Variable.{Variable}
 use Rattle.dcx_tree.specs.Meaning.{setting_of}
@@ -9,7 +9,8 @@ use Rattle.dcx_answer.specs.declared.whole_answer.WholeAnswer.{WholeAnswer}
 use Rattle.dcx_branch.specs.Answers.{IsEndOf}
 use Rattle.dcx_right.specs.WholeAnswers.{IsRightFor}
 use Rattle.dcx_branch.proofs.Told.{rows_there}
-use Rattle.dcx_branch.proofs.Advance.{begun, done_right, done_ends}
+use Rattle.dcx_branch.proofs.Right.{runs_are_right}
+use Rattle.dcx_branch.proofs.Advance.{begun, done_ends}
 use Rattle.dcx_branch.proofs.search.branch.Goals as goal
 
 pub places_of-requires-clause-few : goal.places_of-requires-clause-few
@@ -33,18 +34,17 @@ returns-in-Err-clause-end c =
     let s = setting_of p c.args.setting.now in
     let q = c.args.reduced.now.program in
     let begin = c.begin-search.ensures in
-    let at = begun p s q c.args.limit c.begin-search.result begin.sides begin.nodes begin.best begin.count in
+    let at = begun p q c.args.limit c.begin-search.result begin.sides begin.nodes begin.best begin.count in
     c.in-Err.ensures.stops s c.requires.program at
 
 pub returns-in-Ok-clause-end : goal.returns-in-Ok-clause-end
 returns-in-Ok-clause-end c =
     let p = c.args.problem.now in
-    let s = setting_of p c.args.setting.now in
     let q = c.args.reduced.now.program in
     let begin = c.begin-search.ensures in
-    let at = begun p s q c.args.limit c.begin-search.result begin.sides begin.nodes begin.best begin.count in
-    subst (λ (a : WholeAnswer). IsEndOf p q c.args.limit c.args.nodes (Ok a)) (sym c.answer.ensures)
-    (done_ends p s q c.args.limit c.run.new.self c.args.nodes c.in-Ok.ensures.few (c.in-Ok.ensures.done s c.requires.program at))
+    let at = begun p q c.args.limit c.begin-search.result begin.sides begin.nodes begin.best begin.count in
+    let ends = done_ends p q c.args.limit c.run.new.self c.args.nodes c.in-Ok.ensures.few (c.in-Ok.ensures.done at) in
+    subst (λ (a : WholeAnswer). IsEndOf p q c.args.limit c.args.nodes (Ok a)) (sym c.answer.ensures) ends
 
 pub returns-in-Ok-clause-right : goal.returns-in-Ok-clause-right
 returns-in-Ok-clause-right c =
@@ -52,5 +52,6 @@ returns-in-Ok-clause-right c =
     let s = setting_of p c.args.setting.now in
     let q = c.args.reduced.now.program in
     let begin = c.begin-search.ensures in
-    let at = begun p s q c.args.limit c.begin-search.result begin.sides begin.nodes begin.best begin.count in
-    subst (IsRightFor p s) (sym c.answer.ensures) (done_right p s q c.args.limit c.run.new.self (c.in-Ok.ensures.done s c.requires.program at))
+    let at = begun p q c.args.limit c.begin-search.result begin.sides begin.nodes begin.best begin.count in
+    let ends = done_ends p q c.args.limit c.run.new.self c.args.nodes c.in-Ok.ensures.few (c.in-Ok.ensures.done at) in
+    subst (IsRightFor p s) (sym c.answer.ensures) (runs_are_right p s q c.args.limit c.args.nodes _ c.requires.program ends)

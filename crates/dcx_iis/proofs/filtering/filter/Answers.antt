@@ -1,15 +1,17 @@
--- What the steps tell is told of the problem.
+-- What the steps come to is found, and so it is right.
 use Rattle.std.proofs.Common.{◌≡◌, true, Bool, List, replicate, length, refl, ap, subst, ◌∙◌}
 use Rattle.std.proofs.lemmas.Result.{IfOk-weaker, IfErr-weaker, err_from_is_err_and}
 use Rattle.dcx_tree.specs.declared.constraint.Constraint.{Constraint}
 use Rattle.dcx_tree.specs.Meaning.{setting_of}
+use Rattle.dcx_answer.specs.declared.filtered.Filtered.TheVariants as filtered
 use Rattle.dcx_iis.specs.declared.trying.Tried.{Tried}
 use Rattle.dcx_iis.specs.Sets.{flagged}
 use Rattle.dcx_iis.specs.Steps.{StopsFilter}
 use Rattle.dcx_iis.specs.Found.{IsRight, IsFound}
 use Rattle.dcx_iis.specs.Runs.{IsTried, IsEnd, StopsTry, StopsRun}
 use Rattle.dcx_iis.proofs.Going.{first_stops, first_left}
-use Rattle.dcx_iis.proofs.Finding.{tells_stop, feasible_point, point_found, left_noted, left_few, end_right, end_found, rows_of_reduced}
+use Rattle.dcx_iis.proofs.Right.{found_is_right}
+use Rattle.dcx_iis.proofs.Finding.{tells_stop, point_found, left_noted, left_few, end_found, rows_of_reduced}
 use Rattle.dcx_iis.proofs.filtering.filter.Goals as goal
 use Rattle.dcx_iis.proofs.filtering.filter.Goals.{In_ok-kept, In_ok-point}
 
@@ -63,37 +65,36 @@ found-requires-clause-few c =
     let p = c.args.problem.now in
     left_few p c.args.reduced.now.program c.args.limit (setting_of p c.args.setting.now) c.requires.reduced c.try_each.new.left c.in-Ok.ensures.left
 
-pub returns-in-Possible-clause-right : goal.returns-in-Possible-clause-right
-returns-in-Possible-clause-right c =
-    let p = c.args.problem.now in
-    let q = c.args.reduced.now.program in
-    let limit = c.args.limit in
-    let flags = c.in_ok-kept.kept.items in
-    let at = goal.at.returns-in-Possible-clause-right c in
-    feasible_point p q limit (setting_of p c.args.setting.now) c.requires.reduced flags c.in-Possible.point (all_set at.In_ok-kept) (first_tried at.In_ok-point _ c.in-Possible.is)
-
 pub returns-in-Possible-clause-found : goal.returns-in-Possible-clause-found
 returns-in-Possible-clause-found c =
     let p = c.args.problem.now in
     let q = c.args.reduced.now.program in
-    let limit = c.args.limit in
     let flags = c.in_ok-kept.kept.items in
     let at = goal.at.returns-in-Possible-clause-found c in
-    point_found p q limit (setting_of p c.args.setting.now) c.requires.reduced flags c.in-Possible.point (all_set at.In_ok-kept) (first_tried at.In_ok-point _ c.in-Possible.is)
+    point_found p q c.args.limit flags c.in-Possible.point (all_set at.In_ok-kept) (first_tried at.In_ok-point _ c.in-Possible.is)
 
-pub returns-in-Ok-clause-right : goal.returns-in-Ok-clause-right
-returns-in-Ok-clause-right c =
+pub returns-in-Possible-clause-right : goal.returns-in-Possible-clause-right
+returns-in-Possible-clause-right c =
     let p = c.args.problem.now in
-    let s = setting_of p c.args.setting.now in
-    IfOk-weaker c.found.result (IsEnd p c.try_each.new.left) (IsRight p s)
-    (end_right p c.args.reduced.now.program c.args.limit s c.requires.reduced c.try_each.new.left c.in-Ok.ensures.left) c.found.ensures.end
+    let q = c.args.reduced.now.program in
+    let flags = c.in_ok-kept.kept.items in
+    let at = goal.at.returns-in-Possible-clause-right c in
+    found_is_right p (setting_of p c.args.setting.now) q c.args.limit (filtered.Feasible c.in-Possible.point) c.requires.reduced
+    (point_found p q c.args.limit flags c.in-Possible.point (all_set at.In_ok-kept) (first_tried at.In_ok-point _ c.in-Possible.is))
 
 pub returns-in-Ok-clause-found : goal.returns-in-Ok-clause-found
 returns-in-Ok-clause-found c =
     let p = c.args.problem.now in
     let q = c.args.reduced.now.program in
-    IfOk-weaker c.found.result (IsEnd p c.try_each.new.left) (IsFound p q c.args.limit)
-    (end_found p q c.args.limit (setting_of p c.args.setting.now) c.requires.reduced c.try_each.new.left c.in-Ok.ensures.left) c.found.ensures.end
+    IfOk-weaker c.found.result (IsEnd p c.try_each.new.left) (IsFound p q c.args.limit) (end_found p q c.args.limit c.try_each.new.left c.in-Ok.ensures.left) c.found.ensures.end
+
+pub returns-in-Ok-clause-right : goal.returns-in-Ok-clause-right
+returns-in-Ok-clause-right c =
+    let p = c.args.problem.now in
+    let q = c.args.reduced.now.program in
+    let s = setting_of p c.args.setting.now in
+    IfOk-weaker c.found.result (IsEnd p c.try_each.new.left) (IsRight p s)
+    (λ f h. found_is_right p s q c.args.limit f c.requires.reduced (end_found p q c.args.limit c.try_each.new.left c.in-Ok.ensures.left f h)) c.found.ensures.end
 
 pub returns-in-Ok-clause-stops : goal.returns-in-Ok-clause-stops
 returns-in-Ok-clause-stops c =

@@ -14,10 +14,10 @@ returns-in_err-taken-clause-stops c = λ s given at.
     rw (p.1, p.2) (c.in_err-taken.ensures.stops s given at)
 
 pub returns-clause-goes : goal.returns-clause-goes
-returns-clause-goes c = λ s given at.
+returns-clause-goes c = λ at.
     let p = c.args.problem.now in
     let q = c.args.reduced.now.program in
     let old = c.args.self.now in
     let t = c.in_ok-taken.taken in
     let node = subst (λ (ps : List Place). TakenAs p q c.args.limit (box_bounds ps old.sides.items) (found_value old.best) t) c.requires.places c.in_ok-taken.ensures.taken in
-    advanced p s q c.args.limit given old c.enter.new.self at t node c.in_ok-enter.field-0 c.in_ok-enter.ensures
+    advanced p q c.args.limit old c.enter.new.self at t node c.in_ok-enter.field-0 c.in_ok-enter.ensures

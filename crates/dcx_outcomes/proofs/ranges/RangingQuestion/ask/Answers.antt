@@ -21,10 +21,9 @@ range-requires-clause-ranged c =
     ranged_there c.args.problem.now c.args.self.now.name.now c.in-Some.map.now.program kept c.requires.can
 
 pub returns : goal.returns
-returns c = record {
-  map = c.in-Some.map.now.program;
-  is_map = rw c.in-Some.is at c.requires.kept;
-  gives = c.range.ensures.given;
-  fitting = c.requires.program.fitting;
-  holds = c.range.ensures.optimal;
-}
+returns c =
+    let kept = rw c.in-Some.is at c.requires.kept in
+    record {
+      range = record { map = c.in-Some.map.now.program; is_map = kept; ranged = ranged_there c.args.problem.now c.args.self.now.name.now c.in-Some.map.now.program kept c.requires.can };
+      gives = c.range.ensures.given;
+    }
