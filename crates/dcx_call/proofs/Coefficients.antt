@@ -23,7 +23,8 @@ use Rattle.dcx_atom.specs.Linear.{LinearTerm}
 use Rattle.dcx_atom.proofs.LinearSums.{All-list_below}
 use Rattle.dcx_affine.specs.Folds.{sum_call, mean_call, running_call, trace_call}
 use Rattle.dcx_affine.specs.Places.{index_call, reshape_call, transpose_call, diag_call, promote_call}
-use Rattle.dcx_affine.specs.Strided.{only, StridedCall, strided_meaning}
+use Rattle.dcx_atom.specs.Bounding.{only}
+use Rattle.dcx_affine.specs.Strided.{StridedCall, strided_meaning}
 use Rattle.dcx_affine.proofs.Reciprocals.{reciprocal_fits, reciprocal_is}
 use Rattle.dcx_call.specs.declared.linears.LinearCall.{LinearCall}
 use Rattle.dcx_call.specs.declared.linears.LinearCall.TheVariants as calls
