@@ -84,7 +84,7 @@ neg_size (pos (suc n)) = refl
 neg_size (negsuc n) = refl
 
 -- the negative in lowest terms
-neg_lowest : (y : Frac) → IsInLowestTerms (neg_ℚ (value y)) (neg_ℤ (num_of y)) (den_of y)
+pub neg_lowest : (y : Frac) → IsInLowestTerms (neg_ℚ (value y)) (neg_ℤ (num_of y)) (den_of y)
 neg_lowest y = record {
   positive = y.positive;
   coprime = subst (λ m. IsCoprime m (unsigned_abs (den_of y))) (sym (neg_size (num_of y))) y.lowest;

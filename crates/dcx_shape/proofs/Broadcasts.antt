@@ -125,7 +125,7 @@ form_exists (suc zero) rows columns h m n = (Vector columns, record { is_rank = 
 form_exists (suc (suc zero)) rows columns h m n = (Matrix rows columns, record { is_rank = refl; is_rows = refl; is_columns = refl })
 form_exists (suc (suc (suc rank))) rows columns h m n = absurd (omega arith)
 
-some_sides : (s : Sides) → HasFewEntries s → (0 < rows_of s) × (0 < cols_of s)
+pub some_sides : (s : Sides) → HasFewEntries s → (0 < rows_of s) × (0 < cols_of s)
 some_sides s few = factor_pos 0 (rows_of s) (cols_of s) (omega (arith, few.some, entries_are s))
 
 -- sides that are no longer have no more entries

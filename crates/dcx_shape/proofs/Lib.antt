@@ -10,3 +10,4 @@ pub mod Indices
 pub mod SliceLaws
 pub mod IndexLaws
 pub mod EntryPlaces
+pub mod OneShape

@@ -93,7 +93,7 @@ pub record IsRunOf (n : ℕ) (s : Slice) (first : ℕ) (step : ℤ) (count : ℕ
   pub is_first : pos first ≡ int_max (start_for n s.step s.start) (pos 0)
   pub some : (k : ℕ) → (k < count) ↔ IsBefore s.step (slice_place n s k) (stop_for n s.step s.stop)
 
-zero_times : (z : ℤ) → pos 0 *ℤ z ≡ pos 0
+pub zero_times : (z : ℤ) → pos 0 *ℤ z ≡ pos 0
 zero_times (pos m) = ap pos (zero-mul m)
 zero_times (negsuc m) = ap (λ x. neg_ℤ (pos x)) (zero-mul (suc m))
 
@@ -120,7 +120,7 @@ length-places_from first step count = length-map-range_with_len (place_from firs
 pub get_or-places_from : (first : ℕ) (step : ℤ) (count k d : ℕ) → k < count → get_or (places_from first step count) k d ≡ place_from first step k
 get_or-places_from first step count k d h = get_or-map-range_with_len (place_from first step) 0 count k k d h (zero-add k)
 
-pos-unsigned_abs : (z : ℤ) → pos 0 ≤ℤ z → pos (unsigned_abs z) ≡ z
+pub pos-unsigned_abs : (z : ℤ) → pos 0 ≤ℤ z → pos (unsigned_abs z) ≡ z
 pos-unsigned_abs z h = omega (arith, ints)
 
 pub slice_runs : (n : ℕ) (s : Slice) (first : ℕ) (step : ℤ) (count : ℕ) → IsRunOf n s first step count → IsSlice n s (places_from first step count)
