@@ -119,7 +119,7 @@ has_flat f (y ∷ xs) x h = elim (has_split (f y) (flat_map f xs) x h) [
   | inr q ↦ let r = has_flat f xs x q in (r.0, tail_has y r.0 xs r.1, r.2)
 ]
 
-flat_same : (f g : ℕ → List ℕ) (xs : List ℕ) → ((a : ℕ) → has xs a ≡ true → f a ≡ g a) → flat_map f xs ≡ flat_map g xs
+pub flat_same : (f g : ℕ → List ℕ) (xs : List ℕ) → ((a : ℕ) → has xs a ≡ true → f a ≡ g a) → flat_map f xs ≡ flat_map g xs
 flat_same f g [] h = refl
 flat_same f g (x ∷ xs) h = ap₂ (λ a b. a ++ b) (h x (has_one x xs)) (flat_same f g xs (λ a k. h a (tail_has x a xs k)))
 

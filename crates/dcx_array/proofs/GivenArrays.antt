@@ -28,10 +28,11 @@ use Rattle.dcx_array.specs.Arrays.{entry, filled, formed_array, array_with, iden
 use Rattle.dcx_array.specs.Operators.{negated_number, negated}
 use Rattle.dcx_array.specs.Picks.{picked_array}
 use Rattle.dcx_array.proofs.Answered.{gives_next, gives_same}
-use Rattle.dcx_array.proofs.Equals.{array_from_parts, list_below-is}
+use Rattle.dcx_array.proofs.Equals.{list_below-is}
 use Rattle.dcx_array.proofs.AllowedShapes.{shape_with-is, allowed_shape-is, allowed_shape-back}
 use Rattle.dcx_array.proofs.FormedEntries.{formed_given}
 use Rattle.dcx_array.proofs.Indices.{taken_is}
+use Rattle.dcx_atom.proofs.OneArray.{array_from_parts}
 
 -- ---- a list of numbers
 -- a list is that of its numbers

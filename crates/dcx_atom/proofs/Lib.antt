@@ -11,3 +11,4 @@ pub mod Entrywise
 pub mod Totals
 pub mod Weights
 pub mod BoundRows
+pub mod OneArray

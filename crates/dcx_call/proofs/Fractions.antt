@@ -17,7 +17,7 @@ use Rattle.dcx_atom.proofs.FormedSums.{value-zero_frac, value-sum_from}
 use Rattle.dcx_call.proofs.Products.{value-frac_at}
 
 -- ---- the negative
-unsigned_abs-neg : (z : ℤ) → unsigned_abs (neg_ℤ z) ≡ unsigned_abs z
+pub unsigned_abs-neg : (z : ℤ) → unsigned_abs (neg_ℤ z) ≡ unsigned_abs z
 unsigned_abs-neg z = omega (arith, ints)
 
 pub negative_fits : (x : ℚ) → IsRepresentable x → IsRepresentable (neg_ℚ x)

@@ -19,7 +19,8 @@ use Rattle.dcx_convex.specs.Nodes.{Attribute, Free, Nonneg, Nonpos, Symmetric, D
 use Rattle.dcx_convex.specs.Rules.{Rules, Plain, Judgement, is_constant, is_bent, same_bend, no_argument, argument, bends, all_suit, is_bent_by, judgement_by}
 use Rattle.dcx_convex.proofs.Arguments.{args_signed, fixed_args_same, fixed_argument_same}
 use Rattle.dcx_convex.proofs.Signs.{at_test, signed, fixed_same}
-use Rattle.dcx_convex.proofs.Beyond.{beyond_refl, beyond_same, beyond_trans, IsBeyondAs, args_follow}
+use Rattle.dcx_convex.proofs.Beyond.{beyond_same, IsBeyondAs, args_follow}
+use Rattle.dcx_atom.specs.Farthest.{beyond_refl, beyond_trans}
 
 -- a mixture of a number with itself
 pub same_mixed : (t r w : ℚ) → t +ℚ r ≡ whole (pos 1) → w ≡ t *ℚ w +ℚ r *ℚ w
@@ -55,7 +56,7 @@ same_bend_is Concave Convex t = absurd (false≢true t)
 same_bend_is Concave Concave t = refl
 
 -- a call bends between two arguments that agree at the constant ones
-bends_between : (kind : Kind) (bend : Bend) (args : List Judgement) (a b : Entries) → IsTrue (bends Plain kind bend args) → ((k : ℕ) → IsTrue (argument args k).fixed → a k ≡ b k) → BendsBetween kind bend a b
+pub bends_between : (kind : Kind) (bend : Bend) (args : List Judgement) (a b : Entries) → IsTrue (bends Plain kind bend args) → ((k : ℕ) → IsTrue (argument args k).fixed → a k ≡ b k) → BendsBetween kind bend a b
 bends_between (Nonlinear own) bend args a b t h = same_bend_is own bend t
 bends_between Linear bend args a b t h = tt
 bends_between Product bend args a b t h = elim (or_cases (argument args 0).fixed (argument args 1).fixed t) [ inl k ↦ inl (h 0 k) | inr k ↦ inr (h 1 k) ]

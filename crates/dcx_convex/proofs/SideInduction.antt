@@ -14,8 +14,9 @@ use Rattle.dcx_convex.specs.Reductions.{StandsFor, StandForNodes}
 use Rattle.dcx_convex.proofs.Told.{value_tells, judgement_tells}
 use Rattle.dcx_convex.proofs.Arguments.{args_signed, args_same, argument_same}
 use Rattle.dcx_convex.proofs.Signs.{at_test, value_signed}
-use Rattle.dcx_convex.proofs.Beyond.{beyond_refl, beyond_same, beyond_trans, IsBeyondAs, affine_same, args_follow}
+use Rattle.dcx_convex.proofs.Beyond.{beyond_same, IsBeyondAs, affine_same, args_follow}
 use Rattle.dcx_convex.proofs.Convexity.{same_bend_is, bent_is}
+use Rattle.dcx_atom.specs.Farthest.{beyond_refl, beyond_trans}
 
 -- ---- constant arguments
 -- a node is constant where all its arguments are

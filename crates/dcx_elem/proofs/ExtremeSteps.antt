@@ -36,6 +36,7 @@ use Rattle.dcx_elem.specs.ExtremeLaws.{AreAlike, alike_are}
 use Rattle.dcx_atom.proofs.Lists.{one_forms, list_below-numbers, list_below-same, number_is, rat_at-list_below}
 use Rattle.dcx_atom.proofs.Totals.{earlier-none_right}
 use Rattle.dcx_atom.proofs.Weights.{rows_before-same, within_rows, own_length, own_weight}
+use Rattle.dcx_math.proofs.Lists.{map-map}
 
 -- ---- shape
 -- the shape of two or more arguments
@@ -209,10 +210,6 @@ pub weights_are : (bend : Bend) (count : ℕ) (args : List Sides) (ws : List Fra
 weights_are bend count args ws some h =
     of_alike count args (λ s. length ws ≡ rows_before (extreme_meaning bend count) args (entries_of s)) (length ws ≡ entries_of (sides_at args 0) * count) some h
     (λ s e l. l ∙ extreme_rows_before bend count args (entries_of s) ∙ ap (λ r. entries_of r * count) (sym (alike_are count args s e).first))
-
-map-map : {A B C : Type 0} (f : A → B) (g : B → C) (xs : List A) → map g (map f xs) ≡ map (λ x. g (f x)) xs
-map-map f g [] = refl
-map-map f g (x ∷ xs) = ap (λ ys. g (f x) ∷ ys) (map-map f g xs)
 
 -- the terms of each argument once are the rows of the meaning
 pub rows_are : (bend : Bend) (count : ℕ) (pieces : List Piece) (j : ℕ) → map (piece_term j) pieces ≡ list_below count (λ i. argument_term i j (whole (pos 1))) →

@@ -24,6 +24,7 @@ use Rattle.dcx_atom.proofs.Lists.{list_below-numbers}
 use Rattle.dcx_fold.specs.Sorted.{insert, falling, IsFalling, falling-falls, length-falling}
 use Rattle.dcx_fold.specs.Largest.{chosen}
 use Rattle.dcx_fold.specs.LargestLaws.{turned_twice}
+use Rattle.dcx_math.proofs.Lists.{map-map}
 
 -- ---- counts
 -- 1 where x is at least q
@@ -167,10 +168,6 @@ falling_of f (x ∷ y ∷ ys) h =
     let rest = falling_of f (y ∷ ys) (λ k d b. h (suc k) d (omega arith)) in
     let l = h 0 x (omega arith) in
     (All-cons (λ z. z ≤ℚ f x) (f y) (map f ys) l (All-weaker (λ z. z ≤ℚ f y) (λ z. z ≤ℚ f x) (λ z p. ≤ℚ_trans p l) (map f ys) rest.0), rest)
-
-map-map : {A B C : Type 0} (f : A → B) (g : B → C) (xs : List A) → map g (map f xs) ≡ map (λ x. g (f x)) xs
-map-map f g [] = refl
-map-map f g (x ∷ xs) = ap (λ ys. g (f x) ∷ ys) (map-map f g xs)
 
 map-same : {A B : Type 0} (f g : A → B) (xs : List A) → ((x : A) → f x ≡ g x) → map f xs ≡ map g xs
 map-same f g [] h = refl

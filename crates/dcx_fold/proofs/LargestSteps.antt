@@ -22,6 +22,7 @@ use Rattle.dcx_atom.proofs.FormedSums.{frac_at-value, take-next}
 use Rattle.dcx_atom.proofs.Lists.{list_below-numbers, list_below-same}
 use Rattle.dcx_atom.proofs.Totals.{earlier-none_right, value-sum_in_order}
 use Rattle.dcx_fold.specs.Largest.{level_row, each_condition, sum_condition, level_conditions, largest_meaning}
+use Rattle.dcx_math.proofs.Lists.{map-map}
 
 -- ---- steps of the weights of a list
 -- one more
@@ -56,10 +57,6 @@ pub all_compared : (bend : Bend) (k : ℕ) (c factor : Frac) (ws : List Frac) (s
     value p ≡ value factor *ℚ value c → step_stop 0 (test (sum_condition bend k (value c) (map value ws))) ≡ broken_at 0 (rat_eq (value s) (value p)) s p
 all_compared bend k c factor ws s p e f g h =
     all_tested bend k c factor ws (Ok s) (Ok p) e f g ∙ ap₂ (λ x y. broken_at 0 (rat_eq x y) s p) (sym (value-sum_in_order ws s f)) (sym h)
-
-map-map : {A B C : Type 0} (f : A → B) (g : B → C) (xs : List A) → map g (map f xs) ≡ map (λ x. g (f x)) xs
-map-map f g [] = refl
-map-map f g (x ∷ xs) = ap (λ ys. g (f x) ∷ ys) (map-map f g xs)
 
 -- the conditions as steps
 pub conditions_are : (bend : Bend) (k : ℕ) (c : ℚ) (ws : List Frac) →

@@ -3,7 +3,7 @@ use Rattle.std.proofs.Common.{◌<◌, ◌≤◌, ap, ◌∙◌, refl, arith, le
 use Rattle.std.proofs.lemmas.List.{get_or_default}
 use Rattle.dcx_atom.specs.Formed.{zero_frac}
 use Rattle.dcx_array.specs.Operators.{negated_number, negated}
-use Rattle.dcx_array.proofs.Equals.{array_from_parts}
+use Rattle.dcx_atom.proofs.OneArray.{array_from_parts}
 use Rattle.dcx_array.proofs.GivenArrays.{negated_is, turned_more, turned_all}
 use Rattle.dcx_array.proofs.turned.negate.Goals as goal
 
