@@ -25,7 +25,7 @@ use Rattle.dcx_tree.proofs.Sublists.{contains_at}
 use Rattle.dcx_tree.proofs.Values.{taken}
 use Rattle.dcx_domain.proofs.Points.{same_attribute, keeps_prop, within_prop}
 use Rattle.dcx_fit.specs.Laws.{HoldsForFitting}
-use Rattle.dcx_fit.proofs.Misfits.{holds_at}
+use Rattle.dcx_math.proofs.Lists.{holds_at}
 
 -- the numbers that the setting gives the parameter are as its attribute demands
 abbrev KeptBy : Pairs → Parameter → Type 0

@@ -11,19 +11,20 @@ use Rattle.dcx_shape.specs.Sides.{entries_of}
 use Rattle.dcx_atom.specs.declared.flags.Bend.{Bend}
 use Rattle.dcx_atom.specs.Arrays.{Entries}
 use Rattle.dcx_atom.specs.Signs.{IsBeyond, shifted}
-use Rattle.dcx_convex.specs.Calls.{Kind, Nonlinear, Linear, Product, Quotient, Call, BendsBetween, IsLawful}
+use Rattle.dcx_convex.specs.Calls.{Kind, Nonlinear, Linear, Product, Quotient, Call, IsLawful}
 use Rattle.dcx_convex.specs.Nodes.{Head, Variable, Parameter, Constant, Apply, Node, Numbers, Point, Setting, IsOrdered, zeros, first_of, arguments, value_by, value_at, ParameterKeeps, EachNode, IsInDomain, IsLawfulHead, AreLawful}
 use Rattle.dcx_convex.specs.Rules.{Plain, Judgement, is_constant, is_bent, argument, bends, all_suit, is_bent_by, judgement_by, judgement_at}
 use Rattle.dcx_convex.specs.Certificates.{is_fixed, given_at}
 use Rattle.dcx_convex.proofs.Told.{value_tells, judgement_tells}
 use Rattle.dcx_convex.proofs.Arguments.{args_signed, fixed_argument_same}
 use Rattle.dcx_convex.proofs.Signs.{at_test, value_signed, value_fixed}
-use Rattle.dcx_convex.proofs.Beyond.{beyond_refl, beyond_same, beyond_trans, IsBeyondAs, args_follow}
-use Rattle.dcx_convex.proofs.Convexity.{same_bend_is, bent_is, mixed_domain}
+use Rattle.dcx_convex.proofs.Beyond.{beyond_same, IsBeyondAs, args_follow}
+use Rattle.dcx_convex.proofs.Convexity.{same_bend_is, bent_is, mixed_domain, bends_between}
 use Rattle.dcx_right.specs.Steepness.{taken_at, steep_by, steep_at}
 use Rattle.dcx_right.specs.Rays.{BendsAlong, HeadRecedes, Recedes, AreReceding}
 use Rattle.dcx_right.proofs.Calls.{one_combination, zero_shifted}
 use Rattle.dcx_right.proofs.Told.{none_fixed, level, steep_tells}
+use Rattle.dcx_atom.specs.Farthest.{beyond_refl, beyond_trans}
 
 -- the domain goes along with its rays
 pub shifted_domain : (nodes : List Node) (x d : Point) (k : ℚ) → IsNonnegative k → IsInDomain nodes x → IsInDomain nodes d → IsInDomain nodes (shifted x k d)
@@ -47,13 +48,6 @@ arguments_shifted : (k : ℚ) (v f : ℕ → Numbers) (args : List ℕ) (i e : �
 arguments_shifted k v f [] i e = zero_shifted k
 arguments_shifted k v f (n ∷ args) zero e = refl
 arguments_shifted k v f (n ∷ args) (suc i) e = arguments_shifted k v f args i e
-
--- a call bends between two arguments that agree where no variable is reached
-bends_between : (kind : Kind) (bend : Bend) (args : List Judgement) (a b : Entries) → IsTrue (bends Plain kind bend args) → ((k : ℕ) → IsTrue (argument args k).fixed → a k ≡ b k) → BendsBetween kind bend a b
-bends_between (Nonlinear own) bend args a b t h = same_bend_is own bend t
-bends_between Linear bend args a b t h = tt
-bends_between Product bend args a b t h = elim (or_cases (argument args 0).fixed (argument args 1).fixed t) [ inl k ↦ inl (h 0 k) | inr k ↦ inr (h 1 k) ]
-bends_between Quotient bend args a b t h = h 1 t
 
 -- and along the way from a to c, where those arguments stand still and are what they are taken at
 bends_along : (kind : Kind) (bend : Bend) (args : List Judgement) (k : ℚ) (given steep a c : Entries) → IsTrue (bends Plain kind bend args) → c ≡ shifted a k steep →
