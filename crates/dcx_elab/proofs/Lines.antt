@@ -1,5 +1,5 @@
 -- The forms of a line, lines one after the other, the turns of a `for`, and a list that is made longer.
-use Rattle.std.proofs.Common.{◌≡◌, ℕ, ◌+◌, ◌≤◌, List, ◌∷◌, map, drop, length, slice_get, Some, Result, Ok, Err, sym, ap, subst, ◌∙◌, Vec, Box, Global}
+use Rattle.std.proofs.Common.{◌≡◌, ℕ, ◌+◌, ◌≤◌, List, ◌∷◌, map, drop, length, slice_get, Some, Result, Ok, Err, sym, ap, ◌∙◌, Vec, Box, Global}
 use Rattle.std.proofs.lemmas.List.{at_drop_all, drop_more}
 use Rattle.std.proofs.lemmas.Option.{slice_get_within, get_or_from_slice_get}
 use Rattle.indexmap.specs.IndexMap.{insert_entry}
@@ -15,7 +15,7 @@ use Rattle.dcx_syntax.specs.View.{expr_view, line_layer, line_view, lines_of}
 use Rattle.dcx_syntax.specs.Statements.{Line, assign, add_to, set_value, repeats, Lines, lines}
 use Rattle.dcx_script_values.specs.declared.fault.ElabFault.{ElabFault}
 use Rattle.dcx_script_values.specs.Values.{Value, Values, nothing, list as list_value, State, Act, and_then, ◌>>=◌, ◌>>◌, bind, joined, step}
-use Rattle.dcx_script_values.specs.View.{Fails, Gives}
+use Rattle.dcx_script_values.specs.View.{Fails}
 use Rattle.dcx_script_values.proofs.Acts.{Fails-then, Fails-same, then_is}
 use Rattle.dcx_signature.specs.Turns.{items_through}
 use Rattle.dcx_elab.specs.Expressions.{expr_means}
@@ -55,7 +55,7 @@ lines_from xs i = lines_of (map line_view (drop i xs))
 abbrev pub turns_from : List ℕ → Line → Lines → List Value → ℕ → Act (Unit {0})
 turns_from name first rest vs k = each_turn name (lines_mean (lines first rest)) (drop k vs)
 
-drop-item : {A : Type 0} (xs : List A) (k : ℕ) (x : A) → slice_get xs k ≡ Some x → drop k xs ≡ x ∷ drop (k + 1) xs
+pub drop-item : {A : Type 0} (xs : List A) (k : ℕ) (x : A) → slice_get xs k ≡ Some x → drop k xs ≡ x ∷ drop (k + 1) xs
 drop-item xs k x h = drop_more xs k x (slice_get_within xs k x h) ∙ ap (λ y. y ∷ drop (k + 1) xs) (get_or_from_slice_get xs k x x h)
 
 turns-more : (name : List ℕ) (first : Line) (rest : Lines) (vs : List Value) (k : ℕ) (v : Value) (s : State) → slice_get vs k ≡ Some v
@@ -94,11 +94,6 @@ turns-later_fault name first rest vs k v e s t u h binds begins fails =
 
 pub turns-end : (name : List ℕ) (first : Line) (rest : Lines) (vs : List Value) (k : ℕ) (s : State) → length vs ≤ k → turns_from name first rest vs k s ≡ Ok (tt, s)
 turns-end name first rest vs k s h = at_drop_all (λ ys. each_turn name (lines_mean (lines first rest)) ys s) vs k h
-
--- ---- faults
--- a function returns the fault that it was given
-pub given-fault : {X Y : Type 0} (view : X → Y) (r : Result X ElabFault) (after : State) (given : Result (Y × State) ElabFault) (y e : ElabFault) → r ≡ Err y → y ≡ e → Fails e given → Gives view r after given
-given-fault view r after given y e is same h = subst (λ q. Gives view q after given) (sym is) (subst (λ z. Fails z given) (sym same) h)
 
 -- ---- a list that is made longer, of which its name lets go meanwhile
 abbrev state_after : State → Result (Unit {0} × State) ElabFault → State

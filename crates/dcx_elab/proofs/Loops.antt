@@ -1,7 +1,6 @@
 -- The loops over arguments, indices, items and turns: one round of each, its end, and what a fault in it comes to.
 use Rattle.std.proofs.Common.{◌≡◌, ℕ, ◌+◌, ◌<◌, ◌≤◌, Bool, true, false, List, [], ◌∷◌, ◌++◌, map, drop, length, get_or, slice_get, Some, Result, Ok, Err, refl, sym, ap, ◌∙◌}
-use Rattle.std.proofs.lemmas.List.{at_drop_more, at_drop_all, drop_more}
-use Rattle.std.proofs.lemmas.Option.{slice_get_within, get_or_from_slice_get}
+use Rattle.std.proofs.lemmas.List.{at_drop_more, at_drop_all}
 use Rattle.dcx_shape.specs.declared.place.Place.{Place}
 use Rattle.dcx_syntax.specs.declared.tree.Named.{Named}
 use Rattle.dcx_syntax.specs.declared.tree.Arg as code_arg
@@ -21,6 +20,7 @@ use Rattle.dcx_signature.specs.Firsts.{expr_place}
 use Rattle.dcx_signature.specs.Turns.{items_through}
 use Rattle.dcx_elab.specs.Turns.{turn, turns}
 use Rattle.dcx_elab.proofs.Chains.{assoc, go_on, go_on-none, go_on-next, go_on-end, done-ok, done-fails, Fails-again}
+use Rattle.dcx_elab.proofs.Lines.{drop-item}
 
 -- ---- arguments
 -- the arguments from an index on
@@ -205,9 +205,6 @@ module _ (place for_place : Place) (x : Expr) (n : Named) (from : Expr) (s : Sta
       ∙ ap (λ (ws : Values). Ok (list_value ws, u)) (values_of-items_of us)
 
 -- ---- turns
-drop-item : {A : Type 0} (xs : List A) (k : ℕ) (x : A) → slice_get xs k ≡ Some x → drop k xs ≡ x ∷ drop (k + 1) xs
-drop-item xs k x h = drop_more xs k x (slice_get_within xs k x h) ∙ ap (λ y. y ∷ drop (k + 1) xs) (get_or_from_slice_get xs k x x h)
-
 -- a turn is an item more, and then come the other turns
 pub turns-more : (place first : Place) (name : List ℕ) (element : Act Value) (xs vs : List Value) (k : ℕ) (v : Value) (s : State) → slice_get vs k ≡ Some v
     → turns place first name element xs (drop k vs) s ≡ and_then (with_item place xs (turn first name element v) s) (λ ws. turns place first name element ws (drop (k + 1) vs))

@@ -37,11 +37,9 @@ use Rattle.dcx_array.specs.Operators.{entry_beside, negated_number, negated, add
 use Rattle.dcx_array.specs.Arrays.{entry, filled, first_stop, formed_number, formed_unless, formed_array}
 use Rattle.dcx_array.proofs.Equals.{get_or-list_below}
 use Rattle.dcx_script_laws.specs.Differences.{difference_passes, difference_fault, of_difference}
+use Rattle.dcx_call.proofs.Fractions.{unsigned_abs-neg}
 
 -- ---- the negative of a number
-unsigned_abs-neg : (z : ℤ) → unsigned_abs (neg_ℤ z) ≡ unsigned_abs z
-unsigned_abs-neg z = omega (arith, ints)
-
 -- the number with its sign turned
 opposite : Frac → Frac
 opposite x = record {

@@ -32,7 +32,9 @@ use Rattle.dcx_call.specs.declared.linears.LinearCall.TheVariants.{Plus, Minus, 
 use Rattle.dcx_call.specs.declared.call.Call.{Call}
 use Rattle.dcx_call.specs.declared.call.Call.TheVariants as calls
 use Rattle.dcx_script_values.specs.Same.{same_bool, same_shape, same_numbers, same_array, same_axis, same_attribute, same_whole, same_pairing, same_atom, same_linear, same_call}
-use Rattle.dcx_array.proofs.Equals.{shape_from_sides, array_from_parts, index_from_parts}
+use Rattle.dcx_array.proofs.Equals.{index_from_parts}
+use Rattle.dcx_shape.proofs.OneShape.{shape_from_sides}
+use Rattle.dcx_atom.proofs.OneArray.{array_from_parts}
 
 joined : (a b : Bool) → a ≡ true → b ≡ true → (a && b) ≡ true
 joined true true e f = refl

@@ -37,7 +37,7 @@ run_stops p (c ∷ cs) (x ∷ xs) rest e h = by (p c) refl e (λ f. run_stops p 
     by true is f more = more (sym (ap (λ n. drop n (c ∷ cs)) (one-add (prefix_len p cs))) ∙ f)
     by false is f more = absurd (never_both (p c) (subst (λ d. p d ≡ true) (sym (head_is c x cs (xs ++ rest) f)) (All-head (λ d. IsTrue (p d)) x xs h)) is)
 
-all_right : (P : ℕ → Type 0) (xs ys : List ℕ) → All P (xs ++ ys) → All P ys
+pub all_right : (P : ℕ → Type 0) (xs ys : List ℕ) → All P (xs ++ ys) → All P ys
 all_right P [] ys h = h
 all_right P (x ∷ xs) ys h = all_right P xs ys (All-tail P x (xs ++ ys) h)
 

@@ -21,6 +21,7 @@ use Rattle.dcx_token_laws.proofs.Steps as steps
 use Rattle.dcx_token_laws.proofs.Steps.{IsToken, Step}
 use Rattle.dcx_token_laws.proofs.Totals.{token_long}
 use Rattle.dcx_token_laws.proofs.Basics.{is_char, never_both}
+use Rattle.dcx_token_laws.proofs.Spelled.{all_right}
 
 -- no line begins in front of blanks at the end of these characters
 abbrev pub NotLed : List ℕ → Type 0
@@ -46,10 +47,6 @@ ten_blank e = cc
 pub all_left : (P : ℕ → Type 0) (xs ys : List ℕ) → All P (xs ++ ys) → All P xs
 all_left P [] ys h = All-nil P
 all_left P (x ∷ xs) ys h = All-cons P x xs (All-head P x (xs ++ ys) h) (all_left P xs ys (All-tail P x (xs ++ ys) h))
-
-all_right : (P : ℕ → Type 0) (xs ys : List ℕ) → All P (xs ++ ys) → All P ys
-all_right P [] ys h = h
-all_right P (x ∷ xs) ys h = all_right P xs ys (All-tail P x (xs ++ ys) h)
 
 -- behind what begins with no blank and has no line feed
 not_led : (front : List ℕ) (c : ℕ) (ws : List ℕ) → is_blank c ≡ false → HasNoFeed (c ∷ ws) → NotLed (front ++ c ∷ ws)

@@ -21,6 +21,7 @@ use Rattle.dcx_token_laws.specs.Faults.{IsOpener, StaysOpen, blocks_with, open_b
 use Rattle.dcx_token_laws.specs.Lines.{IsOfWords, depth_of}
 use Rattle.dcx_token_laws.proofs.Basics.{head_is, tail_is, nil_not}
 use Rattle.dcx_token_laws.proofs.Forms.{Turned, deeper, back, nests, never_ok, first_is}
+use Rattle.dcx_tokens.proofs.Nesting.{brackets_left-push}
 
 -- ---- a bracket that is open
 -- it is among the tokens, and behind it so many others are open
@@ -38,10 +39,6 @@ pub record IsOpenAt (ts : List Token) (p : Place) (inner : ℕ) : Type 0 where
 abbrev pub AreOpen : List Token → List Place → Type 0
 AreOpen ts ps = (qs : List Place) (p : Place) (rs : List Place) → ps ≡ qs ++ p ∷ rs → IsOpenAt ts p (length rs)
 
-left_push : (n : ℕ) (ts : List Token) (t : Token) → brackets_left n (ts ++ t ∷ []) ≡ brackets_behind (brackets_left n ts) t.kind
-left_push n [] t = refl
-left_push n (u ∷ ts) t = left_push (brackets_behind n u.kind) ts t
-
 stays_push : (n : ℕ) (ts : List Token) (t : Token) → StaysOpen n ts → 0 < brackets_behind (brackets_left n ts) t.kind → StaysOpen n (ts ++ t ∷ [])
 stays_push n [] t h some = (some, tt)
 stays_push n (u ∷ ts) t h some = (h.0, stays_push (brackets_behind n u.kind) ts t h.1 some)
@@ -58,7 +55,7 @@ open_push ts t p i j h count =
       opens_one = h.opens_one;
       place = h.place;
       stays = stays_push 1 h.behind t h.stays (omega (arith, now));
-      left = left_push 1 h.behind t ∙ now;
+      left = brackets_left-push 1 h.behind t ∙ now;
     }
 
 pub brackets_left-append : (n : ℕ) (xs ys : List Token) → brackets_left n (xs ++ ys) ≡ brackets_left (brackets_left n xs) ys
@@ -153,7 +150,7 @@ push_blocks : (ts : List Token) (blocks : List ℕ) (t : Token) → blocks ≡ o
 push_blocks ts blocks t e = ap (λ bs. blocks_with bs (depth_of t) t.kind) e ∙ sym (open_blocks-append [] ts (t ∷ []))
 
 push_count : (ts : List Token) (brackets now : List Place) (t : Token) → length brackets ≡ brackets_left 0 ts → length now ≡ brackets_behind (length brackets) t.kind → length now ≡ brackets_left 0 (ts ++ t ∷ [])
-push_count ts brackets now t e f = f ∙ ap (λ n. brackets_behind n t.kind) e ∙ sym (left_push 0 ts t)
+push_count ts brackets now t e f = f ∙ ap (λ n. brackets_behind n t.kind) e ∙ sym (brackets_left-push 0 ts t)
 
 -- a token that is no bracket
 pub push_other : (ts : List Token) (blocks now : List ℕ) (brackets : List Place) (t : Token) → now ≡ blocks_with blocks (depth_of t) t.kind → ((n : ℕ) → brackets_behind n t.kind ≡ n) → Stacks ts blocks brackets → Stacks (ts ++ t ∷ []) now brackets

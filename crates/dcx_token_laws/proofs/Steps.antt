@@ -16,6 +16,7 @@ use Rattle.dcx_tokens.specs.Quoted.{up_to_quote}
 use Rattle.dcx_tokens.specs.Position.{moved_over}
 use Rattle.dcx_tokens.specs.State.{State, Answer, and_then, moved, put, line_begun_at, nested, token_read, line_ended, blanks_read, comment_read, line_end_read, front_read, step, led}
 use Rattle.dcx_tokens.proofs.Kept.{token_next, line_next}
+use Rattle.dcx_tokens.proofs.OneReading.{count_of}
 
 -- ---- what stands in front
 pub line_end_front : (s : State) (c : ℕ) (cs : List ℕ) → ends_line c cs ≡ true → step s c cs ≡ line_end_read s c cs
@@ -80,11 +81,6 @@ never_ok f a e = cc
 pub both : {A B : Type 0} (answer : Answer A) (next : State → A → Answer B) (t : State) (b : B) → and_then answer next ≡ (t, Ok b) → Both answer next t b
 both (u, Ok a) next t b e = record { state = u; value = a; first = refl; then = e }
 both {B = B} (u, Err f) next t b e = absurd (never_ok f b (ap (λ (p : Answer B). p.1) e))
-
--- how many characters an answer tells
-abbrev count_of : Result ℕ ReadFault → ℕ
-count_of (Ok n) = n
-count_of (Err f) = 0
 
 state_is : (s t : State) (n m : ℕ) → ◌≡◌ {A = Answer ℕ} (s, Ok m) (t, Ok n) → t ≡ s
 state_is s t n m e = sym (ap (λ (p : Answer ℕ). p.0) e)

@@ -118,7 +118,7 @@ take_some : (n c : ℕ) (cs : List ℕ) → 0 < n → 0 < length (take n (c ∷ 
 take_some zero c cs h = absurd (omega arith)
 take_some (suc n) c cs h = omega arith
 
-line_end_some : (c : ℕ) → 0 < line_end_len c
+pub line_end_some : (c : ℕ) → 0 < line_end_len c
 line_end_some c = by (eqb c 13)
   where
     by : (b : Bool) → 0 < cond b 2 1

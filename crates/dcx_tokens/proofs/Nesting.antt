@@ -25,7 +25,7 @@ pub record Nested (ts : List Token) (brackets blocks : ℕ) : Type 0 where
   pub brackets_are : brackets_left 0 ts ≡ brackets
   pub blocks_are : blocks_left 0 ts ≡ blocks
 
-brackets_left-push : (n : ℕ) (ts : List Token) (t : Token) → brackets_left n (ts ++ t ∷ []) ≡ brackets_behind (brackets_left n ts) t.kind
+pub brackets_left-push : (n : ℕ) (ts : List Token) (t : Token) → brackets_left n (ts ++ t ∷ []) ≡ brackets_behind (brackets_left n ts) t.kind
 brackets_left-push n [] t = refl
 brackets_left-push n (u ∷ ts) t = brackets_left-push (brackets_behind n u.kind) ts t
 

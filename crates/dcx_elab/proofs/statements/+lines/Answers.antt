@@ -6,11 +6,11 @@ use Rattle.dcx_syntax.specs.Statements.{Line}
 use Rattle.dcx_syntax.specs.View.{line_view, lines_of, expr_view}
 use Rattle.dcx_script_values.specs.Meant.{meant}
 use Rattle.dcx_script_values.specs.View.{Fails, Gives}
-use Rattle.dcx_script_values.proofs.Acts.{Fails-same}
+use Rattle.dcx_script_values.proofs.Acts.{Fails-same, Gives-err}
 use Rattle.dcx_signature.specs.declared.turns.Through.{Through}
 use Rattle.dcx_signature.specs.View.{through_seen}
 use Rattle.dcx_elab.specs.Statements.{line_means, lines_mean}
-use Rattle.dcx_elab.proofs.Lines.{given-fault, line-assign, line-add_to, line-set_value, line-repeats, repeats-is, turns_from, turns-next, turns-fault, turns-later_fault, turns-end}
+use Rattle.dcx_elab.proofs.Lines.{line-assign, line-add_to, line-set_value, line-repeats, repeats-is, turns_from, turns-next, turns-fault, turns-later_fault, turns-end}
 use Rattle.dcx_elab.proofs.statements.+lines.Goals as goal
 
 pub line-returns-in-Assign : goal.line-returns-in-Assign
@@ -44,7 +44,7 @@ line-returns-in_err-line-in-For t c =
     let e = c.in_err-line-in-For.field-0.0 in
     let at = subst (λ (x : Through). slice_get (through_seen x) c.loop-k.k ≡ Some (meant c.in_ok-item-in-For.item)) c.loop-k.invariant.1 c.in_ok-item-in-For.ensures in
     let fails = subst (λ (x : code_line.Line). Fails e (line_means (line_view x) c.bind.new.self)) c.deref.ensures c.in_err-line-in-For.ensures in
-    given-fault (λ _. tt) c.from_residual-in_err-line-in-For.result c.line.new.state (line_means (line_view c.args.tree.now) c.args.state.now) p.0 e p.1 p.2
+    Gives-err (λ _. tt) c.from_residual-in_err-line-in-For.result c.line.new.state (line_means (line_view c.args.tree.now) c.args.state.now) p.0 e p.1 p.2
     (Fails-same e (turns_from c.in-For.name.name (line_view c.in-For.first.value) (lines_of (map line_view c.in-For.rest.items)) (through_seen c.in_ok-through-in-For.through) c.loop-k.k c.loop-k.state) (line_means (line_view c.args.tree.now) c.args.state.now) c.loop-k.invariant.0
     (turns-fault c.in-For.name.name (line_view c.in-For.first.value) (lines_of (map line_view c.in-For.rest.items)) (through_seen c.in_ok-through-in-For.through) c.loop-k.k (meant c.in_ok-item-in-For.item) e c.loop-k.state c.bind.new.self at c.in_ok-bind-in-For.ensures fails))
 
@@ -55,7 +55,7 @@ line-returns-in_err-lines-in-For t c =
     let at = subst (λ (x : Through). slice_get (through_seen x) c.loop-k.k ≡ Some (meant c.in_ok-item-in-For.item)) c.loop-k.invariant.1 c.in_ok-item-in-For.ensures in
     let begins = subst (λ (x : code_line.Line). line_means (line_view x) c.bind.new.self ≡ Ok (tt, c.line.new.state)) c.deref.ensures c.in_ok-line-in-For.ensures in
     let fails = subst (λ (xs : List code_line.Line). Fails e (lines_mean (lines_of (map line_view xs)) c.line.new.state)) c.deref-in-loop-k.ensures.value c.in_err-lines-in-For.ensures in
-    given-fault (λ _. tt) c.from_residual-in_err-lines-in-For.result c.lines.new.state (line_means (line_view c.args.tree.now) c.args.state.now) p.0 e p.1 p.2
+    Gives-err (λ _. tt) c.from_residual-in_err-lines-in-For.result c.lines.new.state (line_means (line_view c.args.tree.now) c.args.state.now) p.0 e p.1 p.2
     (Fails-same e (turns_from c.in-For.name.name (line_view c.in-For.first.value) (lines_of (map line_view c.in-For.rest.items)) (through_seen c.in_ok-through-in-For.through) c.loop-k.k c.loop-k.state) (line_means (line_view c.args.tree.now) c.args.state.now) c.loop-k.invariant.0
     (turns-later_fault c.in-For.name.name (line_view c.in-For.first.value) (lines_of (map line_view c.in-For.rest.items)) (through_seen c.in_ok-through-in-For.through) c.loop-k.k (meant c.in_ok-item-in-For.item) e c.loop-k.state c.bind.new.self c.line.new.state at c.in_ok-bind-in-For.ensures begins fails))
 
