@@ -76,11 +76,12 @@ use Rattle.dcx_formed.proofs.PartValues.{constant_is, zero_is, unknown_or_zero, 
 use Rattle.dcx_formed.proofs.Named.{where_declared}
 use Rattle.dcx_formed.proofs.Tables.{form_in, entry_there, entry_past}
 use Rattle.dcx_formed.proofs.Stood.{args_match}
-use Rattle.dcx_formed.proofs.Numbers.{by_size, source, number_value, number_read}
+use Rattle.dcx_formed.proofs.Numbers.{source, number_value, number_read}
 use Rattle.dcx_formed.proofs.Made.{entry_is, linear_made, atom_made, pair_made}
 use Rattle.dcx_formed.proofs.HaveNumbers.{have_numbers}
 use Rattle.dcx_formed.proofs.Sides.{scaling_may}
 use Rattle.dcx_formed.proofs.Pairs.{IsRead, MayScale, products_are, quotients_are}
+use Rattle.dcx_tree.proofs.NodeValues.{first_alike}
 
 -- ---- lists and numbers
 first_below : (n : ℕ) (f : Numbers) (j : ℕ) → j < n → first_of n f j ≡ f j
@@ -285,6 +286,6 @@ module _ {C : Type 0} (value_at : C → Parameters → ℚ) (of_number : Frac �
 
     pub reduced_stands : (j : ℕ) → F u i j ≡ first_of (entries_of n.sides) (entry_by rules p s F i n u) j
     reduced_stands j =
-        by_size (entries_of n.sides) (entry_by rules p s F i n u) (F u i j) j (entry_stands j)
+        first_alike (entries_of n.sides) (entry_by rules p s F i n u) (F u i j) j (entry_stands j)
         (λ past. ap (λ (f : Form C). linear_value value_at f u params) (entry_past of_number number_of Sums Changes Reads rules p setting table formed i n at j past)
         ∙ zero_is value_at of_number number_of Sums Changes laws u params)

@@ -1,5 +1,5 @@
 -- Nodes that are numbers by the rules: their forms are numbers, which are their values.
-use Rattle.std.proofs.Common.{◌≡◌, ℕ, zero, suc, ◌<◌, ◌≤◌, arith, Bool, true, false, not, IsTrue, if◌then◌else◌, List, [], ◌∷◌, length, map, All, Option, unwrap_or, Result, Ok, Err, refl, sym, ap, ◌∙◌, subst, pos}
+use Rattle.std.proofs.Common.{◌≡◌, ℕ, zero, suc, ◌<◌, ◌≤◌, arith, Bool, true, false, not, IsTrue, List, [], ◌∷◌, length, map, All, Option, unwrap_or, Result, Ok, Err, refl, sym, ap, ◌∙◌, subst, pos}
 use Rattle.std.specs.Prelude.{nat_lt}
 use Rattle.std.specs.List.{list_all}
 use Rattle.std.proofs.Math.Path.{fun_ext}
@@ -19,7 +19,7 @@ use Rattle.dcx_atom.proofs.FormedSums.{value-zero_frac}
 use Rattle.dcx_point.specs.Pairs.{Pairs}
 use Rattle.dcx_arena.specs.Nodes.{IsNode}
 use Rattle.dcx_convex.specs.Nodes as convex
-use Rattle.dcx_convex.specs.Nodes.{Numbers, first_of, arguments}
+use Rattle.dcx_convex.specs.Nodes.{Numbers, arguments}
 use Rattle.dcx_convex.proofs.SideInduction.{both_constant}
 use Rattle.dcx_convex.specs.Rules.{Rules, Plain, Parametrized, Judgement, is_constant, judgement_by, judgement_at}
 use Rattle.dcx_convex.specs.Calls as convex_calls
@@ -33,7 +33,7 @@ use Rattle.dcx_call.specs.Values.{given_by, call_value, entry_formed}
 use Rattle.dcx_tree.specs.declared.problem.Problem.{Problem}
 use Rattle.dcx_tree.specs.Nodes.{Node, pairing_call, head_of, arg_sides, convex_node, source_value}
 use Rattle.dcx_tree.specs.Meaning.{names_in}
-use Rattle.dcx_tree.proofs.NodeValues.{node_told}
+use Rattle.dcx_tree.proofs.NodeValues.{node_told, first_alike}
 use Rattle.dcx_tree.proofs.AllReached.{convex_at}
 use Rattle.dcx_linear.specs.declared.change.Change.{Change}
 use Rattle.dcx_linear.specs.declared.form.Form.{Form}
@@ -55,7 +55,7 @@ use Rattle.dcx_formed.proofs.PartValues.{number_is}
 use Rattle.dcx_formed.proofs.Tables.{form_in, args_are, entry_there, entry_past}
 
 -- ---- a constant call has constant arguments
-args_constant : (rules : Rules) (c : convex_calls.Call) (args : List Judgement) → IsTrue (is_constant rules (judgement_by rules (convex.Apply c) args)) → IsTrue (list_all (is_constant rules) args)
+pub args_constant : (rules : Rules) (c : convex_calls.Call) (args : List Judgement) → IsTrue (is_constant rules (judgement_by rules (convex.Apply c) args)) → IsTrue (list_all (is_constant rules) args)
 args_constant Plain c args t = t
 args_constant Parametrized c args t = both_constant args t
 
@@ -68,14 +68,6 @@ each_constant test judged (a ∷ ids) t =
 pub all_both : (P Q : ℕ → Type 0) (ids : List ℕ) → All P ids → All Q ids → All (λ a. P a × Q a) ids
 all_both P Q [] h k = All-nil (λ a. P a × Q a)
 all_both P Q (a ∷ ids) h k = All-cons (λ a. P a × Q a) a ids (All-head P a ids h, All-head Q a ids k) (all_both P Q ids (All-tail P a ids h) (All-tail Q a ids k))
-
--- below a size and past it
-pub by_size : (n : ℕ) (f : Numbers) (x : ℚ) (j : ℕ) → (j < n → x ≡ f j) → (n ≤ j → x ≡ whole (pos 0)) → x ≡ first_of n f j
-by_size n f x j below past = by (nat_lt j n) refl
-  where
-    by : (b : Bool) → nat_lt j n ≡ b → x ≡ (if b then f j else whole (pos 0))
-    by true e = below (ltb-true j n e)
-    by false e = past (ltb-false j n e)
 
 module _ {C : Type 0} (value_at : C → Parameters → ℚ) (of_number : Frac → C) (number_of : C → Option Frac) (Sums : C → C → Result C Passes → Type 0) (Changes : Change → C → Result C Passes → Type 0)
     (Reads : ℕ → List ℕ → ℕ → Pairs → C → Type 0) (laws : AreCoefs value_at of_number number_of Sums Changes) (rules : Rules) (p : Problem) (setting : Pairs) (table : Table C)
@@ -172,7 +164,7 @@ module _ {C : Type 0} (value_at : C → Parameters → ℚ) (of_number : Frac �
 
     node_value : (j : ℕ) → number_of_form (form i j) ≡ source i j
     node_value j = where_named p i n at (number_of_form (form i j)) (source i j) (λ named.
-        by_size (entries_of n.sides) (call_value n.call (given_by setting) (given_by []) (arg_sides p.tree n) (arguments (map source n.args))) (number_of_form (form i j)) j (value_below j) (value_past j)
+        first_alike (entries_of n.sides) (call_value n.call (given_by setting) (given_by []) (arg_sides p.tree n) (arguments (map source n.args))) (number_of_form (form i j)) j (value_below j) (value_past j)
         ∙ sym (node_told p.tree p.nodes setting [] (names_in p) i n at named j))
 
   values_within : (d i : ℕ) → i < d → i < length p.tree → is_reduced rules p i ≡ false → (j : ℕ) → number_of_form (form i j) ≡ source i j

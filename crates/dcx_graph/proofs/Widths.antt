@@ -23,6 +23,7 @@ use Rattle.dcx_entries.specs.Nodes.{Table, table_forms}
 use Rattle.dcx_entries.specs.Kept.{entry_rows, node_rows, graph_rows, IsKept}
 use Rattle.dcx_entries.proofs.Past.{past_end}
 use Rattle.dcx_formed.specs.Within.{OfEntry, OfTable}
+use Rattle.dcx_math.proofs.Lists.{element_at}
 
 -- what is so of each item, told in the two ways
 pub each_all : {A : Type 0} (P : A → Type 0) (xs : List A) → Each P xs → All P xs
@@ -33,11 +34,6 @@ each_all P (x ∷ xs) h (suc i) d b = each_all P xs (λ k. h (suc k)) i d (omega
 each_below : {A : Type 0} (P : A → Type 0) (n : ℕ) (f : ℕ → A) → ((i : ℕ) → i < n → P (f i)) → Each P (list_below n f)
 each_below P zero f h = each_nil P
 each_below P (suc n) f h = each_append P (list_below n f) (f n ∷ []) (each_below P n f (λ i b. h i (omega arith))) (each_cons P (f n) [] (h n (omega arith)) (each_nil P))
-
-there : {A : Type 0} (xs : List A) (i : ℕ) → i < length xs → (x : A) × (slice_get xs i ≡ Some x)
-there [] i b = absurd (omega (arith, b))
-there (x ∷ xs) zero b = (x, refl)
-there (x ∷ xs) (suc i) b = there xs i (omega (arith, b))
 
 module _ {C : Type 0} (of_number : Frac → C) (P : Form C → Type 0) (table : Table C) (has : OfTable P table) where
   -- the forms of a node
@@ -55,19 +51,19 @@ module _ {C : Type 0} (of_number : Frac → C) (P : Form C → Type 0) (table : 
   rows_have =
       each_all (λ (r : FormedRow C). P r.form) (graph_rows of_number table)
       (each_joined (λ (r : FormedRow C). P r.form) (length table) (λ i. node_rows of_number i (slice_index_or table i [])) (λ i b.
-      let (es, at) = there table i b in
+      let (es, at) = element_at table i b in
       subst (λ xs. Each (λ (r : FormedRow C). P r.form) (node_rows of_number i xs)) (sym (get_or_from_slice_get table i es [] at)) (of_node i es at)))
     where
       of_entry : (i j : ℕ) (e : EntryForms C) → OfEntry P e → Each (λ (r : FormedRow C). P r.form) (entry_rows of_number i j e)
       of_entry i j e h =
           each_below (λ (r : FormedRow C). P r.form) (length e.rows) _ (λ k b.
-          let (f, at) = there e.rows k b in
+          let (f, at) = element_at e.rows k b in
           subst P (sym (get_or_from_slice_get e.rows k f (zero_form of_number) at)) (h.rows k f at))
 
       of_node : (i : ℕ) (es : List (EntryForms C)) → slice_get table i ≡ Some es → Each (λ (r : FormedRow C). P r.form) (node_rows of_number i es)
       of_node i es at =
           each_joined (λ (r : FormedRow C). P r.form) (length es) (λ j. entry_rows of_number i j (slice_index_or es j (alone (zero_form of_number)))) (λ j b.
-          let (e, l) = there es j b in
+          let (e, l) = element_at es j b in
           subst (λ x. Each (λ (r : FormedRow C). P r.form) (entry_rows of_number i j x)) (sym (get_or_from_slice_get es j e (alone (zero_form of_number)) l)) (of_entry i j e (has i j es e at l)))
 
 -- the same of what is kept
