@@ -16,7 +16,7 @@ use Rattle.dcx_tree.specs.declared.problem.Problem.{Problem}
 use Rattle.dcx_tree.specs.Problems.{IsListed}
 use Rattle.dcx_tree.proofs.Sublists.{contains_at}
 use Rattle.dcx_fit.specs.Fit.{IsMet, FitsParameters}
-use Rattle.dcx_fit.proofs.Misfits.{holds_at}
+use Rattle.dcx_math.proofs.Lists.{holds_at}
 use Rattle.dcx_graph.specs.Reducing.{IsGivenFor, ParametersAreGiven}
 use Rattle.dcx_graph.specs.Fixed.{HaveArrays}
 

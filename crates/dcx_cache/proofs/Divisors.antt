@@ -29,9 +29,8 @@ use Rattle.dcx_call.specs.Values.{given_by, entry_formed}
 use Rattle.dcx_convex.specs.Calls as convex_calls
 use Rattle.dcx_convex.specs.Nodes as nodes
 use Rattle.dcx_convex.specs.Nodes.{Setting, Point, arguments}
-use Rattle.dcx_convex.specs.Rules.{Rules, Plain, Parametrized, Judgement, argument, is_constant, bends, judgement_by, judgement_at}
+use Rattle.dcx_convex.specs.Rules.{Rules, Judgement, argument, is_constant, bends, judgement_by, judgement_at}
 use Rattle.dcx_convex.specs.Problems.{accepted_by}
-use Rattle.dcx_convex.proofs.SideInduction.{both_constant}
 use Rattle.dcx_convex.proofs.Told.{judgement_tells}
 use Rattle.dcx_tree.specs.declared.problem.Problem.{Problem}
 use Rattle.dcx_tree.specs.Nodes.{Node, head_of, arg_sides, pairing_call, convex_node}
@@ -52,7 +51,7 @@ use Rattle.dcx_entries.specs.Entries.{PairEntryBy, PairEntry}
 use Rattle.dcx_entries.specs.Standing.{args_among}
 use Rattle.dcx_entries.specs.Nodes.{Table, table_forms, numbers_in, ReducedEntry, NodeEntryBy, AreFormed}
 use Rattle.dcx_formed.proofs.Coefs.{AreCoefs}
-use Rattle.dcx_formed.proofs.Numbers.{source, made_number, number_value, number_read}
+use Rattle.dcx_formed.proofs.Numbers.{source, made_number, number_value, number_read, args_constant}
 use Rattle.dcx_formed.proofs.Reached.{node_bent}
 use Rattle.dcx_formed.proofs.Steady.{bent_parts}
 use Rattle.dcx_formed.proofs.Tables.{form_in, entry_there}
@@ -73,10 +72,6 @@ alone_false true e = e
 alone_false false e = refl
 
 -- ---- constants
-constant_args : (rules : Rules) (c : convex_calls.Call) (args : List Judgement) → IsTrue (is_constant rules (judgement_by rules (nodes.Apply c) args)) → IsTrue (list_all (is_constant rules) args)
-constant_args Plain c args t = t
-constant_args Parametrized c args t = both_constant args t
-
 second_constant : (rules : Rules) (args : List Judgement) → IsTrue (list_all (is_constant rules) args) → length args ≡ 2 → IsTrue (is_constant rules (argument args 1))
 second_constant rules [] t e = absurd (omega (arith, e))
 second_constant rules (g ∷ []) t e = absurd (omega (arith, e))
@@ -128,7 +123,7 @@ module _ {C : Type 0} (value_at : C → Parameters → ℚ) (of_number : Frac �
     divisor_constant : (r : Bool) → is_reduced rules p i ≡ r → IsTrue (is_constant rules (argument (map judged n.args) 1))
     divisor_constant false e =
         second_constant rules (map judged n.args)
-        (constant_args rules (pairing_call Over (arg_sides p.tree n) n.sides) (map judged n.args) (subst (λ (g : Judgement). IsTrue (is_constant rules g)) judgement (not_reduced (is_constant rules (judged i)) e)))
+        (args_constant rules (pairing_call Over (arg_sides p.tree n) n.sides) (map judged n.args) (subst (λ (g : Judgement). IsTrue (is_constant rules g)) judgement (not_reduced (is_constant rules (judged i)) e)))
         (two_args n.args (arena.sides_at p.tree) two)
     divisor_constant true e =
         let c : convex_calls.Call = pairing_call Over (arg_sides p.tree n) n.sides in

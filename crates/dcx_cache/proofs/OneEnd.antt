@@ -32,7 +32,7 @@ use Rattle.dcx_cache.specs.Answers.{IsAnswerOf, StopsAt, at_program, at_run, at_
 use Rattle.dcx_cache.specs.Laws.{HasOneEnd, BoundsLimit, LimitsAreSmall}
 
 -- ---- one program
-same_ok : {A E : Type 0} (x y : A) → ◌≡◌ {A = Result A E} (Ok x) (Ok y) → x ≡ y
+pub same_ok : {A E : Type 0} (x y : A) → ◌≡◌ {A = Result A E} (Ok x) (Ok y) → x ≡ y
 same_ok x y e = cc
 
 same_err : {A E : Type 0} (x y : E) → ◌≡◌ {A = Result A E} (Err x) (Err y) → x ≡ y
