@@ -1,5 +1,5 @@
 -- The pass keeps variables in falling order of their nodes, and leaves no coefficients.
-use Rattle.std.proofs.Common.{◌≡◌, ◌⊎◌, inl, inr, ℕ, zero, suc, ◌+◌, ◌<◌, ◌≤◌, arith, List, [], ◌∷◌, ◌++◌, length, take, drop, Bool, Option, Some, None, Result, Ok, Err, refl, sym, ap, ◌∙◌, subst}
+use Rattle.std.proofs.Common.{◌≡◌, ◌⊎◌, inl, inr, ℕ, zero, suc, ◌+◌, ◌<◌, ◌≤◌, arith, List, [], ◌∷◌, ◌++◌, length, take, drop, Bool, Option, Some, None, Result, Ok, Err, refl, sym, ◌∙◌, subst}
 use Rattle.std.specs.List.{All}
 use Rattle.std.proofs.lemmas.List.{append-nil, length-take-le, nil_from_length}
 use Rattle.std.proofs.lemmas.List.Elements.{All-nil, All-head, All-tail, All-push, All-weaker}
@@ -17,11 +17,12 @@ use Rattle.dcx_cert_collect.specs.declared.collected.Reached.{Reached}
 use Rattle.dcx_cert_collect.specs.declared.stop.CollectStop.{CollectStop}
 use Rattle.dcx_cert_collect.specs.Starts.{start_of}
 use Rattle.dcx_cert_collect.specs.Multipliers.{start_table}
-use Rattle.dcx_cert_collect.specs.Pass.{Kept, begin, or_passes, handed, with_below, with_total, counted, reached_if, node_reached, node_shares, passed, step, then_on, pass_down}
+use Rattle.dcx_cert_collect.specs.Pass.{Kept, begin, or_passes, handed, counted, reached_if, node_reached, node_shares, passed, step, then_on, pass_down}
 use Rattle.dcx_cert_collect.proofs.Passing.{same_Ok, passed_count, start_inside}
 use Rattle.dcx_cert_collect.proofs.Starting.{start_all}
 use Rattle.dcx_cert_collect.proofs.Multiplied.{start_count}
 use Rattle.dcx_cert_bound.specs.Collecting.{begun, collected}
+use Rattle.dcx_cert_collect.proofs.Final.{after_below, after_total}
 
 -- each node is before those in front of it
 abbrev pub AreFalling : List Reached → Type 0
@@ -50,14 +51,6 @@ grown m cs before (Some (calls.Constant x)) = inl (append-nil before)
 grown m cs before (Some (calls.Atom a)) = inl (append-nil before)
 grown m cs before (Some (calls.Linear l)) = inl (append-nil before)
 grown m cs before (Some (calls.Pairing q)) = inl (append-nil before)
-
-after_below : (kept after : Kept) (more : List Reached) (r : Result (List Frac) CollectStop) → with_below kept more r ≡ Ok after → after.reached ≡ kept.reached ++ more
-after_below kept after more (Ok u) e = ap (λ (k : Kept). k.reached) (sym (same_Ok {E = CollectStop} (record { below = u; reached = kept.reached ++ more; total = kept.total }) after e))
-after_below kept after more (Err stop) e = cc
-
-after_total : (kept after : Kept) (r : Result Frac CollectStop) → with_total kept r ≡ Ok after → after.reached ≡ kept.reached
-after_total kept after (Ok z) e = ap (λ (k : Kept). k.reached) (sym (same_Ok {E = CollectStop} (record { below = kept.below; reached = kept.reached; total = z }) after e))
-after_total kept after (Err stop) e = cc
 
 module _ (nodes : List Node) (values : List (Option Array)) (weights : ℕ → List Frac) where
   passed_grows : (m : ℕ) (o : Option Array) (cs : List Frac) (kept after : Kept) → passed nodes values weights m o cs kept ≡ Ok after → Grows m kept.reached after.reached

@@ -8,7 +8,7 @@ use Rattle.dcx_frac.proofs.Parts.{value_injective}
 use Rattle.dcx_shape.specs.Sides.{entries_of}
 use Rattle.dcx_atom.specs.declared.array.Array.{Array}
 use Rattle.dcx_atom.specs.Arrays.{number_at}
-use Rattle.dcx_array.proofs.Equals.{shape_from_sides, array_from_parts}
+use Rattle.dcx_atom.proofs.OneArray.{array_from_parts}
 use Rattle.dcx_point.specs.Pairs.{Pairs}
 use Rattle.dcx_convex.specs.Certificates.{is_fixed}
 use Rattle.dcx_call.specs.declared.attribute.Variable.{Variable}
@@ -21,6 +21,7 @@ use Rattle.dcx_tree.specs.Meaning.{names_in, convex_problem, value_at, setting_o
 use Rattle.dcx_tree.specs.Values.{IsNamed, AreNamed, IsValueOf, array_at}
 use Rattle.dcx_tree.proofs.Sublists.{contains_at}
 use Rattle.dcx_cert_bound.specs.Fixed.{AreFixedValues}
+use Rattle.dcx_shape.proofs.OneShape.{shape_from_sides}
 
 -- ---- a value's numbers are those of its node
 call_named : (p : Problem) (call : Call) → IsListed p.variables p.parameters call → IsNamed (names_in p) call

@@ -22,11 +22,11 @@ use Rattle.dcx_cert_bound.specs.Variables.{is_named, reaching}
 use Rattle.dcx_cert_bound.proofs.Falling.{AreFalling}
 
 -- ---- a variable has no arguments
-no_sides : (own : Sides) (args : List Sides) (sides : Sides) → own_sides own args ≡ Some sides → length args ≡ 0
+pub no_sides : (own : Sides) (args : List Sides) (sides : Sides) → own_sides own args ≡ Some sides → length args ≡ 0
 no_sides own [] sides e = refl
 no_sides own (a ∷ args) sides e = absurd (none-some sides e)
 
-no_nodes : (f : ℕ → Sides) (args : List ℕ) → length (map f args) ≡ 0 → args ≡ []
+pub no_nodes : (f : ℕ → Sides) (args : List ℕ) → length (map f args) ≡ 0 → args ≡ []
 no_nodes f [] e = refl
 no_nodes f (a ∷ args) e = absurd (omega (arith, e))
 

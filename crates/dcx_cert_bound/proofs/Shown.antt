@@ -60,7 +60,7 @@ duals_are p duals e = record {
 }
 
 -- ---- attributes
-counted_is : (w : Whole) (a : Attribute) → attribute_of (counted w a) ≡ variable_attribute w a
+pub counted_is : (w : Whole) (a : Attribute) → attribute_of (counted w a) ≡ variable_attribute w a
 counted_is Not a = refl
 counted_is Integer a = refl
 counted_is Boolean a = refl

@@ -76,7 +76,7 @@ first_then t u ss rs e = by (with_shares t ss) refl (sym (shares-append t ss rs)
     by (Ok v) is h = (v, is, h)
     by (Err q) is h = cc
 
-more : (u v t a b : ℚ) → u ≡ v +ℚ b → v ≡ t +ℚ a → u ≡ t +ℚ (a +ℚ b)
+pub more : (u v t a b : ℚ) → u ≡ v +ℚ b → v ≡ t +ℚ a → u ≡ t +ℚ (a +ℚ b)
 more u v t a b e h = e ∙ ap (λ r. r +ℚ b) h ∙ +ℚ_assoc t a b
 
 pub single : (t u : List Frac) (s : Share) → with_shares t (s ∷ []) ≡ Ok u → with_share t s ≡ Ok u

@@ -69,7 +69,7 @@ quotients_are : (ss : List Sides) (a : ℕ → Numbers) (j : ℕ) → quotients_
 quotients_are ss a j = sum_mapped (λ (x : CallPair). a 0 x.left /ℚ a 1 x.right) (λ (q : Pair). record { left = q.left; right = q.right }) (pairs_at Over (sides_at ss 0) (sides_at ss 1) j)
 
 -- neither of two is there
-neither : (IsSome {T = Array} None ⊎ IsSome {T = Array} None) → ⊥
+pub neither : (IsSome {T = Array} None ⊎ IsSome {T = Array} None) → ⊥
 neither (inl h) = cc
 neither (inr h) = cc
 

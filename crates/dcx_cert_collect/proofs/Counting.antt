@@ -24,7 +24,7 @@ zero_quotient x y z e h =
     let is : value z ≡ value x /ℚ value y = h ∙ sym (over_zero (value x) (value y) e) in
     is_quotient_of x y (Ok z) (record { exact = is; fits = ((λ _. subst IsRepresentable is (value_representable z)), (λ _. refl)); told = tt })
 
-next : (n : ℕ) → n + 1 ≡ suc n
+pub next : (n : ℕ) → n + 1 ≡ suc n
 next n = omega arith
 
 -- one more entry

@@ -52,11 +52,11 @@ pub record IsOfVariable (nodes : List Node) (r : Reached) : Type 0 where
   pub at : call_at nodes r.node.0 ≡ Some (calls.Variable variable)
   pub size : length r.coefficients ≡ entries_of (sides_of variable.shape)
 
-after_below : (kept after : Kept) (more : List Reached) (r : Result (List Frac) CollectStop) → with_below kept more r ≡ Ok after → after.reached ≡ kept.reached ++ more
+pub after_below : (kept after : Kept) (more : List Reached) (r : Result (List Frac) CollectStop) → with_below kept more r ≡ Ok after → after.reached ≡ kept.reached ++ more
 after_below kept after more (Ok u) e = ap (λ (k : Kept). k.reached) (sym (same_Ok {E = CollectStop} (record { below = u; reached = kept.reached ++ more; total = kept.total }) after e))
 after_below kept after more (Err stop) e = cc
 
-after_total : (kept after : Kept) (r : Result Frac CollectStop) → with_total kept r ≡ Ok after → after.reached ≡ kept.reached
+pub after_total : (kept after : Kept) (r : Result Frac CollectStop) → with_total kept r ≡ Ok after → after.reached ≡ kept.reached
 after_total kept after (Ok z) e = ap (λ (k : Kept). k.reached) (sym (same_Ok {E = CollectStop} (record { below = kept.below; reached = kept.reached; total = z }) after e))
 after_total kept after (Err stop) e = cc
 

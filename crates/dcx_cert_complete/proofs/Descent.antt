@@ -5,7 +5,7 @@ use Rattle.std.proofs.lemmas.Bool.{and_parts}
 use Rattle.dcx_math.specs.Rational.{ℚ, whole, ◌+ℚ◌, ◌-ℚ◌, ◌*ℚ◌, neg_ℚ, inverse, ◌≤ℚ◌, ◌<ℚ◌}
 use Rattle.dcx_math.specs.Sums.{IsNonnegative}
 use Rattle.dcx_math.proofs.Ring.{ring, reads}
-use Rattle.dcx_math.proofs.Orders.{linear, ≤ℚ_refl, ≤ℚ_trans, ≤ℚ_antisym, ≤ℚ-from_≡, ≤ℚ-or-<ℚ, <ℚ-≤ℚ, <ℚ-not, +ℚ-≤ℚ, +ℚ-positive, *ℚ_assoc, *ℚ_comm, *ℚ_idr, whole-≤ℤ, +ℚ_comm}
+use Rattle.dcx_math.proofs.Orders.{linear, ≤ℚ_refl, ≤ℚ_trans, ≤ℚ_antisym, ≤ℚ-from_≡, ≤ℚ-or-<ℚ, <ℚ-≤ℚ, <ℚ-not, +ℚ-≤ℚ, +ℚ-positive, *ℚ_assoc, *ℚ_comm, *ℚ_idr, +ℚ_comm}
 use Rattle.dcx_math.proofs.Products.{square-nonnegative, zero-<ℚ-one, *ℚ-positive, *ℚ-inverse_positive, inverse-positive}
 use Rattle.dcx_shape.specs.declared.shape.Sides.{Sides}
 use Rattle.dcx_atom.specs.declared.flags.Bend.TheVariants.{Convex, Concave}
@@ -25,6 +25,7 @@ use Rattle.dcx_right.proofs.TreeValues.{tree_recedes}
 use Rattle.dcx_cert_complete.specs.Laws.{UnboundedGoesByRays}
 use Rattle.dcx_cert_complete.proofs.Level.{AreStarting, tree_starts}
 use Rattle.dcx_cert_complete.proofs.Rests.{IsRest, rest_of}
+use Rattle.dcx_cert_complete.proofs.Units.{one_nonnegative}
 
 -- ---- what is never more than a number is at most 0 for each step
 above : (c : ℚ) → c *ℚ c +ℚ whole (pos 1) ≤ℚ c → c ≤ℚ whole (pos 0)
@@ -61,9 +62,6 @@ no_step x d = ring (x ∷ d ∷ []) (search reads depth 30) tt
 
 none_less : (z : ℚ) → z -ℚ z ≡ whole (pos 0)
 none_less z = ring (z ∷ []) (search reads depth 30) tt
-
-one_nonnegative : whole (pos 0) ≤ℚ whole (pos 1)
-one_nonnegative = whole-≤ℤ (pos 0) (pos 1) (record { le = tt })
 
 keeps_ray : (a : Attribute) (sides : Sides) (x d : Numbers) → ((k : ℚ) → IsNonnegative k → Keeps a sides (λ j. x j +ℚ k *ℚ d j)) → Keeps a sides d
 keeps_ray Free sides x d h = tt

@@ -1,6 +1,6 @@
 -- One node of the pass: what bounds the coefficients of the nodes up to it, with the weighted rows of their graphs, bounds those of the
 -- nodes before it, and its weights meet the conditions of slopes.
-use Rattle.std.proofs.Common.{◌≡◌, ◌⊎◌, ℕ, zero, suc, ◌+◌, ◌<◌, ◌≤◌, arith, List, [], ◌∷◌, ◌++◌, map, length, get_or, All, refl, sym, ap, ap₂, ◌∙◌, subst, inl, inr, append-nil, Option, Some, None, IsSome, Result, Ok, Err, slice_get, pos, ⊎_elim}
+use Rattle.std.proofs.Common.{◌≡◌, ◌⊎◌, ℕ, zero, suc, ◌+◌, ◌<◌, ◌≤◌, arith, List, [], ◌∷◌, ◌++◌, map, length, get_or, All, refl, sym, ap, ap₂, ◌∙◌, subst, append-nil, Option, Some, None, Result, Ok, Err, slice_get, pos, ⊎_elim}
 use Rattle.std.proofs.lemmas.List.{length-map, get_or-map}
 use Rattle.std.specs.Prelude.{option_map}
 use Rattle.dcx_math.specs.Rational.{ℚ, whole, ◌+ℚ◌, ◌*ℚ◌, ◌-ℚ◌, ◌≤ℚ◌}
@@ -67,17 +67,13 @@ use Rattle.dcx_cert_complete.proofs.Atoms.{atom_dual}
 use Rattle.dcx_cert_complete.proofs.Scaling.{times_filling, balance_times, nothing_lowers}
 use Rattle.dcx_cert_complete.proofs.Soft.{IsSoft, soft_entry, soft_entries}
 use Rattle.dcx_cert_complete.proofs.Families.{changed, changed_itself, changed_other, first_dots, ends, first_same, first_rows}
+use Rattle.dcx_cert_collect.proofs.Bounded.{neither}
 
 -- the stop is an operation that passes
 abbrev pub IsPassing : CollectStop → Type 0
 IsPassing (stops.Slope node entry stated found) = ⊥
 IsPassing (stops.Passes passes) = Unit {0}
 IsPassing stops.Memory = ⊥
-
--- neither of two is there
-neither : (IsSome {T = Array} None ⊎ IsSome {T = Array} None) → ⊥
-neither (inl h) = cc
-neither (inr h) = cc
 
 two_sides : (p : Pairing) (ss : List Sides) (sides : Sides) → sides_of_two p ss ≡ Some sides → length ss ≡ 2
 two_sides p [] sides e = cc

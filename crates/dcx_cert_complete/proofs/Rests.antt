@@ -5,7 +5,7 @@ use Rattle.std.specs.List.{list_all}
 use Rattle.std.proofs.lemmas.Bool.{and_parts, or_cases, false≢true, ltb-true, ltb-false}
 use Rattle.dcx_math.specs.Rational.{ℚ, whole, ◌+ℚ◌, ◌-ℚ◌, ◌*ℚ◌, neg_ℚ, inverse, ◌≤ℚ◌, ◌<ℚ◌}
 use Rattle.dcx_math.proofs.Ring.{ring, reads}
-use Rattle.dcx_math.proofs.Orders.{≤ℚ_trans, ≤ℚ-from_≡, <ℚ-≤ℚ, *ℚ-≤ℚ, *ℚ-zero, *ℚ_assoc, *ℚ_idl, *ℚ_comm, -ℚ_self, +ℚ-≤ℚ_right, +ℚ_idl, whole-≤ℤ}
+use Rattle.dcx_math.proofs.Orders.{≤ℚ_trans, ≤ℚ-from_≡, <ℚ-≤ℚ, *ℚ-≤ℚ, *ℚ-zero, *ℚ_assoc, *ℚ_idl, *ℚ_comm, -ℚ_self, +ℚ-≤ℚ_right, +ℚ_idl}
 use Rattle.dcx_math.proofs.Products.{*ℚ-nonnegative, *ℚ-nonpositive, *ℚ-inverse_positive, inverse-positive}
 use Rattle.dcx_shape.specs.Sides.{entries_of}
 use Rattle.dcx_atom.specs.declared.flags.Sign.{Sign}
@@ -20,7 +20,7 @@ use Rattle.dcx_convex.specs.Certificates.{is_fixed, given_at}
 use Rattle.dcx_convex.proofs.Told.{value_tells, judgement_tells}
 use Rattle.dcx_convex.proofs.Arguments.{args_signed, fixed_argument_same}
 use Rattle.dcx_convex.proofs.Signs.{at_test, value_fixed}
-use Rattle.dcx_convex.proofs.Beyond.{beyond_same, beyond_trans, IsBeyondAs, args_follow}
+use Rattle.dcx_convex.proofs.Beyond.{beyond_same, IsBeyondAs, args_follow}
 use Rattle.dcx_convex.proofs.Convexity.{bent_is}
 use Rattle.dcx_right.specs.Steepness.{taken_at, steep_by, steep_at}
 use Rattle.dcx_right.specs.Rays.{HeadRecedes, Recedes, AreReceding}
@@ -29,6 +29,8 @@ use Rattle.dcx_right.proofs.Told.{none_fixed, level, steep_tells}
 use Rattle.dcx_cert_complete.proofs.Level.{nothing, HeadStarts, AreStarting}
 use Rattle.dcx_cert_complete.proofs.Taken.{taken_signed, taken_follow, kind_bends, taken_between, start_along, fixed_stands, along_taken, start_low}
 use Rattle.dcx_cert_complete.proofs.Steep.{given_signed, steep_signed}
+use Rattle.dcx_atom.specs.Farthest.{beyond_trans}
+use Rattle.dcx_cert_complete.proofs.Units.{one_nonnegative}
 
 -- ---- numbers
 scaled_signed : (s : Sign) (k y : ℚ) → whole (pos 0) ≤ℚ k → HasSign s y → HasSign s (k *ℚ y)
@@ -59,9 +61,6 @@ moved_by k x y = ring (k ∷ x ∷ y ∷ []) (search reads depth 30) tt
 
 no_move : (k : ℚ) → k *ℚ whole (pos 0) ≡ whole (pos 0) -ℚ whole (pos 0)
 no_move k = ring (k ∷ []) (search reads depth 30) tt
-
-one_nonnegative : whole (pos 0) ≤ℚ whole (pos 1)
-one_nonnegative = whole-≤ℤ (pos 0) (pos 1) (record { le = tt })
 
 -- ---- arguments
 arguments_less : (v f : ℕ → Numbers) (args : List ℕ) (i e : ℕ) →

@@ -1,9 +1,9 @@
 -- What calls are taken at along a ray: one side of a product or a quotient stands, and the others go.
 use Rattle.std.proofs.Common.{◌≡◌, inl, inr, ℕ, ◌<◌, Bool, true, false, IsTrue, if◌then◌else◌, List, [], ◌∷◌, nat_eq, refl, sym, ap, ◌∙◌, subst, pos}
 use Rattle.std.proofs.lemmas.Bool.{or_cases, false≢true}
-use Rattle.dcx_math.specs.Rational.{ℚ, whole, ◌+ℚ◌, ◌*ℚ◌, ◌≤ℚ◌}
+use Rattle.dcx_math.specs.Rational.{ℚ, whole, ◌+ℚ◌, ◌*ℚ◌}
 use Rattle.dcx_math.proofs.Ring.{reads}
-use Rattle.dcx_math.proofs.Orders.{linear, whole-≤ℤ}
+use Rattle.dcx_math.proofs.Orders.{linear}
 use Rattle.dcx_atom.specs.declared.flags.Sign.{Sign}
 use Rattle.dcx_atom.specs.declared.flags.Trend.{Trend}
 use Rattle.dcx_atom.specs.declared.flags.Bend.{Bend}
@@ -18,6 +18,7 @@ use Rattle.dcx_right.specs.Rays.{BendsAlong, Recedes}
 use Rattle.dcx_right.proofs.Calls.{zero_shifted}
 use Rattle.dcx_cert_complete.proofs.Level.{nothing, HeadStarts}
 use Rattle.dcx_convex.specs.Nodes.{Apply}
+use Rattle.dcx_cert_complete.proofs.Units.{one_nonnegative}
 
 -- ---- signs and trends
 with_signed : (side : ℕ) (signs : List Sign) (u v : Entries) → HaveSigns signs u → HaveSigns signs v → HaveSigns signs (λ i. if nat_eq i side then u i else v i)
@@ -105,9 +106,6 @@ along_taken Product bend false k u t v w h side moved = inr (record { still = sy
 along_taken Quotient bend first k u t v w h side moved = record { still = sym side; same = sym side; moved = ap (λ z. z 0) moved }
 
 -- ---- at nothing
-one_nonnegative : whole (pos 0) ≤ℚ whole (pos 1)
-one_nonnegative = whole-≤ℤ (pos 0) (pos 1) (record { le = tt })
-
 twice : (bend : Bend) (z : ℚ) → IsBeyond (opposite bend) z (z +ℚ whole (pos 1) *ℚ z) → IsBeyond bend z (whole (pos 0))
 twice Convex z h = linear (z ∷ []) h (search reads depth 30) tt
 twice Concave z h = linear (z ∷ []) h (search reads depth 30) tt

@@ -78,7 +78,7 @@ both_valid : (format : Format) (outline : Outline) (list : List Section) → All
 both_valid format outline [] h k = tt
 both_valid format outline (s ∷ list) h k = (record { shown = h.0; of_format = k.0 }, both_valid format outline list h.1 k.1)
 
-valid : (format : Format) (outline : Outline) (list : List Section) → AreSectionsOf outline list → AreOfFormat format list → AreValid format outline list
+pub valid : (format : Format) (outline : Outline) (list : List Section) → AreSectionsOf outline list → AreOfFormat format list → AreValid format outline list
 valid format outline list h k = both_valid format outline list (recursion_from_All (IsSectionOf outline) list h) (recursion_from_All (IsSectionOfFormat format) list k)
 
 shown_from : (format : Format) (outline : Outline) (list : List Section) → AreValid format outline list → AreSectionsOf outline list × AreOfFormat format list
@@ -130,7 +130,7 @@ misfit outline count bytes stop k few e before here none =
     record { done = k; next = line; before = before; here = λ a. here (subst (Agrees outline count bytes) line a); no_text = none }
 
 -- the first line of a certificate tells its format
-formats_apart : (a b : Format) (x y : List ℕ) → first_line a ++ x ≡ first_line b ++ y → a ≡ b
+pub formats_apart : (a b : Format) (x y : List ℕ) → first_line a ++ x ≡ first_line b ++ y → a ≡ b
 unfolding first_line
 formats_apart One One x y e = refl
 formats_apart One Two x y e = absurd (omega (arith, first_same 49 50 _ _ (append_cancel_left (codes "certificate ") (49 ∷ 10 ∷ x) (50 ∷ 10 ∷ y) e)))

@@ -1,9 +1,9 @@
 -- What is known of a problem's nodes: their calls as the rules read them, and what a ray gives their variables.
-use Rattle.std.proofs.Common.{◌≡◌, ℕ, true, false, List, map, All, Option, Some, None, option_map, slice_get, refl, sym, ap, subst, ◌∙◌, true≢false, [], ◌∷◌, length, arith}
+use Rattle.std.proofs.Common.{◌≡◌, ℕ, true, false, List, map, All, Option, Some, None, option_map, slice_get, refl, sym, ap, ◌∙◌, true≢false, [], ◌∷◌, length, arith}
 use Rattle.std.specs.Prelude.{IsTrue, IsFalse, ◌&&◌}
 use Rattle.std.proofs.Props.{props}
 use Rattle.std.proofs.Math.Logic.{∥∥₁_elim}
-use Rattle.std.proofs.lemmas.Option.{none-some, same_Some, slice_get-map, slice_get_within, get_or_from_slice_get}
+use Rattle.std.proofs.lemmas.Option.{none-some, same_Some, slice_get-map}
 use Rattle.std.specs.Option.{unwrap_or}
 use mathlib.Core.Logic.{∥∥₁_map}
 use Rattle.dcx_math.proofs.Orders.{≡ℚ_prop}
@@ -35,10 +35,7 @@ use Rattle.dcx_tree.proofs.Sublists.{contains_at}
 use Rattle.dcx_tree.proofs.Values.{taken}
 use Rattle.dcx_tree.proofs.AllReached.{convex_at}
 use Rattle.dcx_cert_rays.specs.Steepness.{is_fixed, AreFixedValues, IsArgument}
-
--- what holds of each holds of the one at a place
-pub holds_at : {X : Type 0} (P : X → Type 0) (xs : List X) (k : ℕ) (x : X) → All P xs → slice_get xs k ≡ Some x → P x
-holds_at P xs k x all at = subst P (get_or_from_slice_get xs k x x at) (all k x (slice_get_within xs k x at))
+use Rattle.dcx_math.proofs.Lists.{holds_at}
 
 -- a call that has a variable below it, as far as it tells by itself
 abbrev pub MayMove : Call → Type 0

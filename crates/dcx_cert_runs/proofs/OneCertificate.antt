@@ -1,5 +1,5 @@
 -- Settings have one certificate.
-use Rattle.std.proofs.Common.{◌≡◌, ℕ, suc, List, [], ◌∷◌, length, Result, Some, Ok, Err, refl, sym, ap, ◌∙◌, subst, arith}
+use Rattle.std.proofs.Common.{◌≡◌, ℕ, suc, List, [], ◌∷◌, length, Some, Ok, Err, refl, sym, ap, ◌∙◌, subst, arith}
 use Rattle.std.specs.List.{slice_get}
 use Rattle.dcx_frac.specs.declared.fraction.Frac.{Frac}
 use Rattle.dcx_point.specs.Pairs.{Pairs}
@@ -20,14 +20,11 @@ use Rattle.dcx_graph.specs.declared.origin.Origin.{Origin}
 use Rattle.dcx_graph.specs.Program.{Program}
 use Rattle.dcx_graph.specs.Answers.{rows_of, IsSameAnswer}
 use Rattle.dcx_cache.specs.Answers.{IsAnswerOf}
-use Rattle.dcx_cache.proofs.OneEnd.{one_program, has_one_end}
+use Rattle.dcx_cache.proofs.OneEnd.{one_program, has_one_end, same_ok}
 use Rattle.dcx_cert_build.specs.Built.{values_in, IsBuilt, PassesAt}
 use Rattle.dcx_cert_build.proofs.OneCert.{one_cert}
 use Rattle.dcx_cert_runs.specs.Sections.{IsCertAt, HasNoCert, stopped, passes, IsSectionAt}
 use Rattle.dcx_cert_runs.specs.Laws.{answer_of, weights_of, params_of, IsAlike, AreAlike, CertificatesAreOne}
-
-same_ok : {A E : Type 0} (x y : A) → ◌≡◌ {A = Result A E} (Ok x) (Ok y) → x ≡ y
-same_ok x y e = cc
 
 -- the answer that the certificate of an answer shows is that answer
 shows : (p : Problem) (s : Pairs) (from : List Origin) (lp : LpAnswer) (a : Answer) (c : Cert) → IsBuilt p s from lp a c → answer_of c ≡ a

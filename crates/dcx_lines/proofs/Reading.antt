@@ -1,13 +1,9 @@
 -- What the lines of an answer tell, where the names and the shapes are known.
-use Rattle.std.proofs.Common.{◌≡◌, ℕ, ◌+◌, List, [], ◌∷◌, ◌++◌, length, map, refl, sym, ap, ◌∙◌, arith, append_assoc}
+use Rattle.std.proofs.Common.{◌≡◌, ℕ, ◌+◌, List, [], ◌∷◌, ◌++◌, map, refl, sym, ap, ◌∙◌, arith, append_assoc}
 use Rattle.std.proofs.lemmas.List.{append_cancel_left}
 use Rattle.std.specs.List.{AllZip, flat_map, enumerate_from}
 use Rattle.std.specs.Prelude.{codes, decimal}
-use mathlib.Core.HLevel.{is_prop→PathP}
-use native.Mathlib.Nat.{ℕ_set}
 use Rattle.dcx_shape.specs.declared.shape.Shape.{Shape}
-use Rattle.dcx_shape.specs.Shape.{sides_of}
-use Rattle.dcx_shape.specs.Sides.{entries_of}
 use Rattle.dcx_frac.specs.declared.fraction.Frac.{Frac}
 use Rattle.dcx_frac.specs.Text.{frac_text}
 use Rattle.dcx_atom.specs.declared.array.Array.{Array}
@@ -17,6 +13,7 @@ use Rattle.dcx_lines.specs.Lines.{named_line, dual_line, number_line}
 use Rattle.dcx_lines.specs.Shown.{variables_of, constraints_of}
 use Rattle.dcx_lines.specs.Reading.{IsInk, BeginsWithout}
 use Rattle.dcx_lines.proofs.FracText.{same_before, frac_ink, frac_text_injective}
+use Rattle.dcx_atom.proofs.OneArray.{array_from_parts}
 
 -- equal lists have one first byte
 pub first_same : (m n : ℕ) (r s : List ℕ) → m ∷ r ≡ n ∷ s → m ≡ n
@@ -51,13 +48,6 @@ entries_read (x ∷ xs) (y ∷ ys) r s e =
     let head : x ≡ y = parts.0 in
     let others : xs ≡ ys = rest.0 in
     ((cc), rest.1)
-
-array_from_parts : (a b : Array) → a.shape ≡ b.shape → a.entries ≡ b.entries → a ≡ b
-array_from_parts a b p q = λ i. record {
-  shape = p i;
-  entries = q i;
-  full = is_prop→PathP (λ j. length (q j) ≡ entries_of (sides_of (p j))) (λ j. ℕ_set (length (q j)) (entries_of (sides_of (p j)))) a.full b.full i;
-}
 
 -- a line that ends with an array, and what stands behind it
 pub line_read : (front other : List ℕ) (a b : Array) (r s : List ℕ) → front ≡ other → a.shape ≡ b.shape → ((front ++ array_text a) ++ 10 ∷ []) ++ r ≡ ((other ++ array_text b) ++ 10 ∷ []) ++ s → (a ≡ b) × (r ≡ s)
