@@ -9,7 +9,8 @@ use Rattle.std.proofs.Common.{◌+◌, append_assoc, add-one}
 use Rattle.std.proofs.Common.{◌-◌, take, length-drop}
 use Rattle.std.proofs.lemmas.List.{append-nil, drop_all, take_all}
 use Rattle.std.proofs.Math.Seq.{drop-cons}
-use Rattle.dcx_linear.specs.Terms.{IsRising, IsSparse, term_at, kept, SumsAt, ChangesAt, IsFirstPassing, FormsKeys, SumsTerms, ChangesTerms}
+use Rattle.dcx_math.specs.Rising.{IsRising}
+use Rattle.dcx_linear.specs.Terms.{IsSparse, term_at, kept, SumsAt, ChangesAt, IsFirstPassing, FormsKeys, SumsTerms, ChangesTerms}
 use Rattle.dcx_linear.specs.TermLaws.{term_at-here, term_at-later, term_at-below, term_at-present}
 
 -- the answer with these terms before it

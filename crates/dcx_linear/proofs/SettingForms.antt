@@ -8,6 +8,7 @@ use Rattle.dcx_math.specs.Rational.{ℚ, whole, ◌+ℚ◌, ◌*ℚ◌}
 use Rattle.dcx_math.specs.Sums.{rat_sum_by}
 use Rattle.dcx_math.proofs.Orders.{+ℚ_idl, zero-*ℚ}
 use Rattle.dcx_math.proofs.Ratios.{IsTrue-rat_eq}
+use Rattle.dcx_math.specs.Rising.{IsRising}
 use Rattle.dcx_frac.specs.declared.fraction.Frac.{Frac}
 use Rattle.dcx_frac.specs.declared.fraction.Passes.{Passes}
 use Rattle.dcx_frac.specs.Frac.{value}
@@ -18,7 +19,6 @@ use Rattle.dcx_linear.specs.declared.form.FormTerm.{FormTerm}
 use Rattle.dcx_linear.specs.declared.form.Form.{Form}
 use Rattle.dcx_linear.specs.Changes.{zero_test}
 use Rattle.dcx_linear.specs.Parameters.{Parameters, Names}
-use Rattle.dcx_linear.specs.Terms.{IsRising}
 use Rattle.dcx_linear.specs.ParamForms.{form_value, IsListedBy, IsNamedForm, StandsFor, number_at}
 use Rattle.dcx_linear.specs.FormTerms.{Unknowns, unknown_of, has_zero_coefficient, HoldsUnknowns, unknown_value}
 use Rattle.dcx_linear.specs.Forms.{linear_value}

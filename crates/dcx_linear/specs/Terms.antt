@@ -1,12 +1,8 @@
 -- Lists of terms with rising keys, none of them 0: what forming such a list key by key gives.
 use Rattle.std.specs.Prelude.{◌≡◌, ℕ, ◌<◌, Bool, false, nat_eq, if◌then◌else◌, List, [], ◌∷◌, Option, Some, None, Result, Ok, Err}
 use Rattle.std.specs.List.{All}
+use Rattle.dcx_math.specs.Rising.{IsRising}
 use Rattle.dcx_frac.specs.declared.fraction.Passes.{Passes}
-
--- each key is below those that follow
-abbrev pub IsRising : {T : Type 0} → (T → ℕ) → List T → Type 0
-IsRising key [] = Unit {0}
-IsRising key (t ∷ ts) = All (λ u. key t < key u) ts × IsRising key ts
 
 -- the keys rise, and no term is 0
 pub record IsSparse {T : Type 0} (key : T → ℕ) (is_zero : T → Bool) (ts : List T) : Type 0 where

@@ -8,13 +8,13 @@ use Rattle.dcx_math.specs.Rational.{ℚ, whole, ◌+ℚ◌, ◌-ℚ◌, ◌*ℚ�
 use Rattle.dcx_math.specs.Sums.{rat_sum_by}
 use Rattle.dcx_math.proofs.Ring.{ring, reads}
 use Rattle.dcx_math.proofs.Sums.{rat_sum_by-same}
+use Rattle.dcx_math.specs.Rising.{IsRising}
 use Rattle.dcx_frac.specs.Frac.{value}
 use Rattle.dcx_atom.proofs.FormedSums.{value-zero_frac}
 use Rattle.dcx_linear.specs.declared.param_term.ParamTerm.{ParamTerm}
 use Rattle.dcx_linear.specs.declared.param_form.ParamForm.{ParamForm}
 use Rattle.dcx_linear.specs.declared.form.Form.{Form}
 use Rattle.dcx_linear.specs.Parameters.{Parameters}
-use Rattle.dcx_linear.specs.Terms.{IsRising}
 use Rattle.dcx_linear.specs.ParamTerms.{key_of, HoldsTerms, term_value}
 use Rattle.dcx_linear.specs.ParamForms.{form_value}
 use Rattle.dcx_linear.specs.FormTerms.{Unknowns, unknown_value}

@@ -13,12 +13,13 @@ use Rattle.dcx_math.proofs.Orders.{+ℚ_idl, +ℚ_idr, *ℚ-zero, zero-*ℚ, who
 use Rattle.dcx_math.proofs.Ring.{ring, reads}
 use Rattle.dcx_math.proofs.Sums.{rat_sum_below-zero, rat_sum_below-same, rat_sum_below-+ℚ, rat_sum_below-*ℚ, rat_sum_below-one, rat_sum_below-exchange}
 use Rattle.dcx_math.proofs.Points.{wholes}
+use Rattle.dcx_math.specs.Rising.{IsRising}
 use Rattle.dcx_frac.specs.declared.fraction.Frac.{Frac}
 use Rattle.dcx_frac.specs.Frac.{value}
 use Rattle.dcx_atom.specs.Formed.{zero_frac}
 use Rattle.dcx_atom.proofs.FormedSums.{value-zero_frac}
 use Rattle.dcx_linear.specs.declared.form.FormTerm.{FormTerm}
-use Rattle.dcx_linear.specs.Terms.{IsRising, term_at}
+use Rattle.dcx_linear.specs.Terms.{term_at}
 use Rattle.dcx_linear.specs.TermLaws.{term_at-here, term_at-later, term_at-below}
 use Rattle.dcx_linear.specs.FormTerms.{Unknowns, unknown_of}
 use Rattle.dcx_tab.specs.declared.rows.ColumnKind.{ColumnKind}
