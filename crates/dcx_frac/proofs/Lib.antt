@@ -11,3 +11,4 @@ pub mod Orders
 pub mod Results
 pub mod Texts
 pub mod Representable
+pub mod Integers

@@ -7,8 +7,8 @@ use Rattle.dcx_frac.specs.Frac.{value}
 use Rattle.dcx_frac.proofs.Bits.{back}
 use Rattle.dcx_frac.proofs.Parts.{sizes_fit, exists_exactly, has_value}
 use Rattle.dcx_frac.proofs.Products.{sign, upper, lower, left_pos, right_pos, parts_coprime, lower_pos, product_lowest}
-use Rattle.dcx_frac.proofs.fraction.Frac.product.Goals as goal
-use Rattle.dcx_frac.proofs.fraction.Frac.product.Goals.{After-gcd-k}
+use Rattle.dcx_frac.proofs.fraction.Frac.formed_product.Goals as goal
+use Rattle.dcx_frac.proofs.fraction.Frac.formed_product.Goals.{After-gcd-k}
 
 record Found (x y : Frac) (a b c d g k : ℕ) : Type 0 where
   g_pos : 0 < g
