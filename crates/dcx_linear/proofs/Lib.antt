@@ -14,3 +14,4 @@ pub mod Coefficients
 pub mod SettingForms
 pub mod SettingRows
 pub mod NumberForms
+pub mod Behind

@@ -9,6 +9,10 @@ pub record IsSparse {T : Type 0} (key : T → ℕ) (is_zero : T → Bool) (ts : 
   pub rising : IsRising key ts
   pub nonzero : All (λ t. is_zero t ≡ false) ts
 
+-- each key of one list stands behind each of the other
+abbrev pub IsBehind : {T : Type 0} → (T → ℕ) → List T → List T → Type 0
+IsBehind key ts us = All (λ t. All (λ u. key t < key u) us) ts
+
 -- the term with this key; None stands for 0
 abbrev pub term_at : {T : Type 0} → (T → ℕ) → List T → ℕ → Option T
 term_at key [] k = None

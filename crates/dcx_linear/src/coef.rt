@@ -81,6 +81,12 @@ pub trait Coef: Drop {
     fn add(&self, alloc: Global, other: &Self) -> Result<Self, CoefStop>
         ensures { Gives result (sum_gives self.now other.now) };
 
+    /// The same sum, of a coefficient that is given away: one behind whose entries the other's stand grows in its place.
+    ///
+    /// `Passes` where an operation passes 128 bits: the first one.
+    fn plus(self, alloc: Global, other: &Self) -> Result<Self, CoefStop>
+        ensures { Gives result (sum_gives self other.now) };
+
     /// The product with a fraction, which stands on the left.
     ///
     /// `Passes` where an operation passes 128 bits: the first one.

@@ -4,7 +4,7 @@ use crate::coef::Coef;
 use crate::entry::entry_at;
 use crate::param_term::{ParamTerm, ParamTerms, change_number};
 use crate::stop::CoefStop;
-use crate::term::{change_terms, copy_terms, sum_terms};
+use crate::term::{added_terms, change_terms, copy_terms, sum_terms};
 use dcx_frac::{Frac, Passes};
 use dcx_point::Setting;
 use dcx_shape::{Name, copy_name};
@@ -129,6 +129,18 @@ impl Coef for ParamForm {
         let other_terms = other.terms.as_slice();
         let constant = Frac::add(self.constant, other.constant)?;
         let sum = sum_terms(alloc, terms, other_terms)?;
+        Ok(ParamForm {
+            constant,
+            terms: ParamTerms::from_vec(sum),
+        })
+    }
+
+    fn plus(self, alloc: Global, other: &Self) -> Result<Self, CoefStop> {
+        let ParamForm { constant, terms } = self;
+        let terms = terms.into_vec();
+        let other_terms = other.terms.as_slice();
+        let constant = Frac::add(constant, other.constant)?;
+        let sum = added_terms(alloc, terms, other_terms)?;
         Ok(ParamForm {
             constant,
             terms: ParamTerms::from_vec(sum),

@@ -44,7 +44,8 @@ fn add_to<C: Coef>(alloc: Global, slot: &mut C, coefficient: C) -> Result<(), Co
     if vanishes(slot) {
         *slot = coefficient;
     } else {
-        *slot = slot.add(alloc, &coefficient)?;
+        let before = mem::replace(slot, C::zero(alloc));
+        *slot = before.plus(alloc, &coefficient)?;
     }
     Ok(())
 }
