@@ -261,6 +261,16 @@ impl Frac {
     fn order(self, other: Frac) -> Ordering
         ensures { result ≡ int_cmp (self.num *ℤ other.den) (other.num *ℤ self.den) }
     {
+        if self.den == other.den {
+            return self.num.cmp(&other.num);
+        }
+        self.crossed(other)
+    }
+
+    /// The same, by repeated division.
+    fn crossed(self, other: Frac) -> Ordering
+        ensures { result ≡ int_cmp (self.num *ℤ other.den) (other.num *ℤ self.den) }
+    {
         let b = self.den.unsigned_abs();
         let d = other.den.unsigned_abs();
         let size = self.num.unsigned_abs();
