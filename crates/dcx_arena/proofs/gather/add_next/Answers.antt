@@ -1,3 +1,4 @@
+-- The next node has its arguments in the part; it comes in renamed, and nothing but memory can be wanting.
 use Rattle.std.proofs.Common.{◌<◌, ◌∙◌, ◌∷◌, [], sym, ap, refl, subst, length, length-append, arith}
 use Rattle.std.proofs.lemmas.Option.{slice_get_read}
 use Rattle.dcx_arena.specs.Nodes.{positions, IsPushed}

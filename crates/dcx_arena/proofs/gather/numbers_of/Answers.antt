@@ -1,3 +1,4 @@
+-- Each of the nodes is in the order, and its number comes behind those of the nodes before it.
 use Rattle.std.proofs.Common.{◌<◌, ◌∙◌, ◌∷◌, [], sym, ap, length, get_or, Some, arith}
 use Rattle.std.proofs.lemmas.List.{map-append}
 use Rattle.std.proofs.lemmas.Option.{slice_get-get_or}

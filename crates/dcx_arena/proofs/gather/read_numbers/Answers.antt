@@ -1,3 +1,4 @@
+-- The next cell of the chain is there, and the node that it names is in the order.
 use Rattle.std.proofs.Common.{◌<◌, ◌-◌, ◌+◌, ◌∷◌, [], map, length, rules, append_assoc}
 use Rattle.std.specs.List.{slice_get}
 use Rattle.std.proofs.lemmas.List.{map-append}

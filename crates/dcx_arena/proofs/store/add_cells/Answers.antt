@@ -1,3 +1,4 @@
+-- The cells that are added are a chain, and it names the arguments in their order.
 use Rattle.std.proofs.Common.{◌≤◌, ◌∙◌, length, arith}
 use Rattle.dcx_arena.specs.Nodes.{positions}
 use Rattle.dcx_arena.proofs.Positions.{length-positions, position_at}

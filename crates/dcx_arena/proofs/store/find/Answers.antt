@@ -1,3 +1,4 @@
+-- A node that isn't the call's leads to the one before it in its bucket, and behind the last there is none.
 use Rattle.std.proofs.Common.{length, refl}
 use Rattle.std.proofs.lemmas.Option.{slice_get_read}
 use Rattle.dcx_arena.specs.Nodes.{positions, IsOf}

@@ -1,3 +1,4 @@
+-- The shapes read are those of the arguments, the head is the bucket's, and what is found or added is the call's.
 use Rattle.std.proofs.Common.{◌≡◌, ◌∙◌, ap, sym, refl, map, Some, None, option_map, arith}
 use mathlib.Core.Logic.{inl}
 use Rattle.dcx_shape.specs.Shape.{sides_of}

@@ -1,3 +1,4 @@
+-- Another length or another node ends the comparison, and else it goes on by one cell.
 use Rattle.std.proofs.Common.{◌∙◌, sym, arith}
 use Rattle.dcx_arena.specs.Nodes.{positions}
 use Rattle.dcx_arena.proofs.Positions.{length-positions, position_at}

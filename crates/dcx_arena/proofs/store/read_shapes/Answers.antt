@@ -1,3 +1,4 @@
+-- Each argument is a node of the store, and its shape comes behind those so far.
 use Rattle.std.proofs.Common.{arith, length, get_or, refl, sym, ap, ◌∙◌, ◌++◌, ◌∷◌, []}
 use Rattle.dcx_arena.specs.declared.store.Stored.{Stored}
 use Rattle.dcx_arena.proofs.Positions.{length-positions, position_at, position_below}

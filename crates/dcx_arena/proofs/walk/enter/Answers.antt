@@ -1,3 +1,4 @@
+-- A node that is entered has its arguments and itself to do, and one that is finished has nothing.
 use Rattle.std.proofs.Common.{◌≡◌, ◌<◌, refl, length, arith, true}
 use Rattle.std.proofs.lemmas.Option.{slice_get_read}
 use Rattle.dcx_arena.specs.Gather.{has}

@@ -1,3 +1,4 @@
+-- There are no more numbers than nodes, so the next one fits; a node with a number is in the order already.
 use Rattle.std.proofs.Common.{◌≡◌, ◌≤◌, ◌∙◌, sym, length, arith, rules}
 use Rattle.dcx_arena.proofs.Orders.{with_there, with_added}
 use Rattle.dcx_arena.proofs.Numbers.{few_numbered, numbered_has, unnumbered_has, numbering_push, read_none, read_some}

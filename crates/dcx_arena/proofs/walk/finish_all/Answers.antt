@@ -1,3 +1,4 @@
+-- At first nothing is finished, and then each root finishes what it reaches, before the next one.
 use Rattle.std.proofs.Common.{◌≡◌, ◌<◌, ◌+◌, None, ◌++◌, ◌∷◌, ◌∙◌, sym, refl, ap, length, get_or, drop, drop-cons, add-one, arith}
 use Rattle.std.specs.List.{flat_map}
 use Rattle.std.proofs.lemmas.List.{length-replicate}

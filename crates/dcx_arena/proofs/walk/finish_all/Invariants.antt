@@ -1,3 +1,4 @@
+-- What is finished, and then what the roots that are left reach, is the order of all roots.
 use Rattle.std.proofs.Common.{◌≡◌, drop}
 use Rattle.std.specs.List.{flat_map}
 use Rattle.dcx_arena.specs.Nodes.{positions}

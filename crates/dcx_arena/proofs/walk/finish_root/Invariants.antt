@@ -1,3 +1,4 @@
+-- What is finished, and then what the stack has to do, is what the root reaches; the steps that are left fall.
 use Rattle.std.proofs.Common.{◌≡◌}
 use Rattle.dcx_arena.specs.Chains.{nodes_of}
 use Rattle.dcx_arena.specs.Gather.{with_all, postorder}

@@ -1,3 +1,4 @@
+-- A node with no argument left is finished, and another one enters its next argument; the steps that are left fall.
 use Rattle.std.proofs.Common.{◌<◌, ◌-◌, ◌∙◌, refl, ap, length, arith}
 use Rattle.std.proofs.lemmas.Result.{on_ok_weaker}
 use Rattle.dcx_arena.specs.declared.store.Cell.{Cell}
