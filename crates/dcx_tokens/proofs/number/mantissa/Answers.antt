@@ -1,3 +1,4 @@
+-- Thirty digits and their power of ten are small enough, and their quotient is the value.
 use Rattle.std.proofs.Common.{◌≡◌, ◌++◌, length, arith, pos, ap, ap₂, ◌∙◌, sym}
 use Rattle.dcx_math.specs.Rational.{whole, ◌/ℚ◌}
 use Rattle.std.specs.Str.Parse.{digits_value, digits_value_after}

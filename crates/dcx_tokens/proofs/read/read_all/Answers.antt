@@ -1,3 +1,4 @@
+-- A step reads on, the first step that stops tells the fault, and at the end the last line ends.
 use Rattle.std.proofs.Common.{◌≢◌, sym, ◌∙◌, subst}
 use Rattle.std.proofs.lemmas.Bool.{false≢true}
 use Rattle.dcx_tokens.specs.declared.fault.ReadFault.TheVariants as fault

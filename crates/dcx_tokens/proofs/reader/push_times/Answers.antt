@@ -1,3 +1,4 @@
+-- Each turn puts one copy more behind what was there, and after all turns there are so many.
 use Rattle.std.proofs.Common.{◌≡◌, ◌++◌, ◌∷◌, [], replicate, sym, ap, ◌∙◌, append_assoc, append-nil, arith, rules}
 use Rattle.std.proofs.lemmas.List.{replicate_more}
 use Rattle.std.proofs.lemmas.Result.{err_from_is_err_and}
