@@ -1,3 +1,4 @@
+-- The lemmas by which the parser and the law of scripts are proved.
 pub mod Sound
 pub mod Viable
 pub mod Local
