@@ -1,3 +1,4 @@
+-- The operands so far, and then what the readings that are left give, are what all readings give.
 use Rattle.std.proofs.Common.{◌≡◌, map}
 use Rattle.std.specs.Vec.Iter.{into_iter_items}
 use Rattle.dcx_script_values.specs.Values.{State}

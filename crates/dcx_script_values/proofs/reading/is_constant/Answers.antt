@@ -1,3 +1,4 @@
+-- By its form a list is constant exactly where it is read as numbers, which is so of few enough items.
 use Rattle.std.proofs.Common.{map}
 use Rattle.dcx_script_values.specs.Meant.{meant}
 use Rattle.dcx_script_values.proofs.Forms.{few_meant, is_constant-form}

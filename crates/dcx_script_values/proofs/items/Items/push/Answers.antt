@@ -1,3 +1,4 @@
+-- The count that is tested is that of the definition: too many are told, and else the item comes.
 use Rattle.std.proofs.Common.{arith}
 use Rattle.dcx_script_values.specs.Meant.{meant}
 use Rattle.dcx_script_values.proofs.Limits.{room-over, room-within}
