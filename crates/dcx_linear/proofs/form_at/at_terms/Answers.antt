@@ -1,3 +1,4 @@
+-- One more coefficient is a number at the setting, or its first operation that passes is the stop.
 use Rattle.std.proofs.Common.{sym, subst, ◌∙◌, arith}
 use Rattle.std.proofs.lemmas.Result.{err_from_is_err_and}
 use Rattle.dcx_linear.specs.FormsAt.{IsListedTerm}

@@ -1,3 +1,4 @@
+-- A form that is multiplied or divided is worth so.
 use Rattle.std.proofs.Common.{ap, ◌∙◌}
 use Rattle.dcx_linear.specs.FormLaws.{linear_change_value}
 use Rattle.dcx_linear.proofs.laws.changed_forms.Goals as goal

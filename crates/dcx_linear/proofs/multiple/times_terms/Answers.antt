@@ -1,3 +1,4 @@
+-- The products so far are those of the terms passed: one more is formed, or it is the first that stops.
 use Rattle.std.proofs.Common.{Err, sym, subst, arith}
 use Rattle.std.proofs.lemmas.Result.{err_from_is_err_and}
 use Rattle.dcx_linear.specs.Stops.{OnPass-weaker}

@@ -1,3 +1,4 @@
+-- Each term isn't 0 and is added in its turn, or it is the first that stops.
 use Rattle.std.proofs.Common.{Err, length, arith, rules}
 use Rattle.std.proofs.lemmas.List.{length_push}
 use Rattle.std.proofs.lemmas.Result.{err_from_is_err_and}

@@ -1,3 +1,4 @@
+-- A zero behind the slots is no term, so they list what they listed.
 use Rattle.std.proofs.Common.{length, ap, ◌∙◌, arith, length-append}
 use Rattle.dcx_linear.specs.Slots.{listed_from}
 use Rattle.dcx_linear.proofs.SlotSums.{zero_coefficient, listed-push}

@@ -1,3 +1,4 @@
+-- A coefficient times a form is worth the product.
 use Rattle.std.proofs.Common.{ap, ◌∙◌}
 use Rattle.dcx_linear.proofs.MultipleLaws.{multiple_value}
 use Rattle.dcx_linear.proofs.sum_laws.multiples_of_forms.Goals as goal

@@ -1,3 +1,4 @@
+-- A sum of parts is worth the form that it starts from and what each part is worth.
 use Rattle.std.proofs.Common.{ap, ◌∙◌}
 use Rattle.dcx_linear.specs.FormLaws.{linear_sum_value, linear_change_value}
 use Rattle.dcx_linear.proofs.PartSums.{parts_sum_value}

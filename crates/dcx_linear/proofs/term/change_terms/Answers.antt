@@ -1,3 +1,4 @@
+-- The terms so far are changed: one more is changed, or it is the first that stops.
 use Rattle.std.proofs.Common.{Err, arith}
 use Rattle.std.proofs.lemmas.Result.{err_from_is_err_and}
 use Rattle.dcx_linear.specs.Stops.{OnPass-weaker}

@@ -1,3 +1,4 @@
+-- The term with the smaller key comes first, terms with one key are added, and the rest of a list comes last.
 use Rattle.std.proofs.Common.{◌≤◌, ◌++◌, ◌⊎◌, length, drop, Err, inl, inr, ap, ◌∙◌, arith}
 use Rattle.std.proofs.lemmas.Cmp.{ranked}
 use Rattle.std.proofs.lemmas.Result.{err_from_is_err_and}

@@ -1,3 +1,4 @@
+-- One more row adds its number where it starts with an artificial, or its sum is the first that passes.
 use Rattle.std.proofs.Common.{◌+◌, map, drop, sym, ap, ◌∙◌, arith}
 use Rattle.std.specs.Prelude.{filter}
 use Rattle.std.proofs.lemmas.Result.{err_from_is_err_and}

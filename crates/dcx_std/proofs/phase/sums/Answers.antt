@@ -1,3 +1,4 @@
+-- One more column has its sum, or its sum is the first that passes.
 use Rattle.std.proofs.Common.{[], ◌∷◌, ◌++◌, ◌+◌, ◌-◌, map, sym, ap, ◌∙◌, arith, to_z-of_z}
 use Rattle.std.specs.List.{range_with_len}
 use Rattle.std.specs.Int.{w128}

@@ -1,3 +1,4 @@
+-- The columns are those of unknowns, slacks and artificials: so the rows, the cost and the phase row are made.
 use Rattle.std.proofs.Common.{◌≡◌, ◌+◌, length, length-append, map, sym, ap, ◌∙◌, arith}
 use Rattle.std.proofs.lemmas.Result.{err_from_is_err_and}
 use Rattle.dcx_std.specs.Columns.{columns_of, artificial_columns}

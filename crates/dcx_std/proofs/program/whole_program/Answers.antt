@@ -1,3 +1,4 @@
+-- The rows are made whole and then the objective row, and the first of them that stops is the stop.
 use Rattle.std.proofs.Common.{◌≡◌, ◌≤◌, length, map, sym, ap, ap₂, ◌∙◌, subst, arith}
 use Rattle.std.specs.List.{All}
 use Rattle.std.proofs.lemmas.Result.{err_from_is_err_and}

@@ -1,3 +1,4 @@
+-- One more row is made of its whole row, whose numbers are small and whose start is among the columns.
 use Rattle.std.proofs.Common.{length, refl, sym, subst, arith}
 use Rattle.std.proofs.lemmas.Option.{slice_get_read}
 use Rattle.dcx_tab.specs.Rows.{AllSmall}

@@ -1,3 +1,4 @@
+-- Counts that are capped at the largest number of 32 bits pass the limits exactly where the counts do.
 use Rattle.std.proofs.Common.{◌≡◌, ℕ, ◌+◌, ◌<◌, ◌≤◌, ◌⊎◌, inl, inr, List, length, refl, ap, ap₂, ◌∙◌, arith}
 use Rattle.std.specs.Prelude.{min, sum_by}
 use Rattle.dcx_frac.specs.declared.fraction.Frac.{Frac}

@@ -1,3 +1,4 @@
+-- One more product has its numerator, or it is the first that passes.
 use Rattle.std.proofs.Common.{[], ◌∷◌, ◌++◌, ◌+◌, map, drop, sym, ap, ◌∙◌, arith, to_z-of_z, rules}
 use Rattle.std.specs.Int.{w128}
 use Rattle.std.proofs.lemmas.List.{drop_all}

@@ -1,3 +1,4 @@
+-- The constant is added and then the terms, slot by slot: so the form is added, or its first operation passes.
 use Rattle.std.proofs.Common.{Err}
 use Rattle.std.proofs.lemmas.Result.{err_from_is_err_and}
 use Rattle.dcx_linear.specs.FormTerms.{unknown_of, has_zero_coefficient, sum_gives_unknown}

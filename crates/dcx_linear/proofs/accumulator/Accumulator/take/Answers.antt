@@ -1,3 +1,4 @@
+-- The constant and the terms that are taken are the form's, and what is left is 0.
 use Rattle.std.proofs.Common.{◌≡◌, List, sym, ap, ap₂, ◌∙◌, subst, arith}
 use Rattle.std.proofs.lemmas.List.{with_items_is}
 use Rattle.dcx_linear.specs.declared.form.FormTerm.{FormTerm}

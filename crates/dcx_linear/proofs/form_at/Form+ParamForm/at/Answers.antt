@@ -1,3 +1,4 @@
+-- Terms at a setting rise by unknowns and have no 0, as those of a form do.
 use Rattle.std.proofs.Common.{sym, ap, ◌∙◌}
 use Rattle.dcx_linear.specs.FormsAt.{terms_at}
 use Rattle.dcx_linear.proofs.SettingForms.{terms_at-sparse}

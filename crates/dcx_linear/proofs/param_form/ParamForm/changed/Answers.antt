@@ -1,3 +1,4 @@
+-- The constant is changed before the terms, and the first of them that stops is the stop.
 use Rattle.std.proofs.Common.{Err, inl, inr, sym, subst, ◌∙◌}
 use Rattle.std.proofs.lemmas.Result.{err_from_is_err_and}
 use Rattle.dcx_linear.specs.Stops.{OnPass-weaker}

@@ -1,3 +1,4 @@
+-- At the setting the rows and the objective still speak of unknowns with a kind alone.
 use Rattle.dcx_linear.proofs.SettingRows.{known_rows, known_form}
 use Rattle.dcx_linear.proofs.rows_at.Rows+ParamForm.at.Goals as goal
 
