@@ -1,3 +1,4 @@
+-- The entry is that of the argument's node; past the arguments, the nodes or the entries it is 0.
 use Rattle.std.proofs.Common.{sym, ◌∙◌}
 use Rattle.std.proofs.lemmas.Bool.{ltb-true}
 use Rattle.dcx_entries.proofs.Past.{not_below, argument_is, node_past, argument_past}

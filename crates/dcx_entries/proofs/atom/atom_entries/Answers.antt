@@ -1,3 +1,4 @@
+-- Each entry takes its own rows from those that are left, and is formed or stops as the graph's meaning says.
 use Rattle.std.proofs.Common.{◌≡◌, ◌+◌, ◌≤◌, [], Ok, Err, take, drop, length, get_or, slice_index_or, sym, ap, ◌∙◌, subst, arith}
 use Rattle.std.specs.List.{All}
 use Rattle.std.proofs.lemmas.List.Elements.{All-take, All-drop}

@@ -1,3 +1,4 @@
+-- Where a row stops the entry stops so, behind the result that is formed.
 use Rattle.std.proofs.Common.{Err, map, inl, inr}
 use Rattle.std.proofs.lemmas.Result.{err_from_is_err_and}
 use Rattle.dcx_atom.specs.Graph.{form_term}

@@ -1,3 +1,4 @@
+-- The forms so far are those of the rows passed: one more row is formed, or it is the first that stops.
 use Rattle.std.proofs.Common.{◌≡◌, ◌+◌, [], Ok, Err, map, length, sym, subst, arith}
 use Rattle.std.proofs.lemmas.Result.{err_from_is_err_and}
 use Rattle.dcx_atom.specs.Graph.{row_term}

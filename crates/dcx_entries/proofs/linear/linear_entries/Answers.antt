@@ -1,3 +1,4 @@
+-- The entries so far are formed of their terms: one more is formed, or it is the first that stops.
 use Rattle.std.proofs.Common.{◌≡◌, ◌+◌, [], Ok, Err, map, sym, ◌∙◌, subst, arith}
 use Rattle.dcx_atom.specs.Linear.{linear_term}
 use Rattle.dcx_entries.specs.Forming.{FormsEach, OnStop}

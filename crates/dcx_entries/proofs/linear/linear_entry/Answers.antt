@@ -1,3 +1,4 @@
+-- The entry is the sum of its terms from 0 on, with no rows.
 use Rattle.std.proofs.Common.{Ok, map, ap, ◌∙◌, subst}
 use Rattle.dcx_atom.specs.Linear.{linear_term}
 use Rattle.dcx_linear.specs.Parts.{adds_parts}

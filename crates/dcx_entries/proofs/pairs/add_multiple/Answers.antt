@@ -1,3 +1,4 @@
+-- The product is formed and then added, and the first of the two that stops is the stop.
 use Rattle.std.proofs.Common.{Ok, Err, inl, inr, subst}
 use Rattle.std.proofs.lemmas.Result.{err_from_is_err_and}
 use Rattle.dcx_linear.specs.Forms.{sum_gives_linear}

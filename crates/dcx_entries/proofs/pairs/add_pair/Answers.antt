@@ -1,3 +1,4 @@
+-- The side that is a number scales or divides the entry of the other side, and a divisor isn't 0.
 use Rattle.std.proofs.Common.{◌≡◌, true, false, pos, sym, ap, ◌∙◌, subst}
 use Rattle.dcx_math.specs.Rational.{whole}
 use Rattle.dcx_math.proofs.Ratios.{IsTrue-rat_eq}

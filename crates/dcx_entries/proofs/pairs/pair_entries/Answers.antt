@@ -1,3 +1,4 @@
+-- The entries so far are formed of their pairs: one more is formed, or it is the first that stops.
 use Rattle.std.proofs.Common.{◌≡◌, ◌+◌, [], Ok, sym, ◌∙◌, subst, arith}
 use Rattle.std.specs.List.{All}
 use Rattle.std.proofs.lemmas.Result.{err_from_is_err_and}

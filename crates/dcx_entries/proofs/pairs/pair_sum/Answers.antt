@@ -1,3 +1,4 @@
+-- The entry is the sum of its pairs from 0 on, with no rows.
 use Rattle.std.proofs.Common.{Ok, ap, ◌∙◌, subst}
 use Rattle.dcx_entries.specs.Sums.{adds_pair, adds_each}
 use Rattle.dcx_entries.specs.Entries.{alone}

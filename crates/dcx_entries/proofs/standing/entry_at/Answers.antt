@@ -1,3 +1,4 @@
+-- Past the end of the numbers or of the forms there is 0.
 use Rattle.std.proofs.Common.{◌≡◌, length, sym, ap, subst}
 use Rattle.dcx_linear.specs.Forms.{is_constant}
 use Rattle.dcx_entries.specs.Standing.{entry_of}

@@ -1,3 +1,4 @@
+-- The entry is changed and then added, and either may stop.
 use Rattle.std.proofs.Common.{inr}
 use Rattle.dcx_linear.specs.Forms.{sum_gives_linear}
 use Rattle.dcx_linear.specs.Parts.{adds_part}

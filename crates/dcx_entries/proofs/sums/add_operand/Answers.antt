@@ -1,3 +1,4 @@
+-- A term of an entry or of an auxiliary unknown adds its coefficient times that form.
 use Rattle.std.proofs.Common.{sym, subst}
 use Rattle.dcx_frac.specs.declared.fraction.Frac.{Frac}
 use Rattle.dcx_frac.specs.Frac.{value}

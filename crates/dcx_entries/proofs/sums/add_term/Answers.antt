@@ -1,3 +1,4 @@
+-- The coefficient of the triple is the fraction of its value.
 use Rattle.std.proofs.Common.{sym, subst}
 use Rattle.dcx_atom.proofs.FormedSums.{frac_at-value}
 use Rattle.dcx_linear.specs.declared.change.Change.TheVariants.{Scale}

@@ -1,3 +1,4 @@
+-- The sum has the terms of the call that are passed: one more is added, or it is the first that stops.
 use Rattle.std.proofs.Common.{Err, map, arith}
 use Rattle.std.proofs.lemmas.Result.{err_from_is_err_and}
 use Rattle.dcx_linear.specs.Stops.{OnPass-weaker}

@@ -1,3 +1,4 @@
+-- The entries so far are the forms of the unknowns passed.
 use Rattle.std.proofs.Common.{◌≡◌, ℕ, ◌+◌, ◌<◌, List, [], ◌∷◌, ◌++◌, map, take, length, get_or, sym, ap, ◌∙◌, arith}
 use Rattle.std.proofs.lemmas.List.{map_more, take_all}
 use Rattle.dcx_entries.specs.Parts.{form_of_unknown}

@@ -1,3 +1,4 @@
+-- The rows at the setting are as many as before, with their origins, and a stop's row is one of them or behind all.
 use Rattle.std.proofs.Common.{◌≡◌, ℕ, length, Ok, Err, inl, refl, sym, ap, ◌∙◌, subst, arith}
 use Rattle.std.specs.List.{All}
 use Rattle.dcx_frac.specs.declared.fraction.Frac.{Frac}

@@ -1,3 +1,4 @@
+-- Formed nodes have one program, or one operation that passes first.
 use Rattle.dcx_unknowns.specs.Layout.{unknown_kinds}
 use Rattle.dcx_entries.specs.Nodes.{table_forms}
 use Rattle.dcx_entries.specs.Kept.{graph_rows}

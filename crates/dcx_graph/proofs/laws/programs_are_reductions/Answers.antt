@@ -1,3 +1,4 @@
+-- A program of formed nodes is the linear program of their forms and rows, with sums and multiples worth what they are.
 use Rattle.std.proofs.Common.{refl, ap, ◌∙◌}
 use Rattle.dcx_linear.specs.FormLaws.{linear_sum_value, linear_change_value}
 use Rattle.dcx_entries.specs.Nodes.{table_forms}

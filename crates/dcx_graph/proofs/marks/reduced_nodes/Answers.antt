@@ -1,3 +1,4 @@
+-- The marks so far are those of the nodes passed: one more node is marked.
 use Rattle.std.proofs.Common.{arith}
 use Rattle.dcx_unknowns.specs.Layout.{is_reduced}
 use Rattle.dcx_graph.proofs.Marked.{marked_more}

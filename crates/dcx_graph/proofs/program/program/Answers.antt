@@ -1,3 +1,4 @@
+-- What is asked is of the nodes that are kept, its rows are within the kinds, and each has its origin.
 use Rattle.std.proofs.Common.{◌≡◌, ◌+◌, ◌<◌, ◌≤◌, ◌^◌, ◌++◌, length, map, Ok, Err, sym, ◌∙◌, subst}
 use Rattle.std.specs.Prelude.{sum_by}
 use Rattle.std.specs.List.{All}

@@ -1,3 +1,4 @@
+-- The rows and the objective are formed or stop at their row, and the origins stand beside them, all below 2 ^ 32.
 use Rattle.std.proofs.Common.{◌≡◌, ◌+◌, length, Err, sym, ap, ◌∙◌, arith}
 use Rattle.std.proofs.lemmas.Result.{err_from_is_err_and}
 use Rattle.dcx_answer.specs.declared.site.Site.TheVariants as sites

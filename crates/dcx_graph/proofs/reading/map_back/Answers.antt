@@ -1,3 +1,4 @@
+-- The rows that are lent are those of the program: so its answer can be read, and what is read is right.
 use Rattle.std.proofs.Common.{IfOk, sym, ◌∙◌, subst}
 use Rattle.std.proofs.lemmas.Result.{IfOk-weaker}
 use Rattle.dcx_tree.specs.Meaning.{setting_of}

@@ -1,3 +1,4 @@
+-- The setting gives the numbers of the nodes that are formed; the rows that are kept are few and within the kinds.
 use Rattle.std.proofs.Common.{Err, length, arith, sym, ap, ◌∙◌, subst}
 use Rattle.std.specs.List.{All}
 use Rattle.dcx_linear.specs.Widths.{form_width}

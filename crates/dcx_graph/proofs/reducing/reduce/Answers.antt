@@ -1,3 +1,4 @@
+-- The marks are those of the rules, and so the layout and each stop are those of the problem.
 use Rattle.std.proofs.Common.{Err, length, sym, ap, ◌∙◌, subst}
 use Rattle.dcx_unknowns.specs.Layout.{AreReduced, kinds_with, rows_with, columns_with, AreFew}
 use Rattle.dcx_unknowns.proofs.Layouts.{marks_are}

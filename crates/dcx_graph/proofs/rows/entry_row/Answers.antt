@@ -1,3 +1,4 @@
+-- Where the difference stops the row stops, with its number.
 use Rattle.dcx_entries.specs.Standing.{all_forms}
 use Rattle.dcx_graph.specs.Program.{EntryRow}
 use Rattle.dcx_graph.proofs.Told.{stops_row}

@@ -1,3 +1,4 @@
+-- Where what is to be small can't be formed, the row of the objective stops.
 use Rattle.std.proofs.Common.{Err, subst}
 use Rattle.dcx_linear.specs.Stops.{OnPass}
 use Rattle.dcx_entries.specs.Standing.{all_forms}
