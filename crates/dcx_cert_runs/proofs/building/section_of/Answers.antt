@@ -1,3 +1,4 @@
+-- The answer that was found last is one of the problem that can be built: the certificate that is built is its section.
 use Rattle.std.proofs.Common.{sym, subst}
 use Rattle.dcx_tree.specs.declared.problem.Problem.{Problem}
 use Rattle.dcx_tree.specs.Meaning.{setting_of}

@@ -1,3 +1,4 @@
+-- A section that shows an answer counts one more, and any other none.
 use Rattle.std.proofs.Common.{ap, sym, ◌∙◌, ◌+◌, arith}
 use Rattle.std.proofs.lemmas.List.Sums.{count_by_more_yes, count_by_more_no}
 use Rattle.dcx_cert_runs.specs.Checking.{is_cert}
