@@ -1,3 +1,4 @@
+-- Each end of reading the files and of checking the sections causes its run.
 use Rattle.std.proofs.Common.{◌≡◌, ◌⊎◌, refl, ap, arith, length, subst}
 use Rattle.dcx_host.specs.Faults.{Rose}
 use Rattle.dcx_words.specs.Commands.{certify}

@@ -1,3 +1,4 @@
+-- Each end of reading the files, checking the sections and writing them causes its run.
 use Rattle.std.proofs.Common.{◌≡◌, ◌⊎◌, refl, ap, arith, length, subst}
 use Rattle.dcx_host.specs.Faults.{Rose}
 use Rattle.dcx_words.specs.Commands.{migrate}

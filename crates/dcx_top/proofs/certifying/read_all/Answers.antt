@@ -1,3 +1,4 @@
+-- The files are read one after another, and the first that isn't had or is refused ends the run.
 use Rattle.std.proofs.Common.{refl, subst, ◌∙◌, arith}
 use Rattle.std.proofs.lemmas.Result.{IfOk-weaker, IfErr-weaker}
 use Rattle.dcx_host.specs.Files.{IsTold}

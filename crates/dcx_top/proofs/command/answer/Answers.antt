@@ -1,3 +1,4 @@
+-- The words are those of the command that is carried out: its run has their cause, and isn't that of wrong usage.
 use Rattle.std.proofs.Common.{Some, map, ap, ◌∙◌}
 use Rattle.std.specs.Prelude.{string_bytes}
 use Rattle.dcx_host.specs.Faults.{Rose}

@@ -1,3 +1,4 @@
+-- The run that is reported has the causes of the words, and so it is right, the only one, and refuses rightly.
 use Rattle.std.proofs.Common.{map}
 use Rattle.std.specs.Prelude.{string_bytes}
 use Rattle.dcx_host.specs.Faults.{Rose}

@@ -1,3 +1,4 @@
+-- A report that is cut short by a fault of the sink ends with the status of that fault.
 use Rattle.std.proofs.Common.{Err, inr, refl, ap}
 use Rattle.dcx_top.proofs.Writing.{failed_cut, ends_early}
 use Rattle.dcx_top.proofs.command.written.Goals as goal

@@ -1,3 +1,4 @@
+-- The faults that rise while the settings are read rise behind those of the script; a script that fails ends the run.
 use Rattle.std.proofs.Common.{refl}
 use Rattle.dcx_host.specs.Faults.{Rose}
 use Rattle.dcx_words.specs.Commands.{range}

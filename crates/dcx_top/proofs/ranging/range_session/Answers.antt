@@ -1,3 +1,4 @@
+-- A parameter without a range is refused first, then a settings file that fails; else its lines are ranged.
 use Rattle.std.proofs.Common.{refl, sym, subst}
 use Rattle.dcx_tree.specs.declared.problem.Problem.{Problem}
 use Rattle.dcx_settings.proofs.Full.{items_full_in}

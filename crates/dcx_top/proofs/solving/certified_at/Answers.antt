@@ -1,3 +1,4 @@
+-- The certificate that is written is that of the problem at its settings.
 use Rattle.dcx_top.proofs.Causes.{certificate_at}
 use Rattle.dcx_top.proofs.solving.certified_at.Goals as goal
 

@@ -1,3 +1,4 @@
+-- Each task is done as it is asked.
 use Rattle.dcx_top.specs.declared.solving.Task.TheVariants as tasks
 use Rattle.dcx_top.proofs.Causes.{task_done}
 use Rattle.dcx_top.proofs.solving.do_at.Goals as goal

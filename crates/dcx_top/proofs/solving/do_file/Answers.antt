@@ -1,3 +1,4 @@
+-- A task that refuses marked variables refuses first; else the lines of the settings file are done.
 use Rattle.std.proofs.Common.{IsTrue, refl, inr}
 use Rattle.dcx_settings.proofs.Full.{items_full_in}
 use Rattle.dcx_top.specs.Runs.{DoesAt, task_refuses}
