@@ -1,4 +1,4 @@
--- The main statements hold.
+-- Formed nodes meet the equations, where parameters are numbers and where they are affine: the laws' proofs.
 use Rattle.std.proofs.Common.{◌≡◌, IsTrue, [], map, Some, refl, ap, ◌∙◌, subst}
 use Rattle.std.proofs.lemmas.Bool.{and_parts}
 use Rattle.dcx_frac.specs.declared.fraction.Frac.{Frac}

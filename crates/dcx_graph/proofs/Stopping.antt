@@ -1,4 +1,4 @@
--- Stops at multipliers.
+-- A multiplier that passes while an answer of the rows is read stops the reading.
 use Rattle.std.proofs.Common.{◌≡◌, refl}
 use Rattle.dcx_tree.specs.declared.problem.Problem.{Problem}
 use Rattle.dcx_lp_answer.specs.declared.answer.LpStatus.TheVariants as status

@@ -1,4 +1,4 @@
--- The law holds.
+-- A right answer of the linear program is right for the reduced program: the law's proof.
 use Rattle.std.proofs.Common.{◌≡◌, ℕ, zero, suc, ◌+◌, ◌<◌, arith, Bool, if◌then◌else◌, List, [], ◌∷◌, length, map, Some, option_map, slice_get, refl, sym, ap, ap₂, ◌∙◌, subst, pos, zero-add}
 use Rattle.std.specs.Prelude.{nat_lt}
 use Rattle.std.proofs.lemmas.Bool.{lt-ltb}

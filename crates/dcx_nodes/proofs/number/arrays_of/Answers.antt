@@ -1,4 +1,4 @@
--- One argument more.
+-- One more argument has the array of the numbers that it is.
 use Rattle.std.proofs.Common.{length, get_or, sym, ◌∙◌, subst, arith}
 use Rattle.std.proofs.lemmas.List.{take_all}
 use Rattle.dcx_arena.specs.Nodes.{positions, sides_at}

@@ -1,4 +1,4 @@
--- One entry more.
+-- One more entry gives its rows and keeps its form.
 use Rattle.std.proofs.Common.{◌≡◌, ◌<◌, ◌++◌, length, refl, sym, ap, ◌∙◌, arith}
 use Rattle.std.proofs.lemmas.List.{append-nil}
 use Rattle.dcx_entries.specs.Parts.{zero_form}
