@@ -1,4 +1,4 @@
--- One setting more.
+-- One setting more: what is told, found and counted of the settings so far, with it.
 use Rattle.std.proofs.Common.{◌≡◌, ℕ, zero, suc, ◌+◌, ◌*◌, ◌<◌, ◌≤◌, Bool, true, false, cond, List, [], ◌∷◌, ◌++◌, length, take, get_or, Option, None, Some, Result, Ok, Err, refl, sym, ap, ◌∙◌, subst, add-one, arith}
 use Rattle.std.specs.Prelude.{count_by, slice_get, IfErr}
 use Rattle.std.specs.Int.{from_bool}
