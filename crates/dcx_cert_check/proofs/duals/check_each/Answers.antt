@@ -1,4 +1,4 @@
--- One more passes, or is the first that fails.
+-- One more constraint's multipliers have their signs, or are the first that don't.
 use Rattle.std.proofs.Common.{◌≡◌, length, Some, Result, Ok, Err, refl}
 use Rattle.std.specs.List.{slice_get}
 use Rattle.std.proofs.lemmas.Option.{slice_get_read}

@@ -1,4 +1,4 @@
--- One more passes, or is the first that fails.
+-- One more parameter's values are those of the setting, or are the first that aren't.
 use Rattle.std.proofs.Common.{◌≡◌, length, Some, refl}
 use Rattle.std.specs.List.{slice_get}
 use Rattle.std.proofs.lemmas.Option.{slice_get_read}

@@ -1,4 +1,4 @@
--- What the call hands on.
+-- What a nonlinear call hands on by its slopes, or the slope that stops it.
 use Rattle.std.proofs.Common.{◌≡◌, ◌∙◌, sym, length, subst}
 use Rattle.std.proofs.lemmas.List.{length-map}
 use Rattle.dcx_shape.specs.Shape.{sides_of}

@@ -1,4 +1,4 @@
--- What the call hands on.
+-- What a product or a quotient hands on by its pairs, which are those of its two shapes.
 use Rattle.std.proofs.Common.{◌≡◌, ◌∙◌, ◌<◌, sym, ap, ap₂, length, arith, is_some, get_or, subst, IsSome}
 use Rattle.dcx_shape.specs.Shape.{sides_of}
 use Rattle.dcx_shape.specs.Sides.{entries_of}

@@ -1,4 +1,4 @@
--- One more is shown.
+-- One more parameter is shown by its name and its shape.
 use Rattle.std.proofs.Common.{ap, arith}
 use Rattle.dcx_cert_sections.specs.Outlines.{shown}
 use Rattle.dcx_cert_outline.proofs.Nodes.{mapped_more}
