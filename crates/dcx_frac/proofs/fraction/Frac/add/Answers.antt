@@ -12,5 +12,6 @@ pub returns : goal.returns
 returns c =
     let x = c.args.self in
     let y = c.args.other in
-    let a = found_is Add x y (value x +ℚ value y) (sum_representable x y) c.sum.result c.ok_or.result (c.ok_or.ensures.value ∙ ap (ok_or c.sum.result) c.passing.ensures) c.sum.ensures.exists c.sum.ensures.value in
+    let a = found_is Add x y (value x +ℚ value y) (sum_representable x y) c.sum.result c.ok_or.result
+    (c.ok_or.ensures.value ∙ ap (ok_or c.sum.result) c.passing.ensures) c.sum.ensures.exists c.sum.ensures.value in
     record { sum = a.exact; fits = a.fits; told = a.told; answer = is_sum_of x y c.ok_or.result a }
