@@ -5,4 +5,5 @@ use Rattle.dcx_script_values.proofs.Forms.{few_meant, is_constant-form}
 use Rattle.dcx_script_values.proofs.reading.is_constant.Goals as goal
 
 pub returns-in-List : goal.returns-in-List
-returns-in-List c = rw (c.is_constant_form.ensures, c.list_form.ensures, c.in-List.is, ← c.deref.ensures, ← c.values.ensures.values) (is_constant-form (map meant c.values.result.now) (few_meant c.values.result.now 20000 c.values.ensures.few))
+returns-in-List c = rw (c.is_constant_form.ensures, c.list_form.ensures, c.in-List.is, ← c.deref.ensures, ← c.values.ensures.values)
+    (is_constant-form (map meant c.values.result.now) (few_meant c.values.result.now 20000 c.values.ensures.few))

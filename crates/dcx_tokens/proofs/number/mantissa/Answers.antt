@@ -30,5 +30,6 @@ pub returns : goal.returns
 returns c =
     let front = c.args.front.now in
     let behind = c.args.behind.now in
-    let n : c.with_digits-number.result ≡ digits_value 10 (front ++ behind) = c.with_digits-number.ensures.value ∙ ap (λ m. digits_value_after 10 m behind) c.with_digits.ensures.value ∙ sym (after-append 0 front behind) in
+    let n : c.with_digits-number.result ≡ digits_value 10 (front ++ behind) =
+    c.with_digits-number.ensures.value ∙ ap (λ m. digits_value_after 10 m behind) c.with_digits.ensures.value ∙ sym (after-append 0 front behind) in
     c.quotient.ensures ∙ ap₂ (λ m p. whole (pos m) /ℚ whole (pos p)) n c.pow.ensures

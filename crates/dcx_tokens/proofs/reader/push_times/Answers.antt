@@ -14,7 +14,8 @@ pub loop-preserved : goal.loop-preserved
 loop-preserved c =
     let old = c.args.tokens.now.items in
     let token = c.args.token in
-    c.in_ok-push.ensures.items ∙ ap (λ ts. ts ++ token ∷ []) c.loop.invariant ∙ append_assoc old (replicate c.loop.counter token) (token ∷ []) ∙ ap (λ ts. old ++ ts) (replicate_more c.loop.counter token)
+    c.in_ok-push.ensures.items ∙ ap (λ ts. ts ++ token ∷ []) c.loop.invariant ∙ append_assoc old (replicate c.loop.counter token) (token ∷ [])
+    ∙ ap (λ ts. old ++ ts) (replicate_more c.loop.counter token)
 
 pub returns : goal.returns
 returns c =
