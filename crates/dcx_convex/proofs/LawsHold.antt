@@ -1,4 +1,4 @@
--- The main statements hold.
+-- The main statements hold: on calls, nodes, signs, convexity, answers, reductions and certificates.
 use Rattle.std.proofs.Common.{[], ◌∷◌, ◌++◌}
 use Rattle.dcx_convex.specs.Nodes.{Setting, zeros, value_by, value_at}
 use Rattle.dcx_convex.specs.Rules.{no_argument, judgement_by, judgement_at}

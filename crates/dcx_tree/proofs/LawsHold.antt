@@ -1,4 +1,4 @@
--- The main statements hold.
+-- The main statements hold: lawful nodes, signs, convexity, answers, and what gathering keeps.
 use Rattle.std.proofs.Common.{◌≡◌, ℕ, List, map, Some, option_map, sym, ap, subst, ◌∙◌}
 use Rattle.std.specs.Prelude.{filter}
 use Rattle.std.specs.List.{slice_get}

@@ -1,4 +1,4 @@
--- What each answer is read from.
+-- A name, a number, a text, a truth value or `None` in front is the primary, and else there is none.
 use Rattle.std.proofs.Common.{rules, ◌≡◌, ◌∙◌, refl, sym, ap}
 use Rattle.dcx_read.specs.declared.role.Role.TheVariants as roles
 use Rattle.dcx_read.specs.Terminals.{terminals, named_by, spelled}

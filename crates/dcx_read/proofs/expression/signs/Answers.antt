@@ -1,4 +1,4 @@
--- What each answer is read from.
+-- One more sign is read, until the token in front is none.
 use Rattle.std.proofs.Common.{arith}
 use Rattle.dcx_read.proofs.Fronts.{signs-begin, signs-more}
 use Rattle.dcx_read.proofs.expression.signs.Goals as goal

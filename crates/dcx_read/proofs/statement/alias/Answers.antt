@@ -1,4 +1,4 @@
--- What each answer is read from.
+-- The word `as` in front wants a name behind it, and anything else is no alias.
 use Rattle.std.proofs.Common.{Some, [], refl}
 use Rattle.std.proofs.lemmas.Result.{err_from_is_err_and}
 use Rattle.dcx_read.specs.Terminals.{terminals}

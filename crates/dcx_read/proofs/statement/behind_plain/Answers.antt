@@ -1,4 +1,4 @@
--- What each answer is read from.
+-- One more token that is no bracket is passed, until a bracket stands in front.
 use Rattle.std.proofs.Common.{arith}
 use Rattle.dcx_read.proofs.LineDescent.{balanced-none, balanced-beside}
 use Rattle.dcx_read.proofs.statement.behind_plain.Goals as goal

@@ -1,4 +1,4 @@
--- What each answer is read from.
+-- The word in front tells an import and a print, and any other line is a simple one.
 use Rattle.std.proofs.Common.{length, refl}
 use Rattle.dcx_read.specs.Terminals.{terminals}
 use Rattle.dcx_syntax.specs.Statements.{importing}

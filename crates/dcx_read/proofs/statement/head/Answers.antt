@@ -1,4 +1,4 @@
--- What each answer is read from.
+-- What the name, the word `in`, the expression and the beginning of the block are read from, one behind the other.
 use Rattle.std.proofs.Common.{arith, Ok, Err, [], ◌∷◌, length}
 use Rattle.std.proofs.lemmas.Result.{err_from_is_err_and}
 use Rattle.dcx_syntax.specs.Terminal.{plain}

@@ -1,4 +1,4 @@
--- What each answer is read from.
+-- What the module, its alias and the line's end are read from, one behind the other.
 use Rattle.std.proofs.Common.{[], ◌∷◌, refl}
 use Rattle.std.proofs.lemmas.Result.{err_from_is_err_and}
 use Rattle.dcx_syntax.specs.Terminal.{plain}

@@ -1,4 +1,4 @@
--- What each answer is read from.
+-- A name in front is one of the modules, or reading stops there.
 use Rattle.std.proofs.Common.{◌∙◌, sym, ap}
 use Rattle.dcx_read.specs.Words.{module_named}
 use Rattle.dcx_read.proofs.LineRules.{module-none, module-gives, module-other}

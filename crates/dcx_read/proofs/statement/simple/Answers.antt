@@ -1,4 +1,4 @@
--- What each answer is read from.
+-- A line is told by the tokens in front: it sets a name, adds to one, sets a value, or is an expression.
 use Rattle.std.proofs.Common.{length, refl}
 use Rattle.dcx_read.specs.Terminals.{terminals, named_by}
 use Rattle.dcx_syntax.specs.Statements.{assign, add_to, set_value, evaluate}

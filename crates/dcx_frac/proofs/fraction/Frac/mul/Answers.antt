@@ -1,4 +1,4 @@
--- The number found is the answer.
+-- The product that is found is the answer, and where none fits, what was asked is told.
 use Rattle.std.specs.Option.{ok_or}
 use Rattle.std.proofs.Common.{◌∙◌, ap}
 use Rattle.dcx_math.specs.Rational.{◌*ℚ◌}
