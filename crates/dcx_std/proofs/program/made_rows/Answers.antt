@@ -38,7 +38,8 @@ rows-preserved c =
     let is_made = gives_so i c.made_row.result w (row_made n row) (sym c.at_row.ensures ∙ c.in_ok-whole.was) c.made_row.ensures.made in
     record {
       made = made_next n rows i row c.rows.made.items c.push.new.self.items w (omega arith) c.index-rows-index.is c.rows.invariant.made is_made c.in_ok-push.ensures.items;
-      sparse = All-more (λ (r : Row Frac). IsSparseForm r.form) rows i row (omega arith) c.rows.invariant.sparse (subst (λ (r : Row Frac). IsSparseForm r.form) c.index-rows-index.is c.made_row.ensures.sparse);
+      sparse = All-more (λ (r : Row Frac). IsSparseForm r.form) rows i row (omega arith) c.rows.invariant.sparse
+          (subst (λ (r : Row Frac). IsSparseForm r.form) c.index-rows-index.is c.made_row.ensures.sparse);
     }
 
 pub returns-clause-rows : goal.returns-clause-rows

@@ -11,8 +11,10 @@ int_row-requires-clause-small c =
     let w = c.index-rows-index.result in subst (λ (v : WholeRow). AllSmall v.numbers) (sym c.index-rows-index.is) (c.requires.small c.rows.index w (omega arith))
 
 pub int_row-requires-clause-there : goal.int_row-requires-clause-there
-int_row-requires-clause-there c = c.requires.there c.rows.index c.index-rows-index.result (slice_get_read c.args.rows.now (length c.args.rows.now) c.rows.index c.index-rows-index.result refl (omega arith) c.index-rows-index.is)
+int_row-requires-clause-there c =
+    c.requires.there c.rows.index c.index-rows-index.result (slice_get_read c.args.rows.now (length c.args.rows.now) c.rows.index c.index-rows-index.result refl (omega arith) c.index-rows-index.is)
 
 pub rows-preserved : goal.rows-preserved
 rows-preserved c =
-    row_made_more c.args.columns.now c.args.count c.args.rows.now c.rows.index c.index-rows-index.result c.rows.made.items c.push.new.self.items c.in_ok-int_row.field-0 (omega arith) c.index-rows-index.is c.rows.invariant c.in_ok-int_row.ensures c.in_ok-push.ensures.items
+    row_made_more c.args.columns.now c.args.count c.args.rows.now c.rows.index c.index-rows-index.result c.rows.made.items c.push.new.self.items c.in_ok-int_row.field-0
+    (omega arith) c.index-rows-index.is c.rows.invariant c.in_ok-int_row.ensures c.in_ok-push.ensures.items

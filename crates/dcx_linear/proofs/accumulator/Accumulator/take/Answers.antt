@@ -23,5 +23,6 @@ returns g c =
     let slots = c.in_ok-terms.ensures {u = tt} in
     record {
       taken = same_parts c.replace-constant.ensures.value (c.from_vec.ensures ∙ slots.taken ∙ ap (listed_from g.C.Coef.number_of 0) c.deref_mut.ensures.value) ∙ c.self.view_is;
-      zero = same_parts (c.replace-constant.ensures.after ∙ c.zero.ensures) (ap (listed_from g.C.Coef.number_of 0) (with_items_is c.self.inside.slots c.take_terms.new.slots (omega arith)) ∙ slots.cleared);
+      zero = same_parts (c.replace-constant.ensures.after ∙ c.zero.ensures)
+          (ap (listed_from g.C.Coef.number_of 0) (with_items_is c.self.inside.slots c.take_terms.new.slots (omega arith)) ∙ slots.cleared);
     }
