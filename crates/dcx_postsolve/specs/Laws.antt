@@ -61,7 +61,8 @@ DualsAreMultipliers = (status : LpStatus) (constraints : List Constraint) (notes
 
 -- of the rows of constraints these columns have slacks for the inequalities, and for no others
 abbrev pub HaveSlacks : List ColumnKind → List Constraint → Type 0
-HaveSlacks kinds constraints = (k : ℕ) (c : Constraint) → slice_get constraints k ≡ Some c → (j : ℕ) → j < constraint_rows c → is_inequality kinds (first_row constraints k + j) ≡ is_at_most (row_kind c.kind)
+HaveSlacks kinds constraints = (k : ℕ) (c : Constraint) → slice_get constraints k ≡ Some c → (j : ℕ) → j < constraint_rows c
+    → is_inequality kinds (first_row constraints k + j) ≡ is_at_most (row_kind c.kind)
 
 abbrev pub DualsAreRight : Type 0
 DualsAreRight = (kinds : List ColumnKind) (a : LpAnswer) (constraints : List Constraint) (d : List Array) → HaveSlacks kinds constraints → AreDuals a.status constraints a.rows d →

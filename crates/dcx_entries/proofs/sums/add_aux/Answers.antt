@@ -10,5 +10,6 @@ use Rattle.dcx_entries.proofs.sums.add_aux.Goals as goal
 pub returns : goal.returns
 returns g c =
     let t = g.C.Coef in
-    subst (λ k. GivesBy c.add_unknown.result (λ _. c.add_unknown.new.sum) (adds_part t.number_of t.sum_gives t.change_gives c.args.sum.now (Scale k) (unknown_form t.of_number (c.args.first + c.args.term.aux))))
+    subst (λ k. GivesBy c.add_unknown.result (λ _. c.add_unknown.new.sum)
+    (adds_part t.number_of t.sum_gives t.change_gives c.args.sum.now (Scale k) (unknown_form t.of_number (c.args.first + c.args.term.aux))))
     (sym (frac_at-value c.args.term.coefficient)) c.add_unknown.ensures
