@@ -66,7 +66,8 @@ AreAlike p (x ∷ xs) [] = ⊥
 
 -- settings of an accepted problem have one certificate
 abbrev pub CertificatesAreOne : Type 0
-CertificatesAreOne = (p : Problem) (limit : ℕ) (settings : List Pairs) (c d : Sections) → IsAccepted p → IsCertificateAt p limit settings c → IsCertificateAt p limit settings d → AreAlike p c.list d.list
+CertificatesAreOne = (p : Problem) (limit : ℕ) (settings : List Pairs) (c d : Sections) → IsAccepted p → IsCertificateAt p limit settings c → IsCertificateAt p limit settings d
+    → AreAlike p c.list d.list
 
 -- ---- refusals
 -- sections pass or a first one is refused, with one number and one fault, and not both
