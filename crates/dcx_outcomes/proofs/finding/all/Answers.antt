@@ -20,7 +20,8 @@ loop-setting-preserved g c =
           (told_step c.args.warm p c.args.limit c.args.settings.now c.args.session.now.columns c.loop-setting.outcomes.items c.loop-setting.kept c.loop-setting.setting-index
           c.loop-setting.session.columns c.setting-item.result c.outcome-next.result.0
           c.outcome-next.result.1 c.outcome-next.new.session.columns (omega arith) c.setting-item.is before.outcomes
-          (subst (λ (z : Problem). IsToldFrom c.args.warm z c.args.limit c.setting-item.result c.loop-setting.session.columns c.outcome-next.result.0 c.outcome-next.result.1 c.outcome-next.new.session.columns)
+          (subst (λ (z : Problem). IsToldFrom c.args.warm z c.args.limit c.setting-item.result c.loop-setting.session.columns
+          c.outcome-next.result.0 c.outcome-next.result.1 c.outcome-next.new.session.columns)
           before.same c.outcome-next.ensures.outcome));
       within = subst (λ n. c.loop-setting.kept + n ≤ c.loop-setting.setting-index + 1) (sym (c.from-kept.ensures ∙ flag_added c.outcome-next.result.1))
           (kept_within c.outcome-next.result.1 c.loop-setting.kept c.loop-setting.setting-index before.within);
