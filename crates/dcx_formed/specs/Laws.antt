@@ -1,4 +1,4 @@
--- The main statements, as the clauses of the laws say them.
+-- The laws of formed nodes: they meet the equations, and speak of unknowns and parameters that there are alone.
 use Rattle.dcx_frac.specs.declared.fraction.Frac.{Frac}
 use Rattle.dcx_point.specs.Pairs.{Pairs}
 use Rattle.dcx_convex.specs.Nodes.{Setting}

@@ -1,4 +1,4 @@
--- The main statements, as the clauses of the laws say them.
+-- The laws of what is read from columns and rows: unknowns, points, multipliers, and answers at the same of them.
 use Rattle.std.specs.Prelude.{◌≡◌, ◌≤◌, ◌⊎◌, ℕ, ◌+◌, ◌<◌, List, map, length, Some, None, sum_by, slice_get}
 use Rattle.dcx_math.specs.Rational.{ℚ}
 use Rattle.dcx_math.specs.Sums.{rat_at}
