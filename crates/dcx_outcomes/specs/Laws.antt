@@ -1,4 +1,4 @@
--- What holds of all outcomes.
+-- The laws of outcomes, fresh and warm: right, one list, and of one status and value.
 use Rattle.std.specs.Prelude.{◌≡◌, ◌≢◌, ⊤, ℕ, List, [], ◌∷◌, All, Option, Some, None, Result, Ok, Err, slice_get}
 use Rattle.dcx_point.specs.Pairs.{Pairs}
 use Rattle.dcx_tree.specs.declared.problem.Problem.{Problem}

@@ -1,4 +1,4 @@
--- What holds of all ranges.
+-- The law of ranges: a parameter has one at a setting, or one stop.
 use Rattle.std.specs.Prelude.{◌≡◌, ◌≢◌, ℕ, List, Result, Ok, Err}
 use Rattle.dcx_frac.specs.declared.fraction.Frac.{Frac}
 use Rattle.dcx_point.specs.Pairs.{Pairs}
