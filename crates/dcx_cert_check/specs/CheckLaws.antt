@@ -1,4 +1,4 @@
--- The main statements, as the clauses of the laws say them.
+-- The laws of single checks: each tells one thing, and what they show where they pass.
 use Rattle.std.specs.Prelude.{◌≡◌, ℕ, ◌<◌, ◌↔◌, List, map, Option, Some}
 use Rattle.std.specs.List.{All}
 use Rattle.dcx_math.specs.Rational.{◌≤ℚ◌}

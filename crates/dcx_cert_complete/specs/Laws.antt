@@ -1,4 +1,4 @@
--- The main statements, as the clauses of the laws say them.
+-- The laws by which what is built is accepted: of dual graphs, of bounds, of forms and rays, and of certificates.
 use Rattle.std.specs.Prelude.{◌⊎◌, ℕ, Bool, List, Option, Ok}
 use Rattle.dcx_math.specs.Rational.{ℚ}
 use Rattle.dcx_frac.specs.declared.fraction.Frac.{Frac}

@@ -1,4 +1,4 @@
--- What holds of all certificates.
+-- The laws of certificates at settings: they show the answers, are of their problem, and are one, as refusals are.
 use Rattle.std.specs.Prelude.{◌≡◌, ⊤, ℕ, List, [], ◌∷◌, length, Option}
 use Rattle.dcx_point.specs.Pairs.{Pairs}
 use Rattle.dcx_tree.specs.declared.problem.Problem.{Problem}

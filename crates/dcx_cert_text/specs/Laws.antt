@@ -1,4 +1,4 @@
--- What holds of all texts of certificates.
+-- The laws of texts of certificates: what is written is read, one text is one certificate, and where bytes are refused.
 use Rattle.std.specs.Prelude.{◌≡◌, ℕ, ◌<◌, ◌≤◌, ◌⊎◌, List, length, Result, Ok, Err, MatchResult}
 use Rattle.dcx_cert_sections.specs.Shown.{Outline, AreSectionsOf}
 use Rattle.dcx_cert_sections.specs.Formats.{AreOfFormat}
