@@ -71,7 +71,8 @@ one_array given name sides (Some a) e d f = record {
   shape = ∥∥₁_elim d (hlevel props) (λ x. ap (λ (b : Array). sides_of b.shape) (same_Some a (f x).array (sym e ∙ (f x).there)) ∙ (f x).shape);
 }
 
-has_array : (point : Pairs) (vs : List Variable) → IsDistinct same_name (map (λ v. v.name) vs) → variables_of point ≡ map shown vs → (k : ℕ) (v : Variable) → slice_get vs k ≡ Some v → HasArray point v.name (sides_of v.shape)
+has_array : (point : Pairs) (vs : List Variable) → IsDistinct same_name (map (λ v. v.name) vs) → variables_of point ≡ map shown vs → (k : ℕ) (v : Variable) → slice_get vs k ≡ Some v
+    → HasArray point v.name (sides_of v.shape)
 has_array point vs distinct e k v at =
     let f = found point vs e k v at in
     let same : f.variable ≡ v = one_name (λ (x : Variable). x.name) vs distinct f.position k f.variable v f.stands at f.named in

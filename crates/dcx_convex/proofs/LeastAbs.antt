@@ -159,9 +159,11 @@ nothing x = ring (x ∷ []) (search reads depth 30) tt
 flat : (x t : ℚ) → whole (pos 0) ≤ℚ t → whole (pos 0) +ℚ (whole (pos 0) +ℚ whole (pos 0) *ℚ x) ≤ℚ whole (pos 0) +ℚ whole (pos 1) *ℚ t
 flat x t h = linear (x ∷ t ∷ []) h (search reads depth 30) tt
 
-handed : (s : Setting) (i : ℕ) (n : Node) → IsNode least_abs.nodes i n → IsFalse (is_fixed least_abs.nodes i) → MayHandOn least_abs.nodes (given_at least_abs.nodes s) n.head n.args (least_abs_coefficients i) (no_slopes i)
+handed : (s : Setting) (i : ℕ) (n : Node) → IsNode least_abs.nodes i n → IsFalse (is_fixed least_abs.nodes i)
+    → MayHandOn least_abs.nodes (given_at least_abs.nodes s) n.head n.args (least_abs_coefficients i) (no_slopes i)
 handed s i n e loose =
-    each (λ i n. MayHandOn least_abs.nodes (given_at least_abs.nodes s) n.head n.args (least_abs_coefficients i) (no_slopes i)) (λ x _. ≤ℚ-from_≡ (nothing (x 0))) (λ a _. flat (a 0 0) (rat_abs (a 0 0)) (rat_abs-nonnegative (a 0 0))) i n e
+    each (λ i n. MayHandOn least_abs.nodes (given_at least_abs.nodes s) n.head n.args (least_abs_coefficients i) (no_slopes i)) (λ x _. ≤ℚ-from_≡ (nothing (x 0)))
+    (λ a _. flat (a 0 0) (rat_abs (a 0 0)) (rat_abs-nonnegative (a 0 0))) i n e
 
 reaches : whole (pos 0) ≤ℚ (whole (pos 0) +ℚ whole (pos 0)) +ℚ whole (pos 0)
 reaches = ≤ℚ-from_≡ (ring [] (search reads depth 30) tt)

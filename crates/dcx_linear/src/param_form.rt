@@ -58,7 +58,8 @@ impl ParamForm {
 
 impl Coef for ParamForm {
     ghost use Rattle.dcx_linear.specs.ParamForms.{form_value, number_of_form, form_of_number, IsEntryForm, sum_gives_form, change_gives_form, IsNamedForm};
-    ghost use Rattle.dcx_linear.specs.ParamLaws.{form_number_value, form_told_number, form_entry_value, form_sum_value, form_change_value, one_form_sum, one_form_change, form_number_named, form_entry_named, form_sum_named, form_change_named};
+    ghost use Rattle.dcx_linear.specs.ParamLaws.{form_number_value, form_told_number, form_entry_value, form_sum_value, form_change_value, one_form_sum};
+    ghost use Rattle.dcx_linear.specs.ParamLaws.{one_form_change, form_number_named, form_entry_named, form_sum_named, form_change_named};
     ghost use Rattle.std.specs.Prelude.{refl};
 
     ghost value_at = { form_value };

@@ -56,7 +56,8 @@ declarations_are nodes roots vs ps e f listed distinct squares = record {
 
 -- and so is that of constraints
 pub problem_is : (s : State) (o : Objective) (cs ds : List Constraint) (vs : List Variable) (ps : List Parameter) (p : Problem) → ds ≡ cs → vs ≡ s.variables → ps ≡ s.parameters →
-    IsProblemOf s.nodes (record { sense = o.sense; objective = o.node; objective_place = o.place; constraints = ds; variables = vs; parameters = ps }) p → IsProblemOf s.nodes (roots_in s (asked_for o cs)) p
+    IsProblemOf s.nodes (record { sense = o.sense; objective = o.node; objective_place = o.place; constraints = ds; variables = vs; parameters = ps }) p
+    → IsProblemOf s.nodes (roots_in s (asked_for o cs)) p
 problem_is s o cs ds vs ps p e f g h =
     subst (λ xs. IsProblemOf s.nodes (record { sense = o.sense; objective = o.node; objective_place = o.place; constraints = xs; variables = s.variables; parameters = s.parameters }) p) e
     (subst (λ ws. IsProblemOf s.nodes (record { sense = o.sense; objective = o.node; objective_place = o.place; constraints = ds; variables = ws; parameters = s.parameters }) p) f

@@ -113,7 +113,8 @@ module _ (width : Option ℕ) (us : List Terminal) (fs : List Frac) where
           few = let k = h.few in omega (arith, d, k);
           full = ap (is_full_row width) (sym same) ∙ full;
           reads = λ lines is n o w. h.reads lines is n o w ∙ ap (read_by (number_read lines is n (in_row o h.before) h.last)) e
-              ∙ ap (λ b. further (read rest) (when b (at lines (row_ended is n o (h.before ++ h.last ∷ [])))) (close_square ∷ rest)) (may_end_is o width _ w ∙ ap (is_full_row width) (sym same) ∙ full);
+              ∙ ap (λ b. further (read rest) (when b (at lines (row_ended is n o (h.before ++ h.last ∷ [])))) (close_square ∷ rest))
+              (may_end_is o width _ w ∙ ap (is_full_row width) (sym same) ∙ full);
         }
 
     -- it is too short
@@ -124,14 +125,16 @@ module _ (width : Option ℕ) (us : List Terminal) (fs : List Frac) where
         let d = length-append h.before (h.last ∷ []) in
         let same : length fs ≡ length (h.before ++ h.last ∷ []) = c ∙ sym d in
         h.reads lines is n o w ∙ ap (read_by (number_read lines is n (in_row o h.before) h.last)) e
-        ∙ ap (λ b. further (read rest) (when b (at lines (row_ended is n o (h.before ++ h.last ∷ [])))) (close_square ∷ rest)) (may_end_is o width _ w ∙ ap (is_full_row width) (sym same) ∙ short) ∙ ap Err (sym e)
+        ∙ ap (λ b. further (read rest) (when b (at lines (row_ended is n o (h.before ++ h.last ∷ [])))) (close_square ∷ rest))
+        (may_end_is o width _ w ∙ ap (is_full_row width) (sym same) ∙ short) ∙ ap Err (sym e)
 
     -- it goes on with neither a comma nor a bracket
     pub row_open : Lacks comma from → Lacks close_square from → (lines : List Line) (is : List Item) (n : List ℕ) (o : Outer) → HasWidth o width
         → read_by (number_from lines is n (in_row o [])) us ≡ Err from
     row_open k l lines is n o w = h.reads lines is n o w ∙ other lines is n o (h.before ++ h.last ∷ []) from k l
       where
-        other : (lines : List Line) (is : List Item) (n : List ℕ) (o : Outer) (xs : List Number) (ts : List Terminal) → Lacks comma ts → Lacks close_square ts → read_by (in_row_read lines is n o xs) ts ≡ Err ts
+        other : (lines : List Line) (is : List Item) (n : List ℕ) (o : Outer) (xs : List Number) (ts : List Terminal) → Lacks comma ts → Lacks close_square ts
+            → read_by (in_row_read lines is n o xs) ts ≡ Err ts
         other lines is n o xs [] k l = refl
         other lines is n o xs (comma ∷ ts) k l = absurd (k ts refl)
         other lines is n o xs (close_square ∷ ts) k l = absurd (l ts refl)

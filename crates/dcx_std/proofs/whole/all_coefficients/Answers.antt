@@ -1,3 +1,4 @@
+-- One more term puts its coefficient in the place of its unknown, which no term before it names.
 use Rattle.std.proofs.Common.{◌<◌, ◌≤◌, sym, ap, ◌∙◌, subst, arith}
 use Rattle.std.proofs.lemmas.List.{length-set, take_all}
 use Rattle.std.proofs.lemmas.List.FromFn.{fill_by_all}

@@ -1,3 +1,4 @@
+-- A node has as many arguments as its chain has cells.
 use Rattle.std.proofs.Common.{◌<◌, sym, refl, length}
 use Rattle.std.proofs.lemmas.Option.{slice_get_read}
 use Rattle.dcx_arena.proofs.Kept.{count_nodes}
