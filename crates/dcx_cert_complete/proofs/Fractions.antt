@@ -15,13 +15,11 @@ use Rattle.dcx_shape.specs.Sides.{entries_of}
 use Rattle.dcx_shape.proofs.EntryPlaces.{entry_here}
 use Rattle.dcx_atom.specs.declared.axis.Axis.{Axis}
 use Rattle.dcx_atom.specs.declared.axis.Axis.TheVariants as axes
-use Rattle.dcx_atom.specs.declared.flags.Bend.{Bend}
-use Rattle.dcx_atom.specs.declared.flags.Bend.TheVariants.{Convex, Concave}
 use Rattle.dcx_atom.specs.Axis.{folded_count}
 use Rattle.dcx_atom.specs.Arrays.{list_below, sides_at}
 use Rattle.dcx_atom.specs.Formed.{Formula, difference, formed, frac_at}
 use Rattle.dcx_atom.specs.Meaning.{Meaning, Coefficients, Weights, ArgumentEntry}
-use Rattle.dcx_atom.specs.Bounding.{outward, only_is}
+use Rattle.dcx_atom.specs.Bounding.{only_is}
 use Rattle.dcx_atom.specs.Steps.{test, form, is_weight, slope_stop, first_stop, entry_stop, weights_of}
 use Rattle.dcx_atom.proofs.Accepted.{earlier-none}
 use Rattle.dcx_atom.proofs.FirstStops.{first_stop-append}
@@ -45,10 +43,6 @@ difference_fits x y hx hy e = by (difference_of (frac_at x) (frac_at y)) (differ
     by : (r : Result Frac Passes) → IfOk r (λ z. value z ≡ value (frac_at x) -ℚ value (frac_at y)) → slope_stop r ≡ None → IsRepresentable (x -ℚ y)
     by (Ok z) is h = subst IsRepresentable (is ∙ ap₂ ◌-ℚ◌ (value-frac_at x hx) (value-frac_at y hy)) (value_representable z)
     by (Err passes) is h = cc
-
-outward_fits : (bend : Bend) (x : ℚ) → IsRepresentable x → IsRepresentable (outward bend x)
-outward_fits Convex x h = h
-outward_fits Concave x h = negative_fits x h
 
 -- ---- the slopes of an entry that doesn't stop are formed
 all_formed : (m : Meaning) (args : List Sides) (w : Weights) (j : ℕ) (xs : List ArgumentEntry) → first_stop j (map (λ x. form (m.slope args w x.argument x.entry)) xs) ≡ None →

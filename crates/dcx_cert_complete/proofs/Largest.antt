@@ -38,9 +38,6 @@ convex_start c m q = ring (c ∷ m ∷ q ∷ []) (search reads depth 30) tt
 concave_start : (c m q : ℚ) → c *ℚ (m *ℚ q +ℚ whole (pos 0)) +ℚ whole (pos 0) ≡ c *ℚ (m *ℚ q) +ℚ whole (pos 0) *ℚ q +ℚ whole (pos 0)
 concave_start c m q = ring (c ∷ m ∷ q ∷ []) (search reads depth 30) tt
 
-step_by : (x y d z e : ℚ) → x ≡ y → d ≡ e +ℚ z → x +ℚ d ≡ y +ℚ e +ℚ z
-step_by x y d z e h k = ap₂ ◌+ℚ◌ h k ∙ ring (y ∷ e ∷ z ∷ []) (search reads depth 30) tt
-
 convex_more : (c m u q r w v s z : ℚ) → c *ℚ (m +ℚ u) +ℚ r ≡ c *ℚ m +ℚ neg_ℚ (s *ℚ q) +ℚ z →
     c *ℚ (m +ℚ (u +ℚ whole (pos 1) *ℚ v)) +ℚ (r +ℚ w *ℚ (whole (pos 1) *ℚ whole (pos 0) +ℚ (whole (negsuc 0) *ℚ q +ℚ (whole (negsuc 0) *ℚ v +ℚ whole (pos 0)))))
     ≡ c *ℚ m +ℚ neg_ℚ ((s +ℚ w) *ℚ q) +ℚ (z +ℚ (c +ℚ neg_ℚ w) *ℚ v)

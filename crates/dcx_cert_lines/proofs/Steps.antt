@@ -1,10 +1,9 @@
 -- Lines that are read one after another, and where reading stops.
-use Rattle.std.proofs.Common.{◌≡◌, ℕ, zero, suc, ◌+◌, ◌-◌, ◌^◌, ◌<◌, true, false, nat_eq, List, [], ◌∷◌, ◌++◌, length, take, drop}
-use Rattle.std.proofs.Common.{get_or, map, min, refl, sym, ap, ◌∙◌, subst, arith, append_assoc, length-append}
+use Rattle.std.proofs.Common.{◌≡◌, ℕ, zero, suc, ◌+◌, ◌-◌, ◌^◌, ◌<◌, true, false, nat_eq, List, [], ◌∷◌, ◌++◌, length, take, drop, get_or, map, min, refl, sym, ap, ◌∙◌, subst, arith, append_assoc, length-append}
 use Rattle.std.proofs.Math.Seq.{take-append_seam}
 use Rattle.std.proofs.lemmas.Bool.{false≢true}
 use Rattle.std.proofs.lemmas.List.Folds.{concat-append}
-use Rattle.std.proofs.lemmas.List.{append-nil, append_cancel_left, take-append-drop, take_more, map-append}
+use Rattle.std.proofs.lemmas.List.{append-nil, take-append-drop, take_more, map-append}
 use Rattle.std.specs.List.{AllZip, concat, flat_map}
 use Rattle.std.specs.Cmp.Lexicographic.{pointwise, bytes_decides}
 use Rattle.dcx_frac.specs.declared.fraction.Frac.{Frac}
@@ -20,8 +19,7 @@ front_read front before h =
     sym (take-append-drop (length front) before) ∙ ap (λ t. t ++ drop (length front) before) ((bytes_decides (take (length front) before) front).0 h)
 
 -- the front and the numbers behind it are a line
-pub line_read : (front before behind rest : List ℕ) (count line : ℕ) (ns : List Frac) → before ≡ front ++ behind → HasEntries count behind ns rest
-    → IsRead (filled front ns ∷ []) before line rest (min (line + 1) (2 ^ 32 - 1))
+pub line_read : (front before behind rest : List ℕ) (count line : ℕ) (ns : List Frac) → before ≡ front ++ behind → HasEntries count behind ns rest → IsRead (filled front ns ∷ []) before line rest (min (line + 1) (2 ^ 32 - 1))
 line_read front before behind rest count line ns e h = record {
   written =
       let whole : concat (filled front ns ∷ []) ++ rest ≡ front ++ (flat_map entry_text ns ++ 10 ∷ rest) = simp (append-nil, append_assoc) in
@@ -41,15 +39,6 @@ no_front front before count h = record {
       let parts = line_parts front before rest fits.numbers (e ∙ ap (λ l. l ++ rest) fits.is) in
       let begins : take (length front) before ≡ front = ap (take (length front)) parts ∙ take-append_seam front (flat_map entry_text fits.numbers ++ 10 ∷ rest) in
       false≢true (sym h ∙ (bytes_decides (take (length front) before) front).1 begins);
-}
-
--- and where the numbers don't stand behind it
-pub no_numbers : (front before behind : List ℕ) (count : ℕ) → before ≡ front ++ behind → ((ns : List Frac) (rest : List ℕ) → HasEntries count behind ns rest → ⊥)
-    → HasNoLine (record { front = front; count = count }) before
-no_numbers front before behind count e none = record {
-  none = λ line rest fits h.
-      let parts = line_parts front before rest fits.numbers (h ∙ ap (λ l. l ++ rest) fits.is) in
-      none fits.numbers rest (record { counted = fits.counted; written = append_cancel_left front behind (flat_map entry_text fits.numbers ++ 10 ∷ rest) (sym e ∙ parts) });
 }
 
 -- reading stops at the first line
@@ -109,8 +98,7 @@ stop_behind ts us ls b n r k s h read stop = record {
 
 -- ---- items of a list, each with its line
 -- one more is read
-pub read_more : {A : Type 0} (f : A → Line) (xs : List A) (x : A) (b : List ℕ) (n : ℕ) (r : List ℕ) (k : ℕ) (s : List ℕ) (m : ℕ) → IsRead (map f xs) b n r k → IsRead (f x ∷ []) r k s m
-    → IsRead (map f (xs ++ x ∷ [])) b n s m
+pub read_more : {A : Type 0} (f : A → Line) (xs : List A) (x : A) (b : List ℕ) (n : ℕ) (r : List ℕ) (k : ℕ) (s : List ℕ) (m : ℕ) → IsRead (map f xs) b n r k → IsRead (f x ∷ []) r k s m → IsRead (map f (xs ++ x ∷ [])) b n s m
 read_more f xs x b n r k s m h g = subst (λ ls. IsRead ls b n s m) (sym (map-append f xs (x ∷ []))) (read_then (map f xs) (f x ∷ []) b n r k s m h g)
 
 -- the next isn't: the items before it are read

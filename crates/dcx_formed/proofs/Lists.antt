@@ -20,10 +20,6 @@ module _ {A : Type 0} (P : A → Type 0) where
   all_joined zero f h = tt
   all_joined (suc n) f h = all_append (joined_below n f) (f n) (all_joined n f (λ i b. h i (omega arith))) (h n (omega arith))
 
-  pub all_map : {B : Type 0} (f : B → A) (ys : List B) → AllByRecursion (λ y. P (f y)) ys → AllByRecursion P (map f ys)
-  all_map f [] h = tt
-  all_map f (y ∷ ys) h = (h.0, all_map f ys h.1)
-
 -- ---- lists by places
 module _ {A : Type 0} where
   pub joined_same : (n : ℕ) (f g : ℕ → List A) → ((i : ℕ) → i < n → f i ≡ g i) → joined_below n f ≡ joined_below n g

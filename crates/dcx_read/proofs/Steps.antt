@@ -1,6 +1,6 @@
 -- Grammars that one token decides, part by part: moves that lead, and what is clear by a check of finitely many kinds.
 use Rattle.std.proofs.Common.{◌≡◌, Bool, true, false, cond, List, [], ◌∷◌, ◌++◌, refl, sym, ap, ◌∙◌}
-use Rattle.dcx_read.specs.Reading.{Trees, Forest, Move, shift, pass, Grammar, leading, otherwise}
+use Rattle.dcx_read.specs.Reading.{Forest, Move, shift, pass, Grammar, leading, otherwise}
 use Rattle.dcx_read.proofs.Sound.{Spelling, spelling}
 use Rattle.dcx_read.proofs.Complete.{Sets, front, is_shift, is_there, firsts, Clear, Right, Made, shifts}
 
@@ -42,12 +42,8 @@ module _ (G : Grammar) (S : Sets G.trees) where
   firsts-append [] ss k = refl
   firsts-append (m ∷ more) ss k =
       rw (firsts-append more ss k)
-      (elim (S.begins m k) as (λ (b : Bool). cond b true (cond (is_there (G.empty m)) (cond (firsts G S more k) true (cond (reach more) (firsts G S ss k) false)) false)
-      ≡ cond (cond b true (cond (is_there (G.empty m)) (firsts G S more k) false)) true (cond (cond (is_there (G.empty m)) (reach more) false) (firsts G S ss k) false)) [
-        | true ↦ refl
-        | false ↦ elim (is_there (G.empty m)) as (λ (b : Bool). cond b (cond (firsts G S more k) true (cond (reach more) (firsts G S ss k) false)) false
-            ≡ cond (cond b (firsts G S more k) false) true (cond (cond b (reach more) false) (firsts G S ss k) false)) [ true ↦ refl | false ↦ refl ]
-      ])
+      (elim (S.begins m k) as (λ (b : Bool). cond b true (cond (is_there (G.empty m)) (cond (firsts G S more k) true (cond (reach more) (firsts G S ss k) false)) false) ≡ cond (cond b true (cond (is_there (G.empty m)) (firsts G S more k) false)) true (cond (cond (is_there (G.empty m)) (reach more) false) (firsts G S ss k) false))
+      [ true ↦ refl | false ↦ elim (is_there (G.empty m)) as (λ (b : Bool). cond b (cond (firsts G S more k) true (cond (reach more) (firsts G S ss k) false)) false ≡ cond (cond b (firsts G S more k) false) true (cond (cond b (reach more) false) (firsts G S ss k) false)) [ true ↦ refl | false ↦ refl ] ])
 
   none-after : (f r g : Bool) → f ≡ false → (r ≡ true → g ≡ false) → cond f true (cond r g false) ≡ false
   none-after true r g h k = absurd cc
@@ -72,8 +68,7 @@ module _ (G : Grammar) (S : Sets G.trees) where
       )
 
 -- a move that leads is right where what it leads is
-pub leading-right : (G : Grammar) (spell : Spelling G.trees) (S : Sets G.trees) (s s' : G.trees.Symbol) (behind : List G.trees.Symbol)
-    (join : (ss : List G.trees.Symbol) → Forest G.trees (s ∷ (behind ++ ss)) → Forest G.trees (s' ∷ ss))
+pub leading-right : (G : Grammar) (spell : Spelling G.trees) (S : Sets G.trees) (s s' : G.trees.Symbol) (behind : List G.trees.Symbol) (join : (ss : List G.trees.Symbol) → Forest G.trees (s ∷ (behind ++ ss)) → Forest G.trees (s' ∷ ss))
     → S.all (λ k. implies (S.begins s k) (S.begins s' k)) ≡ true → check G S s' (s ∷ behind) ≡ true
     → ((ss : List G.trees.Symbol) (f : Forest G.trees (s ∷ (behind ++ ss))) → spelling G.trees spell (s' ∷ ss) (join ss f) ≡ spelling G.trees spell (s ∷ (behind ++ ss)) f)
     → (t : G.trees.Token) (m : Move G.trees s) → Right G spell S s t m → Right G spell S s' t (leading G.trees s s' (λ ss. behind ++ ss) join m)
@@ -84,15 +79,13 @@ leading-right G spell S s s' behind join first clear spelled t (shift push make)
 }
 leading-right G spell S s s' behind join first clear spelled t pass r = tt
 
-pub otherwise-right : (G : Grammar) (spell : Spelling G.trees) (S : Sets G.trees) (s : G.trees.Symbol) (t : G.trees.Token) (m n : Move G.trees s) → Right G spell S s t m
-    → Right G spell S s t n → Right G spell S s t (otherwise G.trees s m n)
+pub otherwise-right : (G : Grammar) (spell : Spelling G.trees) (S : Sets G.trees) (s : G.trees.Symbol) (t : G.trees.Token) (m n : Move G.trees s) → Right G spell S s t m → Right G spell S s t n → Right G spell S s t (otherwise G.trees s m n)
 otherwise-right G spell S s t (shift push make) n r q = r
 otherwise-right G spell S s t pass n r q = q
 
 -- how a tree came about by a token
 pub data MadeBy (G : Grammar) (s : G.trees.Symbol) : G.trees.Tree s → Type 0 where
-  made_by : (t : G.trees.Token) (push : List G.trees.Symbol → List G.trees.Symbol) (make : (ss : List G.trees.Symbol) → Forest G.trees (push ss) → Forest G.trees (s ∷ ss))
-      → G.move s t ≡ shift push make
+  made_by : (t : G.trees.Token) (push : List G.trees.Symbol → List G.trees.Symbol) (make : (ss : List G.trees.Symbol) → Forest G.trees (push ss) → Forest G.trees (s ∷ ss)) → G.move s t ≡ shift push make
       → (x : G.trees.Tree s) → ((ss : List G.trees.Symbol) (g : Forest G.trees ss) → (f : Forest G.trees (push ss)) × (make ss f ≡ front G.trees s ss x g)) → MadeBy G s x
 
 pub as_made : (G : Grammar) (s : G.trees.Symbol) (x : G.trees.Tree s) → MadeBy G s x → Made G s x
@@ -106,21 +99,9 @@ pub shifts-at : (G : Grammar) (s : G.trees.Symbol) (x : G.trees.Tree s) (b : Mad
 shifts-at G s x (made_by t push make e y back) = ap is_shift e
 
 -- a tree that a lead's tree begins
-abbrev pub lead-made : (G : Grammar) (s s' : G.trees.Symbol) (behind : List G.trees.Symbol → List G.trees.Symbol)
-    (join : (ss : List G.trees.Symbol) → Forest G.trees (s ∷ behind ss) → Forest G.trees (s' ∷ ss))
-    → (x : G.trees.Tree s) (x' : G.trees.Tree s')
-    → ((ss : List G.trees.Symbol) (g : Forest G.trees ss) → (a : Forest G.trees (behind ss)) × (join ss (front G.trees s (behind ss) x a) ≡ front G.trees s' ss x' g))
+abbrev pub lead-made : (G : Grammar) (s s' : G.trees.Symbol) (behind : List G.trees.Symbol → List G.trees.Symbol) (join : (ss : List G.trees.Symbol) → Forest G.trees (s ∷ behind ss) → Forest G.trees (s' ∷ ss))
+    → (x : G.trees.Tree s) (x' : G.trees.Tree s') → ((ss : List G.trees.Symbol) (g : Forest G.trees ss) → (a : Forest G.trees (behind ss)) × (join ss (front G.trees s (behind ss) x a) ≡ front G.trees s' ss x' g))
     → (b : MadeBy G s x) → G.move s' (token_of G s x b) ≡ leading G.trees s s' behind join (G.move s (token_of G s x b)) → MadeBy G s' x'
 lead-made G s s' behind join x x' split (made_by t push make e y back) leads =
     made_by t (λ ss. push (behind ss)) (λ ss f. join ss (make (behind ss) f)) (leads ∙ ap (leading G.trees s s' behind join) e) x'
     (λ ss g. let a = split ss g in let f = back (behind ss) a.0 in (f.0, ap (join ss) f.1 ∙ a.1))
-
--- where the first of two moves is a shift, it is the one
-pub otherwise-first : (T : Trees) (s : T.Symbol) (m n : Move T s) → is_shift m ≡ true → otherwise T s m n ≡ m
-otherwise-first T s (shift push make) n h = refl
-otherwise-first T s pass n h = absurd cc
-
-pub leading-shifts : (T : Trees) (s s' : T.Symbol) (behind : List T.Symbol → List T.Symbol) (join : (ss : List T.Symbol) → Forest T (s ∷ behind ss) → Forest T (s' ∷ ss))
-    (m : Move T s) → is_shift m ≡ true → is_shift (leading T s s' behind join m) ≡ true
-leading-shifts T s s' behind join (shift push make) h = refl
-leading-shifts T s s' behind join pass h = h

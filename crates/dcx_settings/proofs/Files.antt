@@ -1,8 +1,6 @@
 -- Settings files: where digits are divided by 0, where lines begin, and why bytes are refused.
-use Rattle.std.proofs.Common.{◌≡◌, ℕ, zero, suc, ◌+◌, ◌-◌, ◌<◌, ◌≤◌, Bool, true, false, List, [], ◌∷◌, ◌++◌, map, length, take, drop, Option}
-use Rattle.std.proofs.Common.{None, Result, Ok, Err, refl, sym, ap, ◌∙◌, subst, arith, append_assoc, length-append, ⊎_elim, IsTrue, pos, ◌⊎◌}
+use Rattle.std.proofs.Common.{◌≡◌, ℕ, zero, suc, ◌+◌, ◌-◌, ◌<◌, ◌≤◌, Bool, true, false, List, [], ◌∷◌, ◌++◌, map, length, take, drop, Option, None, Result, Ok, Err, refl, sym, ap, ◌∙◌, subst, arith, append_assoc, length-append, ⊎_elim, IsTrue, ◌⊎◌}
 use Rattle.std.specs.Prelude.{◌↔◌, ⊤}
-use Rattle.std.proofs.Math.ListN.{drop_of_length-le}
 use Rattle.std.proofs.Math.Seq.{drop-append_seam, take-length}
 use Rattle.std.proofs.lemmas.List.{length-map, take-append-drop, drop-map, length-drop}
 use Rattle.dcx_shape.specs.declared.place.Place.{Place}
@@ -12,13 +10,11 @@ use Rattle.dcx_tokens.specs.declared.token.Token.{Token}
 use Rattle.dcx_tokens.specs.File.{IsText}
 use Rattle.dcx_tokens.specs.Reading.{IsLexed}
 use Rattle.dcx_settings.specs.declared.settings.SettingItem.{SettingItem}
-use Rattle.dcx_settings.specs.Terminal.{Terminal, digits, slash, comma, semicolon, close_square, newline, terminals, terminal_of}
-use Rattle.dcx_settings.specs.Grammar.{Size, integer, point, quotient, size_text, sign_text, Number, number_text, Value, one, row, matrix, preceded}
-use Rattle.dcx_settings.specs.Grammar.{separated, bracketed, row_text, value_text, Item, item_text, Line, nothing, items, line_text, settings_text, Every}
+use Rattle.dcx_settings.specs.Terminal.{Terminal, comma, semicolon, close_square, newline, terminals, terminal_of}
+use Rattle.dcx_settings.specs.Grammar.{Size, integer, point, quotient, size_text, sign_text, Number, number_text, Value, one, row, matrix, preceded, separated, bracketed, row_text, value_text, Item, item_text, Line, nothing, items, line_text, settings_text, Every}
 use Rattle.dcx_settings.specs.Reading.{IsUnexpected}
 use Rattle.dcx_settings.specs.Meaning.{AreLinesOf, AreSettings}
-use Rattle.dcx_settings.specs.File.{place_at, BeginsDividedByZero, DividesByZero, NeverDividesByZero, FirstDividesByZero, HasFault, divided, behind_line, AreNoSettings}
-use Rattle.dcx_settings.specs.File.{unexpected, too_many, IsTokensReading, HasAllTokens, IsRefused, no_tokens, no_settings, most_settings, IsSettingsReading}
+use Rattle.dcx_settings.specs.File.{place_at, BeginsDividedByZero, DividesByZero, NeverDividesByZero, FirstDividesByZero, HasFault, divided, behind_line, AreNoSettings, unexpected, too_many, IsTokensReading, HasAllTokens, IsRefused, no_tokens, no_settings, most_settings, IsSettingsReading}
 
 -- ---- lines
 -- a token inside a line
@@ -132,16 +128,6 @@ none_at text ts i b h e none j l d = ⊎_elim (λ k. none j k d) (λ k. here (om
     here : j ≡ i → ⊥
     here k = false_is b e (h.1 (subst BeginsDividedByZero (ap (λ n. drop n (terminals text ts)) k ∙ sym (from_here text ts i)) d))
 
--- nor behind all tokens
-pub none_in : (text : List ℕ) (ts : List Token) (i : ℕ) → length ts ≤ i → ((j : ℕ) → j < i → DividesByZero (terminals text ts) j → ⊥) → NeverDividesByZero (terminals text ts)
-none_in text ts i l none j d = ⊎_elim (λ k. none j k d) behind (before_or_from i j)
-  where
-    behind : i ≤ j → ⊥
-    behind k =
-        let all = length-map ts (terminal_of text) in
-        let e : [] ≡ digits d.number ∷ slash ∷ digits (pos 0) ∷ d.rest = sym (drop_of_length-le (terminals text ts) (omega (arith, all, l, k))) ∙ d.tokens_are in
-        cc
-
 -- ---- tokens
 -- the rest is what stands behind as many tokens as are in front of it
 pub unexpected_at : (text : List ℕ) (ts rest : List Token) (place : Place) → IsUnexpected (terminals text ts) (terminals text rest)
@@ -156,8 +142,7 @@ unexpected_at text ts rest place u e =
     unexpected (length ts - length rest) (subst (IsUnexpected (terminals text ts)) behind u) (ap fault.Unexpected e)
 
 pub too_many_at : (text : List ℕ) (ts : List Token) (settings : List (List SettingItem)) (index : ℕ) (place : Place) → AreSettings (terminals text ts) settings → most_settings < length settings
-    → ((lines : List Line) → settings_text lines ≡ terminals text ts → index ≡ length (settings_text (take most_settings lines))) → place ≡ place_at text ts index
-    → AreNoSettings text ts (fault.TooLong place)
+    → ((lines : List Line) → settings_text lines ≡ terminals text ts → index ≡ length (settings_text (take most_settings lines))) → place ≡ place_at text ts index → AreNoSettings text ts (fault.TooLong place)
 too_many_at text ts settings index place h many behind e =
     let l = length-lines h.lines settings h.lines_are in
     too_many h.lines h.spelled (omega (arith, l, many)) (ap fault.TooLong (e ∙ ap (place_at text ts) (behind h.lines h.spelled.text)))
