@@ -51,7 +51,8 @@ array_with-is sides shape xs a e s t =
 
 -- ---- numbers by their place
 -- an array of sides that are allowed
-pub given_gives : (sides : Sides) (shape : Shape) (f : Shape → ℕ → Frac) (answered : Result Array ArrayFault) → allowed_shape sides ≡ Ok shape → Gives answered (formed_array shape (λ k. Ok (f shape k))) →
+pub given_gives : (sides : Sides) (shape : Shape) (f : Shape → ℕ → Frac) (answered : Result Array ArrayFault) → allowed_shape sides ≡ Ok shape
+    → Gives answered (formed_array shape (λ k. Ok (f shape k))) →
     Gives answered (and_then (allowed_shape sides) (λ s. Ok (filled s (f s))))
 given_gives sides shape f answered e g =
     gives_next (allowed_shape sides) (λ s. Ok (filled s (f s))) shape answered e

@@ -152,7 +152,8 @@ pub indexed_is : (picks : List Pick) (call : Index) → All HasStep picks → Is
 indexed_is picks call h x =
     rw (taken_is (sides_of call.from) (sides_of call.to) picks call.places h x, allowed_shape-is (sides_of call.to) call.to refl, index_with-is call) refl
 
-pub indexed-Ok : (from : Shape) (picks : List Pick) (call : Index) → All HasStep picks → indexed from picks ≡ Ok call → (call.from ≡ from) × IsIndex (sides_of from) picks (sides_of call.to) call.places
+pub indexed-Ok : (from : Shape) (picks : List Pick) (call : Index) → All HasStep picks → indexed from picks ≡ Ok call
+    → (call.from ≡ from) × IsIndex (sides_of from) picks (sides_of call.to) call.places
 indexed-Ok from picks call h e = elim (decided_index (sides_of from) picks h) [
   | inl x ↦
       let few : HasFewEntries x.0.sides = subst HasFewEntries (sym x.1.sides) (kept_few (sides_of from) picks x.1.rows x.1.columns from.few h x.1.takes) in
@@ -174,7 +175,8 @@ indexed-Ok from picks call h e = elim (decided_index (sides_of from) picks h) [
 
 -- ---- what the code answers
 -- the fault that is told
-pub told_fault : {A B : Type 0} (from : Sides) (picks : List Pick) (answered : Result B ShapeFault) (fault : ShapeFault) (next : Picked → Result A ArrayFault) → All HasStep picks → answered ≡ Err fault →
+pub told_fault : {A B : Type 0} (from : Sides) (picks : List Pick) (answered : Result B ShapeFault) (fault : ShapeFault) (next : Picked → Result A ArrayFault)
+    → All HasStep picks → answered ≡ Err fault →
     ((answered ≡ Err shape_faults.Clash) ↔ (rank_of from < length picks)) →
     ((answered ≡ Err shape_faults.Range) ↔ IsFirstFault from picks shape_faults.Range) →
     ((answered ≡ Err shape_faults.Empty) ↔ IsFirstFault from picks shape_faults.Empty) →

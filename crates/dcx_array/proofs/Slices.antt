@@ -72,10 +72,16 @@ slice_places-is n s xs ne r =
 -- how far the stop lies ahead
 ahead : (step start stop : ℤ) → step ≢ pos 0 → (g : ℕ) × ((d : ℕ) → (d < g) ↔ IsBefore step (moved step start d) stop)
 ahead (pos zero) start stop ne = absurd (ne refl)
-ahead (pos (suc k)) start stop ne =
-    (unsigned_abs (int_max (stop -ℤ start) (pos 0)), ahead_up (pos (suc k)) start stop (unsigned_abs (int_max (stop -ℤ start) (pos 0))) (omega (arith, ints)) (pos-unsigned_abs (int_max (stop -ℤ start) (pos 0)) (omega (arith, ints, clamps))))
-ahead (negsuc k) start stop ne =
-    (unsigned_abs (int_max (start -ℤ stop) (pos 0)), ahead_down (negsuc k) start stop (unsigned_abs (int_max (start -ℤ stop) (pos 0))) ne (omega (arith, ints)) (pos-unsigned_abs (int_max (start -ℤ stop) (pos 0)) (omega (arith, ints, clamps))))
+ahead (pos (suc k)) start stop ne = (
+  unsigned_abs (int_max (stop -ℤ start) (pos 0)),
+  ahead_up (pos (suc k)) start stop (unsigned_abs (int_max (stop -ℤ start) (pos 0))) (omega (arith, ints))
+      (pos-unsigned_abs (int_max (stop -ℤ start) (pos 0)) (omega (arith, ints, clamps))),
+)
+ahead (negsuc k) start stop ne = (
+  unsigned_abs (int_max (start -ℤ stop) (pos 0)),
+  ahead_down (negsuc k) start stop (unsigned_abs (int_max (start -ℤ stop) (pos 0))) ne (omega (arith, ints))
+      (pos-unsigned_abs (int_max (start -ℤ stop) (pos 0)) (omega (arith, ints, clamps))),
+)
 
 slice_exists : (n : ℕ) (s : Slice) → s.step ≢ pos 0 → (xs : List ℕ) × IsSlice n s xs
 slice_exists n s ne =
@@ -85,7 +91,8 @@ slice_exists n s ne =
     let some = steps_before s.step (start_for n s.step s.start) (stop_for n s.step s.stop) far.0 (div_ceil far.0 (unsigned_abs s.step)) ne far.1 refl in (
       places_from first s.step count,
       slice_runs n s first s.step count
-          (run_of n s (start_for n s.step s.start) (stop_for n s.step s.stop) s.step first count ne refl refl refl (pos-unsigned_abs (int_max (start_for n s.step s.start) (pos 0)) (omega (arith, ints, clamps))) some),
+          (run_of n s (start_for n s.step s.start) (stop_for n s.step s.stop) s.step first count ne refl refl refl
+          (pos-unsigned_abs (int_max (start_for n s.step s.start) (pos 0)) (omega (arith, ints, clamps))) some),
     )
 
 pub slice_places-are : (n : ℕ) (s : Slice) → s.step ≢ pos 0 → IsSlice n s (slice_places n s)

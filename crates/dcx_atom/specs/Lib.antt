@@ -1,4 +1,4 @@
--- What the contracts of this crate cite.
+-- What contracts cite: arrays, what a call means and forms, its graph and steps, and the laws that it keeps.
 pub mod Arrays
 pub mod Formed
 pub mod Entrywise

@@ -65,8 +65,10 @@ pub trait Atom {
         requires shape { IsSome ((meaning self.now).shape (sides_list args.now)) }
         requires coefficients { IfSome ((meaning self.now).shape (sides_list args.now)) (λ s. length coefficients.now ≡ entries_of s) }
         requires weights { IfSome ((meaning self.now).shape (sides_list args.now)) (λ s. length weights.now ≡ rows_before (meaning self.now) (sides_list args.now) (entries_of s)) }
-        ensures ok { IfOk result (λ g. IfSome ((meaning self.now).shape (sides_list args.now)) (λ s. AreSlopesOf (meaning self.now) (sides_list args.now) (entries_of s) coefficients.now weights.now g)) }
-        ensures stop { IfErr result (λ e. IfSome ((meaning self.now).shape (sides_list args.now)) (λ s. IsSlopeStop (meaning self.now) (sides_list args.now) (entries_of s) coefficients.now weights.now e)) };
+        ensures ok { IfOk result (λ g. IfSome ((meaning self.now).shape (sides_list args.now))
+            (λ s. AreSlopesOf (meaning self.now) (sides_list args.now) (entries_of s) coefficients.now weights.now g)) }
+        ensures stop { IfErr result (λ e. IfSome ((meaning self.now).shape (sides_list args.now))
+            (λ s. IsSlopeStop (meaning self.now) (sides_list args.now) (entries_of s) coefficients.now weights.now e)) };
 
     /// The value that is formed is the defined one: each entry is the sum of its summands.
     ghost formation: { (x : Self) → SumsUp (meaning x) };

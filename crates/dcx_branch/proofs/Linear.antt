@@ -69,4 +69,5 @@ rows_are (b ∷ bs) h = ap₂ ◌∷◌ (row_is b (All-head (λ (c : BoundAt). F
 
 pub node_linear : (q : Program Frac) (bs : List BoundAt) → All (λ (b : BoundAt). Fits b.limit) bs → linear_program (node_rows q bs) ≡ node_program (linear_program (rows_of q)) bs
 node_linear q bs h =
-    ap (λ rows. let l : LinearProgram = record { kinds = q.kinds; rows = rows; objective = form_number q.objective } in l) (map-append row_at q.rows (bound_rows bs) ∙ ap (λ rows. map row_at q.rows ++ rows) (rows_are bs h))
+    ap (λ rows. let l : LinearProgram = record { kinds = q.kinds; rows = rows; objective = form_number q.objective } in l)
+    (map-append row_at q.rows (bound_rows bs) ∙ ap (λ rows. map row_at q.rows ++ rows) (rows_are bs h))

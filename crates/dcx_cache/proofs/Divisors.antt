@@ -79,13 +79,15 @@ second_constant rules (g ∷ h ∷ []) t e = (and_parts (is_constant rules h) tr
 second_constant rules (g ∷ h ∷ k ∷ rest) t e = absurd (omega (arith, e))
 
 -- ---- a product's judgement asks of its sides: a divisor is a number
-taken_by : (rules : Rules) (sides : List Sides) (to : Sides) (bend : Bend) (args : List Judgement) → IsTrue (bends rules (pairing_call Over sides to).kind bend args) → IsTrue (is_constant rules (argument args 1))
+taken_by : (rules : Rules) (sides : List Sides) (to : Sides) (bend : Bend) (args : List Judgement) → IsTrue (bends rules (pairing_call Over sides to).kind bend args)
+    → IsTrue (is_constant rules (argument args 1))
 taken_by rules sides to bend args t = t
 
 module _ {C : Type 0} (value_at : C → Parameters → ℚ) (of_number : Frac → C) (number_of : C → Option Frac) (Sums : C → C → Result C Passes → Type 0) (Changes : Change → C → Result C Passes → Type 0)
     (Reads : ℕ → List ℕ → ℕ → Pairs → C → Type 0) (laws : AreCoefs value_at of_number number_of Sums Changes) (rules : Rules) (p : Problem) (setting : Pairs) (table : Table C)
     (formed : AreFormed of_number number_of Sums Changes Reads rules p setting (length p.tree) table) (params : Parameters) (s : Setting)
-    (told : (i : ℕ) → i < length p.tree → is_reduced rules p i ≡ false → (x : Point) (j : ℕ) → problem_value p s x i j ≡ source value_at of_number number_of Sums Changes Reads laws rules p setting table formed i j)
+    (told : (i : ℕ) → i < length p.tree → is_reduced rules p i ≡ false → (x : Point) (j : ℕ)
+    → problem_value p s x i j ≡ source value_at of_number number_of Sums Changes Reads laws rules p setting table formed i j)
     (ok : IsTrue (accepted_by rules (convex_problem p))) where
   abbrev forms : List (List (Form C))
   forms = table_forms table
@@ -123,7 +125,8 @@ module _ {C : Type 0} (value_at : C → Parameters → ℚ) (of_number : Frac �
     divisor_constant : (r : Bool) → is_reduced rules p i ≡ r → IsTrue (is_constant rules (argument (map judged n.args) 1))
     divisor_constant false e =
         second_constant rules (map judged n.args)
-        (args_constant rules (pairing_call Over (arg_sides p.tree n) n.sides) (map judged n.args) (subst (λ (g : Judgement). IsTrue (is_constant rules g)) judgement (not_reduced (is_constant rules (judged i)) e)))
+        (args_constant rules (pairing_call Over (arg_sides p.tree n) n.sides) (map judged n.args)
+        (subst (λ (g : Judgement). IsTrue (is_constant rules g)) judgement (not_reduced (is_constant rules (judged i)) e)))
         (two_args n.args (arena.sides_at p.tree) two)
     divisor_constant true e =
         let c : convex_calls.Call = pairing_call Over (arg_sides p.tree n) n.sides in
@@ -131,15 +134,18 @@ module _ {C : Type 0} (value_at : C → Parameters → ℚ) (of_number : Frac �
         subst (λ (k : Call). ¬ IsTrue (is_constant rules (judgement_by rules (head_of (names_in p) k (arg_sides p.tree n) n.sides) (map judged n.args)))) is (not_constant p rules i n at e) in
         let some : ¬ IsTrue (list_all (is_constant rules) (map judged n.args)) = λ all. none (call_constant rules c (map judged n.args) all) in
         elim (node_bent p rules ok i within) [
-          | inl convex ↦ taken_by rules (arg_sides p.tree n) n.sides Convex (map judged n.args) (bent_parts rules c Convex (map judged n.args) (subst (λ (k : Judgement). IsTrue k.convex) judgement convex) some).0
-          | inr concave ↦ taken_by rules (arg_sides p.tree n) n.sides Concave (map judged n.args) (bent_parts rules c Concave (map judged n.args) (subst (λ (k : Judgement). IsTrue k.concave) judgement concave) some).0
+          | inl convex ↦ taken_by rules (arg_sides p.tree n) n.sides Convex (map judged n.args)
+              (bent_parts rules c Convex (map judged n.args) (subst (λ (k : Judgement). IsTrue k.convex) judgement convex) some).0
+          | inr concave ↦ taken_by rules (arg_sides p.tree n) n.sides Concave (map judged n.args)
+              (bent_parts rules c Concave (map judged n.args) (subst (λ (k : Judgement). IsTrue k.concave) judgement concave) some).0
         ]
 
     -- no entry of it is 0
     abbrev divisor : ℕ → ℚ
     divisor j = value (number_in number_of (args_among of_number forms n.args 1 j))
 
-    pair_nonzero : (j : ℕ) (entry : EntryForms C) → PairEntry of_number number_of Sums Changes Divisor (args_among of_number forms n.args) (record { left = j; right = j } ∷ []) j (Ok entry) → divisor j ≢ whole (pos 0)
+    pair_nonzero : (j : ℕ) (entry : EntryForms C) → PairEntry of_number number_of Sums Changes Divisor (args_among of_number forms n.args) (record { left = j; right = j } ∷ []) j (Ok entry)
+        → divisor j ≢ whole (pos 0)
     pair_nonzero j entry h = by (list_any (has_zero_divisor number_of Divisor (args_among of_number forms n.args)) (record { left = j; right = j } ∷ [])) refl h
       where
         by : (b : Bool) → list_any (has_zero_divisor number_of Divisor (args_among of_number forms n.args)) (record { left = j; right = j } ∷ []) ≡ b →
@@ -147,7 +153,8 @@ module _ {C : Type 0} (value_at : C → Parameters → ℚ) (of_number : Frac �
         by true e g = absurd (cc)
         by false e g = not_zero (divisor j) (alone_false (rat_eq (divisor j) (whole (pos 0))) e)
 
-    number_nonzero : (j : ℕ) (x : Frac) → entry_formed n.call (given_by setting) (given_by []) (arg_sides p.tree n) (numbers_in number_of (args_among of_number forms n.args)) j ≡ Ok x → divisor j ≢ whole (pos 0)
+    number_nonzero : (j : ℕ) (x : Frac) → entry_formed n.call (given_by setting) (given_by []) (arg_sides p.tree n) (numbers_in number_of (args_among of_number forms n.args)) j ≡ Ok x
+        → divisor j ≢ whole (pos 0)
     number_nonzero j x h =
         divided_nonzero j (value (number_in number_of (args_among of_number forms n.args 0 j))) (divisor j) x
         (subst (λ (call : Call). entry_formed call (given_by setting) (given_by []) (arg_sides p.tree n) (numbers_in number_of (args_among of_number forms n.args)) j ≡ Ok x) is h)
@@ -156,7 +163,9 @@ module _ {C : Type 0} (value_at : C → Parameters → ℚ) (of_number : Frac �
     entry_nonzero true j entry h =
         pair_nonzero j entry (subst (λ (call : Call). ReducedEntry of_number number_of Sums Changes Reads rules p setting forms i n.args call (arg_sides p.tree n) j (Ok entry)) is h)
     entry_nonzero false j entry h =
-        let (x, made, form) = made_number value_at of_number number_of Sums Changes Reads laws rules p setting table formed (entry_formed n.call (given_by setting) (given_by []) (arg_sides p.tree n) (numbers_in number_of (args_among of_number forms n.args)) j) entry h in
+        let (x, made, form) =
+        made_number value_at of_number number_of Sums Changes Reads laws rules p setting table formed
+        (entry_formed n.call (given_by setting) (given_by []) (arg_sides p.tree n) (numbers_in number_of (args_among of_number forms n.args)) j) entry h in
         number_nonzero j x made
 
     nonzero : (j : ℕ) → j < entries_of n.sides → divisor j ≢ whole (pos 0)

@@ -35,7 +35,8 @@ map_is_listed p setting q m fits = known_are_listed p setting q (affine_are_know
 -- ---- at a setting
 module _ (p : Problem) (setting : Pairs) where
   -- the map is put there
-  pub from_map : (q : Program ParamForm) (r : Result (Reduction Frac) ReduceStop) → IsMapOf p q → TellsBy sites.Map r (λ x. x.program) (FixGives setting q) → OrMemory r (λ x. x.program) (SessionGives p setting)
+  pub from_map : (q : Program ParamForm) (r : Result (Reduction Frac) ReduceStop) → IsMapOf p q → TellsBy sites.Map r (λ x. x.program) (FixGives setting q)
+      → OrMemory r (λ x. x.program) (SessionGives p setting)
   from_map q (Ok x) m h = mapped q m h
   from_map q (Err e) m (inl (s, is, g)) = subst (λ (z : ReduceStop). OrMemory {A = Reduction Frac} (Err z) (λ x. x.program) (SessionGives p setting)) (sym is) (mapped q m g)
   from_map q (Err e) m (inr is) = subst (λ (z : ReduceStop). OrMemory {A = Reduction Frac} (Err z) (λ x. x.program) (SessionGives p setting)) (sym is) tt

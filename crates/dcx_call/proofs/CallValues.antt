@@ -1,5 +1,6 @@
 -- The value of each call: what is formed is exact, and is what the call's meaning says.
-use Rattle.std.proofs.Common.{◌≡◌, ℕ, zero, suc, ◌<◌, arith, Bool, true, false, if◌then◌else◌, List, [], ◌∷◌, map, length, get_or, All, Option, Some, None, IsSome, IfSome, option_map, refl, sym, ap, ap₂, ◌∙◌, subst, Result, Ok, Err, IsOk, IfOk, pos}
+use Rattle.std.proofs.Common.{◌≡◌, ℕ, zero, suc, ◌<◌, arith, Bool, true, false, if◌then◌else◌, List, [], ◌∷◌, map, length, get_or, All, Option}
+use Rattle.std.proofs.Common.{Some, None, IsSome, IfSome, option_map, refl, sym, ap, ap₂, ◌∙◌, subst, Result, Ok, Err, IsOk, IfOk, pos}
 use Rattle.std.proofs.lemmas.List.Elements.{All-cons, All-nil}
 use Rattle.dcx_math.specs.Rational.{ℚ, whole, ◌+ℚ◌, ◌*ℚ◌, ◌/ℚ◌, rat_eq}
 use Rattle.dcx_math.specs.Sums.{rat_sum_by}
@@ -130,7 +131,8 @@ made call setting point args v shape formed exact = record {
 abbrev pub listed : LinearCall → List Array → List (List Triple) → ℕ → Result Frac ValueStop
 listed l args terms j = term_sum (map linear_term (get_or terms j [])) (numbers_of args) j
 
-linear_alike : (l : LinearCall) (setting point : Pairs) (args : List Array) (size : ℕ) (terms : List (List Triple)) → map (map linear_term) terms ≡ list_below size ((linear_meaning l).terms (array_sides args)) →
+linear_alike : (l : LinearCall) (setting point : Pairs) (args : List Array) (size : ℕ) (terms : List (List Triple))
+    → map (map linear_term) terms ≡ list_below size ((linear_meaning l).terms (array_sides args)) →
     (j : ℕ) → j < size → listed l args terms j ≡ formed_at (calls.Linear l) setting point args j
 linear_alike l setting point args size terms e j b =
     ap (λ ts. term_sum ts (numbers_of args) j)
@@ -142,7 +144,8 @@ linear_exact : (l : LinearCall) (setting point : Pairs) (args : List Array) (sid
 linear_exact l setting point args sides terms shape e j b x f =
     let own : map linear_term (get_or terms j []) ≡ (linear_meaning l).terms (array_sides args) j =
     map-get_or (map linear_term) refl terms j ∙ ap (λ ts. get_or ts j []) e ∙ get_or-list_below (entries_of sides) ((linear_meaning l).terms (array_sides args)) j [] b in
-    summed_exact (λ (t : LinearTerm). (t.coefficient, numbers_of args t.argument t.entry)) (map linear_term (get_or terms j [])) j x (terms_fit (get_or terms j []) (numbers_of args) (entry_fits args)) (linear_alike l setting point args (entries_of sides) terms e j b ∙ f)
+    summed_exact (λ (t : LinearTerm). (t.coefficient, numbers_of args t.argument t.entry)) (map linear_term (get_or terms j [])) j x
+    (terms_fit (get_or terms j []) (numbers_of args) (entry_fits args)) (linear_alike l setting point args (entries_of sides) terms e j b ∙ f)
     ∙ ap (λ ts. terms_at ts (numbers_of args)) own
     ∙ sym ((linear_lawful l).linearity (array_sides args) sides shape j b (numbers_of args))
 
@@ -152,7 +155,8 @@ pub linear_is : (l : LinearCall) (args : List Array) (v : Array) (terms : List (
     AreFormed (listed l args terms) (entries_of (sides_of v.shape)) v.entries → (setting point : Pairs) → IsValue (calls.Linear l) setting point args v
 linear_is l args v terms shape e formed setting point =
     made (calls.Linear l) setting point args v shape
-    (formed_alike (listed l args terms) (formed_at (calls.Linear l) setting point args) (entries_of (sides_of v.shape)) v.entries (linear_alike l setting point args (entries_of (sides_of v.shape)) terms e) formed)
+    (formed_alike (listed l args terms) (formed_at (calls.Linear l) setting point args) (entries_of (sides_of v.shape)) v.entries
+    (linear_alike l setting point args (entries_of (sides_of v.shape)) terms e) formed)
     (linear_exact l setting point args (sides_of v.shape) terms shape e)
 
 pub linear_stops : (l : LinearCall) (args : List Array) (size : ℕ) (terms : List (List Triple)) (stop : ValueStop) →
@@ -171,8 +175,10 @@ pairing_is p (a ∷ []) l r some el er v shape formed setting point = cc
 pairing_is p (a ∷ b ∷ []) l r some el er v shape formed setting point =
     made (calls.Pairing p) setting point (a ∷ b ∷ []) v
     (ap₂ (λ (x y : Array). paired_sides p (sides_of x.shape) (sides_of y.shape)) (sym el) (sym er) ∙ shape)
-    (subst (λ (x : Array). AreFormed (λ j. pairing_formed p (pairs_at p (sides_of x.shape) (sides_of b.shape) j) (number_at x.entries) (number_at b.entries) j) (entries_of (sides_of v.shape)) v.entries) el
-    (subst (λ (y : Array). AreFormed (λ j. pairing_formed p (pairs_at p (sides_of l.shape) (sides_of y.shape) j) (number_at l.entries) (number_at y.entries) j) (entries_of (sides_of v.shape)) v.entries) er formed))
+    (subst (λ (x : Array). AreFormed (λ j. pairing_formed p (pairs_at p (sides_of x.shape) (sides_of b.shape) j) (number_at x.entries) (number_at b.entries) j)
+    (entries_of (sides_of v.shape)) v.entries) el
+    (subst (λ (y : Array). AreFormed (λ j. pairing_formed p (pairs_at p (sides_of l.shape) (sides_of y.shape) j) (number_at l.entries) (number_at y.entries) j)
+    (entries_of (sides_of v.shape)) v.entries) er formed))
     (λ j below x e. pairing_exact p (sides_of a.shape) (sides_of b.shape) (number_at a.entries) (number_at b.entries) j x (number_fits a.entries) (number_fits b.entries) e)
 pairing_is p (a ∷ b ∷ c ∷ rest) l r some el er v shape formed setting point = cc
 

@@ -1,4 +1,4 @@
--- The lemmas.
+-- The lemmas by which calls keep their laws, and what is formed of them is exact.
 pub mod Entries
 pub mod Products
 pub mod SignedProducts

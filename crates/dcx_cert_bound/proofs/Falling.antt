@@ -56,7 +56,8 @@ module _ (nodes : List Node) (values : List (Option Array)) (weights : ℕ → L
   passed_grows : (m : ℕ) (o : Option Array) (cs : List Frac) (kept after : Kept) → passed nodes values weights m o cs kept ≡ Ok after → Grows m kept.reached after.reached
   passed_grows m (Some x) cs kept after e = inl (after_total kept after (or_passes (products_from kept.total (counted cs x.entries))) e)
   passed_grows m None cs kept after e =
-      subst (Grows m kept.reached) (sym (after_below kept after (node_reached nodes m cs) (handed kept.below (node_shares nodes values m cs (weights m))) e)) (grown m cs kept.reached (call_at nodes m))
+      subst (Grows m kept.reached) (sym (after_below kept after (node_reached nodes m cs) (handed kept.below (node_shares nodes values m cs (weights m))) e))
+      (grown m cs kept.reached (call_at nodes m))
 
   -- all nodes from m on are passed
   pub record IsPassedTo (m : ℕ) (kept : Kept) : Type 0 where
@@ -74,7 +75,8 @@ module _ (nodes : List Node) (values : List (Option Array)) (weights : ℕ → L
   }
   one_to m b kept after h count (inr x) = record {
     count = count;
-    falling = subst AreFalling (sym x.added) (falling-push kept.reached x.own h.falling (All-weaker (λ r. m + 1 ≤ r.node.0) (λ r. x.own.node.0 < r.node.0) (λ r l. omega (arith, l, x.node)) kept.reached h.above));
+    falling = subst AreFalling (sym x.added) (falling-push kept.reached x.own h.falling
+        (All-weaker (λ r. m + 1 ≤ r.node.0) (λ r. x.own.node.0 < r.node.0) (λ r l. omega (arith, l, x.node)) kept.reached h.above));
     above = subst (All (λ r. m ≤ r.node.0)) (sym x.added)
         (All-push (λ r. m ≤ r.node.0) kept.reached x.own (All-weaker (λ r. m + 1 ≤ r.node.0) (λ r. m ≤ r.node.0) (λ r l. omega (arith, l)) kept.reached h.above) (omega (arith, x.node)));
     within = subst (All (λ r. r.node.0 < length nodes)) (sym x.added) (All-push (λ r. r.node.0 < length nodes) kept.reached x.own h.within (omega (arith, x.node, b)));
@@ -116,8 +118,9 @@ pub record IsCollected (p : Problem) (values : List (Option Array)) (duals : Lis
   pub pass : pass_down p.tree values weights (length p.tree) (begin table) ≡ Ok kept
   pub to : IsPassedTo p.tree values weights 0 kept
 
-pub is_collected : (p : Problem) (values : List (Option Array)) (duals : List Array) (weights : ℕ → List Frac) (with_objective : Bool) (kept : Kept) → collected p values duals weights with_objective ≡ Ok kept →
-    IsCollected p values duals weights with_objective kept
+pub is_collected : (p : Problem) (values : List (Option Array)) (duals : List Array) (weights : ℕ → List Frac) (with_objective : Bool) (kept : Kept)
+    → collected p values duals weights with_objective ≡ Ok kept
+    → IsCollected p values duals weights with_objective kept
 is_collected p values duals weights with_objective kept e = by (start_table with_objective p duals) refl e
   where
     by : (r : Result (List Frac) Passes) → start_table with_objective p duals ≡ r → then_on p.tree values weights (begun r) (pass_down p.tree values weights (length p.tree)) ≡ Ok kept →

@@ -43,7 +43,8 @@ abbrev HasShape : Pairs → List ℕ × Shape → Type 0
 HasShape ps e = (a : Array) × (array_of ps e.0 ≡ Some a) × (a.shape ≡ e.1)
 
 -- arrays of these names and shapes
-shapes_are : (ps : Pairs) (es : List (List ℕ × Shape)) → IsDistinct same_name (names_of ps) → names_of ps ≡ map (λ e. e.0) es → ((i : ℕ) (e : List ℕ × Shape) → slice_get es i ≡ Some e → HasShape ps e) → variables_of ps ≡ es
+shapes_are : (ps : Pairs) (es : List (List ℕ × Shape)) → IsDistinct same_name (names_of ps) → names_of ps ≡ map (λ e. e.0) es
+    → ((i : ℕ) (e : List ℕ × Shape) → slice_get es i ≡ Some e → HasShape ps e) → variables_of ps ≡ es
 unfolding IsDistinct
 shapes_are [] [] d n h = refl
 shapes_are [] (e ∷ es) d n h = absurd cc
@@ -69,7 +70,8 @@ module _ (vs : List Variable) (distinct : IsDistinct same_name (map (λ v. v.nam
   shaped_at : (i : ℕ) (e : List ℕ × Shape) (o : Option Variable) → slice_get vs i ≡ o → option_map shown_variable o ≡ Some e → HasShape point e
   shaped_at i e None at is = absurd cc
   shaped_at i e (Some v) at is =
-      let has : HasArray point v.name (sides_of v.shape) = subst (λ (w : Variable). HasArray point w.name (sides_of w.shape)) (get_or_from_slice_get vs i v v at) (of.shaped i v (slice_get_within vs i v at)) in
+      let has : HasArray point v.name (sides_of v.shape) =
+      subst (λ (w : Variable). HasArray point w.name (sides_of w.shape)) (get_or_from_slice_get vs i v v at) (of.shaped i v (slice_get_within vs i v at)) in
       subst (HasShape point) (same_Some (shown_variable v) e is) (has.array, has.there, shape_from_sides has.array.shape v.shape has.shape)
 
   pub point_shown : variables_of point ≡ map shown_variable vs

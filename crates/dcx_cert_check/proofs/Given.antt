@@ -60,7 +60,8 @@ found (p ∷ ps) (w ∷ ws) e k v at = by (same_name v.name p.0) refl (λ j late
         let f = later i here in
         record { array = f.array; there = rw t f.there; position = suc f.position; variable = f.variable; stands = f.stands; named = f.named; shaped = f.shaped }
 
-has_array : (point : Pairs) (vs : List Variable) → IsDistinct same_name (map (λ v. v.name) vs) → variables_of point ≡ map shown vs → (k : ℕ) (v : Variable) → slice_get vs k ≡ Some v → HasArray point v.name (sides_of v.shape)
+has_array : (point : Pairs) (vs : List Variable) → IsDistinct same_name (map (λ v. v.name) vs) → variables_of point ≡ map shown vs → (k : ℕ) (v : Variable) → slice_get vs k ≡ Some v
+    → HasArray point v.name (sides_of v.shape)
 has_array point vs distinct e k v at =
     let f = found point vs e k v at in
     let same : f.variable ≡ v = one_name (λ (x : Variable). x.name) vs distinct f.position k f.variable v f.stands at f.named in

@@ -1,5 +1,6 @@
 -- The coefficients at the start times the numbers of the nodes are the Lagrangian.
-use Rattle.std.proofs.Common.{◌≡◌, ℕ, suc, ◌+◌, ◌<◌, arith, Bool, true, false, nat_lt, if◌then◌else◌, List, [], ◌∷◌, map, length, replicate, refl, sym, ap, ap₂, ◌∙◌, subst, Option, Some, None, Ok, slice_get, pos, negsuc}
+use Rattle.std.proofs.Common.{◌≡◌, ℕ, suc, ◌+◌, ◌<◌, arith, Bool, true, false, nat_lt, if◌then◌else◌, List, [], ◌∷◌, map, length}
+use Rattle.std.proofs.Common.{replicate, refl, sym, ap, ap₂, ◌∙◌, subst, Option, Some, None, Ok, slice_get, pos, negsuc}
 use Rattle.std.specs.Prelude.{option_map}
 use Rattle.std.proofs.lemmas.Bool.{false≢true, lt-ltb}
 use Rattle.std.proofs.lemmas.List.{length-map, length-replicate}
@@ -66,7 +67,8 @@ weighed_below gap (c ∷ cs) m =
 -- ---- what is there
 number_there : (duals : List Array) (k : ℕ) (x : Array) → slice_get duals k ≡ Some x → (j : ℕ) → numbers_of duals k j ≡ number_at x.entries j
 number_there duals k x at j =
-    ap (λ xs. number_at xs j) (get_or_from_slice_get (map (λ (y : Array). y.entries) duals) k x.entries [] (slice_get-map (λ (y : Array). y.entries) duals k ∙ ap (option_map (λ (y : Array). y.entries)) at))
+    ap (λ xs. number_at xs j) (get_or_from_slice_get (map (λ (y : Array). y.entries) duals) k x.entries []
+    (slice_get-map (λ (y : Array). y.entries) duals k ∙ ap (option_map (λ (y : Array). y.entries)) at))
 
 module _ (nodes : List Node) (f : ℕ → Numbers) where
   abbrev F : Numbers
@@ -91,8 +93,9 @@ module _ (nodes : List Node) (f : ℕ → Numbers) where
       (ap (λ o. value x *ℚ number_of F o) place ∙ ap (λ z. value x *ℚ z) (flat-place nodes f i e b c) ∙ h)
 
   -- ---- a constraint
-  constraint_dot : (c : Constraint) (x : Array) → c.left.0 < length nodes → c.right.0 < length nodes → sides_at nodes c.left.0 ≡ sides_of c.shape → sides_at nodes c.right.0 ≡ sides_of c.shape → sides_of x.shape ≡ sides_of c.shape →
-      (t u : List Frac) → length t ≡ L → with_shares t (constraint_shares nodes (Some c) (Some x)) ≡ Ok u →
+  constraint_dot : (c : Constraint) (x : Array) → c.left.0 < length nodes → c.right.0 < length nodes → sides_at nodes c.left.0 ≡ sides_of c.shape → sides_at nodes c.right.0 ≡ sides_of c.shape
+      → sides_of x.shape ≡ sides_of c.shape
+      → (t u : List Frac) → length t ≡ L → with_shares t (constraint_shares nodes (Some c) (Some x)) ≡ Ok u →
       dot u F ≡ dot t F +ℚ rat_sum_below (entries_of (sides_of c.shape)) (λ j. number_at x.entries j *ℚ (f c.left.0 j -ℚ f c.right.0 j))
   constraint_dot c x l r left right shape t u count e =
       let (v, first, rest) = first_then t u (array_shares nodes c.left.0 x) (negated_shares nodes c.right.0 x) e in
@@ -103,7 +106,8 @@ module _ (nodes : List Node) (f : ℕ → Numbers) where
       more (dot u F) (dot v F) (dot t F) (rat_sum_below n a) (rat_sum_below n b)
       (below_dot F L (λ j. share_of (place_of nodes (Some c.right.0) j) (Ok (frac_at (neg_ℚ (value (frac_in x.entries j)))))) b n
       (λ j k. entry_worth c.right.0 j (frac_at (neg_ℚ (value (frac_in x.entries j)))) (b j) r (omega (arith, k, ap entries_of (right ∙ sym shape)))
-      (ap (λ z. z *ℚ f c.right.0 j) (value-frac_at (neg_ℚ (value (frac_in x.entries j))) (negative_fits (value (frac_in x.entries j)) (value_representable (frac_in x.entries j))) ∙ ap neg_ℚ (frac_value x.entries j)))) v u same rest)
+      (ap (λ z. z *ℚ f c.right.0 j) (value-frac_at (neg_ℚ (value (frac_in x.entries j))) (negative_fits (value (frac_in x.entries j)) (value_representable (frac_in x.entries j)))
+      ∙ ap neg_ℚ (frac_value x.entries j)))) v u same rest)
       (below_dot F L (λ j. share_of (place_of nodes (Some c.left.0) j) (Ok (frac_in x.entries j))) a n
       (λ j k. entry_worth c.left.0 j (frac_in x.entries j) (a j) l (omega (arith, k, ap entries_of (left ∙ sym shape))) (ap (λ z. z *ℚ f c.left.0 j) (frac_value x.entries j))) t v count first)
       ∙ ap (λ z. dot t F +ℚ z) (sym (rat_sum_below-+ℚ n a b) ∙ rat_sum_below-same n _ _ (λ j k. gap_of_two (number_at x.entries j) (f c.left.0 j) (f c.right.0 j))
@@ -124,7 +128,8 @@ module _ (p : Problem) (duals : List Array) (are : AreDuals p duals) (f : ℕ �
       ∙ rat_sum_below-same (entries_of (sides_of c.shape)) _ _ (λ j b. ap (λ z. z *ℚ (f c.left.0 j -ℚ f c.right.0 j)) (number_there duals k x given j))
 
   -- constraint k
-  each_dot : (k : ℕ) → k < length p.constraints → (t u : List Frac) → length t ≡ entries_in p.tree → with_shares t (constraint_shares p.tree (slice_get p.constraints k) (slice_get duals k)) ≡ Ok u → dot u G ≡ dot t G +ℚ row k
+  each_dot : (k : ℕ) → k < length p.constraints → (t u : List Frac) → length t ≡ entries_in p.tree → with_shares t (constraint_shares p.tree (slice_get p.constraints k) (slice_get duals k)) ≡ Ok u
+      → dot u G ≡ dot t G +ℚ row k
   each_dot k b t u count e =
       let (c, at) = element_at p.constraints k b in
       let (x, given) = element_at duals k (omega (arith, b, are.count)) in
@@ -133,11 +138,14 @@ module _ (p : Problem) (duals : List Array) (are : AreDuals p duals) (f : ℕ �
       (ap₂ (λ o q. with_shares t (constraint_shares p.tree o q)) (sym at) (sym given) ∙ e)
       ∙ ap (λ z. dot t G +ℚ z) (sym (row_is k c x at given))
 
-  penalty_dot : (t u : List Frac) → length t ≡ entries_in p.tree → with_shares t (joined_below (length p.constraints) (λ k. constraint_shares p.tree (slice_get p.constraints k) (slice_get duals k))) ≡ Ok u →
-      dot u G ≡ dot t G +ℚ penalty_of (convex_problem p) (numbers_of duals) f
+  penalty_dot : (t u : List Frac) → length t ≡ entries_in p.tree → with_shares t
+      (joined_below (length p.constraints) (λ k. constraint_shares p.tree (slice_get p.constraints k) (slice_get duals k))) ≡ Ok u
+      → dot u G ≡ dot t G +ℚ penalty_of (convex_problem p) (numbers_of duals) f
   penalty_dot t u count e =
-      joined_dot G (entries_in p.tree) (λ k. constraint_shares p.tree (slice_get p.constraints k) (slice_get duals k)) row (length p.constraints) (λ k b t u count e. each_dot k b t u count e) t u count e
-      ∙ ap (λ z. dot t G +ℚ z) (ap (λ n. rat_sum_below n row) (sym (length-map p.constraints convex_constraint)) ∙ sym (weighed_below (gap_of f) (map convex_constraint p.constraints) (numbers_of duals)))
+      joined_dot G (entries_in p.tree) (λ k. constraint_shares p.tree (slice_get p.constraints k) (slice_get duals k)) row (length p.constraints)
+      (λ k b t u count e. each_dot k b t u count e) t u count e
+      ∙ ap (λ z. dot t G +ℚ z) (ap (λ n. rat_sum_below n row) (sym (length-map p.constraints convex_constraint))
+      ∙ sym (weighed_below (gap_of f) (map convex_constraint p.constraints) (numbers_of duals)))
 
   -- the objective
   sense_worth : (sense : Sense) (z : ℚ) → value (objective_number sense) *ℚ z ≡ minimized (sense_of sense) z
@@ -163,7 +171,8 @@ module _ (p : Problem) (duals : List Array) (are : AreDuals p duals) (f : ℕ �
       let same : length v ≡ entries_in p.tree = shares_count zeros v (objective_shares true p) first ∙ zeros_count in
       let all : length table ≡ entries_in p.tree = shares_count zeros table (all_shares true p duals) e ∙ zeros_count in
       sym (dot-table p.tree f table all)
-      ∙ more (dot table G) (dot v G) (dot zeros G) (objective_of (convex_problem p) f) (penalty_of (convex_problem p) (numbers_of duals) f) (penalty_dot v table same rest) (objective_dot zeros v zeros_count first)
+      ∙ more (dot table G) (dot v G) (dot zeros G) (objective_of (convex_problem p) f) (penalty_of (convex_problem p) (numbers_of duals) f) (penalty_dot v table same rest)
+      (objective_dot zeros v zeros_count first)
       ∙ ap (λ z. z +ℚ lagrangian_of (convex_problem p) (numbers_of duals) f) (dot-zeros (entries_in p.tree) G) ∙ +ℚ_idl _
 
   pub start_penalty : (table : List Frac) → start_table false p duals ≡ Ok table → table_times p.tree table f ≡ penalty_of (convex_problem p) (numbers_of duals) f

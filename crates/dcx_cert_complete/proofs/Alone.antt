@@ -153,7 +153,8 @@ module _ (p : Problem) (d : AreDeclared p.tree p.variables p.parameters) where
       none_behind : (i : ℕ) → call_at p.tree i ≡ Some (calls.Variable v) → (reached : List Reached) → All (λ q. q.node.0 < i) reached → reached_times reached vn ≡ whole (pos 0)
       none_behind i here [] before = refl
       none_behind i here (r ∷ reached) before =
-          ap₂ ◌+ℚ◌ (zero_times r.coefficients (vn r.node.0) (by (is_named v.name (call_at p.tree r.node.0)) refl)) (none_behind i here reached (All-tail (λ q. q.node.0 < i) r reached before)) ∙ +ℚ_idr _
+          ap₂ ◌+ℚ◌ (zero_times r.coefficients (vn r.node.0) (by (is_named v.name (call_at p.tree r.node.0)) refl)) (none_behind i here reached (All-tail (λ q. q.node.0 < i) r reached before))
+          ∙ +ℚ_idr _
         where
           less : r.node.0 < i
           less = All-head (λ q. q.node.0 < i) r reached before
@@ -163,14 +164,16 @@ module _ (p : Problem) (d : AreDeclared p.tree p.variables p.parameters) where
           by false e = other_numbers (call_at p.tree r.node.0) e r.node.0 refl
 
       -- all that is reached, at this array alone
-      reached_alone : (reached : List Reached) → AreFalling reached → reached_times reached vn ≡ times (length (reaching p.tree reached v.name)) (number_at (reaching p.tree reached v.name)) (first_of (entries_of (sides_in v)) y)
+      reached_alone : (reached : List Reached) → AreFalling reached → reached_times reached vn
+          ≡ times (length (reaching p.tree reached v.name)) (number_at (reaching p.tree reached v.name)) (first_of (entries_of (sides_in v)) y)
       reached_alone [] falling = refl
       reached_alone (r ∷ reached) falling = by (is_named v.name (call_at p.tree r.node.0)) refl (reached_alone reached falling.1)
         where
           by : (t : Bool) → is_named v.name (call_at p.tree r.node.0) ≡ t →
               reached_times reached vn ≡ times (length (reaching p.tree reached v.name)) (number_at (reaching p.tree reached v.name)) (first_of (entries_of (sides_in v)) y) →
               times (length r.coefficients) (number_at r.coefficients) (vn r.node.0) +ℚ reached_times reached vn
-              ≡ times (length (if t then r.coefficients else reaching p.tree reached v.name)) (number_at (if t then r.coefficients else reaching p.tree reached v.name)) (first_of (entries_of (sides_in v)) y)
+              ≡ times (length (if t then r.coefficients else reaching p.tree reached v.name)) (number_at (if t then r.coefficients else reaching p.tree reached v.name))
+              (first_of (entries_of (sides_in v)) y)
           by true e rest =
               let here = named_is (call_at p.tree r.node.0) e r.node.0 refl in
               ap₂ ◌+ℚ◌

@@ -125,7 +125,8 @@ module _ (s : Sides) (cs : List Frac) where
       by false same h = summed (sum_of (frac_in cs e) (frac_in cs (mirror_of s e))) (sum_of_is (frac_in cs e) (frac_in cs (mirror_of s e))).exact h
 
   -- what reaches an entry that is asked may
-  pub entry_may : (a : Attribute) → IsSquareFor a s → IsInDualCone (attribute_of a) s c → (e : ℕ) → e < entries_of s → is_own a s e ≡ true → (x : Frac) → reaching_entry a s cs e ≡ Ok x → MayReachEntry a (value x)
+  pub entry_may : (a : Attribute) → IsSquareFor a s → IsInDualCone (attribute_of a) s c → (e : ℕ) → e < entries_of s → is_own a s e ≡ true → (x : Frac) → reaching_entry a s cs e ≡ Ok x
+      → MayReachEntry a (value x)
   entry_may Free square cone e b own x h = let is : frac_in cs e ≡ x = cc in ap value (sym is) ∙ frac_value cs e ∙ free_entry (λ y. cone y tt) e b
   entry_may Nonneg square cone e b own x h =
       let is : frac_in cs e ≡ x = cc in

@@ -46,7 +46,8 @@ module _ (bend : Bend) (factors : List ℚ) (unknown : ℕ → ℕ → ℕ → �
 
   slopes_of : (slope : (ℕ → ℚ) → Formula) → ((w : ℕ → ℚ) (u e : ℕ) (a : Entries) → exact (slope w) *ℚ a 0 e ≡ weighted (member_rows u e) w a no_filling) →
       (axis : Axis) (args : List Sides) (sides : Sides) → fold_sides axis args ≡ Some sides → (w : ℕ → ℕ → ℚ) (a : Entries) →
-      rat_sum_below (length args) (λ i. rat_sum_below (entries_of (sides_at args i)) (λ e. exact (slope (weights_in (w (group_of axis (sides_at args 0) e)) (member_of axis (sides_at args 0) e))) *ℚ a i e))
+      rat_sum_below (length args) (λ i. rat_sum_below (entries_of (sides_at args i))
+      (λ e. exact (slope (weights_in (w (group_of axis (sides_at args 0) e)) (member_of axis (sides_at args 0) e))) *ℚ a i e))
       ≡ rat_sum_below (entries_of sides) (λ k. weighted (rows_of_group axis (sides_at args 0) k) (w k) a no_filling)
   slopes_of slope law axis [] sides is w a = cc
   slopes_of slope law axis (s ∷ []) sides is w a =
@@ -111,8 +112,9 @@ module _ (bend : Bend) (factors : List ℚ) where
       (level_of bend (c j) (group_sum (folded_count axis s) (w j)) (at (whole (pos 1))) (at (whole (negsuc 0)))) (All-nil IsMet)
 
 nonneg_demanded : (factors : List ℚ) (axis : Axis) (s : Sides) (count size : ℕ) (c : ℕ → ℚ) (w : ℕ → ℕ → ℚ) →
-    ((t : Filling) → KindsHold (replicate count Nonneg) t → IsNonnegative (rat_sum_below size (λ k. c k *ℚ form_at (unknown_form k) t +ℚ weighted (own_rows Convex factors axis s k) (w k) no_entries t))) →
-    (j : ℕ) → j < size → All IsMet (total_condition Nonneg (c j) (list_below (folded_count axis s * length factors) (w j)) ∷ [])
+    ((t : Filling) → KindsHold (replicate count Nonneg) t → IsNonnegative
+    (rat_sum_below size (λ k. c k *ℚ form_at (unknown_form k) t +ℚ weighted (own_rows Convex factors axis s k) (w k) no_entries t)))
+    → (j : ℕ) → j < size → All IsMet (total_condition Nonneg (c j) (list_below (folded_count axis s * length factors) (w j)) ∷ [])
 nonneg_demanded factors axis s count size c w left j b =
     All-cons IsMet (total_condition Nonneg (c j) (list_below (folded_count axis s * length factors) (w j))) []
     (at_most_of (c j) (group_sum Convex factors (folded_count axis s) (w j))

@@ -116,7 +116,8 @@ atom_fractions (Norm1 x) args sides is c ws none k e b l =
     let size : e < entries_of s = subst (λ i. e < entries_of (sides_at args i)) first l in
     difference_fits (w (group_of x.axis s e) (member_of x.axis s e * 2 + 0)) (w (group_of x.axis s e) (member_of x.axis s e * 2 + 1)) (number_fits ws _) (number_fits ws _)
     (group_fits (λ v. difference (v 0) (v 1)) 2 x.axis s (entries_of sides) w (groups_of_value x.axis args sides fold)
-    (λ g h i d. All-at (λ (y : ArgumentEntry). slope_stop (formed (m.slope args w y.argument y.entry)) ≡ None) (folded_count x.axis s) (λ i. record { argument = 0; entry = member x.axis s g i }) (entry_formed m args c w g (none g h)) i d) e size)
+    (λ g h i d. All-at (λ (y : ArgumentEntry). slope_stop (formed (m.slope args w y.argument y.entry)) ≡ None) (folded_count x.axis s) (λ i. record { argument = 0; entry = member x.axis s g i })
+    (entry_formed m args c w g (none g h)) i d) e size)
 atom_fractions (NormInf x) args sides is c ws none k e b l =
     let m = atom_meaning (NormInf x) in
     let w = weights_of m args ws in
@@ -126,7 +127,8 @@ atom_fractions (NormInf x) args sides is c ws none k e b l =
     let size : e < entries_of s = subst (λ i. e < entries_of (sides_at args i)) first l in
     difference_fits (w (group_of x.axis s e) (member_of x.axis s e * 2 + 0)) (w (group_of x.axis s e) (member_of x.axis s e * 2 + 1)) (number_fits ws _) (number_fits ws _)
     (group_fits (λ v. difference (v 0) (v 1)) 2 x.axis s (entries_of sides) w (groups_of_value x.axis args sides fold)
-    (λ g h i d. All-at (λ (y : ArgumentEntry). slope_stop (formed (m.slope args w y.argument y.entry)) ≡ None) (folded_count x.axis s) (λ i. record { argument = 0; entry = member x.axis s g i }) (entry_formed m args c w g (none g h)) i d) e size)
+    (λ g h i d. All-at (λ (y : ArgumentEntry). slope_stop (formed (m.slope args w y.argument y.entry)) ≡ None) (folded_count x.axis s) (λ i. record { argument = 0; entry = member x.axis s g i })
+    (entry_formed m args c w g (none g h)) i d) e size)
 atom_fractions (SumLargest x) args sides is c ws none k e b l = number_fits ws _
 atom_fractions (SumSmallest x) args sides is c ws none k e b l = negative_fits _ (number_fits ws _)
 atom_fractions (CumMax x) args sides is c ws none k e b l = number_fits ws _

@@ -39,7 +39,8 @@ neg_slope w x = ring (w ∷ x ∷ []) (search reads depth 30) tt
 -- the slopes of a call of one argument whose entries have such rows
 slopes_of : (factors : List ℚ) (slope : (ℕ → ℚ) → Formula) → ((w : ℕ → ℚ) (a : Entries) (j : ℕ) → exact (slope w) *ℚ a 0 j ≡ weighted (factor_rows factors j) w a no_filling) →
     (args : List Sides) (sides : Sides) → only args ≡ Some sides → (w : ℕ → ℕ → ℚ) (a : Entries) →
-    rat_sum_below (length args) (λ i. rat_sum_below (entries_of (sides_at args i)) (λ e. exact (slope (w e)) *ℚ a i e)) ≡ rat_sum_below (entries_of sides) (λ j. weighted (factor_rows factors j) (w j) a no_filling)
+    rat_sum_below (length args) (λ i. rat_sum_below (entries_of (sides_at args i)) (λ e. exact (slope (w e)) *ℚ a i e))
+    ≡ rat_sum_below (entries_of sides) (λ j. weighted (factor_rows factors j) (w j) a no_filling)
 slopes_of factors slope law [] sides is w a = cc
 slopes_of factors slope law (s ∷ []) sides is w a =
     let e : s ≡ sides = cc in

@@ -138,7 +138,8 @@ conditions_met bend k n c w left =
     let t = only_at (suc i) (whole (pos 1)) in
     let part = λ (e : ℕ). entry_part bend c (w e) (t (suc e)) in
     let all = subst IsNonnegative
-    (all_over bend k n c w t ∙ ap (λ y. level_part bend c m s y +ℚ entries t) (at_other (suc i) (whole (pos 1)) 0 (λ q. absurd (omega (arith, q)))) ∙ ap (λ y. y +ℚ entries t) (level_nothing bend c m s) ∙ +ℚ_idl _)
+    (all_over bend k n c w t ∙ ap (λ y. level_part bend c m s y +ℚ entries t) (at_other (suc i) (whole (pos 1)) 0 (λ q. absurd (omega (arith, q))))
+    ∙ ap (λ y. y +ℚ entries t) (level_nothing bend c m s) ∙ +ℚ_idl _)
     (left t (λ k e. only_nonnegative (suc i) (whole (pos 1)) one_nonnegative k)) in
     let own = one_left n i part b (λ e l d. ap (entry_part bend c (w e)) (at_other (suc i) (whole (pos 1)) (suc e) (λ q. d (omega (arith, q)))) ∙ entry_nothing bend c (w e)) all in
     entry_most bend c (w i) (subst IsNonnegative (ap (entry_part bend c (w i)) (at_itself (suc i) (whole (pos 1)))) own) in

@@ -1,4 +1,4 @@
--- The main statements hold.
+-- Each nonlinear call has a dual graph: the law's proof.
 use Rattle.dcx_cert_complete.specs.Laws.{AtomsHaveDualGraphs}
 use Rattle.dcx_cert_complete.proofs.Atoms.{atom_dual}
 use Rattle.dcx_cert_complete.proofs.Fractions.{atom_fractions}

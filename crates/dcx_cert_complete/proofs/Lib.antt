@@ -1,4 +1,4 @@
--- The lemmas by which the laws are proved.
+-- The lemmas by which a certificate that is built is accepted, unless an operation passes.
 pub mod Units
 pub mod Kinks
 pub mod Extremes

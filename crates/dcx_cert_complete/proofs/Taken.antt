@@ -86,7 +86,8 @@ StandsAs Product true t u = t 0 ≡ u 0
 StandsAs Product false t u = t 1 ≡ u 1
 StandsAs Quotient first t u = t 1 ≡ u 1
 
-pub fixed_stands : (kind : Kind) (bend : Bend) (gs : List Judgement) (t u : Entries) → IsTrue (bends Plain kind bend gs) → ((i : ℕ) → IsTrue (argument gs i).fixed → t i ≡ u i) → StandsAs kind (argument gs 0).fixed t u
+pub fixed_stands : (kind : Kind) (bend : Bend) (gs : List Judgement) (t u : Entries) → IsTrue (bends Plain kind bend gs) → ((i : ℕ) → IsTrue (argument gs i).fixed → t i ≡ u i)
+    → StandsAs kind (argument gs 0).fixed t u
 fixed_stands (Nonlinear own) bend gs t u b h = tt
 fixed_stands Linear bend gs t u b h = tt
 fixed_stands Product bend gs t u b h = by (argument gs 0).fixed refl
@@ -114,7 +115,8 @@ nothing_shifted : nothing ≡ shifted nothing (whole (pos 1)) nothing
 nothing_shifted = λ t i j. zero_shifted (whole (pos 1)) t
 
 -- where the sides that go are nothing, a call isn't beyond 0
-pub start_low : (c : Call) → Recedes c → HeadStarts (Apply c) → (bend : Bend) → Bends c.kind bend → (first : Bool) (u : Entries) (j : ℕ) → j < c.size → IsBeyond bend (c.value (taken_at c.kind first u nothing) j) (whole (pos 0))
+pub start_low : (c : Call) → Recedes c → HeadStarts (Apply c) → (bend : Bend) → Bends c.kind bend → (first : Bool) (u : Entries) (j : ℕ) → j < c.size
+    → IsBeyond bend (c.value (taken_at c.kind first u nothing) j) (whole (pos 0))
 start_low c recedes starts bend b first u j below = by c.kind refl b
   where
     level : (kind : Kind) → c.kind ≡ kind → Bends kind (opposite bend) → IsBeyond bend (c.value (taken_at kind first u nothing) j) (whole (pos 0))

@@ -1,4 +1,4 @@
--- What the laws of this crate cite.
+-- What the laws cite: weights that bound graphs and programs, and what a section that is built fails with.
 pub mod Demanded
 pub mod Families
 pub mod Bounded

@@ -83,8 +83,9 @@ module _ (p : Problem) where
   may_move i n at moves = moves_by n.call (arg_sides p.tree n) n.sides (map (judgement_at Plain (convex_problem p).nodes) n.args) (sym (fixed_call i n at) ∙ moves)
 
   -- ---- arguments of nodes that have no variable below them
-  call_fixed : (n : Node) (call : Call) → shape_of call (arg_sides p.tree n) ≡ Some n.sides → fixed_by (head_of (names_in p) call (arg_sides p.tree n) n.sides) (map (judgement_at Plain (convex_problem p).nodes) n.args) ≡ true →
-      (a : ℕ) → has n.args a ≡ true → IsTrue (is_fixed p a)
+  call_fixed : (n : Node) (call : Call) → shape_of call (arg_sides p.tree n) ≡ Some n.sides
+      → fixed_by (head_of (names_in p) call (arg_sides p.tree n) n.sides) (map (judgement_at Plain (convex_problem p).nodes) n.args) ≡ true
+      → (a : ℕ) → has n.args a ≡ true → IsTrue (is_fixed p a)
   call_fixed n (calls.Variable v) shape t a h = absurd (no_args _ n.sides _ n.args a shape h)
   call_fixed n (calls.Parameter q) shape t a h = absurd (no_args _ n.sides _ n.args a shape h)
   call_fixed n (calls.Constant x) shape t a h = absurd (no_args _ n.sides _ n.args a shape h)
@@ -100,7 +101,8 @@ module _ (p : Problem) where
       by (Some n) e g = call_fixed n n.call (p.nodes.shaped i n e) (sym (fixed_call i n e) ∙ t) a g
 
   -- an only argument that has no variable below it
-  call_only : (call : Call) (args : List Sides) (sides : Sides) (g : Judgement) → MayMove call → shape_of call args ≡ Some sides → length args ≡ 1 → g.fixed ≡ true → fixed_by (head_of (names_in p) call args sides) (g ∷ []) ≡ true
+  call_only : (call : Call) (args : List Sides) (sides : Sides) (g : Judgement) → MayMove call → shape_of call args ≡ Some sides → length args ≡ 1 → g.fixed ≡ true
+      → fixed_by (head_of (names_in p) call args sides) (g ∷ []) ≡ true
   call_only (calls.Variable v) [] sides g may shape one t = absurd (omega (arith, one))
   call_only (calls.Variable v) (s ∷ args) sides g may shape one t = absurd (none-some sides shape)
   call_only (calls.Parameter q) args sides g may shape one t = absurd may
@@ -158,7 +160,8 @@ module _ (p : Problem) where
   named_for (calls.Pairing q) l = tt
 
   -- an array that is kept of a node that has no variable below it is its value
-  pub value_argument : (setting ray : Pairs) (arrays : List (Option Array)) → AreFixedValues p setting arrays → (i : ℕ) (v : Array) → IsTrue (is_fixed p i) → array_at arrays i ≡ Some v → IsArgument p setting ray true i v
+  pub value_argument : (setting ray : Pairs) (arrays : List (Option Array)) → AreFixedValues p setting arrays → (i : ℕ) (v : Array) → IsTrue (is_fixed p i) → array_at arrays i ≡ Some v
+      → IsArgument p setting ray true i v
   value_argument setting ray arrays given i v t at =
       let its = given.values i v at in
       record {

@@ -82,7 +82,8 @@ module _ (p : Problem) (limit : ℕ) (ok : IsAccepted p) where
       record {
         answer = subst (λ (z : Answer). IsSameAnswer p z (answer_of d)) (sym (shows p s h.program.origins h.solved.answer h.answer c h.built))
             (subst (λ (z : Answer). IsSameAnswer p h.answer z) (sym (shows p s k.program.origins k.solved.answer k.answer d k.built)) same);
-        weights = same_weights p s h.program.origins h.solved.answer h.answer k.answer c d h.built (built_too s h.program k.program h.solved k.solved h.answer k.answer h.answered k.answered d k.built) same;
+        weights = same_weights p s h.program.origins h.solved.answer h.answer k.answer c d h.built
+            (built_too s h.program k.program h.solved k.solved h.answer k.answer h.answered k.answered d k.built) same;
         params = params_told p s h.program.origins h.solved.answer h.answer c h.built ∙ sym (params_told p s k.program.origins k.solved.answer k.answer d k.built);
       }
   alike_at s (sections.Cert c) sections.None h k = one_or_none s c h k

@@ -73,12 +73,14 @@ one_text outline m n bytes a b h k =
 is_text : (outline : Outline) (s : Sections) → AreSectionsOf outline s.list → AreOfFormat s.format s.list → IsTextOf outline (length s.list) (cert_text s) s
 is_text outline s h k = record { certificate = record { counted = refl; shown = h; format = k }; text = refl }
 
-read_only : (outline : Outline) (s : Sections) → IsTextOf outline (length s.list) (cert_text s) s → (result : Result Sections CertFault) → IsReading outline (length s.list) (cert_text s) result → (result ≡ Ok s) ⊎ (result ≡ Err faults.Memory)
+read_only : (outline : Outline) (s : Sections) → IsTextOf outline (length s.list) (cert_text s) s → (result : Result Sections CertFault) → IsReading outline (length s.list) (cert_text s) result
+    → (result ≡ Ok s) ⊎ (result ≡ Err faults.Memory)
 read_only outline s t (Ok other) h =
     let both = one_text outline (length s.list) (length s.list) (cert_text s) other s h t in
     inl (ap Ok both.0)
 read_only outline s t (Err fault) h = inr (ap Err (only_memory outline (length s.list) (cert_text s) s fault t h))
 
 pub read_again : (outline : Outline) (s : Sections) → AreSectionsOf outline s.list → AreOfFormat s.format s.list
-    → IsReading outline (length s.list) (cert_text s) (Ok s) × ((result : Result Sections CertFault) → IsReading outline (length s.list) (cert_text s) result → (result ≡ Ok s) ⊎ (result ≡ Err faults.Memory))
+    → IsReading outline (length s.list) (cert_text s) (Ok s) × ((result : Result Sections CertFault) → IsReading outline (length s.list) (cert_text s) result
+    → (result ≡ Ok s) ⊎ (result ≡ Err faults.Memory))
 read_again outline s h k = (is_text outline s h k, read_only outline s (is_text outline s h k))

@@ -45,9 +45,11 @@ module _ (p : Problem) where
   -- ---- of a call that is listed
   named_call : (call : Call) → ∥ IsListed p.variables p.parameters call ∥₁ → IsNamed (names_in p) call
   named_call (calls.Variable v) l =
-      found (names_in p).variables v.name l (λ x. let (k, at) = contains_at p.variables v x in (k, slice_get-map (λ (w : Variable). w.name) p.variables k ∙ ap (option_map (λ (w : Variable). w.name)) at))
+      found (names_in p).variables v.name l (λ x. let (k, at) = contains_at p.variables v x in
+      (k, slice_get-map (λ (w : Variable). w.name) p.variables k ∙ ap (option_map (λ (w : Variable). w.name)) at))
   named_call (calls.Parameter q) l =
-      found (names_in p).parameters q.name l (λ x. let (k, at) = contains_at p.parameters q x in (k, slice_get-map (λ (w : Parameter). w.name) p.parameters k ∙ ap (option_map (λ (w : Parameter). w.name)) at))
+      found (names_in p).parameters q.name l (λ x. let (k, at) = contains_at p.parameters q x in
+      (k, slice_get-map (λ (w : Parameter). w.name) p.parameters k ∙ ap (option_map (λ (w : Parameter). w.name)) at))
   named_call (calls.Constant x) l = tt
   named_call (calls.Atom m) l = tt
   named_call (calls.Linear m) l = tt

@@ -1,4 +1,4 @@
--- The lemmas.
+-- The lemmas by which a pivot in linked cells is the pivot of the tableau that they show.
 pub mod Counts
 pub mod RowReads
 pub mod Signs

@@ -41,7 +41,8 @@ follows bend trend g x y t h = by (or_cases (is_affine g) ((is_bent bend g && tr
     by (inr k) = then (or_cases (is_bent bend g && trend.rising) (is_bent (opposite bend) g && trend.falling) k)
 
 -- and so do all arguments, where it is known of nodes that meet P
-pub args_follow : (bend : Bend) (trend : ℕ → Trend) (judged : ℕ → Judgement) (v w : ℕ → Numbers) (P : ℕ → Type 0) → ((i : ℕ) → P i → (j : ℕ) → IsBeyondAs (judged i) (v i j) (w i j)) → (args : List ℕ) → All P args →
+pub args_follow : (bend : Bend) (trend : ℕ → Trend) (judged : ℕ → Judgement) (v w : ℕ → Numbers) (P : ℕ → Type 0)
+    → ((i : ℕ) → P i → (j : ℕ) → IsBeyondAs (judged i) (v i j) (w i j)) → (args : List ℕ) → All P args →
     IsTrue (all_suit bend trend (map judged args)) → (k e : ℕ) → Follows bend (trend k) (arguments (map v args) k e) (arguments (map w args) k e)
 args_follow bend trend judged v w P h [] all t k e = inl refl
 args_follow bend trend judged v w P h (i ∷ args) all t zero e =

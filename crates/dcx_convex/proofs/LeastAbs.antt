@@ -98,7 +98,8 @@ lift y (suc n) = rat_abs (y 0 0)
 
 lift_rows : (y : Point) → RowsHold least_abs_reduced (lift y)
 lift_rows y zero row e = subst (λ f. f (lift y) ≤ℚ whole (pos 0)) (same_Some (λ (u : Unknowns). u 0 -ℚ u 1) row e) (-ℚ-nonpositive (y 0 0) (rat_abs (y 0 0)) (≤ℚ-rat_abs (y 0 0)))
-lift_rows y (suc zero) row e = subst (λ f. f (lift y) ≤ℚ whole (pos 0)) (same_Some (λ (u : Unknowns). neg_ℚ (u 0) -ℚ u 1) row e) (-ℚ-nonpositive (neg_ℚ (y 0 0)) (rat_abs (y 0 0)) (neg_ℚ-≤ℚ-rat_abs (y 0 0)))
+lift_rows y (suc zero) row e = subst (λ f. f (lift y) ≤ℚ whole (pos 0)) (same_Some (λ (u : Unknowns). neg_ℚ (u 0) -ℚ u 1) row e)
+    (-ℚ-nonpositive (neg_ℚ (y 0 0)) (rat_abs (y 0 0)) (neg_ℚ-≤ℚ-rat_abs (y 0 0)))
 lift_rows y (suc (suc k)) row e = absurd (none-some row e)
 
 lift_same : (s : Setting) (y : Point) (i : ℕ) → i < 2 → least_abs_reduced.forms (lift y) i ≡ value_at least_abs.nodes s y i
@@ -156,9 +157,11 @@ nothing x = ring (x ∷ []) (search reads depth 30) tt
 flat : (x t : ℚ) → whole (pos 0) ≤ℚ t → whole (pos 0) +ℚ (whole (pos 0) +ℚ whole (pos 0) *ℚ x) ≤ℚ whole (pos 0) +ℚ whole (pos 1) *ℚ t
 flat x t h = linear (x ∷ t ∷ []) h (search reads depth 30) tt
 
-handed : (s : Setting) (i : ℕ) (n : Node) → IsNode least_abs.nodes i n → IsFalse (is_fixed least_abs.nodes i) → MayHandOn least_abs.nodes (given_at least_abs.nodes s) n.head n.args (least_abs_coefficients i) (no_slopes i)
+handed : (s : Setting) (i : ℕ) (n : Node) → IsNode least_abs.nodes i n → IsFalse (is_fixed least_abs.nodes i)
+    → MayHandOn least_abs.nodes (given_at least_abs.nodes s) n.head n.args (least_abs_coefficients i) (no_slopes i)
 handed s i n e loose =
-    each (λ i n. MayHandOn least_abs.nodes (given_at least_abs.nodes s) n.head n.args (least_abs_coefficients i) (no_slopes i)) (λ x _. ≤ℚ-from_≡ (nothing (x 0))) (λ a _. flat (a 0 0) (rat_abs (a 0 0)) (rat_abs-nonnegative (a 0 0))) i n e
+    each (λ i n. MayHandOn least_abs.nodes (given_at least_abs.nodes s) n.head n.args (least_abs_coefficients i) (no_slopes i)) (λ x _. ≤ℚ-from_≡ (nothing (x 0)))
+    (λ a _. flat (a 0 0) (rat_abs (a 0 0)) (rat_abs-nonnegative (a 0 0))) i n e
 
 reaches : whole (pos 0) ≤ℚ (whole (pos 0) +ℚ whole (pos 0)) +ℚ whole (pos 0)
 reaches = ≤ℚ-from_≡ (ring [] (search reads depth 30) tt)

@@ -38,7 +38,8 @@ pub line-repeats : (l : code_line.Line) (p : Place) (n : Named) (x : code_expr.E
 line-repeats l p n x first rest e = ap line_view e ∙ ap line_view (sym (forms.rolls-For p n x first rest)) ∙ code_line.fold-roll-Line Line line_layer (Line-F.For p n x first rest)
 
 -- the turns of a `for`, once it is known through what it goes
-pub repeats-is : (p : Place) (n : Named) (x : Expr) (first : Line) (rest : Lines) (v : Value) (vs : List Value) (s t u : State) → step p s ≡ Ok (tt, t) → expr_means x t ≡ Ok (v, u) → items_through p v u ≡ Ok (vs, u)
+pub repeats-is : (p : Place) (n : Named) (x : Expr) (first : Line) (rest : Lines) (v : Value) (vs : List Value) (s t u : State) → step p s ≡ Ok (tt, t)
+    → expr_means x t ≡ Ok (v, u) → items_through p v u ≡ Ok (vs, u)
     → line_means (repeats p n x first rest) s ≡ each_turn n.name (lines_mean (lines first rest)) vs u
 repeats-is p n x first rest v vs s t u steps gives through =
     then_is (step p s) (λ _. expr_means x >>= λ w. items_through p w >>= λ ws. each_turn n.name (lines_mean (lines first rest)) ws) tt t steps
@@ -69,13 +70,15 @@ turns-bound name first rest vs k v s t h binds =
     turns-more name first rest vs k v s h ∙ then_is (bind name v s) (λ _. lines_mean (lines first rest) >> turns_from name first rest vs (k + 1)) tt t binds
 
 -- the first line of the body is carried out
-turns-begun : (name : List ℕ) (first : Line) (rest : Lines) (vs : List Value) (k : ℕ) (v : Value) (s t u : State) → slice_get vs k ≡ Some v → bind name v s ≡ Ok (tt, t) → line_means first t ≡ Ok (tt, u)
+turns-begun : (name : List ℕ) (first : Line) (rest : Lines) (vs : List Value) (k : ℕ) (v : Value) (s t u : State) → slice_get vs k ≡ Some v
+    → bind name v s ≡ Ok (tt, t) → line_means first t ≡ Ok (tt, u)
     → turns_from name first rest vs k s ≡ and_then (lines_mean rest u) (λ _. turns_from name first rest vs (k + 1))
 turns-begun name first rest vs k v s t u h binds begins =
     turns-bound name first rest vs k v s t h binds
     ∙ ap (λ r. and_then r (λ _. turns_from name first rest vs (k + 1))) (then_is (line_means first t) (λ _. lines_mean rest) tt u begins)
 
-pub turns-next : (name : List ℕ) (first : Line) (rest : Lines) (vs : List Value) (k : ℕ) (v : Value) (s t u w : State) → slice_get vs k ≡ Some v → bind name v s ≡ Ok (tt, t) → line_means first t ≡ Ok (tt, u)
+pub turns-next : (name : List ℕ) (first : Line) (rest : Lines) (vs : List Value) (k : ℕ) (v : Value) (s t u w : State) → slice_get vs k ≡ Some v
+    → bind name v s ≡ Ok (tt, t) → line_means first t ≡ Ok (tt, u)
     → lines_mean rest u ≡ Ok (tt, w) → turns_from name first rest vs k s ≡ turns_from name first rest vs (k + 1) w
 turns-next name first rest vs k v s t u w h binds begins ends =
     turns-begun name first rest vs k v s t u h binds begins ∙ then_is (lines_mean rest u) (λ _. turns_from name first rest vs (k + 1)) tt w ends
@@ -95,6 +98,7 @@ turns-later_fault name first rest vs k v e s t u h binds begins fails =
 pub turns-end : (name : List ℕ) (first : Line) (rest : Lines) (vs : List Value) (k : ℕ) (s : State) → length vs ≤ k → turns_from name first rest vs k s ≡ Ok (tt, s)
 turns-end name first rest vs k s h = at_drop_all (λ ys. each_turn name (lines_mean (lines first rest)) ys s) vs k h
 
+-- ---- faults
 -- ---- a list that is made longer, of which its name lets go meanwhile
 abbrev state_after : State → Result (Unit {0} × State) ElabFault → State
 state_after t (Ok p) = p.1

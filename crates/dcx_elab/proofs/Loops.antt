@@ -164,7 +164,8 @@ pub tuple-fault : (place : Place) (x : Expr) (xs : List Expr) (comma : Bool) (v 
     → Fails e (and_then (with_item place [] (done v) r) (more_items_mean place (more_items_of xs comma))) → Fails e (primary_means (tuple place x (tree_items xs comma)) s)
 tuple-fault place x xs comma v e s r m h =
     by (with_item place [] (expr_means x) s)
-    (Fails-same e _ (and_then (with_item place [] (expr_means x) s) (more_items_mean place (more_items_of xs comma))) (ap (λ q. and_then q (more_items_mean place (more_items_of xs comma))) (opened place x v s r m)) h)
+    (Fails-same e _ (and_then (with_item place [] (expr_means x) s) (more_items_mean place (more_items_of xs comma)))
+    (ap (λ q. and_then q (more_items_mean place (more_items_of xs comma))) (opened place x v s r m)) h)
   where
     by : (r : Result (List Value × State) ElabFault) → Fails e (and_then r (more_items_mean place (more_items_of xs comma)))
         → Fails e (and_then r (λ vs. items_mean place (tree_items xs comma) vs >>= λ ws. done (tuple_value (values_of ws))))
@@ -175,21 +176,25 @@ pub list-is : (place : Place) (x : Expr) (xs : List Expr) (comma : Bool) (v : Va
     → and_then (with_item place [] (done v) r) (more_items_mean place (more_items_of xs comma)) ≡ Ok (items_of us, t) → primary_means (list place x (more_items_of xs comma)) s ≡ Ok (list_value us, t)
 list-is place x xs comma v us s r t m h =
     sym (assoc (with_item place [] (expr_means x) s) (more_items_mean place (more_items_of xs comma)) (λ ws. done (list_of ws)))
-    ∙ ap (λ q. and_then q (λ ws. done (list_of ws))) (ap (λ q. and_then q (more_items_mean place (more_items_of xs comma))) (opened place x v s r m) ∙ h) ∙ ap (λ (ws : Values). Ok (list_value ws, t)) (values_of-items_of us)
+    ∙ ap (λ q. and_then q (λ ws. done (list_of ws))) (ap (λ q. and_then q (more_items_mean place (more_items_of xs comma))) (opened place x v s r m) ∙ h)
+    ∙ ap (λ (ws : Values). Ok (list_value ws, t)) (values_of-items_of us)
 
 pub list-fault : (place : Place) (x : Expr) (xs : List Expr) (comma : Bool) (v : Value) (e : ElabFault) (s r : State) → expr_means x s ≡ Ok (v, r)
     → Fails e (and_then (with_item place [] (done v) r) (more_items_mean place (more_items_of xs comma))) → Fails e (primary_means (list place x (more_items_of xs comma)) s)
 list-fault place x xs comma v e s r m h =
-    Fails-same e _ (primary_means (list place x (more_items_of xs comma)) s) (sym (assoc (with_item place [] (expr_means x) s) (more_items_mean place (more_items_of xs comma)) (λ ws. done (list_of ws))))
+    Fails-same e _ (primary_means (list place x (more_items_of xs comma)) s)
+    (sym (assoc (with_item place [] (expr_means x) s) (more_items_mean place (more_items_of xs comma)) (λ ws. done (list_of ws))))
     (Fails-then e (and_then (with_item place [] (expr_means x) s) (more_items_mean place (more_items_of xs comma))) (λ ws. done (list_of ws))
-    (Fails-same e _ (and_then (with_item place [] (expr_means x) s) (more_items_mean place (more_items_of xs comma))) (ap (λ q. and_then q (more_items_mean place (more_items_of xs comma))) (opened place x v s r m)) h))
+    (Fails-same e _ (and_then (with_item place [] (expr_means x) s) (more_items_mean place (more_items_of xs comma)))
+    (ap (λ q. and_then q (more_items_mean place (more_items_of xs comma))) (opened place x v s r m)) h))
 
 -- a comprehension
 module _ (place for_place : Place) (x : Expr) (n : Named) (from : Expr) (s : State) where
   pub source-fault : (e : ElabFault) → Fails e (expr_means from s) → Fails e (primary_means (comprehension place x for_place n from) s)
   source-fault e h = Fails-then e (expr_means from s) _ h
 
-  pub through-fault : (e : ElabFault) (v : Value) (t : State) → expr_means from s ≡ Ok (v, t) → Fails e (items_through for_place v t) → Fails e (primary_means (comprehension place x for_place n from) s)
+  pub through-fault : (e : ElabFault) (v : Value) (t : State) → expr_means from s ≡ Ok (v, t) → Fails e (items_through for_place v t)
+      → Fails e (primary_means (comprehension place x for_place n from) s)
   through-fault e v t m h = Fails-same e _ (primary_means (comprehension place x for_place n from) s) (then_is (expr_means from s) _ v t m) (Fails-then e (items_through for_place v t) _ h)
 
   pub elements-fault : (e : ElabFault) (v : Value) (vs : List Value) (t : State) → expr_means from s ≡ Ok (v, t) → items_through for_place v t ≡ Ok (vs, t)

@@ -6,7 +6,18 @@ use Rattle.dcx_math.specs.Rational.{ℚ, whole, neg_ℚ, ◌+ℚ◌, ◌-ℚ◌,
 use Rattle.dcx_math.specs.Sums.{IsNonnegative, rat_sum_below}
 use Rattle.dcx_math.proofs.Ring.{ring, reads}
 use Rattle.dcx_math.proofs.Orders.{≤ℚ_refl, ≤ℚ_trans, ≤ℚ-from_≡, neg_ℚ-≤ℚ, +ℚ_idl, +ℚ_idr}
-use Rattle.dcx_math.proofs.Bounds.{≤ℚ-rat_max_left, ≤ℚ-rat_max_right, rat_max-≤ℚ, rat_max-monotone, ≤ℚ-rat_abs, neg_ℚ-≤ℚ-rat_abs, rat_abs-≤ℚ, rat_abs-nonnegative, rat_abs-of_nonnegative, rat_abs-of_nonpositive}
+use Rattle.dcx_math.proofs.Bounds.{
+  ≤ℚ-rat_max_left,
+  ≤ℚ-rat_max_right,
+  rat_max-≤ℚ,
+  rat_max-monotone,
+  ≤ℚ-rat_abs,
+  neg_ℚ-≤ℚ-rat_abs,
+  rat_abs-≤ℚ,
+  rat_abs-nonnegative,
+  rat_abs-of_nonnegative,
+  rat_abs-of_nonpositive,
+}
 use Rattle.dcx_math.proofs.Sums.{rat_sum_below-same, rat_sum_below-nonnegative}
 use Rattle.dcx_shape.specs.declared.shape.Sides.{Sides}
 use Rattle.dcx_shape.specs.Sides.{entries_of}

@@ -1,4 +1,4 @@
--- What the contracts of this crate cite.
+-- What contracts cite: kinks and extremes entry by entry, their rows and their laws.
 pub mod Rows
 pub mod Kinks
 pub mod KinkLaws

@@ -11,7 +11,16 @@ ghost use Rattle.dcx_atom.specs.Bounding.{outward, argument_term, HaveNoStop};
 ghost use Rattle.dcx_elem.specs.Rows.{piece_term};
 ghost use Rattle.dcx_atom.specs.Farthest.{farther, extreme_from, extreme};
 ghost use Rattle.dcx_elem.specs.Extremes.{alike, extreme_sign, extreme_meaning};
-ghost use Rattle.dcx_elem.specs.ExtremeLaws.{extreme_formation, extreme_sign_law, extreme_monotonicity, extreme_curvature, extreme_soundness, extreme_tightness, extreme_subgradient, extreme_recession};
+ghost use Rattle.dcx_elem.specs.ExtremeLaws.{
+  extreme_formation,
+  extreme_sign_law,
+  extreme_monotonicity,
+  extreme_curvature,
+  extreme_soundness,
+  extreme_tightness,
+  extreme_subgradient,
+  extreme_recession,
+};
 
 use crate::rows::{Piece, entrywise_graph};
 use dcx_atom::{

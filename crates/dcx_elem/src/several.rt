@@ -1,7 +1,16 @@
 //! The greatest of several arrays, entry by entry, and the least.
 ghost use Rattle.std.specs.Prelude.{◌≡◌};
 ghost use Rattle.dcx_elem.specs.Extremes.{extreme_meaning};
-ghost use Rattle.dcx_elem.specs.ExtremeLaws.{extreme_formation, extreme_sign_law, extreme_monotonicity, extreme_curvature, extreme_soundness, extreme_tightness, extreme_subgradient, extreme_recession};
+ghost use Rattle.dcx_elem.specs.ExtremeLaws.{
+  extreme_formation,
+  extreme_sign_law,
+  extreme_monotonicity,
+  extreme_curvature,
+  extreme_soundness,
+  extreme_tightness,
+  extreme_subgradient,
+  extreme_recession,
+};
 
 use crate::extremes::Extreme;
 use dcx_atom::{Array, Atom, Bend, Graph, Sign, SlopeStop, Trend, ValueStop};

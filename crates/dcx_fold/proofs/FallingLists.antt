@@ -192,7 +192,8 @@ numbers_turned : (bend : Bend) (xs : List Frac) → map (λ x. outward bend (val
 numbers_turned bend xs = sym (map-map value (outward bend) xs) ∙ ap (map (outward bend)) (sym (list_below-numbers xs)) ∙ map-list_below (length xs) (number_at xs) (outward bend)
 
 -- the first of a sorted list are those that are chosen
-pub first_chosen : (bend : Bend) (k : ℕ) (xs ys zs : List Frac) → map value ys ≡ map (outward bend) (falling (map (λ x. outward bend (value x)) xs)) → zs ≡ take k ys → map value zs ≡ chosen bend k (length xs) (number_at xs)
+pub first_chosen : (bend : Bend) (k : ℕ) (xs ys zs : List Frac) → map value ys ≡ map (outward bend) (falling (map (λ x. outward bend (value x)) xs)) → zs ≡ take k ys
+    → map value zs ≡ chosen bend k (length xs) (number_at xs)
 first_chosen bend k xs ys zs e t =
     ap (map value) t ∙ map-take value k ys ∙ ap (take k) e ∙ sym (map-take (outward bend) k (falling (map (λ x. outward bend (value x)) xs)))
     ∙ ap (λ ws. map (outward bend) (take k (falling ws))) (numbers_turned bend xs)

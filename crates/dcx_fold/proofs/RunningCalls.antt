@@ -72,12 +72,14 @@ running_value_is args x v xs some e f shape h = record {
         ∙ ap (λ y. greatest_so_far y j) (ap number_at f ∙ sym (first_numbers args x some e))
 
 -- the size of the only shape
-pub first_size : (args : List Shape) (x : Shape) (size : ℕ) → IsSome (only_vector (sides_list args)) → x ≡ get_or args 0 x → size ≡ entries_of (sides_of x) → size ≡ entries_of (sides_at (sides_list args) 0)
+pub first_size : (args : List Shape) (x : Shape) (size : ℕ) → IsSome (only_vector (sides_list args)) → x ≡ get_or args 0 x → size ≡ entries_of (sides_of x)
+    → size ≡ entries_of (sides_at (sides_list args) 0)
 first_size [] x size some e n = cc
 first_size (y ∷ ys) x size some e n = n ∙ ap (λ z. entries_of (sides_of z)) e
 
 -- as many weights as rows
-pub weights_counted : (args : List Sides) (size : ℕ) (ws : List Frac) → IsSome (only_vector args) → size ≡ entries_of (sides_at args 0) → IfSome (only_vector args) (λ s. length ws ≡ rows_before running_meaning args (entries_of s)) →
+pub weights_counted : (args : List Sides) (size : ℕ) (ws : List Frac) → IsSome (only_vector args) → size ≡ entries_of (sides_at args 0)
+    → IfSome (only_vector args) (λ s. length ws ≡ rows_before running_meaning args (entries_of s)) →
     length ws ≡ rows_until size
 weights_counted args size ws some n h =
     of_vector args (λ m. length ws ≡ rows_before running_meaning args m) some h ∙ before_is args (entries_of (sides_at args 0)) ∙ ap rows_until (sym n)

@@ -28,12 +28,51 @@ use Rattle.dcx_atom.specs.Farthest.{extreme, beyond_trans, extreme_each, extreme
 use Rattle.dcx_atom.proofs.Sublinear.{curvature_of, recession_of}
 use Rattle.dcx_atom.proofs.Duality.{no_entries, no_filling, AreRowSlopes, AreBalanced, subgradient_of}
 use Rattle.dcx_atom.proofs.LinearSums.{follows_rising, All-list_below}
-use Rattle.dcx_atom.proofs.BoundRows.{length-list_below, All-at, beyond_of_row, row_of_beyond, times_one, alone_is, taken, nothing_taken, level, kept, weighted-taken, RowsHold-joined, RowsHold-joined_back, weighted-joined, form-list_below, rat_sum-list_below}
+use Rattle.dcx_atom.proofs.BoundRows.{
+  length-list_below,
+  All-at,
+  beyond_of_row,
+  row_of_beyond,
+  times_one,
+  alone_is,
+  taken,
+  nothing_taken,
+  level,
+  kept,
+  weighted-taken,
+  RowsHold-joined,
+  RowsHold-joined_back,
+  weighted-joined,
+  form-list_below,
+  rat_sum-list_below,
+}
 use Rattle.dcx_fold.specs.declared.folding.Fold.{Fold}
 use Rattle.dcx_fold.specs.declared.folding.Fold.TheVariants.{Max, Min, Norm1, NormInf}
 use Rattle.dcx_fold.specs.Groups.{groups, member, group_of, member_of}
 use Rattle.dcx_fold.specs.GroupLaws.{IsFold, is_fold, first_is, groups_are, some_members, sum_by_groups, is_member, sum-product, all_members}
-use Rattle.dcx_fold.specs.Folds.{fold_bend, fold_kind, fold_trend, fold_sign, part, fold_of, fold_summands, parts, factors, member_rows, unknown_of, unknowns, rows_of_member, group_rows, unknowns_form, group_form, fold_filling, member_weights, group_conditions, member_slope, fold_meaning}
+use Rattle.dcx_fold.specs.Folds.{
+  fold_bend,
+  fold_kind,
+  fold_trend,
+  fold_sign,
+  part,
+  fold_of,
+  fold_summands,
+  parts,
+  factors,
+  member_rows,
+  unknown_of,
+  unknowns,
+  rows_of_member,
+  group_rows,
+  unknowns_form,
+  group_form,
+  fold_filling,
+  member_weights,
+  group_conditions,
+  member_slope,
+  fold_meaning,
+}
 
 -- ---- one member
 minus : (x : ℚ) → whole (negsuc 0) *ℚ x ≡ neg_ℚ x
@@ -300,7 +339,8 @@ balanced_sum n k c w t met nonneg =
 among_members : (k i n size : ℕ) → k < size → i < n → k * n + i < size * n
 among_members k i n size h b = grind arith
 
-nonneg_members : (axis : Axis) (args : List Sides) (to : Sides) (t : Filling) → IsFold axis args to → KindsHold (replicate (entries_of (sides_at args 0)) Nonneg) t → (k i : ℕ) → k < entries_of to → i < folded_count axis (sides_at args 0) →
+nonneg_members : (axis : Axis) (args : List Sides) (to : Sides) (t : Filling) → IsFold axis args to → KindsHold (replicate (entries_of (sides_at args 0)) Nonneg) t → (k i : ℕ)
+    → k < entries_of to → i < folded_count axis (sides_at args 0) →
     IsNonnegative (t (k * folded_count axis (sides_at args 0) + i))
 nonneg_members axis args to t f kinds k i h b =
     let s = sides_at args 0 in
@@ -312,7 +352,8 @@ nonneg_members axis args to t f kinds k i h b =
 balanced_group : (p : Fold) (axis : Axis) (args : List Sides) (to : Sides) (c : ℚ) (w : ℕ → ℚ) (t : Filling) → IsFold axis args to →
     KindsHold (replicate (unknowns p axis (sides_at args 0)) (fold_kind p)) t → (k : ℕ) → k < entries_of to → All IsMet (group_conditions p (folded_count axis (sides_at args 0)) c w) →
     IsNonnegative (c *ℚ form_at (group_form p (folded_count axis (sides_at args 0)) k) t +ℚ
-    rat_sum_below (folded_count axis (sides_at args 0)) (λ i. taken (fold_bend p) (rat_sum (list_below (member_rows p) (member_weights p w i))) (t (unknown_of p (folded_count axis (sides_at args 0)) k i))))
+    rat_sum_below (folded_count axis (sides_at args 0))
+    (λ i. taken (fold_bend p) (rat_sum (list_below (member_rows p) (member_weights p w i))) (t (unknown_of p (folded_count axis (sides_at args 0)) k i))))
 balanced_group Max axis args to c w t f kinds k h met =
     let n = folded_count axis (sides_at args 0) in
     subst (λ y. IsNonnegative (c *ℚ form_at (unknown_form k) t +ℚ y)) (sym (all_taken Convex n _ (t k)))

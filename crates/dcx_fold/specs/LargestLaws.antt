@@ -1,5 +1,38 @@
 -- The laws of the sum of the k largest entries, and of the k smallest.
-use Rattle.std.proofs.Common.{◌≡◌, ℕ, zero, suc, ◌-◌, ◌<◌, ◌≤◌, ◌&&◌, if◌then◌else◌, arith, Bool, true, false, List, [], ◌∷◌, ◌++◌, map, length, take, All, Some, None, replicate, refl, sym, ap, ap₂, ◌∙◌, subst, pos, negsuc}
+use Rattle.std.proofs.Common.{
+  ◌≡◌,
+  ℕ,
+  zero,
+  suc,
+  ◌-◌,
+  ◌<◌,
+  ◌≤◌,
+  ◌&&◌,
+  if◌then◌else◌,
+  arith,
+  Bool,
+  true,
+  false,
+  List,
+  [],
+  ◌∷◌,
+  ◌++◌,
+  map,
+  length,
+  take,
+  All,
+  Some,
+  None,
+  replicate,
+  refl,
+  sym,
+  ap,
+  ap₂,
+  ◌∙◌,
+  subst,
+  pos,
+  negsuc,
+}
 use Rattle.std.specs.Prelude.{nat_le, slice_index_or}
 use Rattle.std.proofs.lemmas.Bool.{leb-true}
 use Rattle.std.proofs.lemmas.List.{get_or-replicate}
@@ -161,7 +194,8 @@ concave_within : (x q u : ℚ) → whole (pos 1) *ℚ q +ℚ (whole (negsuc 0) *
 concave_within x q u h = linear (x ∷ q ∷ u ∷ []) h (search reads depth 30) tt
 
 -- where the row of an entry holds, its unknown is at least what stands above the level
-row_within : (bend : Bend) (i : ℕ) (a : Entries) (t : Filling) → row_at (level_row bend i) a t ≤ℚ whole (pos 0) → IsNonnegative (t (suc i)) → above (outward bend (t 0)) (outward bend (a 0 i)) ≤ℚ t (suc i)
+row_within : (bend : Bend) (i : ℕ) (a : Entries) (t : Filling) → row_at (level_row bend i) a t ≤ℚ whole (pos 0) → IsNonnegative (t (suc i))
+    → above (outward bend (t 0)) (outward bend (a 0 i)) ≤ℚ t (suc i)
 row_within Convex i a t h n = rat_max-≤ℚ (convex_within (a 0 i) (t 0) (t (suc i)) h) n
 row_within Concave i a t h n = rat_max-≤ℚ (concave_within (a 0 i) (t 0) (t (suc i)) h) n
 
@@ -178,7 +212,8 @@ form_is bend k n t =
     (form-list_below n (λ i. record { aux = suc i; coefficient = outward bend (whole (pos 1)) }) t ∙ rat_sum_below-*ℚ n (outward bend (whole (pos 1))) (λ i. t (suc i)))
     ∙ by bend
   where
-    by : (bend : Bend) → whole (pos k) *ℚ t 0 +ℚ outward bend (whole (pos 1)) *ℚ rat_sum_below n (λ i. t (suc i)) ≡ outward bend (whole (pos k) *ℚ outward bend (t 0) +ℚ rat_sum_below n (λ i. t (suc i)))
+    by : (bend : Bend) → whole (pos k) *ℚ t 0 +ℚ outward bend (whole (pos 1)) *ℚ rat_sum_below n (λ i. t (suc i))
+        ≡ outward bend (whole (pos k) *ℚ outward bend (t 0) +ℚ rat_sum_below n (λ i. t (suc i)))
     by Convex = convex_form (whole (pos k)) (t 0) (rat_sum_below n (λ i. t (suc i)))
     by Concave = concave_form (whole (pos k)) (t 0) (rat_sum_below n (λ i. t (suc i)))
 

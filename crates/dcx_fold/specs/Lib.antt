@@ -1,4 +1,4 @@
--- What the contracts of this crate cite.
+-- What contracts cite: groups and folds, the largest and the smallest, the running maximum, and their laws.
 pub mod Groups
 pub mod GroupLaws
 pub mod Folds

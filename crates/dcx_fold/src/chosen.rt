@@ -8,7 +8,16 @@ ghost use Rattle.dcx_atom.specs.Graph.{form_term, IsGraphOf};
 ghost use Rattle.dcx_atom.specs.Steps.{AreSlopesOf, IsSlopeStop};
 ghost use Rattle.dcx_atom.specs.Value.{IsValueOf, IsValueStop};
 ghost use Rattle.dcx_fold.specs.Largest.{chosen_sides, largest_meaning};
-ghost use Rattle.dcx_fold.specs.LargestLaws.{largest_formation, largest_sign_law, largest_monotonicity, largest_curvature, largest_soundness, largest_tightness, largest_subgradient, largest_recession};
+ghost use Rattle.dcx_fold.specs.LargestLaws.{
+  largest_formation,
+  largest_sign_law,
+  largest_monotonicity,
+  largest_curvature,
+  largest_soundness,
+  largest_tightness,
+  largest_subgradient,
+  largest_recession,
+};
 
 use crate::largest::{
     check_chosen, chosen_sum, entry_rows, level_kinds, level_result, scalar, turned,

@@ -1,7 +1,16 @@
 //! The running maximum as a call.
 ghost use Rattle.std.specs.Prelude.{◌≡◌};
 ghost use Rattle.dcx_fold.specs.Running.{running_meaning};
-ghost use Rattle.dcx_fold.specs.RunningLaws.{running_formation, running_sign_law, running_monotonicity, running_curvature, running_soundness, running_tightness, running_subgradient, running_recession};
+ghost use Rattle.dcx_fold.specs.RunningLaws.{
+  running_formation,
+  running_sign_law,
+  running_monotonicity,
+  running_curvature,
+  running_soundness,
+  running_tightness,
+  running_subgradient,
+  running_recession,
+};
 
 use crate::running::{entry_rows, running_greatest, running_slopes};
 use dcx_atom::{

@@ -65,7 +65,8 @@ module _ {C : Type 0} (of_number : Frac → C) (number_of : C → Option Frac) (
     rows_keep : (lists : List (List (Change × Form C))) (gs : List (Form C)) → EachSum of_number number_of Sums Changes lists (Ok gs) → Each (Each OfPart) lists → Each F gs
     rows_keep lists gs s a k g at = sum_keeps (slice_index_or lists k []) g (s.1 k g at) (at_or (Each OfPart) lists k [] a (each_nil OfPart))
 
-    pub atom_keeps : (result : List (Change × Form C)) (lists : List (List (Change × Form C))) (e : EntryForms C) → AtomEntry of_number number_of Sums Changes result lists (Ok e) → Each OfPart result → Each (Each OfPart) lists → OfEntry F e
+    pub atom_keeps : (result : List (Change × Form C)) (lists : List (List (Change × Form C))) (e : EntryForms C) → AtomEntry of_number number_of Sums Changes result lists (Ok e)
+        → Each OfPart result → Each (Each OfPart) lists → OfEntry F e
     atom_keeps result lists e s a b =
         let f = s.0 in
         let gs = s.2.0 in

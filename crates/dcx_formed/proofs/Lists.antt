@@ -48,7 +48,8 @@ list_of h [] d = refl
 list_of h (x ∷ xs) d = list_below-first (length xs) (λ k. h (slice_index_or (x ∷ xs) k d)) ∙ ap (λ ys. h x ∷ ys) (list_of h xs d)
 
 -- two lists that are the same place by place
-pub maps_same : {A B D : Type 0} (h : A → D) (r : B → D) (xs : List A) (ys : List B) → length xs ≡ length ys → ((k : ℕ) (x : A) (y : B) → slice_get xs k ≡ Some x → slice_get ys k ≡ Some y → h x ≡ r y) → map h xs ≡ map r ys
+pub maps_same : {A B D : Type 0} (h : A → D) (r : B → D) (xs : List A) (ys : List B) → length xs ≡ length ys
+    → ((k : ℕ) (x : A) (y : B) → slice_get xs k ≡ Some x → slice_get ys k ≡ Some y → h x ≡ r y) → map h xs ≡ map r ys
 maps_same h r [] [] e same = refl
 maps_same h r [] (y ∷ ys) e same = absurd (omega (arith, e))
 maps_same h r (x ∷ xs) [] e same = absurd (omega (arith, e))

@@ -1,5 +1,6 @@
 -- Nodes that are numbers by the rules: their forms are numbers, which are their values.
-use Rattle.std.proofs.Common.{◌≡◌, ℕ, zero, suc, ◌<◌, ◌≤◌, arith, Bool, true, false, not, IsTrue, List, [], ◌∷◌, length, map, All, Option, unwrap_or, Result, Ok, Err, refl, sym, ap, ◌∙◌, subst, pos}
+use Rattle.std.proofs.Common.{◌≡◌, ℕ, zero, suc, ◌<◌, ◌≤◌, arith, Bool, true, false, not, IsTrue, List, [], ◌∷◌}
+use Rattle.std.proofs.Common.{length, map, All, Option, unwrap_or, Result, Ok, Err, refl, sym, ap, ◌∙◌, subst, pos}
 use Rattle.std.specs.Prelude.{nat_lt}
 use Rattle.std.specs.List.{list_all}
 use Rattle.std.proofs.Math.Path.{fun_ext}
@@ -145,7 +146,8 @@ module _ {C : Type 0} (value_at : C → Parameters → ℚ) (of_number : Frac �
     same_value (calls.Atom m) t j =
         ap (λ (a : Entries). (atom_meaning m).value (arg_sides p.tree n) a j) (constant_args (args_constant rules (atom_call (atom_meaning m) (arg_sides p.tree n) n.sides) (map judged n.args) t))
     same_value (calls.Linear l) t j =
-        ap (λ (a : Entries). (linear_meaning l).value (arg_sides p.tree n) a j) (constant_args (args_constant rules (linear_call (linear_meaning l) (arg_sides p.tree n) n.sides) (map judged n.args) t))
+        ap (λ (a : Entries). (linear_meaning l).value (arg_sides p.tree n) a j)
+        (constant_args (args_constant rules (linear_call (linear_meaning l) (arg_sides p.tree n) n.sides) (map judged n.args) t))
     same_value (calls.Pairing q) t j =
         ap (λ (a : Entries). call_value (calls.Pairing q) (given_by setting) (given_by []) (arg_sides p.tree n) a j)
         (constant_args (args_constant rules (pairing_call q (arg_sides p.tree n) n.sides) (map judged n.args) t))
@@ -153,7 +155,8 @@ module _ {C : Type 0} (value_at : C → Parameters → ℚ) (of_number : Frac �
     value_below : (j : ℕ) → j < entries_of n.sides → number_of_form (form i j) ≡ call_value n.call (given_by setting) (given_by []) (arg_sides p.tree n) (arguments (map source n.args)) j
     value_below j b =
         let (x, made, is) = number_made i n at number j b in
-        let told = subst (λ (g : Judgement). IsTrue (is_constant rules g)) (judgement_tells rules (nodes_of p) (nodes_ordered p) i (convex_node (names_in p) p.tree n) (convex_at p i n at)) (not_reduced (is_constant rules (judged i)) number) in
+        let told = subst (λ (g : Judgement). IsTrue (is_constant rules g)) (judgement_tells rules (nodes_of p) (nodes_ordered p) i (convex_node (names_in p) p.tree n) (convex_at p i n at))
+        (not_reduced (is_constant rules (judged i)) number) in
         ap value (number_is_in (form i j) (record { number = x; is = is }))
         ∙ forms_exactly n.call setting [] (arg_sides p.tree n) n.sides formed_args (p.nodes.shaped i n at) (few_args p.tree p.nodes n)
         (λ k e. value_representable (number_in number_of (args_among of_number (table_forms table) n.args k e))) j b x made
@@ -164,7 +167,8 @@ module _ {C : Type 0} (value_at : C → Parameters → ℚ) (of_number : Frac �
 
     node_value : (j : ℕ) → number_of_form (form i j) ≡ source i j
     node_value j = where_named p i n at (number_of_form (form i j)) (source i j) (λ named.
-        first_alike (entries_of n.sides) (call_value n.call (given_by setting) (given_by []) (arg_sides p.tree n) (arguments (map source n.args))) (number_of_form (form i j)) j (value_below j) (value_past j)
+        first_alike (entries_of n.sides) (call_value n.call (given_by setting) (given_by []) (arg_sides p.tree n) (arguments (map source n.args))) (number_of_form (form i j)) j (value_below j)
+        (value_past j)
         ∙ sym (node_told p.tree p.nodes setting [] (names_in p) i n at named j))
 
   values_within : (d i : ℕ) → i < d → i < length p.tree → is_reduced rules p i ≡ false → (j : ℕ) → number_of_form (form i j) ≡ source i j
@@ -183,7 +187,8 @@ module _ {C : Type 0} (value_at : C → Parameters → ℚ) (of_number : Frac �
       ∙ values_within (suc i) i (omega arith) (slice_get_within p.tree i n at) number j
 
   -- and so is the number in it
-  pub number_read : (i : ℕ) (n : Node) → IsNode p.tree i n → is_reduced rules p i ≡ false → (u : Unknowns) (params : Parameters) (j : ℕ) → number_of_form (form i j) ≡ linear_value value_at (form i j) u params
+  pub number_read : (i : ℕ) (n : Node) → IsNode p.tree i n → is_reduced rules p i ≡ false → (u : Unknowns) (params : Parameters) (j : ℕ)
+      → number_of_form (form i j) ≡ linear_value value_at (form i j) u params
   number_read i n at number u params j =
       let h = number_forms i n at number j in
       ap value (number_is_in (form i j) h) ∙ sym (ap (λ (f : Form C). linear_value value_at f u params) h.is ∙ number_is value_at of_number number_of Sums Changes laws u params h.number)

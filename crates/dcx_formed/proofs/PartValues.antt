@@ -81,6 +81,7 @@ module _ {C : Type 0} (value_at : C → Parameters → ℚ) (of_number : Frac �
   operand_is args first (Argument k e) = refl
   operand_is args first (Aux k) = unknown_is (first + k)
 
-  pub row_is : (args : Arguments C) (first : ℕ) (ts : List RowTerm) → FitsRow ts → parts_value value_at (map (row_part of_number args first) ts) u params ≡ row_at ts (λ k e. form_number (args k e)) (λ k. u (first + k))
+  pub row_is : (args : Arguments C) (first : ℕ) (ts : List RowTerm) → FitsRow ts
+      → parts_value value_at (map (row_part of_number args first) ts) u params ≡ row_at ts (λ k e. form_number (args k e)) (λ k. u (first + k))
   row_is args first [] h = refl
   row_is args first (t ∷ ts) h = ap₂ ◌+ℚ◌ (ap₂ ◌*ℚ◌ (value-frac_at t.coefficient h.0) (operand_is args first t.operand)) (row_is args first ts h.1)

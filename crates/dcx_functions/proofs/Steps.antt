@@ -39,7 +39,8 @@ module _ (make : List Operand → Act ℕ) (place : Place) where
       made_is i t e = was_read ∙ then_is (make ys s) (λ j. done (expression j)) i t e
 
 -- a list of some values is read at once
-pub stacked_some : (place : Place) (call : LinearCall) (vs : List Value) (s : State) → nat_eq (length vs) 0 ≡ false → stacked place call vs s ≡ read_and_made (called place (calls.Linear call)) place (map reading vs) s
+pub stacked_some : (place : Place) (call : LinearCall) (vs : List Value) (s : State) → nat_eq (length vs) 0 ≡ false
+    → stacked place call vs s ≡ read_and_made (called place (calls.Linear call)) place (map reading vs) s
 stacked_some place call vs s some = rw some refl
 
 -- ---- a call that may stand where it is
@@ -51,7 +52,8 @@ module _ (target : Option (List ℕ)) (place : Place) (f : Function) (gs : List 
   stands = rw placed refl
 
   pub argument_fault : (e : ElabFault) → Fails e (arguments s.nodes place (row f) gs s) → Fails e (function_called target place f gs s)
-  argument_fault e h = Fails-same e (and_then (arguments s.nodes place (row f) gs s) performed) (function_called target place f gs s) stands (Fails-then e (arguments s.nodes place (row f) gs s) performed h)
+  argument_fault e h = Fails-same e (and_then (arguments s.nodes place (row f) gs s) performed) (function_called target place f gs s) stands
+      (Fails-then e (arguments s.nodes place (row f) gs s) performed h)
 
   pub bound_is : (bound : Bound) → arguments s.nodes place (row f) gs s ≡ Ok (bound, s) → function_called target place f gs s ≡ perform target f place bound s
   bound_is bound e = stands ∙ then_is (arguments s.nodes place (row f) gs s) performed bound s e

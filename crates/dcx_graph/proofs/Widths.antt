@@ -1,5 +1,6 @@
 -- The forms that are kept of formed nodes are no wider than the unknowns are many.
-use Rattle.std.proofs.Common.{◌≡◌, ◌⊎◌, ℕ, zero, suc, ◌<◌, ◌≤◌, arith, List, [], ◌∷◌, length, get_or, Option, Some, None, option_map, Result, slice_get, slice_index_or, refl, sym, ap, ◌∙◌, subst, inl, inr}
+use Rattle.std.proofs.Common.{◌≡◌, ◌⊎◌, ℕ, zero, suc, ◌<◌, ◌≤◌, arith, List, [], ◌∷◌, length, get_or, Option, Some, None}
+use Rattle.std.proofs.Common.{option_map, Result, slice_get, slice_index_or, refl, sym, ap, ◌∙◌, subst, inl, inr}
 use Rattle.std.specs.List.{All}
 use Rattle.std.proofs.lemmas.List.{length-map}
 use Rattle.std.proofs.lemmas.Option.{slice_get-map, slice_get_cases, get_or_from_slice_get}
@@ -40,7 +41,8 @@ module _ {C : Type 0} (of_number : Frac → C) (P : Form C → Type 0) (table : 
   pub node_has : (a : ℕ) → All P (slice_index_or (table_forms table) a [])
   node_has a = by (slice_get_cases table a).1
     where
-      by : ((es : List (EntryForms C)) × (a < length table) × (slice_get table a ≡ Some es) × (get_or table a es ≡ es)) ⊎ ((length table ≤ a) × (slice_get table a ≡ None)) → All P (slice_index_or (table_forms table) a [])
+      by : ((es : List (EntryForms C)) × (a < length table) × (slice_get table a ≡ Some es) × (get_or table a es ≡ es)) ⊎ ((length table ≤ a) × (slice_get table a ≡ None))
+          → All P (slice_index_or (table_forms table) a [])
       by (inl (es, b, at, e)) =
           subst (All P) (sym (get_or_from_slice_get (table_forms table) a (entry_forms es) [] (slice_get-map entry_forms table a ∙ ap (option_map entry_forms) at)))
           (each_all P (entry_forms es) (each_map P (λ (x : EntryForms C). x.form) es (λ j x l. (has a j es x at l).form)))

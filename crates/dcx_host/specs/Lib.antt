@@ -1,2 +1,3 @@
+-- What contracts cite of files and their faults.
 pub mod Faults
 pub mod Files

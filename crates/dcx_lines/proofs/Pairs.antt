@@ -31,7 +31,8 @@ module _ (ps : Pairs) (i : ℕ) (name : List ℕ) (distinct : AreDistinct ps) (a
   not_missing h = none-some (entry_at ps i name at).0 (sym h ∙ found_at)
 
 -- one more line
-pub lines_more : {A : Type 0} (line : A → List ℕ) (xs : List A) (i : ℕ) (start old new : List ℕ) → i < length xs → old ≡ start ++ flat_map line (take i xs) → IfSome (slice_get xs i) (λ x. new ≡ old ++ line x) → new ≡ start ++ flat_map line (take (i + 1) xs)
+pub lines_more : {A : Type 0} (line : A → List ℕ) (xs : List A) (i : ℕ) (start old new : List ℕ) → i < length xs → old ≡ start ++ flat_map line (take i xs)
+    → IfSome (slice_get xs i) (λ x. new ≡ old ++ line x) → new ≡ start ++ flat_map line (take (i + 1) xs)
 lines_more line [] i start old new l h more = absurd (omega (arith, l))
 lines_more line (x ∷ xs) i start old new l h more =
     let item = get_or (x ∷ xs) i x in

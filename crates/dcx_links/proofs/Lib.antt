@@ -1,3 +1,4 @@
+-- The lemmas by which linked cells keep the numbers of a matrix.
 pub mod Lines
 pub mod Numbers
 pub mod Stores

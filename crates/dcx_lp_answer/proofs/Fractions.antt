@@ -22,7 +22,8 @@ value-frac_at x h = ap (λ y. value (frac_at y)) (sym (value-frac_of x h)) ∙ a
 
 -- the negative of a fraction is one
 pub value-negative : (x : Frac) → value (frac_at (neg_ℚ (value x))) ≡ neg_ℚ (value x)
-value-negative x = value-frac_at (neg_ℚ (value x)) (representable (neg_ℚ (value x)) (neg_ℤ (num_of x)) (den_of x) (neg_lowest x) (subst (λ n. n < 2 ^ 127) (sym (neg_size (num_of x))) x.num_fits) x.den_fits)
+value-negative x = value-frac_at (neg_ℚ (value x)) (representable (neg_ℚ (value x)) (neg_ℤ (num_of x)) (den_of x) (neg_lowest x)
+    (subst (λ n. n < 2 ^ 127) (sym (neg_size (num_of x))) x.num_fits) x.den_fits)
 
 pub over_one : (x : ℚ) → x /ℚ whole (pos 1) ≡ x
 over_one x = /ℚ-unique x (whole (pos 1)) x (λ z. <ℚ-≢ zero-<ℚ-one (sym z)) (*ℚ_idr x)

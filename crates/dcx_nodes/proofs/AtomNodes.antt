@@ -94,7 +94,8 @@ module _ (p : Problem) (i : ℕ) (m : AtomCall) (c : call_at p.tree i ≡ Some (
       results_fit k d lt =
           let below : k < entries_of n.sides = omega (arith, lt, results_counted) in
           let result : map form_term (get_or g.results k d) ≡ (atom_meaning m).result (arg_sides p.tree n) k =
-          sym (get_or-map (map form_term) g.results k d [] lt) ∙ ap (λ fs. get_or fs k []) is_graph.results ∙ list_below_at (entries_of n.sides) ((atom_meaning m).result (arg_sides p.tree n)) k [] below in
+          sym (get_or-map (map form_term) g.results k d [] lt) ∙ ap (λ fs. get_or fs k []) is_graph.results
+          ∙ list_below_at (entries_of n.sides) ((atom_meaning m).result (arg_sides p.tree n)) k [] below in
           terms_fit (length ((atom_meaning m).kinds (arg_sides p.tree n))) first few_own (get_or g.results k d)
           (subst (IsOwnForm (length ((atom_meaning m).kinds (arg_sides p.tree n)))) (sym result) (own.results k below))
 
@@ -110,7 +111,9 @@ module _ (p : Problem) (i : ℕ) (m : AtomCall) (c : call_at p.tree i ≡ Some (
   module _ {C : Type 0} (of_number : Frac → C) (number_of : C → Option Frac) (Sums : C → C → Result C Passes → Type 0) (Changes : Change → C → Result C Passes → Type 0)
       (Reads : ℕ → List ℕ → ℕ → Pairs → C → Type 0) (setting : Pairs) (reduced fixed : List Bool) (forms : List (List (Form C))) (ids : List ℕ) (ids_are : ids ≡ args_at p.tree i) where
     abbrev pub AtomGives : List ℕ → ℕ → List Sides → ℕ → Result (EntryForms C) ValueStop → Type 0
-    AtomGives args first sides j r = AtEntry j (AtomEntry of_number number_of Sums Changes (map (aux_part of_number first) ((atom_meaning m).result sides j)) (map (λ row. map (row_part of_number (args_among of_number forms args) first) row) ((atom_meaning m).rows sides j))) r
+    AtomGives args first sides j r =
+        AtEntry j (AtomEntry of_number number_of Sums Changes (map (aux_part of_number first) ((atom_meaning m).result sides j))
+        (map (λ row. map (row_part of_number (args_among of_number forms args) first) row) ((atom_meaning m).rows sides j))) r
 
     pub atom_gives : length reduced ≡ length p.tree → (size : ℕ) (r : Result (List (EntryForms C)) ValueStop) → size ≡ entries_of (sides_at p.tree i) →
         FormsEach (AtomGives ids (first_marked p reduced i) (arg_sides p.tree n)) size r →

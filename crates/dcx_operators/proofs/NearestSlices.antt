@@ -14,7 +14,8 @@ clipped_nearest : (n : ℕ) (low high : ℤ) (i : ℤ) → n ≤ 20000 → negsu
 clipped_nearest n low high (pos k) few a b c d = omega (arith, ints, clamps)
 clipped_nearest n low high (negsuc k) few a b c d = omega (arith, ints, clamps)
 
-end_nearest : (n : ℕ) (low high default : ℤ) (i : Option ℤ) → n ≤ 20000 → negsuc 0 ≤ℤ low → low ≤ℤ pos 0 → low ≤ℤ high → high ≤ℤ pos n → end_of n low high default (option_map nearest i) ≡ end_of n low high default i
+end_nearest : (n : ℕ) (low high default : ℤ) (i : Option ℤ) → n ≤ 20000 → negsuc 0 ≤ℤ low → low ≤ℤ pos 0 → low ≤ℤ high → high ≤ℤ pos n
+    → end_of n low high default (option_map nearest i) ≡ end_of n low high default i
 end_nearest n low high default None few a b c d = refl
 end_nearest n low high default (Some i) few a b c d = clipped_nearest n low high i few a b c d
 

@@ -23,7 +23,8 @@ use Rattle.dcx_outcomes.proofs.More.{one_taken}
 
 -- ---- lists
 -- one element more
-pub zip_more : {A B : Type 0} (R : A → B → Type 0) (xs : List A) (ys items : List B) (i : ℕ) (x : A) (y : B) → i < length xs → x ≡ get_or xs i x → items ≡ ys ++ y ∷ [] → AllZip R (take i xs) ys → R x y → AllZip R (take (i + 1) xs) items
+pub zip_more : {A B : Type 0} (R : A → B → Type 0) (xs : List A) (ys items : List B) (i : ℕ) (x : A) (y : B) → i < length xs → x ≡ get_or xs i x → items ≡ ys ++ y ∷ [] → AllZip R (take i xs) ys
+    → R x y → AllZip R (take (i + 1) xs) items
 zip_more R xs ys items i x y lt is pushed h k =
     subst (AllZip R (take (i + 1) xs)) (sym pushed) (subst (λ zs. AllZip R zs (ys ++ y ∷ [])) (sym (one_taken xs i x lt is)) (all_zipped_more R (take i xs) ys x y h k))
 
@@ -67,7 +68,8 @@ module _ (p : Problem) (setting : Pairs) where
   same_stop : (e f : Stop) → e ≢ why.Memory → f ≢ why.Memory → ProgramStops p setting e → ProgramStops p setting f → e ≡ f
   same_stop e f n m h k = by (parted e n h) (parted f m k)
     where
-      by : IsFirstMisfit p.parameters setting e ⊎ ((r : ReduceStop) × IsUnformed p setting r × (e ≡ program_stop r)) → IsFirstMisfit p.parameters setting f ⊎ ((r : ReduceStop) × IsUnformed p setting r × (f ≡ program_stop r)) → e ≡ f
+      by : IsFirstMisfit p.parameters setting e ⊎ ((r : ReduceStop) × IsUnformed p setting r × (e ≡ program_stop r))
+          → IsFirstMisfit p.parameters setting f ⊎ ((r : ReduceStop) × IsUnformed p setting r × (f ≡ program_stop r)) → e ≡ f
       by (inl a) (inl b) = stops_hold.one p.parameters setting e f a b n m
       by (inl a) (inr (r, b, is)) = absurd (unfit p setting 0 e a b.fits)
       by (inr (r, a, is)) (inl b) = absurd (unfit p setting 0 f b a.fits)
@@ -86,8 +88,9 @@ outcome_of Gives end place p setting e o h told placed = record {
 }
 
 -- what is found is right, where each answer is
-pub are_right : {F E O : Type 0} (Gives : Problem → Pairs → Program Frac → Result F E → Type 0) (end : O → Result (Result F E) Stop) (place : O → Option Place) (p : Problem) (Right : Pairs → F → Type 0) →
-    ((s : Pairs) (q : Program Frac) (r : Result F E) → Gives p s q r → IfOk r (IsRightAt p s (Right s))) →
+pub are_right : {F E O : Type 0} (Gives : Problem → Pairs → Program Frac → Result F E → Type 0) (end : O → Result (Result F E) Stop) (place : O → Option Place) (p : Problem)
+    (Right : Pairs → F → Type 0)
+    → ((s : Pairs) (q : Program Frac) (r : Result F E) → Gives p s q r → IfOk r (IsRightAt p s (Right s))) →
     (settings : List Pairs) (os : List O) → AreAskedOutcomes Gives end place p settings os → AllZip (λ s o. FindsRight p s (Right s) (end o)) settings os
 are_right {F} {E} Gives end place p Right right settings os h =
     zip_weaker (IsAskedOutcome Gives end place p) (λ s o. FindsRight p s (Right s) (end o)) (λ s o k. by s (end o) k.ends) settings os h
@@ -97,9 +100,11 @@ are_right {F} {E} Gives end place p Right right settings os h =
     by s (Err stop) k = tt
 
 -- settings have one list of outcomes, where a program has one answer
-pub are_one : {F E O : Type 0} (Gives : Problem → Pairs → Program Frac → Result F E → Type 0) (end : O → Result (Result F E) Stop) (place : O → Option Place) (p : Problem) (memory : E) (Same : F → F → Type 0) →
-    ((s : Pairs) (q : Program Frac) (x y : Result F E) → Gives p s q x → Gives p s q y → AreOneEnd memory Same (Ok x) (Ok y)) →
-    (settings : List Pairs) (os qs : List O) → AreAskedOutcomes Gives end place p settings os → AreAskedOutcomes Gives end place p settings qs → AllZip (λ o q. AreOneEnd memory Same (end o) (end q)) os qs
+pub are_one : {F E O : Type 0} (Gives : Problem → Pairs → Program Frac → Result F E → Type 0) (end : O → Result (Result F E) Stop) (place : O → Option Place) (p : Problem) (memory : E)
+    (Same : F → F → Type 0)
+    → ((s : Pairs) (q : Program Frac) (x y : Result F E) → Gives p s q x → Gives p s q y → AreOneEnd memory Same (Ok x) (Ok y)) →
+    (settings : List Pairs) (os qs : List O) → AreAskedOutcomes Gives end place p settings os → AreAskedOutcomes Gives end place p settings qs
+    → AllZip (λ o q. AreOneEnd memory Same (end o) (end q)) os qs
 are_one {F} {E} Gives end place p memory Same one settings os qs h k =
     zip_both (IsAskedOutcome Gives end place p) (λ o q. AreOneEnd memory Same (end o) (end q)) (λ s o q x y. by s (end o) (end q) x.ends y.ends) settings os qs h k
   where

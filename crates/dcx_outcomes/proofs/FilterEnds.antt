@@ -23,7 +23,8 @@ filters_are_right p limit settings outcomes h =
     are_right (FilterGives limit) (λ (o : FilterOutcome). filter_end o.end) (λ (o : FilterOutcome). o.place) p (λ s. IsRight p (setting_of p s)) (λ s q r g. g.right) settings outcomes h
 
 -- a program is filtered to one thing, or stopped by one
-one_answer : (p : Problem) (limit : ℕ) (s : Pairs) (q : Program Frac) (x y : Result Filtered FilterStop) → FilterGives limit p s q x → FilterGives limit p s q y → AreOneEnd filter.Memory (IsSameFiltered p) (Ok x) (Ok y)
+one_answer : (p : Problem) (limit : ℕ) (s : Pairs) (q : Program Frac) (x y : Result Filtered FilterStop) → FilterGives limit p s q x → FilterGives limit p s q y
+    → AreOneEnd filter.Memory (IsSameFiltered p) (Ok x) (Ok y)
 one_answer p limit s q (Ok a) (Ok b) h k n m = found_is_one p (setting_of p s) q limit a b h.right.right k.right.right h.found k.found
 one_answer p limit s q (Ok a) (Err (filter.Step step stop)) h k n m = found_or_stopped p (setting_of p s) q limit step a stop h.right.right h.found k.stops
 one_answer p limit s q (Ok a) (Err filter.Memory) h k n m = absurd (m refl)

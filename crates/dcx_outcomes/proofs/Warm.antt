@@ -48,7 +48,8 @@ module _ (p : Problem) (limit : ℕ) where
   warm_at before (u ∷ ss) (r ∷ rs) (q ∷ os) (after, e, h) t zero s o at here =
       let setting = same_Some u s at in
       let outcome = same_Some q o here in
-      subst (λ (z : Pairs). IsWarmOutcome p limit z o) setting (subst (λ (z : Outcome). IsWarmOutcome p limit u z) outcome (record { before = before; end = r; after = after; answers = e; tells = t.0 }))
+      subst (λ (z : Pairs). IsWarmOutcome p limit z o) setting (subst (λ (z : Outcome). IsWarmOutcome p limit u z) outcome
+      (record { before = before; end = r; after = after; answers = e; tells = t.0 }))
   warm_at before (u ∷ ss) (r ∷ rs) (q ∷ os) (after, e, h) t (suc k) s o at here = warm_at after ss rs os h t.1 k s o at here
 
   -- there is one for each setting
@@ -79,7 +80,8 @@ module _ (p : Problem) (limit : ℕ) where
       by (Err stop) k e = cc
 
   -- ---- beside a fresh one
-  agree_ends : (s : Pairs) (before : Option (List ℕ)) (r : Result Warmed Stop) (after : Option (List ℕ)) (f : Result Answer Stop) → IsAccepted p → WarmAnswers p s limit before r after → Answers p s limit f → AgreesWithFresh (end_in r) f
+  agree_ends : (s : Pairs) (before : Option (List ℕ)) (r : Result Warmed Stop) (after : Option (List ℕ)) (f : Result Answer Stop) → IsAccepted p → WarmAnswers p s limit before r after
+      → Answers p s limit f → AgreesWithFresh (end_in r) f
   agree_ends s before (Ok w) after (Ok b) ok h k = warm_answers_agree p s limit limit before w after b ok h k
   agree_ends s before (Ok w) after (Err stop) ok h k = tt
   agree_ends s before (Err stop) after (Ok b) ok h k = answered_stays_answered p s limit before stop after b ok h k
@@ -143,7 +145,8 @@ module _ (p : Problem) where
   same_kept (Err stop) (Ok w) h m n = absurd (m h)
   same_kept (Err stop) (Err other) h m n = refl
 
-  same_count : (rs ss : List (Result Warmed Stop)) (os qs : List Outcome) → AreOneWarmEnds p rs ss → AreTold p rs os → AreTold p ss qs → AllByRecursion HadMemory os → AllByRecursion HadMemory qs → count_by is_kept rs ≡ count_by is_kept ss
+  same_count : (rs ss : List (Result Warmed Stop)) (os qs : List Outcome) → AreOneWarmEnds p rs ss → AreTold p rs os → AreTold p ss qs → AllByRecursion HadMemory os → AllByRecursion HadMemory qs
+      → count_by is_kept rs ≡ count_by is_kept ss
   same_count [] [] os qs h t u m n = refl
   same_count [] (s ∷ ss) os qs h t u m n = absurd h
   same_count (r ∷ rs) [] os qs h t u m n = absurd h
@@ -165,11 +168,13 @@ warm_outcomes_are_one p limit settings os qs m n ok h k =
     }
 
 -- ---- warm or not
-pub found_are_right : (warm : Bool) (p : Problem) (limit : ℕ) (settings : List Pairs) (outcomes : List Outcome) (count : Option ℕ) → IsAccepted p → AreFound warm p limit settings outcomes count → AreRight p settings outcomes
+pub found_are_right : (warm : Bool) (p : Problem) (limit : ℕ) (settings : List Pairs) (outcomes : List Outcome) (count : Option ℕ) → IsAccepted p → AreFound warm p limit settings outcomes count
+    → AreRight p settings outcomes
 found_are_right false p limit settings outcomes count ok h = outcomes_are_right p limit settings outcomes ok h.0
 found_are_right true p limit settings outcomes count ok (n, h, is) = warm_outcomes_are_right p limit settings outcomes n ok h
 
-pub found_are_one : (warm : Bool) (p : Problem) (limit : ℕ) (settings : List Pairs) (os qs : List Outcome) (m n : Option ℕ) → IsAccepted p → AreFound warm p limit settings os m → AreFound warm p limit settings qs n → AreOneFound p os m qs n
+pub found_are_one : (warm : Bool) (p : Problem) (limit : ℕ) (settings : List Pairs) (os qs : List Outcome) (m n : Option ℕ) → IsAccepted p → AreFound warm p limit settings os m
+    → AreFound warm p limit settings qs n → AreOneFound p os m qs n
 found_are_one false p limit settings os qs m n ok h k =
     subst (λ (x : Option ℕ). AreOneFound p os x qs n) (sym h.1) (subst (λ (y : Option ℕ). AreOneFound p os None qs y) (sym k.1) (outcomes_are_one p limit settings os qs ok h.0 k.0))
 found_are_one true p limit settings os qs m n ok (a, h, is) (b, k, also) =

@@ -39,7 +39,8 @@ wholes_are_right p limit settings outcomes h =
     are_right (WholeGives limit) (λ (o : WholeOutcome). whole_end o.end) (λ (o : WholeOutcome). o.place) p (IsRightWhole p) (right_whole p limit) settings outcomes h
 
 -- a run over a program has one end
-one_answer : (p : Problem) (limit : ℕ) (s : Pairs) (q : Program Frac) (x y : Result WholeAnswer BranchStop) → WholeGives limit p s q x → WholeGives limit p s q y → AreOneEnd branch.Memory (IsSameAnswer p) (Ok x) (Ok y)
+one_answer : (p : Problem) (limit : ℕ) (s : Pairs) (q : Program Frac) (x y : Result WholeAnswer BranchStop) → WholeGives limit p s q x → WholeGives limit p s q y
+    → AreOneEnd branch.Memory (IsSameAnswer p) (Ok x) (Ok y)
 one_answer p limit s q (Ok a) (Ok b) h k n m = runs_are_one p q limit most_nodes (Ok a) (Ok b) h.ends k.ends
 one_answer p limit s q (Ok a) (Err e) h k n m = m (runs_are_one p q limit most_nodes (Ok a) (Err e) h.ends k.ends)
 one_answer p limit s q (Err e) (Ok b) h k n m = n (runs_are_one p q limit most_nodes (Err e) (Ok b) h.ends k.ends)

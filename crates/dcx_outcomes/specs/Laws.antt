@@ -1,4 +1,4 @@
--- What holds of all outcomes.
+-- The laws of outcomes, fresh and warm: right, one list, and of one status and value.
 use Rattle.std.specs.Prelude.{◌≡◌, ◌≢◌, ⊤, ℕ, List, [], ◌∷◌, All, Option, Some, None, Result, Ok, Err, slice_get}
 use Rattle.dcx_point.specs.Pairs.{Pairs}
 use Rattle.dcx_tree.specs.declared.problem.Problem.{Problem}
@@ -31,7 +31,8 @@ OutcomesAreOne = (p : Problem) (limit : ℕ) (settings : List Pairs) (os qs : Li
 -- ---- warm outcomes
 -- each answer among them is right
 abbrev pub WarmOutcomesAreRight : Type 0
-WarmOutcomesAreRight = (p : Problem) (limit : ℕ) (settings : List Pairs) (outcomes : List Outcome) (kept : ℕ) → IsAccepted p → AreWarmOutcomes p limit settings outcomes kept → AreRight p settings outcomes
+WarmOutcomesAreRight = (p : Problem) (limit : ℕ) (settings : List Pairs) (outcomes : List Outcome) (kept : ℕ) → IsAccepted p → AreWarmOutcomes p limit settings outcomes kept
+    → AreRight p settings outcomes
 
 -- beside the end of a fresh solve with the same limit: an answer is of one kind with an answer there, with one value; a setting that is
 -- answered there isn't stopped, and a stop is the one there, want of memory aside
@@ -43,8 +44,9 @@ AgreesWithFresh (Err stop) (Err other) = stop ≢ why.Memory → other ≢ why.M
 
 -- setting by setting
 abbrev pub WarmOutcomesAgree : Type 0
-WarmOutcomesAgree = (p : Problem) (limit : ℕ) (settings : List Pairs) (os : List Outcome) (kept : ℕ) (qs : List Outcome) → IsAccepted p → AreWarmOutcomes p limit settings os kept → AreOutcomes p limit settings qs →
-    (k : ℕ) (o q : Outcome) → slice_get os k ≡ Some o → slice_get qs k ≡ Some q → AgreesWithFresh (end_of o.end) (end_of q.end)
+WarmOutcomesAgree = (p : Problem) (limit : ℕ) (settings : List Pairs) (os : List Outcome) (kept : ℕ) (qs : List Outcome) → IsAccepted p → AreWarmOutcomes p limit settings os kept
+    → AreOutcomes p limit settings qs
+    → (k : ℕ) (o q : Outcome) → slice_get os k ≡ Some o → slice_get qs k ≡ Some q → AgreesWithFresh (end_of o.end) (end_of q.end)
 
 -- memory did not run out at the setting
 abbrev pub HadMemory : Outcome → Type 0
@@ -64,7 +66,8 @@ pub record AreOneWarm (p : Problem) (os : List Outcome) (m : ℕ) (qs : List Out
 
 -- settings of an accepted problem have one list of warm outcomes, and one count
 abbrev pub WarmOutcomesAreOne : Type 0
-WarmOutcomesAreOne = (p : Problem) (limit : ℕ) (settings : List Pairs) (os qs : List Outcome) (m n : ℕ) → IsAccepted p → AreWarmOutcomes p limit settings os m → AreWarmOutcomes p limit settings qs n → AreOneWarm p os m qs n
+WarmOutcomesAreOne = (p : Problem) (limit : ℕ) (settings : List Pairs) (os qs : List Outcome) (m n : ℕ) → IsAccepted p → AreWarmOutcomes p limit settings os m
+    → AreWarmOutcomes p limit settings qs n → AreOneWarm p os m qs n
 
 -- ---- warm or not
 -- the same outcomes, and as many warm ones

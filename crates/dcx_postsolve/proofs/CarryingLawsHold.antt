@@ -1,4 +1,4 @@
--- The law holds.
+-- A right answer of the linear program is right for the reduced program: the law's proof.
 use Rattle.std.proofs.Common.{◌≡◌, ℕ, zero, ◌+◌, ◌<◌, Bool, if◌then◌else◌, length, map, Some, option_map, slice_get, refl, sym, ap, ap₂, ◌∙◌, subst, pos, zero-add}
 use Rattle.std.specs.Prelude.{nat_lt}
 use Rattle.std.proofs.lemmas.Bool.{lt-ltb}
@@ -66,7 +66,8 @@ module _ (l : LinearProgram) (p : Problem) (r : Reduced) (is : IsProgramOf l p r
       ap (λ rows. combined_from m 0 rows u) is.rows
       ∙ combined_append m u 0 (gap_rows r.forms p.constraints) (map bound_row r.rows)
       ∙ ap₂ ◌+ℚ◌ (combined_gaps m u r.forms 0 p.constraints)
-      (ap (λ n. combined_from m n (map bound_row r.rows) u) (zero-add (length (gap_rows r.forms p.constraints))) ∙ combined_bounds m u (length (gap_rows r.forms p.constraints)) r.rows (weight m) (weight_is m))
+      (ap (λ n. combined_from m n (map bound_row r.rows) u) (zero-add (length (gap_rows r.forms p.constraints)))
+      ∙ combined_bounds m u (length (gap_rows r.forms p.constraints)) r.rows (weight m) (weight_is m))
 
   -- ---- the three kinds of answers
   optimal : (v : ℚ) (x : Unknowns) (m : ℕ → ℚ) → IsOptimal l v x m → IsRightOptimal p r v x (multipliers_of p m) (weight m)

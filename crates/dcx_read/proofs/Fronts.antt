@@ -33,7 +33,8 @@ name-passes : (r : Role) (bytes : List ℕ) (p : Place) → (r ≡ roles.Name �
 name-passes roles.Name bytes p n = absurd (n refl)
 name-passes r bytes p n = refl
 
-name-reads : (source : List ℕ) (ts rest : List Token) (t : Token) → ts ≡ t ∷ rest → role_of t.kind ≡ roles.Name → (ss : List Symbol) → read grammar (terminals source ts) (name_s ∷ ss) ≡ on_ok (λ f. front name_s ss (named_by source t) f) (read grammar (terminals source rest) ss)
+name-reads : (source : List ℕ) (ts rest : List Token) (t : Token) → ts ≡ t ∷ rest → role_of t.kind ≡ roles.Name → (ss : List Symbol)
+    → read grammar (terminals source ts) (name_s ∷ ss) ≡ on_ok (λ f. front name_s ss (named_by source t) f) (read grammar (terminals source rest) ss)
 unfolding read
 name-reads source ts rest t e r ss = rw (e, r) refl
 
@@ -55,7 +56,9 @@ signs_text-append (x ∷ ss) s us = ap (λ (y : List Terminal). plain (signs x.s
 pub signs-begin : (source : List ℕ) (ts : List Token) (none : List Signed) → none ≡ [] → terminals source ts ≡ signs_text none ++ terminals source ts
 signs-begin source ts none e = rw e refl
 
-pub signs-more : (source : List ℕ) (ts mid rest : List Token) (old new : List Signed) (s : Sign) (p : Place) → terminals source ts ≡ signs_text old ++ terminals source mid → Front (roles.Signs s) p mid rest → new ≡ old ++ record { sign = s; place = p } ∷ [] → terminals source ts ≡ signs_text new ++ terminals source rest
+pub signs-more : (source : List ℕ) (ts mid rest : List Token) (old new : List Signed) (s : Sign) (p : Place) → terminals source ts ≡ signs_text old ++ terminals source mid
+    → Front (roles.Signs s) p mid rest → new ≡ old ++ record { sign = s; place = p } ∷ [] → terminals source ts ≡ signs_text new ++ terminals source rest
 signs-more source ts mid rest old new s p e f n =
     let h = front-terminals (roles.Signs s) p mid rest source f in
-    e ∙ ap (λ (us : List Terminal). signs_text old ++ us) h.1 ∙ sym (signs_text-append old (record { sign = s; place = p }) (terminals source rest)) ∙ ap (λ (ss : List Signed). signs_text ss ++ terminals source rest) (sym n)
+    e ∙ ap (λ (us : List Terminal). signs_text old ++ us) h.1 ∙ sym (signs_text-append old (record { sign = s; place = p }) (terminals source rest))
+    ∙ ap (λ (ss : List Signed). signs_text ss ++ terminals source rest) (sym n)

@@ -41,7 +41,8 @@ one_exceeded box x w h k =
 
 none_exceeded : (box : Box) (x : Point) (ws : List Weight) → IsInBox box x → All (λ w. IsNonnegative w.weight) ws → all_exceeded box ws x ≤ℚ whole (pos 0)
 none_exceeded box x [] h k = ≤ℚ_refl _
-none_exceeded box x (w ∷ ws) h k = +ℚ-nonpositive (one_exceeded box x w h (All-head (λ (w : Weight). IsNonnegative w.weight) w ws k)) (none_exceeded box x ws h (All-tail (λ (w : Weight). IsNonnegative w.weight) w ws k))
+none_exceeded box x (w ∷ ws) h k = +ℚ-nonpositive (one_exceeded box x w h (All-head (λ (w : Weight). IsNonnegative w.weight) w ws k))
+    (none_exceeded box x ws h (All-tail (λ (w : Weight). IsNonnegative w.weight) w ws k))
 
 module _ (p : Problem) (s : Setting) where
   -- the multipliers times constraints that a point keeps are at most 0

@@ -33,7 +33,8 @@ stands_at gs c d e l r = stands_read gs c (get_or gs c.left.0 d) (get_or gs c.ri
 objective_read : (p : Problem) (gs : List Judgement) (g : Judgement) → slice_get gs p.objective.0 ≡ Some g → objective_stands p gs ≡ may_be_objective (sense_of p.sense) (judgement_of g)
 objective_read p gs g at = ap (may_be_objective (sense_of p.sense)) (argument_at gs p.objective.0 g at)
 
-pub objective_at : (p : Problem) (gs : List Judgement) (d : Judgement) → p.objective.0 < length gs → objective_stands p gs ≡ may_be_objective (sense_of p.sense) (judgement_of (get_or gs p.objective.0 d))
+pub objective_at : (p : Problem) (gs : List Judgement) (d : Judgement) → p.objective.0 < length gs
+    → objective_stands p gs ≡ may_be_objective (sense_of p.sense) (judgement_of (get_or gs p.objective.0 d))
 objective_at p gs d lt = objective_read p gs (get_or gs p.objective.0 d) (slice_get-get_or gs p.objective.0 d lt)
 
 -- where a constraint breaks its rule, not all keep theirs

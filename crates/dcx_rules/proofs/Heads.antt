@@ -126,7 +126,8 @@ pairing_trends Over signs (suc i) = refl
 
 -- ---- curvature
 applied : (rules : Rules) (c : convex_calls.Call) (bend : Bend) (gs : List Judgement) (t : ℕ → Trend) → ((i : ℕ) → c.trend (signs_of gs) i ≡ t i) →
-    is_bent_call rules c bend (map judgement_of gs) ≡ (list_all (λ g. is_constant rules (judgement_of g)) gs || (bends rules c.kind bend (map judgement_of gs) && all_suit bend t (map judgement_of gs)))
+    is_bent_call rules c bend (map judgement_of gs)
+    ≡ (list_all (λ g. is_constant rules (judgement_of g)) gs || (bends rules c.kind bend (map judgement_of gs) && all_suit bend t (map judgement_of gs)))
 applied rules c bend gs t h =
     ap₂ (λ a b. a || (bends rules c.kind bend (map judgement_of gs) && b)) (list_all-map (is_constant rules) judgement_of gs)
     (ap (λ ss. all_suit bend (c.trend ss) (map judgement_of gs)) (signs_told gs) ∙ all_suit_same bend (c.trend (signs_of gs)) t h (map judgement_of gs))

@@ -20,7 +20,8 @@ pub Fails-same : {A : Type 0} (e : ElabFault) (m n : Result (A × State) ElabFau
 Fails-same e m n is h = subst (Fails e) (sym is) h
 
 -- a fault that is passed on is the fault that is meant
-pub Gives-err : {X Y : Type 0} (view : X → Y) (r : Result X ElabFault) (after : State) (given : Result (Y × State) ElabFault) (y e : ElabFault) → r ≡ Err y → y ≡ e → Fails e given → Gives view r after given
+pub Gives-err : {X Y : Type 0} (view : X → Y) (r : Result X ElabFault) (after : State) (given : Result (Y × State) ElabFault) (y e : ElabFault) → r ≡ Err y → y ≡ e
+    → Fails e given → Gives view r after given
 Gives-err view r after given y e is same h = subst (λ q. Gives view q after given) (sym is) (subst (λ z. Fails z given) (sym same) h)
 
 -- a value is gone on with

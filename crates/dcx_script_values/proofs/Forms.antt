@@ -54,7 +54,8 @@ pub is_constant-form : (vs : List Value) → length vs ≤ 20000 → is_constant
 is_constant-form [] few = refl
 is_constant-form (v ∷ vs) few = rw (not_none v vs) (by (list_all is_number (v ∷ vs)) (list_any is_list (v ∷ vs)))
   where
-    by : (b d : Bool) → is_constant_form (if b then forms.Numbers else (if d then forms.Nested else forms.Unfit)) ≡ is_constant (if b then or_unfit (vector_of (v ∷ vs)) else (if d then nested else unfit))
+    by : (b d : Bool) → is_constant_form (if b then forms.Numbers else (if d then forms.Nested else forms.Unfit))
+        ≡ is_constant (if b then or_unfit (vector_of (v ∷ vs)) else (if d then nested else unfit))
     by true d = sym (constant_some _ (shape_with (Vector (length (v ∷ vs)))) (vector_there v vs few))
     by false true = refl
     by false false = refl

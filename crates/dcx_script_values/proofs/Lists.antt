@@ -2,7 +2,8 @@
 use Rattle.std.proofs.Common.{◌≡◌, refl, ap, arith, ℕ, ◌+◌, ◌<◌, ◌≤◌, max, List, [], ◌∷◌, ◌++◌, map, length}
 use Rattle.dcx_shape.specs.Shape.{sides_of}
 use Rattle.dcx_script_values.specs.declared.value.Value as code_value
-use Rattle.dcx_script_values.specs.Values.{Value, Values, end, item, values_of, items_of, counted, count, depth, deepest, plain, text, truth, nothing, tuple, list, range, library, expression, constraint, objective, problem, result}
+use Rattle.dcx_script_values.specs.Values.{Value, Values, end, item, values_of, items_of, counted, count, depth, deepest, plain, text}
+use Rattle.dcx_script_values.specs.Values.{truth, nothing, tuple, list, range, library, expression, constraint, objective, problem, result}
 use Rattle.dcx_script_values.specs.Meant.{meant, items_meant, AreCounted}
 use Rattle.dcx_script_values.specs.Falls.{plain_count-positive}
 

@@ -1,4 +1,4 @@
--- The lemmas by which the functions and the laws of this crate are proved.
+-- The lemmas on broadcasting, slices, indices and reshapes, and on entries and their places.
 pub mod Broadcasts
 pub mod Entries
 pub mod Reshapes

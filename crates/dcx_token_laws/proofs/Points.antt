@@ -28,7 +28,8 @@ tenth_fits : (m : ℕ) → m < 10 → IsRepresentable (whole (pos m) /ℚ whole 
 tenth_fits m h = representable_quotient (pos m) (pos 10) (omega (arith, h)) (omega arith) ten_some
 
 value_fits : (d : ℕ) → is_ascii_digit d ≡ true → IsRepresentable (value_of (spelled d))
-value_fits d h = subst IsRepresentable (sym (*ℚ_idr (whole (pos (digits_value 10 (d ∷ []))) /ℚ whole (pos 10)))) (tenth_fits (digits_value 10 (d ∷ [])) (let small = digit_small d h in omega (arith, small)))
+value_fits d h = subst IsRepresentable (sym (*ℚ_idr (whole (pos (digits_value 10 (d ∷ []))) /ℚ whole (pos 10))))
+    (tenth_fits (digits_value 10 (d ∷ [])) (let small = digit_small d h in omega (arith, small)))
 
 frac_some : (x : ℚ) → IsRepresentable x → (f : Frac) × (frac_at x ≡ Some f)
 unfolding frac_at

@@ -28,7 +28,8 @@ module _ (words : List (List ℕ)) (files : Files) where
       let free = subst (λ (x : Accepted). HasNoWhole x.work.problem) one h.continuous in
       free k.marked.0 k.marked.1
 
-  tell_one : (command : Command) (sense : Sense) (os qs : List WholeOutcome) (r s : Run) → TellsWholes command sense os r → TellsWholes command sense qs s → AreAlikeWholesOver words files os qs → AreOneRun words files r s
+  tell_one : (command : Command) (sense : Sense) (os qs : List WholeOutcome) (r s : Run) → TellsWholes command sense os r → TellsWholes command sense qs s → AreAlikeWholesOver words files os qs
+      → AreOneRun words files r s
   tell_one (check script) sense os qs r s h k alike = absurd h
   tell_one (solve script limit) sense os qs r s h k alike =
       subst (λ (x : Run). AreOneRun words files x s) (sym h) (subst (λ (y : Run). AreOneRun words files (run.Branched word.Solve sense os) y) (sym k) (refl, refl, alike))
@@ -50,7 +51,8 @@ module _ (words : List (List ℕ)) (files : Files) where
       (subst (λ (x : List Pairs). AreWholeOutcomes a.work.problem (limit_of command) x qs) (sym (one_settings files command a.work ss ts asked also)) k)
 
   -- and so they are over the problem of the words
-  alike_over : (command : Command) (a : Accepted) (os qs : List WholeOutcome) → command_of words ≡ Some command → GivesProblem (Some files) command a → AreAlikeWholes a.work.problem os qs → AreAlikeWholesOver words files os qs
+  alike_over : (command : Command) (a : Accepted) (os qs : List WholeOutcome) → command_of words ≡ Some command → GivesProblem (Some files) command a → AreAlikeWholes a.work.problem os qs
+      → AreAlikeWholesOver words files os qs
   alike_over command a os qs form g alike c b e h =
       let same = same_command words files command form c e in
       let one = one_problem files command a b g (subst (λ d. GivesProblem (Some files) d b) same h) in
@@ -59,8 +61,9 @@ module _ (words : List (List ℕ)) (files : Files) where
   pub branched_once : (old new was now : ℕ) (r s : Run) → IsBranchedRun words (Some files) old new r → IsBranchedRun words (Some files) was now s → AreOneRun words files r s
   branched_once old new was now r s h k = by k.command (same_command words files h.command h.form k.command k.form) k.accepted k.problem k.asked k.are k.tells
     where
-      with : (b : Accepted) → h.accepted ≡ b → AreSettingsOf (Some files) h.command b.work k.settings → AreWholeOutcomes b.work.problem (limit_of h.command) k.settings k.outcomes → TellsWholes h.command b.work.problem.sense k.outcomes s →
-          AreOneRun words files r s
+      with : (b : Accepted) → h.accepted ≡ b → AreSettingsOf (Some files) h.command b.work k.settings → AreWholeOutcomes b.work.problem (limit_of h.command) k.settings k.outcomes
+          → TellsWholes h.command b.work.problem.sense k.outcomes s
+          → AreOneRun words files r s
       with b one asked are tells =
           let sense = ap (λ (x : Accepted). x.work.problem.sense) one in
           let also = subst (λ (x : Accepted). AreSettingsOf (Some files) h.command x.work k.settings) (sym one) asked in
@@ -68,8 +71,9 @@ module _ (words : List (List ℕ)) (files : Files) where
           tell_one h.command h.accepted.work.problem.sense h.outcomes k.outcomes r s h.tells (subst (λ z. TellsWholes h.command z k.outcomes s) (sym sense) tells)
           (alike_over h.command h.accepted h.outcomes k.outcomes h.form h.problem (alike_at h.command h.accepted h.settings k.settings h.outcomes k.outcomes h.asked also h.are found))
 
-      by : (c : Command) → c ≡ h.command → (b : Accepted) → GivesProblem (Some files) c b → AreSettingsOf (Some files) c b.work k.settings → AreWholeOutcomes b.work.problem (limit_of c) k.settings k.outcomes → TellsWholes c b.work.problem.sense k.outcomes s →
-          AreOneRun words files r s
+      by : (c : Command) → c ≡ h.command → (b : Accepted) → GivesProblem (Some files) c b → AreSettingsOf (Some files) c b.work k.settings
+          → AreWholeOutcomes b.work.problem (limit_of c) k.settings k.outcomes → TellsWholes c b.work.problem.sense k.outcomes s
+          → AreOneRun words files r s
       by c same b g asked are tells =
           with b (one_problem files h.command h.accepted b h.problem (subst (λ d. GivesProblem (Some files) d b) same g))
           (subst (λ d. AreSettingsOf (Some files) d b.work k.settings) same asked)

@@ -66,7 +66,8 @@ use Rattle.dcx_top.proofs.OneKind.{
 }
 use Rattle.dcx_top.proofs.OneSolved.{solved_once}
 use Rattle.dcx_top.proofs.OneBranched.{solved_or_branched, branched_once}
-use Rattle.dcx_top.proofs.OneRefusal.{command_of_refused, refused_once, refused_or_checked, refused_or_solved, refused_or_branched, refused_or_filtered, refused_or_ranged, refused_or_written, refused_or_migrated, refused_or_certified, refused_or_cert_refused}
+use Rattle.dcx_top.proofs.OneRefusal.{command_of_refused, refused_once, refused_or_checked, refused_or_solved, refused_or_branched, refused_or_filtered}
+use Rattle.dcx_top.proofs.OneRefusal.{refused_or_ranged, refused_or_written, refused_or_migrated, refused_or_certified, refused_or_cert_refused}
 use Rattle.dcx_top.proofs.OneCertificate.{written_once, migrated_once, certified_once, cert_refused_once, certified_or_refused, migrated_or_refused}
 
 module _ (words : List (List ℕ)) (files : Files) where
@@ -114,7 +115,8 @@ module _ (words : List (List ℕ)) (files : Files) where
   bytes_or_certified old new bytes stopped n h k =
       bytes_or_other old new bytes stopped certifies (λ e. writes_certifies (sym e)) (λ e. migrates_certifies (sym e)) h (ask_certifies words files n k)
 
-  bytes_or_cert_refused : (old new : ℕ) (bytes : List ℕ) (stopped : Bool) (section : ℕ) (f : CertFault) → AreBytesOf words (Some files) old new bytes stopped → IsCertRefusedRun words (Some files) section f → ⊥
+  bytes_or_cert_refused : (old new : ℕ) (bytes : List ℕ) (stopped : Bool) (section : ℕ) (f : CertFault) → AreBytesOf words (Some files) old new bytes stopped
+      → IsCertRefusedRun words (Some files) section f → ⊥
   bytes_or_cert_refused old new bytes stopped section f (inl h) k =
       not_reading words files writes writes_certifies writes_migrates (ask_writes words files old new bytes stopped h) (ask_reading words files section f k)
   bytes_or_cert_refused old new bytes stopped section f (inr (h, off, still)) k = migrated_or_refused words files bytes section f h k
@@ -262,7 +264,8 @@ module _ (words : List (List ℕ)) (files : Files) where
     of_branched old new r run.ReadFault h k j = absurd j
     of_branched old new r run.Memory h k j = absurd j
 
-    of_bytes : (old new : ℕ) (b : List ℕ) (s : Bool) (other : Run) → AreBytesOf words (Some files) old new b s → Causes words (Some files) rose was now other → IsAnswered other → AreOneRun words files (run.Certificates b s) other
+    of_bytes : (old new : ℕ) (b : List ℕ) (s : Bool) (other : Run) → AreBytesOf words (Some files) old new b s → Causes words (Some files) rose was now other → IsAnswered other
+        → AreOneRun words files (run.Certificates b s) other
     of_bytes old new b s run.Usage h k j = absurd (none_written old new b s k.0 h)
     of_bytes old new b s (run.Refused t) h k j = absurd (bytes_or_refused old new b s t h k.0)
     of_bytes old new b s (run.Checked d) h k j = absurd (checked_or_bytes d old new b s k.0 h)
@@ -292,7 +295,8 @@ module _ (words : List (List ℕ)) (files : Files) where
     of_certified n run.ReadFault h k j = absurd j
     of_certified n run.Memory h k j = absurd j
 
-    of_cert_refused : (m : ℕ) (f : CertFault) (s : Run) → IsCertRefusedRun words (Some files) m f → Causes words (Some files) rose was now s → IsAnswered s → AreOneRun words files (run.CertRefused m f) s
+    of_cert_refused : (m : ℕ) (f : CertFault) (s : Run) → IsCertRefusedRun words (Some files) m f → Causes words (Some files) rose was now s → IsAnswered s
+        → AreOneRun words files (run.CertRefused m f) s
     of_cert_refused m f run.Usage h k j = absurd (none_cert_refused m f k.0 h)
     of_cert_refused m f (run.Refused t) h k j = absurd (refused_or_cert_refused words files t m f k.0 h)
     of_cert_refused m f (run.Checked d) h k j = absurd (checked_or_cert_refused d m f k.0 h)
@@ -307,7 +311,8 @@ module _ (words : List (List ℕ)) (files : Files) where
     of_cert_refused m f run.ReadFault h k j = absurd j
     of_cert_refused m f run.Memory h k j = absurd j
 
-    of_filtered : (old new : ℕ) (os : List FilterOutcome) (s : Run) → IsFilteredRun words (Some files) old new os → Causes words (Some files) rose was now s → IsAnswered s → AreOneRun words files (run.Filtered os) s
+    of_filtered : (old new : ℕ) (os : List FilterOutcome) (s : Run) → IsFilteredRun words (Some files) old new os → Causes words (Some files) rose was now s → IsAnswered s
+        → AreOneRun words files (run.Filtered os) s
     of_filtered old new os run.Usage h k j = absurd (not_asked filters k.0 (ask_filters words files old new os h))
     of_filtered old new os (run.Refused t) h k j = absurd (refused_or_filtered words files t old new os k.0 h)
     of_filtered old new os (run.Checked d) h k j = absurd (filtered_or_checked old new os h d k.0)
@@ -322,8 +327,9 @@ module _ (words : List (List ℕ)) (files : Files) where
     of_filtered old new os run.ReadFault h k j = absurd j
     of_filtered old new os run.Memory h k j = absurd j
 
-    of_ranged : (old new : ℕ) (name : List ℕ) (sense : Sense) (os : List RangeOutcome) (s : Run) → IsRangedRun words (Some files) old new name sense os → Causes words (Some files) rose was now s → IsAnswered s →
-        AreOneRun words files (run.Ranged name sense os) s
+    of_ranged : (old new : ℕ) (name : List ℕ) (sense : Sense) (os : List RangeOutcome) (s : Run) → IsRangedRun words (Some files) old new name sense os → Causes words (Some files) rose was now s
+        → IsAnswered s
+        → AreOneRun words files (run.Ranged name sense os) s
     of_ranged old new name sense os run.Usage h k j = absurd (not_asked ranges k.0 (ask_ranges words files old new name sense os h))
     of_ranged old new name sense os (run.Refused t) h k j = absurd (refused_or_ranged words files t old new name sense os k.0 h)
     of_ranged old new name sense os (run.Checked d) h k j = absurd (ranged_or_checked old new name sense os h d k.0)

@@ -93,7 +93,8 @@ ends_optimal p limit columns u n list w =
 
 -- ---- what is read there
 module _ (p : Program) (u : Table) (at : IsOptimalAt p u) where
-  last_by : (k : ℕ) → k < length (first_tableau p).rows → length (first_tableau p).rows ≤ k + 2 → (k ≡ objective_row u) ⊎ (k ≢ objective_row u) → basic_at u.basis k ≡ basic_at (first_tableau p).basis k
+  last_by : (k : ℕ) → k < length (first_tableau p).rows → length (first_tableau p).rows ≤ k + 2 → (k ≡ objective_row u) ⊎ (k ≢ objective_row u)
+      → basic_at u.basis k ≡ basic_at (first_tableau p).basis k
   last_by k h l (inl e) =
       ap (basic_at u.basis) e ∙ at.objective ∙ at.columns ∙ sym (ap (basic_at (first_tableau p).basis) (e ∙ ap (λ n. n - 2) at.rows) ∙ (start_of p).objective)
   last_by k h l (inr n) =

@@ -30,7 +30,8 @@ kin_step t u r c p k = record {
   rows = k.rows ∙ length-after r c t;
   columns = k.columns;
   plain = k.plain;
-  last = λ i h l. k.last i (let e = length-after r c t in omega (arith, e, h)) (let e = length-after r c t in omega (arith, e, l)) ∙ get_or-set_other t.basis r i c 0 (λ e. let b = p.row in absurd (omega (arith, b, l, e)));
+  last = λ i h l. k.last i (let e = length-after r c t in omega (arith, e, h)) (let e = length-after r c t in omega (arith, e, l))
+      ∙ get_or-set_other t.basis r i c 0 (λ e. let b = p.row in absurd (omega (arith, b, l, e)));
 }
 
 -- ---- the basis

@@ -43,12 +43,14 @@ module _ {rename : List ℕ → List ℕ} (is : IsRenaming rename) where
   node_kept : (names : Names) (nodes : List Node) (n : Node) → convex_node (names_renamed rename names) (map (node_renamed rename) nodes) (node_renamed rename n) ≡ convex_node names nodes n
   node_kept names nodes n =
       let e = head_kept names n.call (arg_sides nodes n) n.sides in
-      ap (λ f. record { head = head_of (names_renamed rename names) (call_renamed rename n.call) (map f n.args) n.sides; args = n.args }) (sides_kept rename nodes) ∙ ap (λ h. record { head = h; args = n.args }) e
+      ap (λ f. record { head = head_of (names_renamed rename names) (call_renamed rename n.call) (map f n.args) n.sides; args = n.args }) (sides_kept rename nodes)
+      ∙ ap (λ h. record { head = h; args = n.args }) e
 
   nodes_kept : (names : Names) (nodes : List Node) → convex_nodes (names_renamed rename names) (map (node_renamed rename) nodes) ≡ convex_nodes names nodes
   nodes_kept names nodes = map_changed (node_renamed rename) (convex_node names nodes) (convex_node (names_renamed rename names) (map (node_renamed rename) nodes)) (node_kept names nodes) nodes
 
-  listed_renamed : {X : Type 0} (name_of : X → List ℕ) (change : X → X) → ((x : X) → name_of (change x) ≡ rename (name_of x)) → (xs : List X) → map name_of (map change xs) ≡ map rename (map name_of xs)
+  listed_renamed : {X : Type 0} (name_of : X → List ℕ) (change : X → X) → ((x : X) → name_of (change x) ≡ rename (name_of x)) → (xs : List X)
+      → map name_of (map change xs) ≡ map rename (map name_of xs)
   listed_renamed name_of change h xs = map_changed change (λ x. rename (name_of x)) name_of h xs ∙ sym (map-map name_of rename xs)
 
   pub same_problem : (p q : Problem) → IsRenamedProblem rename p q → convex_problem q ≡ convex_problem p
@@ -56,8 +58,10 @@ module _ {rename : List ℕ → List ℕ} (is : IsRenaming rename) where
     where
       names : names_in q ≡ names_renamed rename (names_in p)
       names =
-          let vs : map (λ (v : Variable). v.name) q.variables ≡ map rename (map (λ v. v.name) p.variables) = ap (map (λ (v : Variable). v.name)) r.variables ∙ listed_renamed (λ (v : Variable). v.name) (variable_renamed rename) (λ v. refl) p.variables in
-          let ps : map (λ (v : Parameter). v.name) q.parameters ≡ map rename (map (λ v. v.name) p.parameters) = ap (map (λ (v : Parameter). v.name)) r.parameters ∙ listed_renamed (λ (v : Parameter). v.name) (parameter_renamed rename) (λ v. refl) p.parameters in
+          let vs : map (λ (v : Variable). v.name) q.variables ≡ map rename (map (λ v. v.name) p.variables) =
+          ap (map (λ (v : Variable). v.name)) r.variables ∙ listed_renamed (λ (v : Variable). v.name) (variable_renamed rename) (λ v. refl) p.variables in
+          let ps : map (λ (v : Parameter). v.name) q.parameters ≡ map rename (map (λ v. v.name) p.parameters) =
+          ap (map (λ (v : Parameter). v.name)) r.parameters ∙ listed_renamed (λ (v : Parameter). v.name) (parameter_renamed rename) (λ v. refl) p.parameters in
           λ i. record { variables = vs i; parameters = ps i }
 
       nodes : convex_nodes (names_in q) q.tree ≡ convex_nodes (names_in p) p.tree

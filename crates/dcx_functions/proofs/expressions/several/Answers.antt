@@ -19,7 +19,8 @@ returns-in_err-operands c =
     let e = c.in_err-operands.field-0.0 in
     let p = err_from_is_err_and c.from_residual-in_err-operands.result c.from_residual-in_err-operands.ensures.1 in
     Gives-err meant c.from_residual-in_err-operands.result c.args.state.now (of_several c.args.place c.args.call b c.args.state.now) p.0 e p.1 p.2
-    (read_fault (broadcast_called c.args.place (Atom c.args.call)) c.args.place (map read_as c.in_ok-readings.readings.items) (map (λ p. reading p.1) b) same c.args.state.now e (c.in_err-operands.ensures c.args.state.now))
+    (read_fault (broadcast_called c.args.place (Atom c.args.call)) c.args.place (map read_as c.in_ok-readings.readings.items) (map (λ p. reading p.1) b) same c.args.state.now e
+    (c.in_err-operands.ensures c.args.state.now))
 
 pub returns-in_err-node : goal.returns-in_err-node
 returns-in_err-node c =

@@ -25,7 +25,8 @@ returns-in_err-operands c =
     let e = c.in_err-operands.field-0.0 in
     let p = err_from_is_err_and c.from_residual-in_err-operands.result c.from_residual-in_err-operands.ensures.1 in
     Gives-err meant c.from_residual-in_err-operands.result c.args.state.now (stacked c.args.place c.args.call vs c.args.state.now) p.0 e p.1 p.2
-    (Fails-same e (read_and_made make c.args.place (map reading vs) c.args.state.now) (stacked c.args.place c.args.call vs c.args.state.now) (stacked_some c.args.place c.args.call vs c.args.state.now some)
+    (Fails-same e (read_and_made make c.args.place (map reading vs) c.args.state.now) (stacked c.args.place c.args.call vs c.args.state.now)
+    (stacked_some c.args.place c.args.call vs c.args.state.now some)
     (read_fault make c.args.place (map read_as c.in_ok-readings.readings.items) (map reading vs) same c.args.state.now e (c.in_err-operands.ensures c.args.state.now)))
 
 pub returns-in_err-node : goal.returns-in_err-node
@@ -39,7 +40,8 @@ returns-in_err-node c =
     let e = c.in_err-node.field-0.0 in
     let p = err_from_is_err_and c.from_residual-in_err-node.result c.from_residual-in_err-node.ensures.1 in
     Gives-err meant c.from_residual-in_err-node.result c.called.new.self (stacked c.args.place c.args.call vs c.args.state.now) p.0 e p.1 p.2
-    (Fails-same e (read_and_made make c.args.place (map reading vs) c.args.state.now) (stacked c.args.place c.args.call vs c.args.state.now) (stacked_some c.args.place c.args.call vs c.args.state.now some)
+    (Fails-same e (read_and_made make c.args.place (map reading vs) c.args.state.now) (stacked c.args.place c.args.call vs c.args.state.now)
+    (stacked_some c.args.place c.args.call vs c.args.state.now some)
     (made_fault make c.args.place (map read_as c.in_ok-readings.readings.items) (map reading vs) same c.args.state.now
     (map meant_operand c.in_ok-operands.operands.items) (map meant_operand c.deref.result.now) (ap (map meant_operand) c.deref.ensures.value) (c.in_ok-operands.ensures c.args.state.now)
     e c.in_err-node.ensures))

@@ -1,3 +1,4 @@
+-- The cell that is found at the place has its number, and where there is none the number is 0.
 use Rattle.std.proofs.Common.{rules, ◌≡◌, sym, ap, ◌∙◌, to_z-of_z, SFits}
 use Rattle.std.specs.Int.{w128}
 use Rattle.dcx_links.specs.declared.store.Cell.{Cell}

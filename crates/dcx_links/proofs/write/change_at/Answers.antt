@@ -1,3 +1,4 @@
+-- A cell of the matrix may take another number that isn't 0: its place changes, and no other.
 use Rattle.std.proofs.Common.{rules, ◌≡◌, to_z-of_z, SFits}
 use Rattle.std.specs.Int.{w128}
 use Rattle.dcx_links.specs.Cells.{cell_at}

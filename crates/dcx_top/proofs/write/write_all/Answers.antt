@@ -1,3 +1,4 @@
+-- What the sink took follows the front that was written, and its faults never fall.
 use Rattle.std.proofs.Common.{ℕ, arith, length-take, length-drop}
 use Rattle.dcx_top.proofs.Writing.{Appends_trans, fronts}
 use Rattle.dcx_top.proofs.write.write_all.Goals as goal

@@ -1,8 +1,8 @@
+-- A front is written, and the count of faults has not fallen.
 use Rattle.std.proofs.Common.{length, ◌-◌, ◌≤◌, take}
 use Rattle.std.specs.Io.KnownBytes.{Appends}
 use Rattle.dcx_top.proofs.write.write_all.Given as goal
 
--- a front is written, and the count of faults has not fallen
 abbrev pub invariant-loop-done : goal.invariant-loop-done
 invariant-loop-done g l = record {
   within : l.done ≤ length l.text;

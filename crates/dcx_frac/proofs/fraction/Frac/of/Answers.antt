@@ -41,7 +41,8 @@ returns-clause-exists c =
     let n = c.args.num in
     let d = c.args.den in
     let f = rw (divisor_is b, num_is b, den_is b) at c.from_parts.ensures.exists in
-    let e = exists_exactly (whole n /ℚ whole d) (sign n d (some b)) (unsigned_abs n / common n d (some b)) (unsigned_abs d / common n d (some b)) (quotient_lowest n d (some b)) c.from_parts.result f in
+    let e = exists_exactly (whole n /ℚ whole d) (sign n d (some b)) (unsigned_abs n / common n d (some b)) (unsigned_abs d / common n d (some b))
+    (quotient_lowest n d (some b)) c.from_parts.result f in
     (λ s. (some b, e.0 s), λ q. e.1 q.1)
 
 pub returns-clause-value : goal.returns-clause-value

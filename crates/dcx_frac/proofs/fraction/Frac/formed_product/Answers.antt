@@ -7,8 +7,8 @@ use Rattle.dcx_frac.specs.Frac.{value}
 use Rattle.dcx_frac.proofs.Bits.{back}
 use Rattle.dcx_frac.proofs.Parts.{sizes_fit, exists_exactly, has_value}
 use Rattle.dcx_frac.proofs.Products.{sign, upper, lower, left_pos, right_pos, parts_coprime, lower_pos, product_lowest}
-use Rattle.dcx_frac.proofs.fraction.Frac.product.Goals as goal
-use Rattle.dcx_frac.proofs.fraction.Frac.product.Goals.{After-gcd-k}
+use Rattle.dcx_frac.proofs.fraction.Frac.formed_product.Goals as goal
+use Rattle.dcx_frac.proofs.fraction.Frac.formed_product.Goals.{After-gcd-k}
 
 record Found (x y : Frac) (a b c d g k : ℕ) : Type 0 where
   g_pos : 0 < g
@@ -47,8 +47,11 @@ pub returns-in_err-num-clause-exists : goal.returns-in_err-num-clause-exists
 returns-in_err-num-clause-exists c =
     let f = found (goal.at.returns-in_err-num-clause-exists c).After-gcd-k in
     let x = c.args.self in
-    let y = c.args.other in
-    (λ s. absurd (none_some c.from_residual.result c.from_residual.ensures s), λ h. let d = (sizes_fit (value x *ℚ value y) (sign x y) (upper x y) (lower x y) (product_lowest x y) h).0 in absurd (c.in_err-num.ensures (let q = f.num_is in omega arith)))
+    let y = c.args.other in (
+      λ s. absurd (none_some c.from_residual.result c.from_residual.ensures s),
+      λ h.
+          let d = (sizes_fit (value x *ℚ value y) (sign x y) (upper x y) (lower x y) (product_lowest x y) h).0 in absurd (c.in_err-num.ensures (let q = f.num_is in omega arith)),
+    )
 
 pub nonzero_div-b : goal.nonzero_div-b
 nonzero_div-b c = (found (goal.at.nonzero_div-b c).After-gcd-k).k_pos
@@ -60,8 +63,11 @@ pub returns-in_err-den-clause-exists : goal.returns-in_err-den-clause-exists
 returns-in_err-den-clause-exists c =
     let f = found (goal.at.returns-in_err-den-clause-exists c).After-gcd-k in
     let x = c.args.self in
-    let y = c.args.other in
-    (λ s. absurd (none_some c.from_residual-in_err-den.result c.from_residual-in_err-den.ensures s), λ h. let d = (sizes_fit (value x *ℚ value y) (sign x y) (upper x y) (lower x y) (product_lowest x y) h).1 in absurd (c.in_err-den.ensures (let q = f.den_is in omega arith)))
+    let y = c.args.other in (
+      λ s. absurd (none_some c.from_residual-in_err-den.result c.from_residual-in_err-den.ensures s),
+      λ h.
+          let d = (sizes_fit (value x *ℚ value y) (sign x y) (upper x y) (lower x y) (product_lowest x y) h).1 in absurd (c.in_err-den.ensures (let q = f.den_is in omega arith)),
+    )
 
 pub from_parts-requires-clause-coprime : goal.from_parts-requires-clause-coprime
 from_parts-requires-clause-coprime c =
