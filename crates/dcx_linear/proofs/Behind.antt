@@ -41,18 +41,19 @@ module _ {T : Type 0} (key : T → ℕ) (is_zero : T → Bool) (Sums : T → T �
   -- at each key stands what one of the lists has there
   at_key : (ts us : List T) → IsBehind key ts us → (k : ℕ) → SumsAt is_zero Sums (term_at key ts k) (term_at key us k) (Ok (term_at key (ts ++ us) k))
   at_key [] us b k = refl
-  at_key (t ∷ ts) us b k = by (ℕ_discrete (key t) k)
+  at_key (t ∷ ts) us b k = by (ℕ_discrete (key t) k) (at_key ts us (All-tail (λ s. All (λ u. key s < key u) us) t ts b) k)
     where
       first : All (λ u. key t < key u) us
       first = All-head (λ s. All (λ u. key s < key u) us) t ts b
 
-      by : Dec (key t ≡ k) → SumsAt is_zero Sums (term_at key (t ∷ ts) k) (term_at key us k) (Ok (term_at key (t ∷ (ts ++ us)) k))
-      by (yes e) =
+      by : Dec (key t ≡ k) → SumsAt is_zero Sums (term_at key ts k) (term_at key us k) (Ok (term_at key (ts ++ us) k))
+          → SumsAt is_zero Sums (term_at key (t ∷ ts) k) (term_at key us k) (Ok (term_at key (t ∷ (ts ++ us)) k))
+      by (yes e) rest =
           same (term_at key (t ∷ ts) k) (Some t) (term_at key us k) None (term_at key (t ∷ (ts ++ us)) k) (Some t)
           (term_at-here key t ts k e) (term_at-below key us k (λ i d m. let a = first i d m in omega (arith, a, e))) (term_at-here key t (ts ++ us) k e) refl
-      by (no f) =
+      by (no f) rest =
           same (term_at key (t ∷ ts) k) (term_at key ts k) (term_at key us k) (term_at key us k) (term_at key (t ∷ (ts ++ us)) k) (term_at key (ts ++ us) k)
-          (term_at-later key t ts k f) refl (term_at-later key t (ts ++ us) k f) (at_key ts us (All-tail (λ s. All (λ u. key s < key u) us) t ts b) k)
+          (term_at-later key t ts k f) refl (term_at-later key t (ts ++ us) k f) rest
 
   -- so that is the sum
   pub sum_behind : (ts us : List T) → IsSparse key is_zero ts → IsSparse key is_zero us → IsBehind key ts us → SumsTerms key is_zero Sums ts us (Ok (ts ++ us))
