@@ -11,3 +11,8 @@ pub mod Entrywise
 pub mod Totals
 pub mod Weights
 pub mod BoundRows
+pub mod OwnTerms
+pub mod Units
+pub mod Fractions
+pub mod Coefficients
+pub mod Slopes

@@ -23,7 +23,7 @@ use Rattle.dcx_convex.specs.Reductions.{Unknowns}
 use Rattle.dcx_convex.proofs.Told.{map-same, value_tells, judgement_tells}
 use Rattle.dcx_call.specs.declared.call.Call.{Call}
 use Rattle.dcx_call.specs.declared.call.Call.TheVariants as calls
-use Rattle.dcx_call.specs.Atoms.{atom_meaning}
+use Rattle.dcx_call.specs.Atoms.{atom_meaning, atom_lawful}
 use Rattle.dcx_call.specs.Calls.{shape_of, own_sides}
 use Rattle.dcx_call.proofs.CallLaws.{own_is}
 use Rattle.dcx_tree.specs.declared.problem.Problem.{Problem}
@@ -35,8 +35,7 @@ use Rattle.dcx_linear.specs.Rows.{AreOfKinds}
 use Rattle.dcx_unknowns.specs.Unknowns.{point_at}
 use Rattle.dcx_unknowns.specs.Layout.{is_reduced, call_aux, aux_if, aux_at, unknown_kinds}
 use Rattle.dcx_unknowns.specs.Equations.{Forms, call_entry, args_of, filling_of, AllStand}
-use Rattle.dcx_unknowns.proofs.OwnTerms.{Agree, form_same}
-use Rattle.dcx_unknowns.proofs.OwnGraphs.{atom_own}
+use Rattle.dcx_atom.proofs.OwnTerms.{Agree, form_same}
 use Rattle.dcx_unknowns.proofs.CallGraphs.{call_filling, filled_kinds, filled_value}
 use Rattle.dcx_unknowns.proofs.CallEntries.{first_same}
 use Rattle.dcx_unknowns.proofs.Lift.{filling_if, lift, lift_filling}
@@ -189,7 +188,7 @@ module _ (rules : Rules) (p : Problem) (setting : Pairs) (values : List (Option 
   entry_same i n at none (calls.Parameter q) e shape same agree a j b = refl
   entry_same i n at none (calls.Constant c) e shape same agree a j b = refl
   entry_same i n at none (calls.Atom m) e shape same agree a j b =
-      sym (form_same (length ((atom_meaning m).kinds (arg_sides p.tree n))) ((atom_meaning m).result (arg_sides p.tree n) j) (t i) (filling_of rules p i u) ((atom_own m (arg_sides p.tree n) n.sides shape).results j b) agree)
+      sym (form_same (length ((atom_meaning m).kinds (arg_sides p.tree n))) ((atom_meaning m).result (arg_sides p.tree n) j) (t i) (filling_of rules p i u) (((atom_lawful m).own_unknowns (arg_sides p.tree n) n.sides shape).results j b) agree)
   entry_same i n at none (calls.Linear l) e shape same agree a j b = refl
   entry_same i n at none (calls.Pairing q) e shape same agree a j b = refl
 
