@@ -64,4 +64,4 @@ extreme_fraction_coefficients bend count = record {
 }
 
 pub extreme_fraction_slopes : (bend : Bend) (count : ℕ) → HasFractionSlopes (extreme_meaning bend count)
-extreme_fraction_slopes bend count args sides is c ws none k e b l = outward_fits bend _ (number_fits ws _)
+extreme_fraction_slopes bend count args sides is c ws none k e b l = outward_fits bend (weights_of (extreme_meaning bend count) args ws e k) (number_fits ws _)

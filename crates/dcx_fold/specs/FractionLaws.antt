@@ -180,7 +180,7 @@ fold_fraction_slopes NormInf axis args sides is c ws none k e b l =
     (λ g h i d. All-at (λ (y : ArgumentEntry). slope_stop (formed (m.slope args w y.argument y.entry)) ≡ None) (folded_count axis s) (λ i. record { argument = 0; entry = member axis s g i }) (entry_formed m args c w g (none g h)) i d) e size)
 
 pub largest_fraction_slopes : (bend : Bend) (k : ℕ) → HasFractionSlopes (largest_meaning bend k)
-largest_fraction_slopes bend count args sides is c ws none k e b l = outward_fits bend _ (number_fits ws _)
+largest_fraction_slopes bend count args sides is c ws none k e b l = outward_fits bend (weights_of (largest_meaning bend count) args ws 0 e) (number_fits ws _)
 
 pub running_fraction_slopes : HasFractionSlopes running_meaning
 running_fraction_slopes args sides is c ws none k e b l = number_fits ws _
