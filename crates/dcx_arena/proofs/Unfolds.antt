@@ -98,11 +98,6 @@ module _ {C : Type 0} where
     pub unfold_one : (i : ℕ) → i < length nodes → (t : Expressions C) × Unfold nodes (i ∷ []) t
     unfold_one i lt = unfold_below (suc i) (i ∷ []) (λ a h. let e = one_is i a h in (omega (arith, e), omega (arith, e, lt)))
 
-    -- a path, and one argument more
-    leads_more : (i : ℕ) (path : List ℕ) (j a : ℕ) → Leads nodes i path j → has (args_at nodes j) a ≡ true → Leads nodes i (path ++ a ∷ []) a
-    leads_more i [] j a e h = (subst (λ z. has (args_at nodes z) a ≡ true) (sym e) h, refl)
-    leads_more i (b ∷ path) j a l h = (l.0, leads_more b path j a l.1 h)
-
     lead_in : (n i : ℕ) → i < n → (j : ℕ) → has (postorder nodes i) j ≡ true → (path : List ℕ) × Leads nodes i path j
     lead_in zero i lt j h = absurd (omega arith)
     lead_in (suc n) i lt j h =

@@ -50,9 +50,6 @@ next_cell cells count i at lt there =
 -- cell i of a chain, of which `whole` are the nodes
 module _ (cells : List Cell) (count i at : ℕ) (whole : List ℕ) (lt : i < count) (there : IsChain cells (count - i) at)
     (rest : (j : ℕ) → slice_get (chain cells (count - i) at) j ≡ slice_get whole (i + j)) where
-  pub cell_there : at < length cells
-  cell_there = (next_cell cells count i at lt there).0
-
   pub cell_is : slice_get whole i ≡ Some (cell_at cells at).node
   cell_is = let n = next_cell cells count i at lt there in sym (rw (n.2, add-zero) at (rest 0))
 

@@ -187,12 +187,6 @@ two_sides p (a ∷ []) l r some el er = cc
 two_sides p (a ∷ b ∷ []) l r some el er = ap₂ (λ (x y : Array). paired_sides p (sides_of x.shape) (sides_of y.shape)) (sym el) (sym er)
 two_sides p (a ∷ b ∷ c ∷ rest) l r some el er = cc
 
-pub two_args : (p : Pairing) (args : List Array) → IsSome (sides_of_two p (array_sides args)) → length args ≡ 2
-two_args p [] some = cc
-two_args p (a ∷ []) some = cc
-two_args p (a ∷ b ∷ []) some = omega arith
-two_args p (a ∷ b ∷ c ∷ rest) some = cc
-
 -- ---- what the code finds
 -- the shape of a linear call, from the shapes of the arguments
 pub shape_found : (l : LinearCall) (args : List Array) (shapes ds : List Shape) (o : Option Shape) (s : Shape) → shapes ≡ map (λ x. x.shape) args → ds ≡ shapes →
@@ -234,9 +228,6 @@ pairs_alike qs ps xs ys ls rs f size d e hx hy j b =
 or_ok : (j : ℕ) (r : Result Frac Passes) → IsOk r → IsOk (or_passes j r)
 or_ok j (Ok x) h = refl
 or_ok j (Err passes) h = cc
-
-pub atom_is : (a : AtomCall) (args : List Array) (v : Array) → atom_value.IsValueOf (atom_meaning a) args v → (setting point : Pairs) → IsValue (calls.Atom a) setting point args v
-atom_is a args v h setting point = record { shape = h.shape; numbers = h.numbers; forms = λ j b. or_ok j (atom_value.entry_formed (atom_meaning a) args j) (h.forms j b) }
 
 pub atom_stops : (a : AtomCall) (args : List Array) (size : ℕ) (stop : ValueStop) → atom_value.IsValueStop (atom_meaning a) args size stop → (setting point : Pairs) →
     IsValueStop (calls.Atom a) setting point args size stop

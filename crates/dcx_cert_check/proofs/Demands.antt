@@ -71,9 +71,6 @@ when_false : (b : Bool) (K L : Type 0) → MatchBool b K L → b ≡ false → L
 when_false true K L m f = absurd (true≢false f)
 when_false false K L m f = m
 
-pub multiplier_passes : (b : Bool) (k j : ℕ) (nought x : Frac) → value nought ≡ whole (pos 0) → b ≡ rat_le (value nought) (value x) → b ≡ true → (multiplier_signed AtMost k j (value x)).passes
-multiplier_passes b k j nought x z e t = when_true b _ _ (at_least_zero b nought x z e) t
-
 pub multiplier_fails : (b : Bool) (k j : ℕ) (nought x : Frac) → value nought ≡ whole (pos 0) → b ≡ rat_le (value nought) (value x) → b ≡ false →
     (faults.DualSign k j x ≡ faults.Memory) ⊎ (multiplier_signed AtMost k j (value x)).fails (faults.DualSign k j x)
 multiplier_fails b k j nought x z e f = inr (

@@ -17,7 +17,7 @@ use Rattle.dcx_point.specs.Pairs.{Pairs}
 use Rattle.dcx_arena.specs.Nodes.{IsNode, sides_at}
 use Rattle.dcx_convex.specs.Nodes as convex
 use Rattle.dcx_convex.specs.Nodes.{Numbers, Point, Setting, first_of, arguments}
-use Rattle.dcx_convex.specs.Rules.{Rules, Plain, Parametrized, Judgement, is_constant, judgement_by, judgement_at}
+use Rattle.dcx_convex.specs.Rules.{Rules, Plain, Judgement, is_constant, judgement_by, judgement_at}
 use Rattle.dcx_convex.specs.Certificates.{is_fixed}
 use Rattle.dcx_convex.specs.Reductions.{Unknowns}
 use Rattle.dcx_convex.proofs.Told.{map-same, value_tells, judgement_tells}
@@ -50,10 +50,6 @@ use Rattle.dcx_cert_bound.proofs.OneTable.{value_of_fixed}
 use Rattle.dcx_cert_complete.specs.Families.{IsFamily, AreFilled}
 
 -- ---- nodes that reach no variable have no arguments that do
-constant_fixed : (rules : Rules) (g : Judgement) → IsTrue (is_constant rules g) → IsTrue g.fixed
-constant_fixed Plain g t = t
-constant_fixed Parametrized g t = (and_parts g.fixed g.unparametrized t).0
-
 all_fixed : (J : ℕ → Judgement) (args : List ℕ) → IsTrue (list_all (λ (g : Judgement). g.fixed) (map J args)) → All (λ a. IsTrue (J a).fixed) args
 all_fixed J [] t = All-nil (λ a. IsTrue (J a).fixed)
 all_fixed J (a ∷ args) t =

@@ -2,8 +2,8 @@
 use Rattle.std.proofs.Common.{◌≡◌, inl, inr, ℕ, zero, suc, ◌+◌, ◌<◌, ◌≤◌, Bool, true, false, List, [], ◌∷◌, ◌++◌, length, map, get_or, set, replicate, All, Option, Some, None, IsSome, slice_get, Ok, IsOk, refl, sym, ap, ◌∙◌, subst, arith}
 use Rattle.std.specs.Prelude.{IsTrue, if◌then◌else◌}
 use Rattle.std.proofs.lemmas.Bool.{cases_eq}
-use Rattle.std.proofs.lemmas.List.{length-set, length-replicate, get_or-set_same, get_or-set_other, get_or_default}
-use Rattle.std.proofs.lemmas.Option.{none-some, same_Some}
+use Rattle.std.proofs.lemmas.List.{length-set, get_or-set_same, get_or-set_other, get_or_default}
+use Rattle.std.proofs.lemmas.Option.{same_Some}
 use Rattle.dcx_atom.specs.declared.array.Array.{Array}
 use Rattle.dcx_atom.specs.Formed.{zero_frac}
 use Rattle.dcx_point.specs.Pairs.{Pairs}
@@ -45,11 +45,6 @@ replicate_more n m now e is = is ∙ snoc n ∙ ap (λ k. replicate k None) (let
     snoc zero = refl
     snoc (suc k) = ap (λ xs. no_array ∷ xs) (snoc k)
 
-none_there : (n i : ℕ) (v : Array) → array_at (replicate n None) i ≡ Some v → ⊥
-none_there zero i v e = none-some v e
-none_there (suc n) zero v e = none-some v e
-none_there (suc n) (suc i) v e = none_there n i v e
-
 -- the first argument is marked where it has no variable below it
 pub first_marked : (p : Problem) (marks : List Bool) → AreFixed p marks (length p.tree) → (ids : List NodeId) → All (λ a. a < length p.tree) (positions ids) → 1 ≤ length ids →
     get_or marks (get_or ids 0 (record { 0 = 0 })).0 false ≡ (argument (map (judgement_at Plain (convex_problem p).nodes) (positions ids)) 0).fixed
@@ -57,13 +52,6 @@ first_marked p marks fixed [] below some = absurd (omega arith)
 first_marked p marks fixed (a ∷ ids) below some = fixed.each a.0 (below 0 0 (omega arith))
 
 module _ (p : Problem) (setting ray : Pairs) where
-  pub kept_none : (arrays : List (Option Array)) (count : ℕ) → arrays ≡ replicate count None → count ≡ length p.tree → AreKept p setting ray arrays
-  kept_none arrays count is e = record {
-    sized = ap length is ∙ length-replicate count None ∙ e;
-    steep = λ i v at. absurd (none_there count i v (ap (λ (xs : List (Option Array)). array_at xs i) (sym is) ∙ at));
-    closed = λ i a some of. let (v, at) = some_of (array_at arrays i) some in absurd (none_there count i v (ap (λ (xs : List (Option Array)). array_at xs i) (sym is) ∙ at));
-  }
-
   formed_fixed : (i : ℕ) → IsTrue (is_fixed p i) → IsFormed p setting ray i
   formed_fixed i t n at j below = subst (λ (b : Bool). IsOk (if b then Ok zero_frac else entry_formed n.call (given_by setting) (given_by ray) (arg_sides p.tree n) (node_numbers p setting ray n) j)) (sym t) refl
 

@@ -73,14 +73,8 @@ module _ (p : Problem) (setting ray : Pairs) where
 
   module _ (slope found stated : Frac) (found_is : value found ≡ objective_steepness p setting ray) (stated_is : value stated ≡ neg_ℚ (value slope))
       (b : Bool) (test : b ≡ rat_le (value found) (value stated)) where
-    low : value found ≤ℚ value stated → objective_steepness p setting ray ≤ℚ neg_ℚ (value slope)
-    low h = subst (λ x. x ≤ℚ neg_ℚ (value slope)) found_is (subst (λ y. value found ≤ℚ y) stated_is h)
-
     high : objective_steepness p setting ray ≤ℚ neg_ℚ (value slope) → value found ≤ℚ value stated
     high h = subst (λ x. x ≤ℚ value stated) (sym found_is) (subst (λ y. objective_steepness p setting ray ≤ℚ y) (sym stated_is) h)
-
-    pub falling : b ≡ true → (falls p setting ray slope).passes
-    falling t = low ((IsTrue-rat_le (value found) (value stated)).0 (sym test ∙ t))
 
     pub not_falling : b ≡ false → (falls p setting ray slope).fails (RayValue stated found)
     not_falling f = (

@@ -106,12 +106,6 @@ pub primary-is : (target : Option (List ℕ)) (x : Primary) (ts : Trailers) (v :
     → postfix_means target (postfix x ts) s ≡ trailers_mean target (primary_place x) ts v t
 primary-is target x ts v s t h means = plain-postfix target x ts s h ∙ then_is (primary_means x s) _ v t means
 
-pub target-kept : (target : Option (List ℕ)) (ts : Trailers) → is_none ts ≡ true → target_before target ts ≡ target
-target-kept target no_trailer h = refl
-target-kept target (attribute n r) h = absurd cc
-target-kept target (call p xs r) h = absurd cc
-target-kept target (indexed p x xs r) h = absurd cc
-
 pub target-lost : (target : Option (List ℕ)) (ts : Trailers) → is_none ts ≡ false → target_before target ts ≡ None
 target-lost target no_trailer h = absurd (true≢false h)
 target-lost target (attribute n r) h = refl

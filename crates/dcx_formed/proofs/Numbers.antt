@@ -85,9 +85,6 @@ module _ {C : Type 0} (value_at : C → Parameters → ℚ) (of_number : Frac �
     pub number : Frac
     pub is : f ≡ constant_form (of_number number)
 
-  pub zero_number : IsNumber (zero_form of_number)
-  zero_number = record { number = zero_frac; is = refl }
-
   pub number_is_in : (f : Form C) (h : IsNumber f) → number_in number_of f ≡ h.number
   number_is_in f h = ap (number_in number_of) h.is ∙ ap (λ o. unwrap_or o zero_frac) (laws.number_told h.number)
 

@@ -90,9 +90,6 @@ module _ (setting point : Given) where
       of (Err f) = Err f
   unwrapped (Err f) x t e = absurd cc
 
-  beside-left : (i : ℕ) (w : Value) → beside (expression i) w ≡ with_expression (operand (standing i)) (reading w)
-  beside-left i w = refl
-
   beside-right : (v : Value) (j : ℕ) → beside v (expression j) ≡ with_expression (reading v) (operand (standing j))
   beside-right (expression i) j = refl
   beside-right v j = refl

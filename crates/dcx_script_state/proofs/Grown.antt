@@ -3,7 +3,7 @@ use Rattle.std.proofs.Common.{◌≡◌, ℕ, ◌<◌, false, List, [], ◌∷�
 use Rattle.std.specs.List.{Contains}
 use Rattle.std.specs.Option.{unwrap_or}
 use Rattle.std.specs.Result.{OnErr}
-use Rattle.std.proofs.lemmas.Option.{slice_get_within, none-some}
+use Rattle.std.proofs.lemmas.Option.{slice_get_within}
 use Rattle.dcx_shape.specs.declared.place.Place.{Place}
 use Rattle.dcx_shape.specs.declared.shape.Sides.{Sides}
 use Rattle.dcx_shape.specs.declared.shape.Sides.TheVariants.{Scalar}
@@ -123,6 +123,3 @@ kept_variable nodes vs ps asked v k = record { listed = λ i n at. listed_variab
 
 pub kept_parameter : (nodes : List (Node Call)) (vs : List Variable) (ps : List Parameter) (asked : Option code_asked.Asked) (p : Parameter) → IsKept nodes vs ps asked → IsKept nodes vs (ps ++ p ∷ []) asked
 kept_parameter nodes vs ps asked p k = record { listed = λ i n at. listed_parameter vs ps p n.call (k.listed i n at); begins = k.begins }
-
-pub kept_start : (vs : List Variable) (ps : List Parameter) → IsKept [] vs ps None
-kept_start vs ps = record { listed = λ i n at. absurd (none-some n at); begins = λ q e. absurd (none-some q e) }

@@ -152,8 +152,3 @@ module _ (vs : List Variable) (ps : List Parameter) (has now : List ℕ → Bool
         by : (o : Result T E) → OnOk o ((q : List ℕ) → now q ≡ cond (same_name name q) true (has q)) → OnErr o ((q : List ℕ) → now q ≡ has q) → OnOk o (qs ≡ ps ++ p ∷ []) → OnErr o (qs ≡ ps) → AreNamed vs qs now
         by (Ok x) g u e f = subst (λ rs. AreNamed vs rs now) (sym e) (named_parameter p name is new g)
         by (Err d) g u e f = subst (λ rs. AreNamed vs rs now) (sym f) (named_as_before u)
-
--- nothing is declared
-pub named_start : (has : List ℕ → Bool) → ((q : List ℕ) → has q ≡ false) → AreNamed [] [] has
-unfolding IsDistinct
-named_start has none = record { told = none; distinct = tt; squares = All-nil IsSquare }

@@ -84,14 +84,3 @@ numbers_sides (v ∷ vs) e = by (list_all is_number (v ∷ vs)) (list_any is_lis
 
 pub numbers_sides-many : (vs : List Value) → form_of vs ≡ forms.Numbers → 20000 < length vs → reading_sides [] (list_reading vs) ≡ None
 numbers_sides-many vs e many = numbers_sides vs e ∙ ap (option_map sides_of) (many_none (length vs) many)
-
--- a list of another form has none
-pub other_sides : (vs : List Value) → form_of vs ≢ forms.Numbers → reading_sides [] (list_reading vs) ≡ None
-other_sides [] other = refl
-other_sides (v ∷ vs) other = by (list_all is_number (v ∷ vs)) (list_any is_list (v ∷ vs)) (rw (not_none v vs) at other)
-  where
-    by : (b d : Bool) → (if b then forms.Numbers else (if d then forms.Nested else forms.Unfit)) ≢ forms.Numbers
-        → reading_sides [] (if b then or_unfit (vector_of (v ∷ vs)) else (if d then nested else unfit)) ≡ None
-    by true d f = absurd (f refl)
-    by false true f = refl
-    by false false f = refl

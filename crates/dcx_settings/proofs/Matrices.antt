@@ -158,9 +158,6 @@ module _ (w k : ℕ) (us : List Terminal) (fs : List Frac) (from : List Terminal
   pub rows_some : 0 < k
   rows_some = let s = h.good.some in let c = h.counted in omega (arith, s, c)
 
-  pub rows_few : length fs ≤ 20000
-  rows_few = let t = rows_total w k us fs from h in let f = h.few in omega (arith, t, f)
-
   product_few : k * w ≤ 20000
   product_few = subst (λ a. a * w ≤ 20000) h.counted h.few
 

@@ -14,7 +14,7 @@ use Rattle.dcx_frac.proofs.Representable.{representable_quotient}
 use Rattle.dcx_settings.proofs.Facts.{not_zero}
 use Rattle.dcx_settings.specs.declared.stop.Stop.{Stop}
 use Rattle.dcx_settings.specs.declared.stop.Stop.TheVariants.{Memory, At}
-use Rattle.dcx_settings.specs.Steps.{IsWhole, StopsAt, read, read_by, Lacks, LacksDigits, LacksDecimal, IsNumberRead, number_from, size_from, digits_from, divisor_from}
+use Rattle.dcx_settings.specs.Steps.{IsWhole, StopsAt, read, read_by, Lacks, IsNumberRead, number_from, size_from, digits_from, divisor_from}
 
 module _ (lines : List Line) (is : List Item) (n : List ℕ) (c : Context) where
   -- within a number reading goes on by its part
@@ -24,14 +24,6 @@ module _ (lines : List Line) (is : List Item) (n : List ℕ) (c : Context) where
 
   divisor_goes : (s : Bool) (f d : ℤ) (rest us : List Terminal) → us ≡ digits d ∷ rest → d ≢ pos 0 → read_by (divisor_from s f lines is n c) us ≡ read_by (number_read lines is n c (number_of s (quotient f d))) rest
   divisor_goes s f d rest us e h = rw (e, not_zero d h) (read_part (complete (number_of s (quotient f d))) rest)
-
-  pub divisor_zero : (s : Bool) (f d : ℤ) (rest us : List Terminal) → us ≡ digits d ∷ rest → d ≡ pos 0 → read_by (divisor_from s f lines is n c) us ≡ Err us
-  divisor_zero s f d rest us e h = rw (e, h) refl
-
-  pub divisor_stops : (s : Bool) (f : ℤ) (us : List Terminal) → LacksDigits us → read_by (divisor_from s f lines is n c) us ≡ Err us
-  divisor_stops s f [] h = refl
-  divisor_stops s f (digits d ∷ ts) h = absurd (h d ts refl)
-  divisor_stops s f (t ∷ ts) h = refl
 
   pub digits_slash : (s : Bool) (f : ℤ) (rest us : List Terminal) → us ≡ slash ∷ rest → read_by (digits_from s f lines is n c) us ≡ read_by (divisor_from s f lines is n c) rest
   digits_slash s f rest us e = rw e (read_part (divided s f) rest)
@@ -46,12 +38,6 @@ module _ (lines : List Line) (is : List Item) (n : List ℕ) (c : Context) where
 
   size_decimal : (s : Bool) (f : Frac) (rest us : List Terminal) → us ≡ decimal f ∷ rest → read_by (size_from s lines is n c) us ≡ read_by (number_read lines is n c (number_of s (point f))) rest
   size_decimal s f rest us e = rw e (read_part (complete (number_of s (point f))) rest)
-
-  size_stops : (s : Bool) (us : List Terminal) → LacksDigits us → LacksDecimal us → read_by (size_from s lines is n c) us ≡ Err us
-  size_stops s [] h g = refl
-  size_stops s (digits d ∷ ts) h g = absurd (h d ts refl)
-  size_stops s (decimal d ∷ ts) h g = absurd (g d ts refl)
-  size_stops s (t ∷ ts) h g = refl
 
   pub number_minus : (rest us : List Terminal) → us ≡ minus ∷ rest → read_by (number_from lines is n c) us ≡ read_by (size_from true lines is n c) rest
   number_minus rest us e = rw e (read_part negated rest)

@@ -28,7 +28,7 @@ use Rattle.dcx_linear.specs.Size.{columns_for}
 use Rattle.dcx_std.specs.Size.{column_count}
 use Rattle.dcx_std.specs.WholeRows.{row_numbers, row_made}
 use Rattle.dcx_std.specs.Columns.{start_column, unknown_columns, all_unknown_columns, marked_from, columns_of, number_in}
-use Rattle.dcx_std.specs.IntegerRows.{start_of, IsMadeOf, AreMadeOf, passing_from, stop_at, result_at}
+use Rattle.dcx_std.specs.IntegerRows.{start_of, IsMadeOf, AreMadeOf, passing_from, result_at}
 use Rattle.dcx_std.specs.declared.stop.RowStop.{RowStop}
 use Rattle.dcx_std.specs.declared.stop.RowStop.TheVariants as stops
 use Rattle.dcx_std.proofs.WholeRows.{formed_by, whole_small}
@@ -149,14 +149,6 @@ unknown_step kinds i d old now new l h e =
     e ∙ ap (λ a. a ++ unknown_columns i (get_or kinds i d)) h ∙ append_assoc old (all_unknown_columns 0 (take i kinds)) (unknown_columns i (get_or kinds i d)) ∙ ap (λ a. old ++ a) (sym (unknowns_next kinds i d l))
 
 -- ---- results at a row
-pub result_ok : {T : Type 0} (row : ℕ) (r : Result T CoefStop) (x : T) → result_at row r ≡ Ok x → r ≡ Ok x
-result_ok row (Ok y) x e = let d : y ≡ x = cc in ap Ok d
-result_ok row (Err stop) x e = cc
-
-pub result_err : {T : Type 0} (row : ℕ) (r : Result T CoefStop) (e : RowStop) → result_at row r ≡ Err e → (stop : CoefStop) × (r ≡ Err stop) × (e ≡ stop_at row stop)
-result_err row (Ok y) e h = cc
-result_err row (Err stop) e h = let d : stop_at row stop ≡ e = cc in (stop, refl, sym d)
-
 -- what a stop at a row says where the operation has one answer
 pub stops_so : {T : Type 0} (row : ℕ) (r : Result T CoefStop) (e : RowStop) (P : RowStop → Type 0) (formed : Result T Passes) → result_at row r ≡ Err e → Gives r (λ a. a ≡ formed) → P stops.Memory
     → ((passes : Passes) → formed ≡ Err passes → P (stops.Wide (sites.Row row passes))) → P e

@@ -1,7 +1,7 @@
 -- Least common multiples, one after another, and whole numbers as fractions.
 use Rattle.std.proofs.Common.{◌≡◌, ℕ, ◌+◌, ◌*◌, ◌/◌, ◌<◌, ◌^◌, Bool, true, false, nat_lt, if◌then◌else◌, List, [], ◌∷◌, ◌++◌, map, length, get_or, drop, Result, Ok, Err, refl, sym, ap, ◌∙◌, subst, ℤ, pos, negsuc, ◌<ℤ◌, unsigned_abs, arith, lit<}
 use Rattle.std.proofs.lemmas.Int.{ints}
-use Rattle.std.proofs.lemmas.Bool.{ltb-true, lt-ltb, le-ltb}
+use Rattle.std.proofs.lemmas.Bool.{ltb-true}
 use Rattle.std.specs.List.{All}
 use Rattle.std.proofs.lemmas.List.Elements.{All-head, All-tail, All-cons, All-nil}
 use native.Mathlib.Nat.{eq-one_of_dvd-one}
@@ -37,13 +37,6 @@ multiple_fits a b c e = by (nat_lt (lcm a b) (2 ^ 127)) refl e
     by : (t : Bool) → nat_lt (lcm a b) (2 ^ 127) ≡ t → (if t then Ok (lcm a b) else other) ≡ Ok c → c < 2 ^ 127
     by true is e = let d : lcm a b ≡ c = cc in subst (λ n. n < 2 ^ 127) d (ltb-true (lcm a b) (2 ^ 127) is)
     by false is e = cc
-
--- the answer where the multiple fits, and where it doesn't
-pub gives_multiple : (a b : ℕ) → lcm a b < 2 ^ 127 → lcm_gives a b ≡ Ok (lcm a b)
-gives_multiple a b h = rw (lt-ltb (lcm a b) (2 ^ 127) h) refl
-
-pub gives_passes : (a b : ℕ) → ¬ (lcm a b < 2 ^ 127) → lcm_gives a b ≡ Err (record { op = Lcm; left = frac_at (whole (pos a)); right = frac_at (whole (pos b)) })
-gives_passes a b h = rw (le-ltb (lcm a b) (2 ^ 127) (omega (arith, h))) refl
 
 -- the next denominator, and then those behind it
 pub multiple_next : (a : ℕ) (ts : List (FormTerm Frac)) (ds : List ℕ) (i : ℕ) (t : FormTerm Frac) → i < length ts → t ≡ get_or ts i t

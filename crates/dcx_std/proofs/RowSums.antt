@@ -203,9 +203,6 @@ module _ (n : ℕ) (c : ℕ → ℚ) where
 
   -- ---- all columns
   module _ (columns : List ColumnKind) (zs : List ℚ) where
-    abbrev linear_part : ℚ
-    linear_part = rat_sum_below n (λ u. c u *ℚ unknowns_at columns zs u)
-
     all_unknowns : rat_sum_below (length columns) (λ j. unknown_sum (kind_at columns j) (rat_at zs j)) ≡ rat_sum_below n (λ u. c u *ℚ unknowns_at columns zs u)
     unfolding unknown_sum
     all_unknowns =

@@ -132,9 +132,6 @@ module _ (rows : GivenRows) (q : Program) (m : IsMade rows q) where
       scaled_row i row at.row r sparse (subst (λ s. row_made n s ≡ Ok at.row) same whole_at.2) (subst (λ k. IsMadeOf q.columns n k at.row r) z at.made)
 
   -- ---- the cost
-  abbrev cost_form : Form Frac
-  cost_form = rows.objective
-
   cost_formed : IsFormedBy Equal rows.objective (cost_numbers n rows.objective) m.cost
   cost_formed = formed_by Equal rows.objective (cost_numbers n rows.objective) m.cost m.cost_is
 

@@ -1,5 +1,5 @@
 -- Where the making of a program stops, and what it has made in the end.
-use Rattle.std.proofs.Common.{◌≡◌, ℕ, suc, ◌+◌, List, [], ◌∷◌, ◌++◌, length, map, Result, Ok, Err, Some, refl, sym, ap, ap₂, ◌∙◌, subst, arith, inl, inr}
+use Rattle.std.proofs.Common.{◌≡◌, suc, ◌+◌, List, [], ◌∷◌, ◌++◌, length, map, Result, Ok, Err, Some, refl, sym, ap, ap₂, ◌∙◌, arith, inl, inr}
 use Rattle.dcx_std.specs.GivenRows.{GivenRows}
 use Rattle.dcx_answer.specs.declared.site.Site.TheVariants as sites
 use Rattle.dcx_linear.specs.declared.stop.CoefStop.{CoefStop}
@@ -18,13 +18,6 @@ use Rattle.dcx_std.proofs.ProgramForm.{wholes_count}
 use Rattle.dcx_std.proofs.Making.{passing_here, passing_none, passing_front, stops_so}
 
 module _ (rows : GivenRows) (fits : IsFitting rows) where
-  abbrev n : ℕ
-  n = length rows.kinds
-
-  -- want of memory
-  pub memory_stop : (e : RowStop) → e ≡ stops.Memory → IsStopOf rows e
-  memory_stop e d = subst (IsStopOf rows) (sym d) fits
-
   -- a row passes
   pub rows_stop : (e : RowStop) → StopsAt e (passing_from 0 (map (row_made (length rows.kinds)) rows.rows)) → IsStopOf rows e
   rows_stop (stops.Wide site) h = (fits, inl (passing_front 0 (map (row_made (length rows.kinds)) rows.rows) (cost_made (length rows.kinds) rows.objective ∷ []) site h))

@@ -51,9 +51,6 @@ first c n cs h more = rw one-add (All-cons (λ d. d ≢ 10) c (take n cs) h more
 digits_feeds : (cs : List ℕ) → HasNoFeed (take (run_of is_ascii_digit cs) cs)
 digits_feeds cs = subst (λ n. HasNoFeed (take n cs)) (sym (run_is is_ascii_digit cs)) (run_feeds is_ascii_digit refl cs)
 
-other : (c n : ℕ) → c ≡ n → n ≢ 10 → c ≢ 10
-other c n is h = subst (λ m. m ≢ 10) (sym is) h
-
 fraction_feeds : (cs : List ℕ) → HasNoFeed (take (fraction_len cs) cs)
 fraction_feeds [] = none
 fraction_feeds (c ∷ cs) = by (eqb c 46) refl

@@ -17,9 +17,6 @@ IsRising low [] = Unit {0}
 IsRising low (x ∷ xs) = (low < x) × IsRising x xs
 
 -- ---- tests
-le : (a b : ℕ) → nat_le a b ≡ true → a ≤ b
-le a b e = grind (arith, nat_tests)
-
 above : (a b : ℕ) → nat_le a b ≡ false → b < a
 above a b e = grind (arith, nat_tests)
 

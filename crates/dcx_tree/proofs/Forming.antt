@@ -142,12 +142,6 @@ call_more P nodes i call read here so_far k n lt at = elim (cases_eq k i) [
   | inr other ↦ so_far k n (omega (arith, lt, other)) at
 ]
 
--- and what holds of no call holds not of all
-pub call_never : (P : Call → Type 0) (nodes : List Node) (i : ℕ) (call : Call) → call_at nodes i ≡ Some call → ¬ P call → ¬ ((k : ℕ) (n : Node) → IsNode nodes k n → P n.call)
-call_never P nodes i call read none all =
-    let (m, there, is) = found_in (slice_get nodes i) call read in
-    none (subst P is (all i m there))
-
 -- ---- what is read of what is kept
 pub kept_at : (arrays : List (Option Array)) (a : ℕ) (o : Option Array) → IsSome (array_at arrays a) → o ≡ get_or arrays a o → o ≡ array_at arrays a
 kept_at arrays a o some is = is ∙ get_or_default arrays a o None (some_within arrays a some)

@@ -15,7 +15,7 @@ use Rattle.dcx_array.specs.Arrays.{number}
 use Rattle.dcx_tree.specs.declared.constraint.Kind.{Kind}
 use Rattle.dcx_script_values.specs.Values.{Value, Values, plain, list, range, expression, end, item, values_of, items_of, step, room, joined}
 use Rattle.dcx_script_values.specs.Nodes.{Operand, standing, constant, pushed, all_pushed, promoted, all_promoted, called, broadcast_called, subtracted, left_and_right, constrained}
-use Rattle.dcx_script_values.specs.Kinds.{Reading, operand, nested, empty, unfit, reading, list_reading, or_unfit, vector_of, list_items}
+use Rattle.dcx_script_values.specs.Kinds.{Reading, operand, nested, empty, unfit, reading, list_reading, or_unfit, vector_of}
 use Rattle.dcx_script_values.specs.Operands.{operand_read, each_read, operands_read, numbers_read}
 use Rattle.dcx_script_state.specs.declared.flags.Flags.{Flags}
 use Rattle.dcx_script_state.specs.Declarations.{declared_shape, declare_variable, first_value, set_value, set_first, declare_parameter, give, make_problem, solve}
@@ -43,10 +43,6 @@ module _ (N : ℕ) where
   pub both-below : (vs ws : List Value) → AllBelow N vs → AllBelow N ws → AllBelow N (vs ++ ws)
   both-below [] ws h k = k
   both-below (v ∷ vs) ws h k = (h.0, both-below vs ws h.1 k)
-
-  pub list_items-below : (v : Value) → HasNodesBelow N v → AllBelow N (list_items v)
-  list_items-below (list vs) h = items-below vs h
-  list_items-below v h = tt
 
   -- ---- steps, room and lists
   pub step-gives : (place : Place) → Gives N (Anything N) (step place)
