@@ -1,4 +1,4 @@
--- The lemmas by which a tight graph makes a call convex, and accepted weights give slopes that bound.
+-- The lemmas.
 pub mod RowSums
 pub mod Sublinear
 pub mod Duality
@@ -11,4 +11,8 @@ pub mod Entrywise
 pub mod Totals
 pub mod Weights
 pub mod BoundRows
-pub mod OneArray
+pub mod OwnTerms
+pub mod Units
+pub mod Fractions
+pub mod Coefficients
+pub mod Slopes

@@ -9,6 +9,9 @@ pub mod Value
 pub mod Graph
 pub mod Steps
 pub mod Laws
+pub mod OwnUnknowns
+pub mod Fractions
+pub mod Duality
 pub mod Linear
 pub mod Lawful
 pub mod Axis

@@ -13,7 +13,7 @@ use Rattle.dcx_math.proofs.Ratios.{ratio-one}
 use Rattle.dcx_frac.specs.Frac.{value}
 use Rattle.dcx_frac.specs.Fits.{Fits, IsRepresentable, representable}
 use Rattle.dcx_atom.specs.Formed.{frac_at}
-use Rattle.dcx_call.proofs.Products.{value-frac_at}
+use Rattle.dcx_atom.proofs.Fractions.{value-frac_at}
 use Rattle.dcx_linear.specs.FormTerms.{Unknowns}
 use Rattle.dcx_linear.specs.Rows.{RowAt, LinearProgram}
 use Rattle.dcx_linear.specs.declared.row.RowKind.TheVariants.{AtMost}

@@ -24,7 +24,6 @@ use Rattle.dcx_atom.specs.Arrays.{Entries, number_at, numbers_of, array_sides, s
 use Rattle.dcx_atom.specs.Formed.{zero_frac, frac_at}
 use Rattle.dcx_atom.specs.Linear.{LinearTerm, linear_term, terms_at, AreTermsOf}
 use Rattle.dcx_atom.specs.Value as atom_value
-use Rattle.dcx_atom.proofs.FormedSums.{value-zero_frac}
 use Rattle.dcx_affine.specs.declared.pairing.Pairing.{Pairing}
 use Rattle.dcx_affine.specs.declared.pairing.Pairing.TheVariants.{Times, MatTimes, Over}
 use Rattle.dcx_affine.specs.declared.pairing.Pair.{Pair}
@@ -41,7 +40,8 @@ use Rattle.dcx_call.specs.Calls.{sides_of_two, shape_of}
 use Rattle.dcx_call.specs.Forming.{products_in_order, or_passes, divided, AreFormed, IsStop}
 use Rattle.dcx_call.specs.Values.{term_sum, pair_sum, pairing_value, pairing_formed, value_at, formed_at, IsValue, IsValueStop}
 use Rattle.dcx_call.proofs.Entries.{formed_entry, formed_before, formed_alike, stop_alike, some_fact}
-use Rattle.dcx_call.proofs.Products.{AreRepresentable, value-frac_at, products_exact}
+use Rattle.dcx_call.proofs.Products.{AreRepresentable, products_exact}
+use Rattle.dcx_atom.proofs.Fractions.{value-frac_at, number_fits}
 
 -- ---- lists
 get_or-list_below : {A : Type 0} (n : ℕ) (f : ℕ → A) (j : ℕ) (d : A) → j < n → get_or (list_below n f) j d ≡ f j
@@ -65,14 +65,6 @@ number_get (x ∷ xs) zero b = refl
 number_get (x ∷ xs) (suc j) b = number_get xs j (omega arith)
 
 -- ---- numbers of arrays are representable
-pub zero_fits : IsRepresentable (whole (pos 0))
-zero_fits = subst IsRepresentable value-zero_frac (value_representable zero_frac)
-
-pub number_fits : (xs : List Frac) (j : ℕ) → IsRepresentable (number_at xs j)
-number_fits [] j = zero_fits
-number_fits (x ∷ xs) zero = value_representable x
-number_fits (x ∷ xs) (suc j) = number_fits xs j
-
 entry_fits : (args : List Array) (i j : ℕ) → IsRepresentable (numbers_of args i j)
 entry_fits args i j = number_fits (get_or (map (λ x. x.entries) args) i []) j
 

@@ -6,6 +6,5 @@ pub mod CallLaws
 pub mod CallValues
 pub mod Given
 pub mod Fractions
-pub mod Summands
 pub mod Coefficients
 pub mod Exact

@@ -22,8 +22,7 @@ use Rattle.dcx_convex.specs.Nodes.{Numbers}
 use Rattle.dcx_convex.specs.Problems as convex
 use Rattle.dcx_convex.specs.Problems.{minimized, gap_of, objective_of}
 use Rattle.dcx_convex.specs.Answers.{Multipliers, weighed, penalty_of, lagrangian_of}
-use Rattle.dcx_call.proofs.Products.{value-frac_at}
-use Rattle.dcx_call.proofs.Fractions.{negative_fits}
+use Rattle.dcx_atom.proofs.Fractions.{value-frac_at, negative_fits, one_fits, minus_one_fits}
 use Rattle.dcx_frac.proofs.Parts.{value_representable}
 use Rattle.dcx_tree.specs.declared.constraint.Sense.{Sense}
 use Rattle.dcx_tree.specs.declared.constraint.Sense.TheVariants.{Minimize, Maximize}
@@ -31,7 +30,6 @@ use Rattle.dcx_tree.specs.declared.constraint.Constraint.{Constraint}
 use Rattle.dcx_tree.specs.declared.problem.Problem.{Problem}
 use Rattle.dcx_tree.specs.Nodes.{Node}
 use Rattle.dcx_tree.specs.Meaning.{sense_of, convex_constraint, convex_problem}
-use Rattle.dcx_call.proofs.Coefficients.{one_fits, minus_one_fits}
 use Rattle.dcx_cert_collect.specs.Shares.{frac_in, share_of, with_shares}
 use Rattle.dcx_cert_collect.specs.Starts.{start_of, place_of}
 use Rattle.dcx_cert_collect.specs.Laws.{table_times, StartIsLagrangian}

@@ -30,7 +30,7 @@ use Rattle.dcx_unknowns.proofs.Sources.{row_is, column_is, turned, mirror_entry,
 use Rattle.dcx_cert_collect.specs.Shares.{frac_in}
 use Rattle.dcx_cert_collect.proofs.Flat.{frac_value}
 use Rattle.dcx_cert_bound.specs.Variables.{mirrored, reaching_entry, MayReachEntry, MayNotReachEntry}
-use Rattle.dcx_cert_complete.proofs.Units.{only_at, at_itself, at_other, one_nonnegative, only_nonnegative, minus_nonpositive, only_nonpositive}
+use Rattle.dcx_atom.proofs.Units.{only_at, at_itself, at_other, one_nonnegative, only_nonnegative, minus_nonpositive, only_nonpositive}
 
 -- ---- numbers from what they are at 1 and at -1
 up : (c : ℚ) → IsNonnegative (c *ℚ whole (pos 1)) → IsNonnegative c

@@ -27,7 +27,8 @@ use Rattle.dcx_atom.specs.Formed.{exact}
 use Rattle.dcx_atom.specs.Meaning.{Meaning}
 use Rattle.dcx_atom.specs.Laws.{slopes_times}
 use Rattle.dcx_atom.specs.Steps.{entry_stop, weights_of}
-use Rattle.dcx_atom.proofs.Duality.{no_entries, no_filling, balance, weighted_parts}
+use Rattle.dcx_atom.proofs.Duality.{weighted_parts}
+use Rattle.dcx_atom.specs.Duality.{no_entries, no_filling, balance}
 use Rattle.dcx_affine.specs.declared.pairing.Pairing.{Pairing}
 use Rattle.dcx_affine.specs.declared.pairing.Pairing.TheVariants.{Times, MatTimes, Over}
 use Rattle.dcx_affine.specs.Pairing.{pairs_at}
@@ -37,12 +38,12 @@ use Rattle.dcx_convex.proofs.Told.{map-same}
 use Rattle.dcx_call.specs.declared.atoms.AtomCall.{AtomCall}
 use Rattle.dcx_call.specs.declared.call.Call.{Call}
 use Rattle.dcx_call.specs.declared.call.Call.TheVariants as calls
-use Rattle.dcx_call.specs.Atoms.{atom_meaning}
+use Rattle.dcx_call.specs.Atoms.{atom_meaning, atom_lawful}
 use Rattle.dcx_call.specs.Linears.{linear_meaning, linear_lawful}
 use Rattle.dcx_call.specs.Calls.{shape_of, sides_of_two}
-use Rattle.dcx_call.proofs.Products.{value-frac_at}
+use Rattle.dcx_atom.proofs.Fractions.{value-frac_at}
 use Rattle.dcx_call.proofs.CallLaws.{own_is}
-use Rattle.dcx_call.specs.Exact.{HaveFewEntries}
+use Rattle.dcx_atom.specs.Fractions.{HaveFewEntries, HasFractionSlopes}
 use Rattle.dcx_call.proofs.Coefficients.{coefficients_fit}
 use Rattle.dcx_tree.specs.Nodes.{Names, Node, arg_sides, number_in}
 use Rattle.dcx_shape.specs.Shape.{sides_of}
@@ -62,9 +63,7 @@ use Rattle.dcx_cert_collect.proofs.Flat.{dot, flat}
 use Rattle.dcx_cert_collect.proofs.Bound.{number_of, IsBefore, worth_of, below_dot, joined_dot, IsWorth}
 use Rattle.dcx_cert_collect.proofs.Points.{first_in, argument_place, place_before}
 use Rattle.dcx_cert_collect.proofs.Worth.{linear_worth, products_worth_right, products_worth_left, quotients_worth}
-use Rattle.dcx_cert_complete.specs.Demanded.{GiveFractions}
 use Rattle.dcx_cert_complete.specs.Families.{IsFamily, AreFilled, AreWeighed, atom_rows, call_rows, rows_below, variable_if, variable_numbers}
-use Rattle.dcx_cert_complete.proofs.Atoms.{atom_dual}
 use Rattle.dcx_cert_complete.proofs.Scaling.{times_filling, balance_times, nothing_lowers}
 use Rattle.dcx_cert_complete.proofs.Soft.{IsSoft, soft_entry, soft_entries}
 use Rattle.dcx_cert_complete.proofs.Families.{changed, changed_itself, changed_other, first_dots, ends, first_same, first_rows}
@@ -263,7 +262,7 @@ module _ (names : Names) (nodes : List Node) (are : AreNodes shape_of nodes) (s 
           ∙ sym (rat_sum_below-+ℚ count f whole_rows)
           ∙ rat_sum_below-same count _ _ (λ j _. ap (λ z. f j +ℚ z) (weighted_parts (M.rows ss j) (w j) (a g) (t i)) ∙ turn (f j) (over_arguments j) (over_unknowns j))
           ∙ rat_sum_below-+ℚ count over_arguments (λ j. f j +ℚ over_unknowns j)
-          ∙ ap (λ z. z +ℚ left (t i)) (sym ((atom_dual m).slopes ss n.sides (shaped (calls.Atom m) same) w (a g)))
+          ∙ ap (λ z. z +ℚ left (t i)) (sym ((atom_lawful m).duality.slopes ss n.sides (shaped (calls.Atom m) same) w (a g)))
         where
           turn : (p q r : ℚ) → p +ℚ (q +ℚ r) ≡ q +ℚ (p +ℚ r)
           turn p q r = ring (p ∷ q ∷ r ∷ []) (search reads depth 30) tt
@@ -350,7 +349,7 @@ module _ (names : Names) (nodes : List Node) (are : AreNodes shape_of nodes) (s 
               let lowers = nothing_lowers M ss (entries_of n.sides) (number_at cs) w (v -ℚ (c +ℚ r)) (λ u kinds. moved v c r (left u) (any_unknowns bound origin inside t filled g family u kinds)) in
               soft_entries (length cs) (entry_stop M ss (number_at cs) w) (λ j k.
               let l : j < entries_of n.sides = omega (arith, k, size) in
-              soft_entry M ss (number_at cs) w j (λ e h. weighed i n at none m same j e l h) ((atom_dual m).demanded ss n.sides (shaped (calls.Atom m) same) (number_at cs) w lowers j l))
+              soft_entry M ss (number_at cs) w j (λ e h. weighed i n at none m same j e l h) ((atom_lawful m).duality.demanded ss n.sides (shaped (calls.Atom m) same) (number_at cs) w lowers j l))
             where
               moved : (v c r q : ℚ) → v ≤ℚ c +ℚ (r +ℚ q) → v -ℚ (c +ℚ r) ≤ℚ q
               moved v c r q h = linear (v ∷ c ∷ r ∷ q ∷ []) h (search reads depth 30) tt
@@ -362,7 +361,7 @@ module _ (names : Names) (nodes : List Node) (are : AreNodes shape_of nodes) (s 
               ⊎_elim (λ h. none_stopped k f both.0 j h) (λ r. ap f r ∙ both.1) (below_or_last j k l)
 
           -- what the slopes are worth
-          slopes_exact : GiveFractions M → slopes_stop M ss cs (weights i) ≡ None → (u : List Frac) → with_shares t0 (slope_shares nodes n.args ss (slope_frac M ss (weights i))) ≡ Ok u →
+          slopes_exact : HasFractionSlopes M → slopes_stop M ss cs (weights i) ≡ None → (u : List Frac) → with_shares t0 (slope_shares nodes n.args ss (slope_frac M ss (weights i))) ≡ Ok u →
               (x : Point) (t : ℕ → Filling) (g : ℕ → Numbers) → IsFamily names nodes s values x t g → dot u (flat nodes g) ≡ dot t0 (flat nodes g) +ℚ slopes g
           slopes_exact fractions none u e x t g family =
               let ws = weights i in
@@ -379,7 +378,7 @@ module _ (names : Names) (nodes : List Node) (are : AreNodes shape_of nodes) (s 
               start e
               ∙ ap (λ z. dot t0 F +ℚ rat_sum_below z (λ k. rat_sum_below (entries_of (sides_at ss k)) (λ e. slope k e *ℚ a g k e))) many
 
-          pub atom_fair : GiveFractions M → AreFair (calls.Atom m) (call_shares nodes values i (calls.Atom m) n.args ss cs (weights i))
+          pub atom_fair : HasFractionSlopes M → AreFair (calls.Atom m) (call_shares nodes values i (calls.Atom m) n.args ss cs (weights i))
           atom_fair fractions = by (slopes_stop M ss cs (weights i)) refl soft
             where
               by : (o : Option SlopeStop) → slopes_stop M ss cs (weights i) ≡ o → IsSoft o → AreFair (calls.Atom m) (unless i o (slope_shares nodes n.args ss (slope_frac M ss (weights i))))

@@ -15,7 +15,7 @@ use Rattle.dcx_atom.specs.declared.array.Array.{Array}
 use Rattle.dcx_atom.specs.Arrays.{number_at}
 use Rattle.dcx_atom.specs.Entrywise.{products_from}
 use Rattle.dcx_atom.specs.Rows.{Filling}
-use Rattle.dcx_atom.proofs.Duality.{no_filling}
+use Rattle.dcx_atom.specs.Duality.{no_filling}
 use Rattle.dcx_atom.proofs.Entrywise.{products_from-exact}
 use Rattle.dcx_atom.proofs.FormedSums.{value-zero_frac}
 use Rattle.dcx_affine.specs.declared.pairing.Pairing.TheVariants.{Times, MatTimes, Over}
@@ -39,7 +39,7 @@ use Rattle.dcx_cert_collect.proofs.Starting.{start_all}
 use Rattle.dcx_cert_collect.proofs.Passing.{own_count, start_inside, shares_count}
 use Rattle.dcx_cert_collect.proofs.Bounded.{sum_listed, shares_told, reached_told}
 use Rattle.dcx_cert_collect.proofs.Flat.{frac_value, dot, dot-nil, dot-append, dot-sum, dot-table, flat, flat-place}
-use Rattle.dcx_cert_complete.specs.Demanded.{GiveFractions}
+use Rattle.dcx_atom.specs.Fractions.{HasFractionSlopes}
 use Rattle.dcx_cert_complete.specs.Families.{IsFamily, AreFilled, AreWeighed, rows_if, rows_below, variable_numbers}
 use Rattle.dcx_cert_complete.proofs.Families.{node_there, node_sides}
 use Rattle.dcx_cert_complete.proofs.Handed.{IsPassing, Everywhere, Before, AreFair, hands_all, linear_exact, times_exact, mat_times_exact, over_exact, variable_exact, atom_fair}
@@ -56,7 +56,7 @@ at_end v t r d e h = linear (v ∷ t ∷ r ∷ d ∷ []) (+ℚ-≤ℚ h (≤ℚ-
 
 module _ (names : Names) (nodes : List Node) (are : AreNodes shape_of nodes) (s : Setting) (values : List (Option Array)) (known : AreKnown names nodes s values) (weights : ℕ → List Frac)
     (D : Point → Type 0) (v : ℚ) (make : (x : Point) → D x → (t : ℕ → Filling) → AreFilled nodes values t → (g : ℕ → Numbers) × IsFamily names nodes s values x t g)
-    (origin : Point) (inside : D origin) (weighed : AreWeighed nodes values weights) (fractions : (m : AtomCall) → GiveFractions (atom_meaning m)) where
+    (origin : Point) (inside : D origin) (weighed : AreWeighed nodes values weights) (fractions : (m : AtomCall) → HasFractionSlopes (atom_meaning m)) where
   abbrev All : (Point → (ℕ → Filling) → (ℕ → Numbers) → Type 0) → Type 0
   All P = Everywhere names nodes are s values known weights D v P
 

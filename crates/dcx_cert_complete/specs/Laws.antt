@@ -33,7 +33,8 @@ use Rattle.dcx_cache.specs.Programs.{SessionGives}
 use Rattle.dcx_cache.specs.Answers.{IsAnswerOf}
 use Rattle.dcx_cache.specs.Warm.{IsWarmAnswer}
 use Rattle.dcx_cert_check.specs.Checks.{checks_of}
-use Rattle.dcx_cert_complete.specs.Demanded.{HasDualGraph, GiveFractions}
+use Rattle.dcx_atom.specs.Duality.{HasDualGraph}
+use Rattle.dcx_atom.specs.Fractions.{HasFractionSlopes}
 use Rattle.dcx_cert_complete.specs.Bounded.{IsWide, BoundsPrograms}
 use Rattle.dcx_cert_complete.specs.Rows.{BoundsForms, AreRowWeights}
 use Rattle.dcx_cert_complete.specs.Programs.{HasForms}
@@ -43,7 +44,7 @@ use Rattle.dcx_cert_complete.specs.Certified.{IsCertified}
 -- meet the conditions of slopes, which are fractions where no step stops
 pub record AtomsHaveDualGraphs : Type 0 where
   pub graphs : (m : AtomCall) → HasDualGraph (atom_meaning m)
-  pub fractions : (m : AtomCall) → GiveFractions (atom_meaning m)
+  pub fractions : (m : AtomCall) → HasFractionSlopes (atom_meaning m)
 
 -- where multipliers and weights bound the program of an accepted problem at a setting that fits, the bound checks pass, or an operation
 -- passes 128 bits

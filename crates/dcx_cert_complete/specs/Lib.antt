@@ -1,5 +1,4 @@
--- What the laws cite: weights that bound graphs and programs, and what a section that is built fails with.
-pub mod Demanded
+-- What the laws of this crate cite.
 pub mod Families
 pub mod Bounded
 pub mod Rows

@@ -31,7 +31,8 @@ use Rattle.dcx_atom.specs.Rows.{Filling, RowsHold, weighted}
 use Rattle.dcx_atom.specs.Meaning.{IsMet}
 use Rattle.dcx_atom.specs.Laws.{SumsUp, KeepsSign, KeepsTrend, IsBent, IsSoundGraph, IsTightGraph, HasSubgradients, Recedes}
 use Rattle.dcx_atom.proofs.Sublinear.{curvature_of, recession_of}
-use Rattle.dcx_atom.proofs.Duality.{no_filling, AreRowSlopes, AreBalanced, subgradient_of}
+use Rattle.dcx_atom.specs.Duality.{no_filling, AreRowSlopes, AreBalanced}
+use Rattle.dcx_atom.proofs.Duality.{subgradient_of}
 use Rattle.dcx_elem.specs.declared.kinks.Kink.{Kink}
 use Rattle.dcx_elem.specs.declared.kinks.Kink.TheVariants.{Abs, Pos, Neg}
 use Rattle.dcx_atom.specs.Bounding.{argument_term, only_is}
@@ -117,7 +118,7 @@ slope_is Abs args w a j = abs_slope (w 0) (w 1) (a 0 j)
 slope_is Pos args w a j = pos_slope (w 0) (a 0 j)
 slope_is Neg args w a j = neg_slope (w 0) (a 0 j)
 
-row_slopes : (p : Kink) → AreRowSlopes (kink_meaning p)
+pub row_slopes : (p : Kink) → AreRowSlopes (kink_meaning p)
 row_slopes p [] sides is w a = cc
 row_slopes p (s ∷ []) sides is w a =
     let e : s ≡ sides = cc in

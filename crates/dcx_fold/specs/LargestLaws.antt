@@ -56,7 +56,8 @@ use Rattle.dcx_atom.specs.Meaning.{IsMet}
 use Rattle.dcx_atom.specs.Laws.{SumsUp, KeepsSign, KeepsTrend, IsBent, IsSoundGraph, IsTightGraph, HasSubgradients, Recedes}
 use Rattle.dcx_atom.specs.Bounding.{outward}
 use Rattle.dcx_atom.proofs.Sublinear.{curvature_of, recession_of}
-use Rattle.dcx_atom.proofs.Duality.{no_entries, no_filling, AreRowSlopes, AreBalanced, subgradient_of}
+use Rattle.dcx_atom.specs.Duality.{no_entries, no_filling, AreRowSlopes, AreBalanced}
+use Rattle.dcx_atom.proofs.Duality.{subgradient_of}
 use Rattle.dcx_atom.proofs.LinearSums.{follows_rising, All-list_below}
 use Rattle.dcx_atom.proofs.BoundRows.{taken, length-list_below, map-list_below, All-at, RowsHold-list_below, RowsHold-list_below_back, weighted-list_below, form-list_below, rat_sum-list_below}
 use Rattle.dcx_fold.specs.Sorted.{above, All-falling, falling-falls, length-falling, falling-summed, above-nonneg, above-monotone, first-≤, first-is}

@@ -19,7 +19,8 @@ use Rattle.dcx_atom.specs.Meaning.{IsMet}
 use Rattle.dcx_atom.specs.Laws.{SumsUp, KeepsSign, KeepsTrend, IsBent, IsSoundGraph, IsTightGraph, HasSubgradients, Recedes}
 use Rattle.dcx_atom.specs.Bounding.{argument_term, unknown_term, unknown_form, free_kinds}
 use Rattle.dcx_atom.proofs.Sublinear.{curvature_of, recession_of}
-use Rattle.dcx_atom.proofs.Duality.{no_entries, no_filling, AreRowSlopes, AreBalanced, subgradient_of}
+use Rattle.dcx_atom.specs.Duality.{no_entries, no_filling, AreRowSlopes, AreBalanced}
+use Rattle.dcx_atom.proofs.Duality.{subgradient_of}
 use Rattle.dcx_atom.proofs.LinearSums.{follows_rising}
 use Rattle.dcx_atom.proofs.BoundRows.{beyond_of_row, row_of_beyond, times_one, alone_is, below_or_last}
 use Rattle.dcx_fold.specs.FoldLaws.{each_beyond, all_beyond, extreme_goes, extreme_signed}

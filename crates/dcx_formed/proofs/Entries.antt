@@ -16,7 +16,7 @@ use Rattle.dcx_linear.specs.Forms.{is_constant, sum_gives_linear, change_gives_l
 use Rattle.dcx_linear.specs.Multiples.{multiple_gives}
 use Rattle.dcx_linear.specs.Parts.{adds_part, adds_parts, sums_parts}
 use Rattle.dcx_unknowns.proofs.Lists.{Each, each_nil, each_cons, each_head, each_tail}
-use Rattle.dcx_unknowns.proofs.OwnTerms.{IsOwn, AreOwnTerms, AreOwnRows, IsOwnForm}
+use Rattle.dcx_atom.specs.OwnUnknowns.{IsOwn, AreOwnTerms, AreOwnRows, IsOwnForm}
 use Rattle.dcx_entries.specs.declared.entries.EntryForms.{EntryForms}
 use Rattle.dcx_entries.specs.declared.scaling.Scaling.{Scaling}
 use Rattle.dcx_entries.specs.declared.scaling.Scaling.TheVariants.{LeftNumber, RightNumber, LeftAffine, RightAffine, Divisor}

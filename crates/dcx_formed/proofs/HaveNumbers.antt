@@ -18,7 +18,7 @@ use Rattle.dcx_convex.specs.Rules.{Rules, Judgement, judgement_by, judgement_at}
 use Rattle.dcx_convex.proofs.Told.{judgement_tells}
 use Rattle.dcx_call.specs.declared.call.Call.{Call}
 use Rattle.dcx_call.specs.declared.call.Call.TheVariants as calls
-use Rattle.dcx_call.specs.Atoms.{atom_meaning}
+use Rattle.dcx_call.specs.Atoms.{atom_meaning, atom_lawful}
 use Rattle.dcx_call.specs.Linears.{linear_meaning}
 use Rattle.dcx_call.specs.Calls.{shape_of}
 use Rattle.dcx_call.specs.Values.{given_by, entry_formed}
@@ -34,7 +34,6 @@ use Rattle.dcx_linear.specs.Multiples.{HasNumbers}
 use Rattle.dcx_linear.specs.Parameters.{Parameters}
 use Rattle.dcx_linear.proofs.Coefficients.{sum_keeps, change_keeps, multiple_keeps}
 use Rattle.dcx_unknowns.specs.Layout.{is_reduced, first_aux}
-use Rattle.dcx_unknowns.proofs.OwnGraphs.{atom_own}
 use Rattle.dcx_unknowns.proofs.NodeForms.{nodes_of, nodes_ordered, node_at}
 use Rattle.dcx_entries.specs.declared.entries.EntryForms.{EntryForms}
 use Rattle.dcx_entries.specs.Parts.{Arguments, unknown_form, form_of_unknown}
@@ -105,7 +104,7 @@ module _ {C : Type 0} (value_at : C → Parameters → ℚ) (of_number : Frac �
         (entry_formed (calls.Constant c) (given_by setting) (given_by []) (arg_sides p.tree n) (numbers_in number_of args) j) entry h in
         subst Has (sym is) (constant_has x)
     reduced_has (calls.Atom m) t shape j b entry h =
-        let own = atom_own m (arg_sides p.tree n) n.sides shape in
+        let own = (atom_lawful m).own_unknowns (arg_sides p.tree n) n.sides shape in
         let first = first_aux rules p i in
         let many = length ((atom_meaning m).kinds (arg_sides p.tree n)) in
         let few : (k : ℕ) → k < many → first + k < first + many = λ k l. omega arith in

@@ -7,20 +7,6 @@ use Rattle.dcx_atom.specs.Arrays.{list_below, joined_below}
 use Rattle.dcx_atom.proofs.BoundRows.{list_below-first}
 use Rattle.dcx_unknowns.proofs.Places.{joined_next}
 
-module _ {A : Type 0} (P : A → Type 0) where
-  pub all_append : (xs ys : List A) → AllByRecursion P xs → AllByRecursion P ys → AllByRecursion P (xs ++ ys)
-  all_append [] ys h k = k
-  all_append (x ∷ xs) ys h k = (h.0, all_append xs ys h.1 k)
-
-  pub all_below : (n : ℕ) (f : ℕ → A) → ((i : ℕ) → i < n → P (f i)) → AllByRecursion P (list_below n f)
-  all_below zero f h = tt
-  all_below (suc n) f h = all_append (list_below n f) (f n ∷ []) (all_below n f (λ i b. h i (omega arith))) (h n (omega arith), tt)
-
-  pub all_joined : (n : ℕ) (f : ℕ → List A) → ((i : ℕ) → i < n → AllByRecursion P (f i)) → AllByRecursion P (joined_below n f)
-  all_joined zero f h = tt
-  all_joined (suc n) f h = all_append (joined_below n f) (f n) (all_joined n f (λ i b. h i (omega arith))) (h n (omega arith))
-
--- ---- lists by places
 module _ {A : Type 0} where
   pub joined_same : (n : ℕ) (f g : ℕ → List A) → ((i : ℕ) → i < n → f i ≡ g i) → joined_below n f ≡ joined_below n g
   joined_same zero f g h = refl

@@ -21,7 +21,7 @@ use Rattle.dcx_call.specs.declared.attribute.Parameter.{Parameter}
 use Rattle.dcx_call.specs.declared.attribute.Variable.{Variable}
 use Rattle.dcx_call.specs.declared.call.Call.{Call}
 use Rattle.dcx_call.specs.declared.call.Call.TheVariants as calls
-use Rattle.dcx_call.specs.Atoms.{atom_meaning}
+use Rattle.dcx_call.specs.Atoms.{atom_meaning, atom_lawful}
 use Rattle.dcx_call.specs.Linears.{linear_meaning}
 use Rattle.dcx_call.specs.Calls.{shape_of}
 use Rattle.dcx_call.specs.Values.{given_by, entry_formed}
@@ -39,7 +39,6 @@ use Rattle.dcx_unknowns.specs.Unknowns.{first_unknown, unknown_from}
 use Rattle.dcx_unknowns.specs.Layout.{is_reduced, first_aux, aux_at, call_aux, aux_if, unknown_kinds}
 use Rattle.dcx_unknowns.proofs.Domains.{number_is}
 use Rattle.dcx_unknowns.proofs.Lists.{Each, each_nil, each_map}
-use Rattle.dcx_unknowns.proofs.OwnGraphs.{atom_own}
 use Rattle.dcx_unknowns.proofs.NodeForms.{node_at}
 use Rattle.dcx_entries.specs.declared.entries.EntryForms.{EntryForms}
 use Rattle.dcx_entries.specs.declared.scaling.Scaling.{Scaling}
@@ -104,7 +103,7 @@ module _ {C : Type 0} (of_number : Frac → C) (number_of : C → Option Frac) (
         form_has e (is_constant c) d (reads q j c listed (subst (λ r. j < entries_of r) (sym (own_is (sides_of q.shape) (arg_sides p.tree n) n.sides shape)) lt) s.1)
     reduced_keeps (calls.Constant x) shape listed few s = number_keeps e (number_formed (calls.Constant x)) s
     reduced_keeps (calls.Atom m) shape listed few s =
-        let own = atom_own m (arg_sides p.tree n) n.sides shape in
+        let own = (atom_lawful m).own_unknowns (arg_sides p.tree n) n.sides shape in
         atom_keeps of_number number_of Sums Changes F (length (unknown_kinds rules p)) kept _ _ e s
         (result_has of_number number_of Sums Changes F (length (unknown_kinds rules p)) kept (first_aux rules p i) (length ((atom_meaning m).kinds (arg_sides p.tree n))) few
         ((atom_meaning m).result (arg_sides p.tree n) j) (own.results j lt))

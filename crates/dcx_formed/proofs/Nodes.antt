@@ -36,7 +36,7 @@ use Rattle.dcx_call.specs.declared.attribute.Variable.{Variable}
 use Rattle.dcx_call.specs.declared.attribute.Parameter.{Parameter}
 use Rattle.dcx_call.specs.declared.call.Call.{Call}
 use Rattle.dcx_call.specs.declared.call.Call.TheVariants as calls
-use Rattle.dcx_call.specs.Atoms.{atom_meaning}
+use Rattle.dcx_call.specs.Atoms.{atom_meaning, atom_lawful}
 use Rattle.dcx_call.specs.Linears.{linear_meaning}
 use Rattle.dcx_call.specs.Calls.{own_sides, sides_of_two, shape_of}
 use Rattle.dcx_call.specs.Values.{pairing_value}
@@ -71,7 +71,6 @@ use Rattle.dcx_formed.proofs.Settled.{fixed_alike}
 use Rattle.dcx_formed.proofs.Reached.{node_bent}
 use Rattle.dcx_formed.proofs.Steady.{bent_parts}
 use Rattle.dcx_formed.proofs.Coefs.{AreCoefs}
-use Rattle.dcx_formed.proofs.Coefficients.{results_fit}
 use Rattle.dcx_formed.proofs.Few.{few_args}
 use Rattle.dcx_formed.proofs.PartValues.{constant_is, zero_is, unknown_or_zero, parts_are, terms_are, result_is}
 use Rattle.dcx_formed.proofs.Named.{where_declared}
@@ -282,7 +281,7 @@ module _ {C : Type 0} (value_at : C → Parameters → ℚ) (of_number : Frac �
         let result = (atom_meaning m).result (arg_sides p.tree n) j in
         let made = atom_made of_number number_of Sums Changes (map (aux_part of_number (first_aux rules p i)) result) _ entry h in
         parts_are value_at of_number number_of Sums Changes laws u params (map (aux_part of_number (first_aux rules p i)) result) entry.form made.sums
-        ∙ result_is value_at of_number number_of Sums Changes laws u params (first_aux rules p i) result (results_fit m (arg_sides p.tree n) n.sides j shape (few_args p.tree p.nodes n))
+        ∙ result_is value_at of_number number_of Sums Changes laws u params (first_aux rules p i) result ((atom_lawful m).fraction_coefficients.results (arg_sides p.tree n) n.sides j shape (few_args p.tree p.nodes n))
     call_value (calls.Linear l) is shape j b entry h =
         let terms = (linear_meaning l).terms (arg_sides p.tree n) j in
         parts_are value_at of_number number_of Sums Changes laws u params (map (term_part args) terms) entry.form

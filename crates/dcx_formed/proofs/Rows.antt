@@ -21,7 +21,7 @@ use Rattle.dcx_convex.specs.Rules.{Rules}
 use Rattle.dcx_convex.specs.Reductions.{Unknowns}
 use Rattle.dcx_call.specs.declared.call.Call.{Call}
 use Rattle.dcx_call.specs.declared.call.Call.TheVariants as calls
-use Rattle.dcx_call.specs.Atoms.{atom_meaning}
+use Rattle.dcx_call.specs.Atoms.{atom_meaning, atom_lawful}
 use Rattle.dcx_call.specs.Linears.{linear_meaning}
 use Rattle.dcx_call.specs.Values.{given_by, entry_formed}
 use Rattle.dcx_tree.specs.declared.problem.Problem.{Problem}
@@ -43,7 +43,7 @@ use Rattle.dcx_entries.specs.Kept.{entry_rows, node_rows, graph_rows}
 use Rattle.dcx_formed.specs.Forms.{forms_at}
 use Rattle.dcx_formed.proofs.Lists.{joined_same, joined_none, flat_below, map-joined, map-map, list_of, maps_same, all_at}
 use Rattle.dcx_formed.proofs.Coefs.{AreCoefs}
-use Rattle.dcx_formed.proofs.Coefficients.{FitsRow, rows_fit}
+use Rattle.dcx_atom.specs.Fractions.{FitsRow}
 use Rattle.dcx_formed.proofs.PartValues.{parts_are, row_is}
 use Rattle.dcx_formed.proofs.Tables.{entries_counted, entry_there}
 use Rattle.dcx_formed.proofs.Stood.{args_match}
@@ -121,7 +121,7 @@ module _ {C : Type 0} (value_at : C → Parameters → ℚ) (of_number : Frac �
     reduced_rows (calls.Atom m) j e h =
         let result = map (aux_part of_number (first_aux rules p i)) ((atom_meaning m).result (arg_sides p.tree n) j) in
         let rows = (atom_meaning m).rows (arg_sides p.tree n) j in
-        graph_rows_are rows (rows_fit m (arg_sides p.tree n) j) e.rows
+        graph_rows_are rows ((atom_lawful m).fraction_coefficients.rows (arg_sides p.tree n) j) e.rows
         (atom_made of_number number_of Sums Changes result (map (λ row. map (row_part of_number args (first_aux rules p i)) row) rows) e h).rows_sum
     reduced_rows (calls.Linear l) j e h = no_rows e (linear_made of_number number_of Sums Changes (map (term_part args) ((linear_meaning l).terms (arg_sides p.tree n) j)) e h).rows
     reduced_rows (calls.Pairing q) j e h =

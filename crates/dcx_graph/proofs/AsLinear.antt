@@ -9,7 +9,7 @@ use Rattle.dcx_frac.specs.declared.fraction.Passes.{Passes}
 use Rattle.dcx_frac.specs.Frac.{value}
 use Rattle.dcx_frac.specs.Fits.{IsRepresentable}
 use Rattle.dcx_frac.proofs.Parts.{value_representable}
-use Rattle.dcx_call.proofs.Products.{value-frac_at}
+use Rattle.dcx_atom.proofs.Fractions.{value-frac_at}
 use native.Mathlib.Nat.{eq-one_of_dvd-one}
 use Rattle.dcx_shape.specs.Shape.{sides_of}
 use Rattle.dcx_shape.specs.Sides.{entries_of}

@@ -21,15 +21,13 @@ use Rattle.dcx_point.specs.Pairs.{Pairs}
 use Rattle.dcx_arena.specs.Nodes.{IsNode, call_at, args_at, sides_at}
 use Rattle.dcx_call.specs.declared.atoms.AtomCall.{AtomCall}
 use Rattle.dcx_call.specs.declared.call.Call.TheVariants as calls
-use Rattle.dcx_call.specs.Atoms.{atom_meaning}
+use Rattle.dcx_call.specs.Atoms.{atom_meaning, atom_lawful}
 use Rattle.dcx_tree.specs.declared.problem.Problem.{Problem}
 use Rattle.dcx_tree.specs.Nodes.{Node, arg_sides}
 use Rattle.dcx_tree.proofs.NodeValues.{args_are, sides_are}
 use Rattle.dcx_unknowns.specs.Layout.{marked, IsCallGraph, IsNodeGraph}
 use Rattle.dcx_unknowns.proofs.Lists.{Each, each_head, each_tail, each_nil, each_cons, each_joined}
-use Rattle.dcx_unknowns.proofs.OwnTerms.{IsOwn, AreOwnTerms, AreOwnRows, IsOwnForm}
-use Rattle.dcx_unknowns.proofs.OwnUnknowns.{UsesOwn}
-use Rattle.dcx_unknowns.proofs.OwnGraphs.{atom_own}
+use Rattle.dcx_atom.specs.OwnUnknowns.{IsOwn, AreOwnTerms, AreOwnRows, IsOwnForm, UsesOwn}
 use Rattle.dcx_linear.specs.declared.change.Change.{Change}
 use Rattle.dcx_linear.specs.declared.form.Form.{Form}
 use Rattle.dcx_entries.specs.declared.entries.EntryForms.{EntryForms}
@@ -81,7 +79,7 @@ module _ (p : Problem) (i : ℕ) (m : AtomCall) (c : call_at p.tree i ≡ Some (
     graph_of size e = subst (λ k. IsGraphOf (atom_meaning m) (arg_sides p.tree n) k g) (sym (e ∙ ap entries_of (sides_are p.tree i n at))) is_graph
 
     own : UsesOwn (atom_meaning m) (arg_sides p.tree n) (entries_of n.sides)
-    own = atom_own m (arg_sides p.tree n) n.sides (shape_given p i (calls.Atom m) c n at)
+    own = (atom_lawful m).own_unknowns (arg_sides p.tree n) n.sides (shape_given p i (calls.Atom m) c n at)
 
     pub results_counted : length g.results ≡ entries_of n.sides
     results_counted = sym (length-map g.results (map form_term)) ∙ ap length is_graph.results ∙ length-list_below (entries_of n.sides) ((atom_meaning m).result (arg_sides p.tree n))

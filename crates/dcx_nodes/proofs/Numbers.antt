@@ -31,8 +31,8 @@ use Rattle.dcx_call.specs.Calls.{shape_of}
 use Rattle.dcx_call.specs.Values.{given_by, entry_formed, formed_at, IsGiven, IsValue, IsValueStop}
 use Rattle.dcx_call.proofs.Entries.{some_fact}
 use Rattle.dcx_convex.specs.Rules.{Rules}
-use Rattle.dcx_call.proofs.CallValues.{number_fits}
-use Rattle.dcx_call.specs.Exact.{AreFractions, HaveFewEntries}
+use Rattle.dcx_atom.proofs.Fractions.{number_fits}
+use Rattle.dcx_atom.specs.Fractions.{AreFractions, HaveFewEntries}
 use Rattle.dcx_call.proofs.Exact.{forms_exactly}
 use Rattle.dcx_tree.specs.declared.problem.Problem.{Problem}
 use Rattle.dcx_tree.specs.Nodes.{Node, arg_sides}

@@ -7,9 +7,6 @@ pub mod Domains
 pub mod Layouts
 pub mod Lists
 pub mod Constants
-pub mod OwnTerms
-pub mod OwnUnknowns
-pub mod OwnGraphs
 pub mod CallEntries
 pub mod CallGraphs
 pub mod OfKinds

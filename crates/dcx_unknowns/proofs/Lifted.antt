@@ -26,7 +26,7 @@ use Rattle.dcx_unknowns.proofs.Owners.{are_numbered}
 use Rattle.dcx_unknowns.proofs.Domains.{stand_for_domain}
 use Rattle.dcx_unknowns.specs.Equations.{Forms, call_entry, args_of, filling_of, AllStand, row_number, numbers_if, reduced_with}
 use Rattle.dcx_unknowns.proofs.Lists.{Each, each_nil, each_map, each_flat, each_range, zip_flat}
-use Rattle.dcx_unknowns.proofs.OwnTerms.{Agree}
+use Rattle.dcx_atom.proofs.OwnTerms.{Agree}
 use Rattle.dcx_unknowns.proofs.CallGraphs.{call_filling, filled_kinds, filled_rows, filled_value}
 use Rattle.dcx_unknowns.proofs.OfKinds.{nonneg_from, nonpos_from, kinds_both, IsOfAuxKind, taken_kinds, zipped_kinds}
 use Rattle.dcx_unknowns.proofs.Lift.{filling_if, filling_at, numbers_at, aux_numbers, lift, lift_variable, lift_aux, lift_filling}

@@ -8,24 +8,7 @@ use Rattle.dcx_atom.specs.declared.graph.Operand.TheVariants.{Argument, Aux}
 use Rattle.dcx_atom.specs.Arrays.{Entries, list_below, joined_below}
 use Rattle.dcx_atom.specs.Rows.{Filling, RowTerm, Row, FormTerm, Form, operand_at, row_at, form_at, RowsHold}
 use Rattle.dcx_atom.specs.Bounding.{bound_row}
-
--- an operand is an argument, or one of the first n unknowns
-abbrev pub IsOwn : ℕ → Operand → Type 0
-IsOwn n (Argument i e) = Unit {0}
-IsOwn n (Aux k) = k < n
-
--- the same of each term of a row, of each row, and of each term of a result
-abbrev pub AreOwnTerms : ℕ → Row → Type 0
-AreOwnTerms n [] = Unit {0}
-AreOwnTerms n (x ∷ row) = IsOwn n x.operand × AreOwnTerms n row
-
-abbrev pub AreOwnRows : ℕ → List Row → Type 0
-AreOwnRows n [] = Unit {0}
-AreOwnRows n (row ∷ rows) = AreOwnTerms n row × AreOwnRows n rows
-
-abbrev pub IsOwnForm : ℕ → Form → Type 0
-IsOwnForm n [] = Unit {0}
-IsOwnForm n (x ∷ form) = (x.aux < n) × IsOwnForm n form
+use Rattle.dcx_atom.specs.OwnUnknowns.{IsOwn, AreOwnTerms, AreOwnRows, IsOwnForm}
 
 -- fillings agree on the first n unknowns
 abbrev pub Agree : ℕ → Filling → Filling → Type 0

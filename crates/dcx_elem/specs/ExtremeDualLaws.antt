@@ -1,4 +1,4 @@
--- The greatest and the least of several arrays: the slopes of their rows, and the conditions that their weights meet.
+-- The greatest and the least of several arrays: weights that let no unknown lower the sum meet the conditions.
 use Rattle.std.proofs.Common.{◌≡◌, ◌≢◌, ℕ, ◌<◌, [], refl, ap, ◌∙◌, subst, pos, negsuc}
 use Rattle.std.proofs.lemmas.List.Elements.{All-cons, All-nil}
 use Rattle.dcx_math.specs.Rational.{ℚ, whole, ◌+ℚ◌, ◌*ℚ◌}
@@ -10,12 +10,11 @@ use Rattle.dcx_atom.specs.Arrays.{list_below, sides_at}
 use Rattle.dcx_atom.specs.Rows.{Filling, form_at, weighted}
 use Rattle.dcx_atom.specs.Meaning.{IsMet}
 use Rattle.dcx_atom.specs.Bounding.{argument_term, bound_row, outward, unknown_form, total_condition, free_kinds}
-use Rattle.dcx_atom.proofs.Duality.{no_entries}
+use Rattle.dcx_atom.specs.Duality.{no_entries, AreDemanded, HasDualGraph}
 use Rattle.dcx_atom.proofs.BoundRows.{length-list_below, weighted-taken}
+use Rattle.dcx_atom.proofs.Units.{only_at, at_itself, at_other, one_left, left_over, nothing_over, level_of}
 use Rattle.dcx_elem.specs.Extremes.{extreme_meaning}
 use Rattle.dcx_elem.specs.ExtremeLaws.{rows_are, row_slopes}
-use Rattle.dcx_cert_complete.specs.Demanded.{AreDemanded, HasDualGraph}
-use Rattle.dcx_cert_complete.proofs.Units.{only_at, at_itself, at_other, one_left, left_over, nothing_over, level_of}
 
 -- what the unknown of an entry leaves
 entry_over : (bend : Bend) (count : ℕ) (c : ℕ → ℚ) (w : ℕ → ℕ → ℚ) (t : Filling) (j : ℕ) →
@@ -39,5 +38,5 @@ demanded bend count args sides is c w left j b =
     All-cons IsMet (total_condition Free (outward bend (c j)) (list_below count (w j))) []
     (level_of bend (c j) (sum j) (here (whole (pos 1))) (here (whole (negsuc 0)))) (All-nil IsMet)
 
-pub extreme_dual : (bend : Bend) (count : ℕ) → HasDualGraph (extreme_meaning bend count)
-extreme_dual bend count = record { slopes = row_slopes bend count; demanded = demanded bend count }
+pub extreme_duality : (bend : Bend) (count : ℕ) → HasDualGraph (extreme_meaning bend count)
+extreme_duality bend count = record { slopes = row_slopes bend count; demanded = demanded bend count }

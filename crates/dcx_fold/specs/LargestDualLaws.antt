@@ -1,4 +1,4 @@
--- The sum of the k largest entries, and of the k smallest: the slopes of their rows, and the conditions that their weights meet.
+-- The sum of the k largest entries, and of the k smallest: weights that let no unknown lower the sum meet the conditions.
 use Rattle.std.proofs.Common.{◌≡◌, ℕ, zero, suc, ◌<◌, arith, List, [], ◌∷◌, ◌++◌, map, All, replicate, sym, ap, ap₂, ◌∙◌, subst, pos, negsuc}
 use Rattle.std.proofs.lemmas.List.Elements.{All-cons, All-nil, All-head, All-tail}
 use Rattle.dcx_math.specs.Rational.{ℚ, whole, neg_ℚ, ◌+ℚ◌, ◌*ℚ◌, ◌≤ℚ◌}
@@ -14,13 +14,12 @@ use Rattle.dcx_atom.specs.Arrays.{list_below, sides_at}
 use Rattle.dcx_atom.specs.Rows.{Filling, row_at, form_at, KindsHold, weighted}
 use Rattle.dcx_atom.specs.Meaning.{IsMet}
 use Rattle.dcx_atom.specs.Bounding.{outward}
-use Rattle.dcx_atom.proofs.Duality.{no_entries}
+use Rattle.dcx_atom.specs.Duality.{no_entries, AreDemanded, HasDualGraph}
 use Rattle.dcx_atom.proofs.LinearSums.{All-list_below}
 use Rattle.dcx_atom.proofs.BoundRows.{map-list_below, weighted-list_below, form-list_below, rat_sum-list_below}
+use Rattle.dcx_atom.proofs.Units.{only_at, at_itself, at_other, one_nonnegative, only_nonnegative, one_left}
 use Rattle.dcx_fold.specs.Largest.{level_row, level_form, each_condition, sum_condition, level_conditions, largest_meaning}
 use Rattle.dcx_fold.specs.LargestLaws.{is_chosen, row_slopes}
-use Rattle.dcx_cert_complete.specs.Demanded.{AreDemanded, HasDualGraph}
-use Rattle.dcx_cert_complete.proofs.Units.{only_at, at_itself, at_other, one_nonnegative, only_nonnegative, one_left}
 
 -- ---- what the unknowns leave
 -- of the level, and of the unknown of an entry
@@ -157,5 +156,5 @@ demanded bend k args sides is c w left j b =
     (conditions_met bend k n (c 0) (w 0) (λ t kinds.
     subst IsNonnegative (ap (λ size. rat_sum_below size (λ j. c j *ℚ form_at (level_form bend k n) t +ℚ weighted (list_below n (level_row bend)) (w j) no_entries t)) one ∙ +ℚ_idl _) (left t kinds)))
 
-pub largest_dual : (bend : Bend) (k : ℕ) → HasDualGraph (largest_meaning bend k)
-largest_dual bend k = record { slopes = row_slopes bend k; demanded = demanded bend k }
+pub largest_duality : (bend : Bend) (k : ℕ) → HasDualGraph (largest_meaning bend k)
+largest_duality bend k = record { slopes = row_slopes bend k; demanded = demanded bend k }

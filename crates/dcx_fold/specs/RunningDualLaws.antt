@@ -1,4 +1,4 @@
--- The running maximum: the slopes of its rows, and the conditions that their weights meet.
+-- The running maximum: weights that let no unknown lower the sum meet the conditions.
 use Rattle.std.proofs.Common.{◌≡◌, ℕ, zero, suc, ◌<◌, arith, [], ◌∷◌, refl, sym, ap, ◌∙◌, subst, pos, negsuc}
 use Rattle.std.proofs.lemmas.List.Elements.{All-cons, All-nil}
 use Rattle.dcx_math.specs.Rational.{ℚ, whole, neg_ℚ, ◌+ℚ◌, ◌-ℚ◌, ◌*ℚ◌, ◌≤ℚ◌}
@@ -10,11 +10,10 @@ use Rattle.dcx_shape.specs.Sides.{entries_of}
 use Rattle.dcx_atom.specs.Rows.{Filling, form_at, weighted}
 use Rattle.dcx_atom.specs.Meaning.{IsMet}
 use Rattle.dcx_atom.specs.Bounding.{unknown_form, free_kinds}
-use Rattle.dcx_atom.proofs.Duality.{no_entries}
+use Rattle.dcx_atom.specs.Duality.{no_entries, AreDemanded, HasDualGraph}
+use Rattle.dcx_atom.proofs.Units.{only_at, at_itself, at_other, one_left}
 use Rattle.dcx_fold.specs.Running.{running_rows, own_weights, running_condition, running_meaning}
 use Rattle.dcx_fold.specs.RunningLaws.{row_slopes, carry, carry_on, carry_none, left_of}
-use Rattle.dcx_cert_complete.specs.Demanded.{AreDemanded, HasDualGraph}
-use Rattle.dcx_cert_complete.proofs.Units.{only_at, at_itself, at_other, one_left}
 
 -- ---- what the unknowns leave
 -- what unknown j leaves in all
@@ -83,5 +82,5 @@ demanded (Vector n ∷ []) sides is c w left j b =
 demanded (Matrix m n ∷ []) sides is c w left j b = cc
 demanded (s ∷ r ∷ rs) sides is c w left j b = cc
 
-pub running_dual : HasDualGraph running_meaning
-running_dual = record { slopes = row_slopes; demanded = demanded }
+pub running_duality : HasDualGraph running_meaning
+running_duality = record { slopes = row_slopes; demanded = demanded }
