@@ -57,7 +57,7 @@ minus_one_fits =
     representable (whole (negsuc 0)) (negsuc 0) (pos 1) (record { positive = one; coprime = λ d h k. eq-one_of_dvd-one k; is = sym (over_one (negsuc 0) (negsuc 0) (pos 1) one refl refl) }) (lit< tt) (lit< tt)
 
 -- ---- either sign of a number
-unsigned_abs-neg : (z : ℤ) → unsigned_abs (neg_ℤ z) ≡ unsigned_abs z
+pub unsigned_abs-neg : (z : ℤ) → unsigned_abs (neg_ℤ z) ≡ unsigned_abs z
 unsigned_abs-neg z = omega (arith, ints)
 
 pub negative_fits : (x : ℚ) → IsRepresentable x → IsRepresentable (neg_ℚ x)

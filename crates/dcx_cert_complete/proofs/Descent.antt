@@ -26,7 +26,7 @@ use Rattle.dcx_right.proofs.TreeValues.{tree_recedes}
 use Rattle.dcx_cert_complete.specs.Laws.{UnboundedGoesByRays}
 use Rattle.dcx_cert_complete.proofs.Level.{AreStarting, tree_starts}
 use Rattle.dcx_cert_complete.proofs.Rests.{IsRest, rest_of}
-use Rattle.dcx_cert_complete.proofs.Units.{one_nonnegative}
+use Rattle.dcx_atom.proofs.Units.{one_nonnegative}
 
 -- ---- what is never more than a number is at most 0 for each step
 above : (c : ℚ) → c *ℚ c +ℚ whole (pos 1) ≤ℚ c → c ≤ℚ whole (pos 0)

@@ -32,7 +32,7 @@ use Rattle.dcx_cert_complete.proofs.Level.{nothing, HeadStarts, AreStarting}
 use Rattle.dcx_cert_complete.proofs.Taken.{taken_signed, taken_follow, kind_bends, taken_between, start_along, fixed_stands, along_taken, start_low}
 use Rattle.dcx_cert_complete.proofs.Steep.{given_signed, steep_signed}
 use Rattle.dcx_atom.specs.Farthest.{beyond_trans}
-use Rattle.dcx_cert_complete.proofs.Units.{one_nonnegative}
+use Rattle.dcx_atom.proofs.Units.{one_nonnegative}
 
 -- ---- numbers
 scaled_signed : (s : Sign) (k y : ℚ) → whole (pos 0) ≤ℚ k → HasSign s y → HasSign s (k *ℚ y)

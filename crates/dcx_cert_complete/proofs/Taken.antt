@@ -18,7 +18,7 @@ use Rattle.dcx_right.specs.Rays.{BendsAlong, Recedes}
 use Rattle.dcx_right.proofs.Calls.{zero_shifted}
 use Rattle.dcx_cert_complete.proofs.Level.{nothing, HeadStarts}
 use Rattle.dcx_convex.specs.Nodes.{Apply}
-use Rattle.dcx_cert_complete.proofs.Units.{one_nonnegative}
+use Rattle.dcx_atom.proofs.Units.{one_nonnegative}
 
 -- ---- signs and trends
 with_signed : (side : ℕ) (signs : List Sign) (u v : Entries) → HaveSigns signs u → HaveSigns signs v → HaveSigns signs (λ i. if nat_eq i side then u i else v i)

@@ -38,7 +38,7 @@ use Rattle.dcx_array.specs.Operators.{entry_beside, negated_number, negated, add
 use Rattle.dcx_array.specs.Arrays.{entry, filled, first_stop, formed_number, formed_unless, formed_array}
 use Rattle.dcx_array.proofs.Equals.{get_or-list_below}
 use Rattle.dcx_script_laws.specs.Differences.{difference_passes, difference_fault, of_difference}
-use Rattle.dcx_call.proofs.Fractions.{unsigned_abs-neg}
+use Rattle.dcx_atom.proofs.Fractions.{unsigned_abs-neg}
 
 -- ---- the negative of a number
 -- the number with its sign turned
