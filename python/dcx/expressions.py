@@ -342,15 +342,16 @@ class Constant(Expression):
 def refuse_lists_of_expressions(value) -> None:
     """ValueError where a list or an array of objects holds an expression, where one expression is wanted."""
     if isinstance(value, (list, tuple)):
-        items = value
+        items, hint = value, ""
     elif getattr(getattr(value, "dtype", None), "kind", "") == "O" and getattr(value, "shape", ()):
         items = arrays.numpy().asarray(value).reshape(-1)
+        hint = " An array's own A.dot(x) makes an array of expressions: write A @ x."
     else:
         return
     for item in items:
         if isinstance(item, Expression):
             raise ValueError("The input must be a single expression, not a list. Combine expressions using atoms such "
-                             "as bmat, hstack, and vstack.")
+                             f"as bmat, hstack, and vstack.{hint}")
         if isinstance(item, (list, tuple)):
             refuse_lists_of_expressions(item)
 
