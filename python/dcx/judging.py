@@ -8,8 +8,8 @@ from .arrays import Array, Sparse
 from .exact.report import SIGNS
 from .exact.rules import Rules
 from .exact.tree import Constraint, Node, reaches
-from .expressions import postorder
 from .graph import PLAIN
+from .trees import postorder
 
 # the words of the rules for what is recorded under others; of an operand's shape and of options no rule speaks
 _WORDS = {

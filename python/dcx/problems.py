@@ -10,10 +10,11 @@ from .answered import Answered, Solution, SolverStats
 from .arguments import Arguments
 from .constraints import Constraint
 from .errors import DCPError, UnsupportedError
-from .expressions import Constant, leaves_of, postorder
+from .expressions import Constant
 from .objectives import Maximize, Objective
 from .results import Result
 from .scripts import Script, written
+from .trees import Made
 
 __all__ = ["Problem", "SizeMetrics", "Solution", "SolverStats"]
 
@@ -32,7 +33,7 @@ class SizeMetrics(NamedTuple):
     num_scalar_leq_constr: int
 
 
-class Problem(Answered):
+class Problem(Answered, Made):
     """An objective, `Minimize(..)` or `Maximize(..)`, and a list of constraints. Neither changes once the problem is
     made.
 
@@ -68,22 +69,6 @@ class Problem(Answered):
     def constraints(self) -> list[Constraint]:
         """The constraints, in a list of its own: a longer list makes no longer problem."""
         return list(self._constraints)
-
-    def variables(self) -> list:
-        """The variables, each once, in the order in which they are met."""
-        return leaves_of(self._roots(), "variable")
-
-    def parameters(self) -> list:
-        """The parameters, each once, in the order in which they are met."""
-        return leaves_of(self._roots(), "parameter")
-
-    def constants(self) -> list:
-        """The constants, each once, in the order in which they are met."""
-        return leaves_of(self._roots(), "constant")
-
-    def atoms(self) -> list:
-        """The kinds of expressions that stand in it, each once, as the program's language names them."""
-        return list(dict.fromkeys(node.kind for node in postorder(self._roots()) if node.args))
 
     @property
     def var_dict(self) -> dict[str, Any]:
@@ -279,7 +264,6 @@ class Problem(Answered):
         return f"Problem({self._objective!r}, {self._constraints!r})"
 
     def _roots(self) -> list:
-        """The expressions that the problem is made of."""
         return [self._objective.expr, *(side for item in self._constraints for side in item.args)]
 
 

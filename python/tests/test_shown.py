@@ -44,6 +44,16 @@ def lying(change):
     return mock.patch.object(asking, "asked", lie)
 
 
+def with_another(text, start, place, word, instead):
+    """The text with another word at a place of the first line that begins so: `word`, or `instead` where that stands
+    there."""
+    lines = text.split("\n")
+    at = next(i for i, line in enumerate(lines) if line.startswith(start))
+    words = lines[at].split(" ")
+    words[place] = word if words[place] != word else instead
+    return "\n".join([*lines[:at], " ".join(words), *lines[at + 1 :]])
+
+
 def not_asked():
     return mock.patch.object(asking, "asked", side_effect=AssertionError("the exact solver is asked"))
 
@@ -220,24 +230,10 @@ class Lies(unittest.TestCase):
         self.assertIsNone(problem.shown_by)
 
     def test_a_wrong_multiplier(self):
-        def change(text):
-            lines = text.split("\n")
-            at = next(i for i, line in enumerate(lines) if line.startswith("node "))
-            words = lines[at].split(" ")
-            words[3] = "1/3" if words[3] != "1/3" else "1/4"
-            return "\n".join([*lines[:at], " ".join(words), *lines[at + 1 :]])
-
-        self.refused(change, "section 1 ")
+        self.refused(lambda text: with_another(text, "node ", 3, "1/3", "1/4"), "section 1 ")
 
     def test_a_wrong_point_and_a_wrong_value(self):
-        def moved(text):
-            lines = text.split("\n")
-            at = next(i for i, line in enumerate(lines) if line.startswith("var x (5) = "))
-            words = lines[at].split(" ")
-            words[4] = "7" if words[4] != "7" else "8"
-            return "\n".join([*lines[:at], " ".join(words), *lines[at + 1 :]])
-
-        self.refused(moved, "section 1 Value")
+        self.refused(lambda text: with_another(text, "var x (5) = ", 4, "7", "8"), "section 1 Value")
         self.refused(lambda text: re.sub("\nvalue .*", "\nvalue 1", text), "section 1 Value")
 
     def test_what_breaks_off(self):
