@@ -164,6 +164,14 @@ class Stops(unittest.TestCase):
 
 
 class Limits(unittest.TestCase):
+    def test_long_numbers_are_told_in_short(self):
+        """The least sum is 0, at a point whose numbers have sixty digits."""
+        A, x = np.random.RandomState(0).rand(4, 4), cp.Variable(4)
+        with self.assertRaises(SolverError) as error:
+            cp.Problem(cp.Minimize(cp.norm1(A @ x - 1))).solve()
+        self.assertRegex(str(error.exception), r"pass 128 bits \(number \d{6}\.\. of 6\d digits/\d{6}\.\. of 6\d digits\)")
+        self.assertNotRegex(str(error.exception), r"\d{40}")
+
     def test_limits_of_the_user_stay(self):
         problem, x, _ = wide.fit(1)
         with not_asked(), self.assertRaises(SolverError) as stop:
