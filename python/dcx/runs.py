@@ -75,8 +75,8 @@ def solve_at(
     dask.distributed, an MPI pool. Its workers need the package, and the program where `dcx.program.find` finds it.
     `progress(done, total)` is called here whenever a part is done, or a setting behind whose stop others are asked.
 
-    Where the program stops at a setting, the exact solver is asked, or the search for whole numbers, as by `solve`, each
-    setting by itself: by the executor too, where there is one. `exact=False` leaves that out; `trust`, `box` and
+    Where the program stops at a setting, the exact solver is asked, or the search for whole numbers, as by `solve`,
+    each setting by itself: by the executor too, where there is one. `exact=False` leaves that out; `trust`, `box` and
     `time_limit`, the seconds of each, are those of `solve`. The program's own time has no limit here.
 
     A part whose worker dies, or fails in another way, is asked again once: by the executor, or, where that takes

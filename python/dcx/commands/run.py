@@ -101,8 +101,8 @@ class OneModule(MetaPathFinder):
 
 
 def stand_in() -> None:
-    """Lets `import cvxpy` and `from cvxpy import ..` find the recorder, and nothing below it but `error` and `settings`.
-    """
+    """Lets `import cvxpy` and `from cvxpy import ..` find the recorder, and of what lies below it `error` and
+    `settings`."""
     recorder = import_module("dcx.cvxpy")
     sys.modules["cvxpy"] = recorder
     recorder.__path__ = []
