@@ -4,9 +4,9 @@ use Rattle.std.proofs.lemmas.Int.{ints}
 use native.Mathlib.Nat.{eq-one_of_dvd-one}
 use Rattle.dcx_math.specs.Integers.{units}
 use Rattle.dcx_math.specs.Divisors.{gcd, divided}
-use Rattle.dcx_math.specs.Rational.{whole, ◌+ℚ◌, ◌*ℚ◌}
+use Rattle.dcx_math.specs.Rational.{whole, ◌+ℚ◌, ◌*ℚ◌, ◌/ℚ◌}
 use Rattle.dcx_math.specs.LowestTerms.{IsInLowestTerms}
-use Rattle.dcx_math.proofs.Ratios.{ratio-one}
+use Rattle.dcx_math.proofs.Ratios.{ratio-one, ratio-is-/ℚ}
 use Rattle.dcx_math.proofs.FieldLaws.{whole-+ℤ, whole-*ℤ}
 use Rattle.dcx_frac.specs.declared.fraction.Frac.{Frac}
 use Rattle.dcx_frac.specs.Fits.{Fits, IsRepresentable, representable}
@@ -24,6 +24,10 @@ whole_lowest z = record { positive = one_positive; coprime = λ d m n. eq-one_of
 -- so it is representable exactly where it fits
 pub whole_fits : (z : ℤ) → IsRepresentable (whole z) ↔ Fits z
 whole_fits z = (λ r. (r.fits z (pos 1) (whole_lowest z)).0, λ h. representable (whole z) z (pos 1) (whole_lowest z) h (omega arith))
+
+-- an integer divided by 1
+pub over_unit : (z : ℤ) → whole z /ℚ whole (pos 1) ≡ whole z
+over_unit z = ratio-is-/ℚ z (pos 1) one_positive ∙ ratio-one z one_positive
 
 -- the value of a fraction over 1
 pub whole_value : (x : Frac) → den_of x ≡ pos 1 → value x ≡ whole (num_of x)

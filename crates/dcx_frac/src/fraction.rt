@@ -155,10 +155,24 @@ impl Frac {
         if den == 0 {
             return None;
         }
+        if den == 1 {
+            return Frac::integer(num);
+        }
         let n = num.unsigned_abs();
         let d = den.unsigned_abs();
         let g = gcd(n, d);
         from_parts((num < 0) != (den < 0), n / g, d / g)
+    }
+
+    /// The integer as a fraction, or `None` where it passes `LARGEST`.
+    fn integer(num: i128) -> Option<Frac>
+        ensures exists { IsSome result ↔ Fits num }
+        ensures value { IfSome result (λ f. value f ≡ whole num) }
+    {
+        if num == i128::MIN {
+            return None;
+        }
+        Some(Frac { num, den: 1 })
     }
 
     /// The number 0.
