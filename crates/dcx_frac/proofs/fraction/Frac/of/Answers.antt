@@ -62,11 +62,14 @@ returns-then-den-eq1-clause-exists c =
     let unit : c.args.den ≡ pos 1 = sym (to_z-of_z c.ranges.den) ∙ ap (to_z w128) c.if-den-eq1.true in
     let same : whole c.args.num /ℚ whole c.args.den ≡ whole c.args.num = ap (λ d. whole c.args.num /ℚ whole d) unit ∙ over_unit c.args.num in
     let fits = whole_fits c.args.num in
-    let e = c.integer.ensures.exists in
+    let num = c.ranges.num in
+    let e = simp to_z-of_z at c.integer.ensures.exists in
     (λ s. (λ h. c.if-den-eq0.false (ap (of_z w128) h), subst IsRepresentable (sym same) (fits.1 (e.0 s))), λ h. e.1 (fits.0 (subst IsRepresentable same h.1)))
 
 pub returns-then-den-eq1-clause-value : goal.returns-then-den-eq1-clause-value
 returns-then-den-eq1-clause-value c =
     let unit : c.args.den ≡ pos 1 = sym (to_z-of_z c.ranges.den) ∙ ap (to_z w128) c.if-den-eq1.true in
     let same : whole c.args.num /ℚ whole c.args.den ≡ whole c.args.num = ap (λ d. whole c.args.num /ℚ whole d) unit ∙ over_unit c.args.num in
-    subst (λ x. IfSome c.integer.result (λ f. value f ≡ x)) (sym same) c.integer.ensures.value
+    let num = c.ranges.num in
+    let is = simp to_z-of_z at c.integer.ensures.value in
+    subst (λ x. IfSome c.integer.result (λ f. value f ≡ x)) (sym same) is
