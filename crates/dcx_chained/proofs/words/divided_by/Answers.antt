@@ -3,7 +3,7 @@ use Rattle.std.proofs.Common.{rules, ◌≡◌, ◌∙◌, sym, ap, pos, unsigne
 use Rattle.std.specs.Int.{w128}
 use Rattle.dcx_math.specs.Divisors.{divided}
 use Rattle.dcx_chained.proofs.Turned.{divided_one}
-use Rattle.dcx_chained.proofs.mix.divided_by.Goals as goal
+use Rattle.dcx_chained.proofs.words.divided_by.Goals as goal
 
 pub returns-then-divisor-eq1 : goal.returns-then-divisor-eq1
 returns-then-divisor-eq1 c =
