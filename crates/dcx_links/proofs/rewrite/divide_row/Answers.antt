@@ -29,7 +29,8 @@ cells-init c =
 pub returns-clause-there : goal.returns-clause-there
 returns-clause-there c = λ k.
     let v = c.cells.invariant in
-    rewritten (divided (unsigned_abs c.args.by)) (divided-zero (unsigned_abs c.args.by)) c.args.store.now c.cells.store c.args.row c.cells.from c.cells.link v.sound v.next v.done v.left c.cells-test.false k
+    let fb : SFits w128 c.args.by = search rules in
+    rewritten (divided (unsigned_abs c.args.by)) (divided-zero (unsigned_abs c.args.by)) c.args.store.now c.cells.store c.args.row c.cells.from c.cells.link v.sound v.next (simp to_z-of_z at v.done) v.left c.cells-test.false k
 
 pub change_at-requires-clause-number : goal.change_at-requires-clause-number
 change_at-requires-clause-number c =
@@ -44,30 +45,23 @@ change_at-requires-clause-number c =
     let here = walk_here s.cells.items s.row_heads.items s.column_heads.items s.free v.sound c.args.row c.cells.from c.cells.link v.next c.cells-test.true in
     let in_row = v.sound.column_within c.cells.link c.args.row (cell_at s.cells.items c.cells.link).column here in
     let w = v.columns in
-    let is = number_first (divided (unsigned_abs c.args.by)) (divided-zero (unsigned_abs c.args.by)) c.args.store.now s c.args.row c.cells.from c.cells.link v.sound v.next v.done v.left c.cells-test.true ∙ ap (λ (y : Cell). y.value) (sym e) in
+    let is = number_first (divided (unsigned_abs c.args.by)) (divided-zero (unsigned_abs c.args.by)) c.args.store.now s c.args.row c.cells.from c.cells.link v.sound v.next (simp to_z-of_z at v.done) v.left c.cells-test.true ∙ ap (λ (y : Cell). y.value) (sym e) in
     let d : unsigned_abs c.args.by ∣ unsigned_abs x.value = subst (λ z. unsigned_abs c.args.by ∣ unsigned_abs z) is (c.requires.divides (cell_at s.cells.items c.cells.link).column (omega (arith, in_row, w))) in
     let some : x.value ≢ pos 0 = λ z. here.number (ap (λ (y : Cell). y.value) (sym e) ∙ z) in
     let f : c.quotient.result ≡ divided (unsigned_abs c.args.by) x.value = simp to_z-of_z at c.quotient.ensures in
     simp to_z-of_z (λ z. divided_some (unsigned_abs c.args.by) x.value some d (sym f ∙ z))
 
-pub change_at-requires-clause-here : goal.change_at-requires-clause-here
-change_at-requires-clause-here c =
-    let v = c.cells.invariant in
-    let s = c.cells.store in
-    let lt : c.cells.link < length s.cells.items = walk_within s.cells.items s.row_heads.items s.column_heads.items s.free v.sound c.args.row c.cells.from c.cells.link v.next c.cells-test.true in
-    let e : c.index-cell.result.now ≡ cell_at s.cells.items c.cells.link = cell_read s.cells.items c.cells.link c.index-cell.result.now lt c.index-cell.ensures in
-    rw e (walk_here s.cells.items s.row_heads.items s.column_heads.items s.free v.sound c.args.row c.cells.from c.cells.link v.next c.cells-test.true)
-
 pub cells-smaller : goal.cells-smaller
 cells-smaller c =
     let v = c.cells.invariant in
+    let fb : SFits w128 c.args.by = search rules in
     let s = c.cells.store in
     let lt : c.cells.link < length s.cells.items = walk_within s.cells.items s.row_heads.items s.column_heads.items s.free v.sound c.args.row c.cells.from c.cells.link v.next c.cells-test.true in
     let e : c.index-cell.result.now ≡ cell_at s.cells.items c.cells.link = cell_read s.cells.items c.cells.link c.index-cell.result.now lt c.index-cell.ensures in
     let q = ap (λ (y : Cell). y.column) e in
     let here = walk_here s.cells.items s.row_heads.items s.column_heads.items s.free v.sound c.args.row c.cells.from c.cells.link v.next c.cells-test.true in
     let in_row = v.sound.column_within c.cells.link c.args.row (cell_at s.cells.items c.cells.link).column here in
-    let b = at_beyond (divided (unsigned_abs c.args.by)) (divided-zero (unsigned_abs c.args.by)) c.args.store.now s c.args.row c.cells.from c.cells.link v.sound v.next v.done v.left c.cells-test.true in
+    let b = at_beyond (divided (unsigned_abs c.args.by)) (divided-zero (unsigned_abs c.args.by)) c.args.store.now s c.args.row c.cells.from c.cells.link v.sound v.next (simp to_z-of_z at v.done) v.left c.cells-test.true in
     let w = c.change_at.ensures.columns in
     omega (arith, q, in_row, b, w)
 
@@ -98,7 +92,7 @@ cells-preserved c =
       rows = ch.rows ∙ v.rows;
       columns = ch.columns ∙ v.columns;
       next = next;
-      done = λ k k_in. done_on (divided (unsigned_abs c.args.by)) (divided-zero (unsigned_abs c.args.by)) c.args.store.now s c.args.row c.cells.from c.cells.link v.sound v.next v.done v.left c.cells-test.true n there same k (omega (arith, k_in, q));
-      left = λ k le. left_on (divided (unsigned_abs c.args.by)) (divided-zero (unsigned_abs c.args.by)) c.args.store.now s c.args.row c.cells.from c.cells.link v.sound v.next v.done v.left c.cells-test.true n there same k (omega (arith, le, q));
+      done = simp to_z-of_z (λ k k_in. done_on (divided (unsigned_abs c.args.by)) (divided-zero (unsigned_abs c.args.by)) c.args.store.now s c.args.row c.cells.from c.cells.link v.sound v.next (simp to_z-of_z at v.done) v.left c.cells-test.true n there same k (omega (arith, k_in, q)));
+      left = λ k le. left_on (divided (unsigned_abs c.args.by)) (divided-zero (unsigned_abs c.args.by)) c.args.store.now s c.args.row c.cells.from c.cells.link v.sound v.next (simp to_z-of_z at v.done) v.left c.cells-test.true n there same k (omega (arith, le, q));
       same = λ r k d. ch.same r k (λ h. d h.0) ∙ v.same r k d;
     }

@@ -30,7 +30,8 @@ cells-init c =
 pub returns-clause-there : goal.returns-clause-there
 returns-clause-there c = λ k.
     let v = c.cells.invariant in
-    rewritten (λ z. c.args.by *ℤ z) (*ℤ-zero c.args.by) c.args.store.now c.cells.store c.args.row c.cells.from c.cells.link v.sound v.next v.done v.left c.cells-test.false k
+    let fb : SFits w128 c.args.by = search rules in
+    rewritten (λ z. c.args.by *ℤ z) (*ℤ-zero c.args.by) c.args.store.now c.cells.store c.args.row c.cells.from c.cells.link v.sound v.next (simp to_z-of_z at v.done) v.left c.cells-test.false k
 
 -- the next cell's number, times the factor, fits
 pub overflow_mul-by : goal.overflow_mul-by
@@ -44,7 +45,7 @@ overflow_mul-by c =
     let here = walk_here s.cells.items s.row_heads.items s.column_heads.items s.free v.sound c.args.row c.cells.from c.cells.link v.next c.cells-test.true in
     let in_row = v.sound.column_within c.cells.link c.args.row (cell_at s.cells.items c.cells.link).column here in
     let w = v.columns in
-    let is = number_first (λ z. c.args.by *ℤ z) (*ℤ-zero c.args.by) c.args.store.now s c.args.row c.cells.from c.cells.link v.sound v.next v.done v.left c.cells-test.true ∙ ap (λ (y : Cell). y.value) (sym e) in
+    let is = number_first (λ z. c.args.by *ℤ z) (*ℤ-zero c.args.by) c.args.store.now s c.args.row c.cells.from c.cells.link v.sound v.next (simp to_z-of_z at v.done) v.left c.cells-test.true ∙ ap (λ (y : Cell). y.value) (sym e) in
     simp to_z-of_z (fits_signed_from_abs w128 (c.args.by *ℤ c.index-cell.result.now.value)
     (subst (λ z. unsigned_abs (c.args.by *ℤ z) < 2 ^ 127) is (c.requires.fits (cell_at s.cells.items c.cells.link).column (omega (arith, in_row, w)))))
 
@@ -64,24 +65,17 @@ change_at-requires-clause-number c =
     ] in
     simp to_z-of_z some
 
-pub change_at-requires-clause-here : goal.change_at-requires-clause-here
-change_at-requires-clause-here c =
-    let v = c.cells.invariant in
-    let s = c.cells.store in
-    let lt : c.cells.link < length s.cells.items = walk_within s.cells.items s.row_heads.items s.column_heads.items s.free v.sound c.args.row c.cells.from c.cells.link v.next c.cells-test.true in
-    let e : c.index-cell.result.now ≡ cell_at s.cells.items c.cells.link = cell_read s.cells.items c.cells.link c.index-cell.result.now lt c.index-cell.ensures in
-    rw e (walk_here s.cells.items s.row_heads.items s.column_heads.items s.free v.sound c.args.row c.cells.from c.cells.link v.next c.cells-test.true)
-
 pub cells-smaller : goal.cells-smaller
 cells-smaller c =
     let v = c.cells.invariant in
+    let fb : SFits w128 c.args.by = search rules in
     let s = c.cells.store in
     let lt : c.cells.link < length s.cells.items = walk_within s.cells.items s.row_heads.items s.column_heads.items s.free v.sound c.args.row c.cells.from c.cells.link v.next c.cells-test.true in
     let e : c.index-cell.result.now ≡ cell_at s.cells.items c.cells.link = cell_read s.cells.items c.cells.link c.index-cell.result.now lt c.index-cell.ensures in
     let q = ap (λ (y : Cell). y.column) e in
     let here = walk_here s.cells.items s.row_heads.items s.column_heads.items s.free v.sound c.args.row c.cells.from c.cells.link v.next c.cells-test.true in
     let in_row = v.sound.column_within c.cells.link c.args.row (cell_at s.cells.items c.cells.link).column here in
-    let b = at_beyond (λ z. c.args.by *ℤ z) (*ℤ-zero c.args.by) c.args.store.now s c.args.row c.cells.from c.cells.link v.sound v.next v.done v.left c.cells-test.true in
+    let b = at_beyond (λ z. c.args.by *ℤ z) (*ℤ-zero c.args.by) c.args.store.now s c.args.row c.cells.from c.cells.link v.sound v.next (simp to_z-of_z at v.done) v.left c.cells-test.true in
     let w = c.change_at.ensures.columns in
     omega (arith, q, in_row, b, w)
 
@@ -97,6 +91,12 @@ cells-preserved c =
     let q : x.column ≡ (cell_at s.cells.items c.cells.link).column = ap (λ (y : Cell). y.column) e in
     let fb : SFits w128 c.args.by = search rules in
     let fx : SFits w128 x.value = search rules in
+    let was = walk_here s.cells.items s.row_heads.items s.column_heads.items s.free v.sound c.args.row c.cells.from c.cells.link v.next c.cells-test.true in
+    let in_row = v.sound.column_within c.cells.link c.args.row (cell_at s.cells.items c.cells.link).column was in
+    let w = v.columns in
+    let is = number_first (λ z. c.args.by *ℤ z) (*ℤ-zero c.args.by) c.args.store.now s c.args.row c.cells.from c.cells.link v.sound v.next (simp to_z-of_z at v.done) v.left c.cells-test.true ∙ ap (λ (y : Cell). y.value) (sym e) in
+    let fp : SFits w128 (c.args.by *ℤ x.value) = fits_signed_from_abs w128 (c.args.by *ℤ x.value)
+    (subst (λ z. unsigned_abs (c.args.by *ℤ z) < 2 ^ 127) is (c.requires.fits (cell_at s.cells.items c.cells.link).column (omega (arith, in_row, w)))) in
     let here : IsAt n.cells.items c.cells.link c.args.row x.column = ch.here in
     let lt' : c.cells.link < length n.cells.items = at_within n.cells.items c.cells.link here.number in
     let e' : c.index.result.now ≡ cell_at n.cells.items c.cells.link = cell_read n.cells.items c.cells.link c.index.result.now lt' c.index.ensures in
@@ -111,7 +111,7 @@ cells-preserved c =
       rows = ch.rows ∙ v.rows;
       columns = ch.columns ∙ v.columns;
       next = next;
-      done = λ k k_in. done_on (λ z. c.args.by *ℤ z) (*ℤ-zero c.args.by) c.args.store.now s c.args.row c.cells.from c.cells.link v.sound v.next v.done v.left c.cells-test.true n there same k (omega (arith, k_in, q));
-      left = λ k le. left_on (λ z. c.args.by *ℤ z) (*ℤ-zero c.args.by) c.args.store.now s c.args.row c.cells.from c.cells.link v.sound v.next v.done v.left c.cells-test.true n there same k (omega (arith, le, q));
+      done = simp to_z-of_z (λ k k_in. done_on (λ z. c.args.by *ℤ z) (*ℤ-zero c.args.by) c.args.store.now s c.args.row c.cells.from c.cells.link v.sound v.next (simp to_z-of_z at v.done) v.left c.cells-test.true n there same k (omega (arith, k_in, q)));
+      left = λ k le. left_on (λ z. c.args.by *ℤ z) (*ℤ-zero c.args.by) c.args.store.now s c.args.row c.cells.from c.cells.link v.sound v.next (simp to_z-of_z at v.done) v.left c.cells-test.true n there same k (omega (arith, le, q));
       same = λ r k d. ch.same r k (λ h. d h.0) ∙ v.same r k d;
     }

@@ -1,5 +1,5 @@
 -- The cells have the quotients, and the other rows as before.
-use Rattle.std.proofs.Common.{rules, ℕ, ◌≡◌, unsigned_abs, arith, length, ap, sym, ◌∙◌, subst, to_z-of_z, SFits}
+use Rattle.std.proofs.Common.{rules, ◌≡◌, unsigned_abs, arith, ap, sym, ◌∙◌, subst, to_z-of_z, SFits}
 use Rattle.std.specs.Int.{w128}
 use Prim.Native.Nat.{◌∣◌}
 use Rattle.dcx_math.specs.Divisors.{divided}

@@ -1,5 +1,5 @@
 -- The cells have the products, and the other rows as before.
-use Rattle.std.proofs.Common.{rules, ℕ, ◌≡◌, ◌<◌, ◌^◌, ◌*ℤ◌, unsigned_abs, arith, length, ap, sym, ◌∙◌, subst, to_z-of_z, SFits}
+use Rattle.std.proofs.Common.{rules, ◌≡◌, ◌<◌, ◌^◌, ◌*ℤ◌, unsigned_abs, arith, ap, sym, ◌∙◌, subst, to_z-of_z, SFits}
 use Rattle.std.specs.Int.{w128}
 use Rattle.dcx_links.specs.Cells.{number_in}
 use Rattle.dcx_links.specs.Matrix.{Matrix, number_at}
