@@ -127,9 +127,9 @@ sum_demanded axis s count size c w left g b =
 
 -- ---- the four calls
 demanded : (p : Fold) (axis : Axis) → AreDemanded (fold_meaning p axis)
-demanded Max axis args sides is c w = free_demanded Max max_shared axis (sides_at args 0) (groups axis (sides_at args 0)) (entries_of sides) c w
-demanded Min axis args sides is c w = free_demanded Min min_shared axis (sides_at args 0) (groups axis (sides_at args 0)) (entries_of sides) c w
-demanded Norm1 axis args sides is c w = sum_demanded axis (sides_at args 0) (entries_of (sides_at args 0)) (entries_of sides) c w
+demanded Max axis args sides is c w left j b = free_demanded Max max_shared axis (sides_at args 0) (groups axis (sides_at args 0)) (entries_of sides) c w left j b
+demanded Min axis args sides is c w left j b = free_demanded Min min_shared axis (sides_at args 0) (groups axis (sides_at args 0)) (entries_of sides) c w left j b
+demanded Norm1 axis args sides is c w left j b = sum_demanded axis (sides_at args 0) (entries_of (sides_at args 0)) (entries_of sides) c w left j b
 demanded NormInf axis args sides is c w left j b =
     let s = sides_at args 0 in
     let n = folded_count axis s in
