@@ -8,7 +8,7 @@ use Rattle.dcx_math.proofs.Divisors.{unsigned_abs-divided, gcd-dvd_left, quotien
 use native.Mathlib.Nat.{div-le_self}
 use Rattle.dcx_tab.specs.Rows.{Row, entry}
 use Rattle.dcx_tab.specs.Pivot.{turned, turned_by, cleared, IsFormed, IsFormedAt}
-use Rattle.dcx_tab.proofs.LineSteps.{abs-pos, AreFactors, formed_at_by, at_formed_by, cleared_by_factors, turned_negative, neg_entry}
+use Rattle.dcx_tab.proofs.LineSteps.{AreFactors, formed_at_by, at_formed_by, cleared_by_factors, turned_negative, neg_entry}
 use Rattle.dcx_tab.proofs.RowLaws.{entry-less, entry-scaled}
 use Rattle.dcx_chained.specs.NewRow.{mixed_at, Clears}
 
@@ -88,10 +88,14 @@ small_quotient g a b e small =
     let l = div-le_self (unsigned_abs a) g in
     omega (arith, q, l, small)
 
+abs-positive : (z : ℤ) → pos 0 <ℤ z → 0 < unsigned_abs z
+abs-positive (pos n) h = omega (arith, ints, h)
+abs-positive (negsuc n) h = absurd (omega (arith, ints, h))
+
 -- the factor of the row isn't 0
 pub some_factor : (p a u : ℤ) → pos 0 <ℤ p → u ≡ divided (gcd (unsigned_abs p) (unsigned_abs a)) p → u ≢ pos 0
 some_factor p a u positive is_u z =
-    let n : 0 < unsigned_abs p = abs-pos p positive in
+    let n : 0 < unsigned_abs p = abs-positive p positive in
     let q = quotient-pos (unsigned_abs p) (gcd (unsigned_abs p) (unsigned_abs a)) n (gcd-dvd_left (unsigned_abs p) (unsigned_abs a)) in
     let e = unsigned_abs-divided (gcd (unsigned_abs p) (unsigned_abs a)) p in
     let f = ap unsigned_abs (sym is_u ∙ z) in

@@ -4,13 +4,13 @@ use Rattle.std.specs.Int.{w128}
 use Rattle.std.proofs.lemmas.Int.{ints}
 use Rattle.dcx_tab.specs.Rows.{entry}
 use Rattle.dcx_tab.proofs.LineSteps.{turned_negative}
-use Rattle.dcx_links.specs.Matrix.{row_of}
+use Rattle.dcx_links.specs.Matrix.{number_at, row_of}
 use Rattle.dcx_chained.proofs.RowReads.{entry-row_of, row_same}
 use Rattle.dcx_chained.proofs.Turned.{small_negative, negated_row, turned_positive}
 use Rattle.dcx_chained.proofs.clear.turn_row.Goals as goal
 
 pub multiply-requires-clause-fits : goal.multiply-requires-clause-fits
-multiply-requires-clause-fits c = λ k lt. small_negative _ (subst (λ z. unsigned_abs z < 2 ^ 127) (entry-row_of c.args.links.now c.args.r k lt) (c.requires.small k))
+multiply-requires-clause-fits c = λ k lt. small_negative (number_at c.args.links.now c.args.r k) (subst (λ z. unsigned_abs z < 2 ^ 127) (entry-row_of c.args.links.now c.args.r k lt) (c.requires.small k))
 
 pub returns-then-get-lt0-clause-row : goal.returns-then-get-lt0-clause-row
 returns-then-get-lt0-clause-row c =

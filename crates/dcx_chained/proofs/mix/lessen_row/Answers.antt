@@ -49,5 +49,12 @@ entries-preserved c =
       same = λ r d h. n.same r d (λ e. h e.0 i (omega arith) e.1) ∙ v.same r d (λ e k k_in. h e k (omega (arith, k_in)));
     }
 
+pub returns-clause-there : goal.returns-clause-there
+returns-clause-there c = λ k lt.
+    let fb : SFits w128 c.args.by = search rules in
+    let z = c.entries.auto.k-end in
+    let t = c.entries-test.false in
+    simp to_z-of_z at (c.entries.invariant.there k (omega (arith, lt, z, t)))
+
 pub returns-clause-same : goal.returns-clause-same
 returns-clause-same c = λ r d h. c.entries.invariant.same r d (λ e k lt. h e k (let z = c.entries.auto.k-end in omega (arith, lt, z)))
