@@ -165,12 +165,26 @@ class Stops(unittest.TestCase):
 
 class Limits(unittest.TestCase):
     def test_long_numbers_are_told_in_short(self):
+        """Equalities of random floats, which no point of few digits keeps."""
+        draw = np.random.RandomState(3)
+        A, x = draw.randn(3, 6), cp.Variable(6, nonneg=True)
+        rule = A @ x == A @ np.abs(draw.randn(6))
+        with self.assertRaises(SolverError) as error:
+            cp.Problem(cp.Minimize(draw.rand(6) @ x), [rule]).solve()
+        self.assertRegex(str(error.exception), r"pass 128 bits \(number \d{6}\.\. of \d\d digits/\d{6}\.\. of \d\d digits\)")
+        self.assertNotRegex(str(error.exception), r"\d{40}")
+        self.assertRegex(str(error.exception), r"it breaks constraint 1 by \d\.\d+e-1\d")
+
+    def test_an_interval_next_to_0(self):
         """The least sum is 0, at a point whose numbers have sixty digits."""
         A, x = np.random.RandomState(0).rand(4, 4), cp.Variable(4)
-        with self.assertRaises(SolverError) as error:
-            cp.Problem(cp.Minimize(cp.norm1(A @ x - 1))).solve()
-        self.assertRegex(str(error.exception), r"pass 128 bits \(number \d{6}\.\. of 6\d digits/\d{6}\.\. of 6\d digits\)")
-        self.assertNotRegex(str(error.exception), r"\d{40}")
+        problem = cp.Problem(cp.Minimize(cp.norm1(A @ x - 1)))
+        problem.solve()
+        self.assertEqual((problem.status, problem.shown_by), ("optimal_inaccurate", INTERVAL))
+        self.assertLessEqual(problem.interval.low, 0)
+        self.assertLess(problem.interval.high - problem.interval.low, Fraction(1, 10**12))
+        np.testing.assert_allclose(A @ x.value, np.ones(4), atol=1e-12)
+        self.assertRegex(str(problem.interval), r"from -\S+ to \S+, \d\.\de-1\d wide")
 
     def test_limits_of_the_user_stay(self):
         problem, x, _ = wide.fit(1)

@@ -9,7 +9,7 @@ pub mod Formed
 pub mod Columns
 pub mod Pivoted
 pub mod Turned
-pub mod Rewritten
+pub mod Listings
 pub mod Lines
 pub mod Agreements
 pub mod NarrowRows

@@ -17,7 +17,9 @@ use Rattle.dcx_fold.specs.Running.{running_meaning}
 use Rattle.dcx_fold.specs.RunningLaws.{running_formation, running_sign_law, running_monotonicity, running_curvature, running_soundness, running_tightness, running_subgradient, running_recession}
 use Rattle.dcx_fold.specs.RunningDualLaws.{running_duality}
 use Rattle.dcx_fold.specs.OwnLaws.{fold_own, largest_own, running_own}
-use Rattle.dcx_fold.specs.FractionLaws.{fold_fraction_summands, fold_fraction_coefficients, fold_fraction_slopes, largest_fraction_summands, largest_fraction_coefficients, largest_fraction_slopes, running_fraction_summands, running_fraction_coefficients, running_fraction_slopes}
+use Rattle.dcx_fold.specs.FractionLaws.{fold_fraction_summands, fold_fraction_coefficients, fold_fraction_slopes}
+use Rattle.dcx_fold.specs.FractionLaws.{largest_fraction_summands, largest_fraction_coefficients, largest_fraction_slopes}
+use Rattle.dcx_fold.specs.FractionLaws.{running_fraction_summands, running_fraction_coefficients, running_fraction_slopes}
 
 fold_lawful : (fold : Fold) (axis : Axis) → IsLawful (fold_meaning fold axis)
 fold_lawful fold axis = record {

@@ -47,7 +47,8 @@ module _ (p : Fold) (shared : IsShared p) (axis : Axis) (s : Sides) where
       let sum = λ (i : ℕ). rat_sum (list_below (member_rows p) (member_weights p (w k) i)) in
       ap₂ (λ f v. c k *ℚ form_at f t +ℚ v) (shared.form n k)
       (taken_of_group p axis s k (w k) t
-      ∙ rat_sum_below-same n (λ i. taken (fold_bend p) (sum i) (t (unknown_of p n k i))) (λ i. taken (fold_bend p) (sum i) (t k)) (λ i b. ap (λ u. taken (fold_bend p) (sum i) (t u)) (shared.unknown n k i))
+      ∙ rat_sum_below-same n (λ i. taken (fold_bend p) (sum i) (t (unknown_of p n k i))) (λ i. taken (fold_bend p) (sum i) (t k))
+      (λ i b. ap (λ u. taken (fold_bend p) (sum i) (t u)) (shared.unknown n k i))
       ∙ all_taken (fold_bend p) n sum (t k) ∙ ap (λ z. taken (fold_bend p) z (t k)) (all_weights p n (w k)))
 
   -- what is left at one unknown alone
@@ -127,9 +128,9 @@ sum_demanded axis s count size c w left g b =
 
 -- ---- the four calls
 demanded : (p : Fold) (axis : Axis) → AreDemanded (fold_meaning p axis)
-demanded Max axis args sides is c w = free_demanded Max max_shared axis (sides_at args 0) (groups axis (sides_at args 0)) (entries_of sides) c w
-demanded Min axis args sides is c w = free_demanded Min min_shared axis (sides_at args 0) (groups axis (sides_at args 0)) (entries_of sides) c w
-demanded Norm1 axis args sides is c w = sum_demanded axis (sides_at args 0) (entries_of (sides_at args 0)) (entries_of sides) c w
+demanded Max axis args sides is c w left j b = free_demanded Max max_shared axis (sides_at args 0) (groups axis (sides_at args 0)) (entries_of sides) c w left j b
+demanded Min axis args sides is c w left j b = free_demanded Min min_shared axis (sides_at args 0) (groups axis (sides_at args 0)) (entries_of sides) c w left j b
+demanded Norm1 axis args sides is c w left j b = sum_demanded axis (sides_at args 0) (entries_of (sides_at args 0)) (entries_of sides) c w left j b
 demanded NormInf axis args sides is c w left j b =
     let s = sides_at args 0 in
     let n = folded_count axis s in

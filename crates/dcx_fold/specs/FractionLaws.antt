@@ -54,7 +54,8 @@ fold_fits NormInf xs h = one _ (extreme_fits Convex xs h)
 pub fold_fraction_summands : (p : Fold) (axis : Axis) → HasFractionSummands (fold_meaning p axis)
 fold_fraction_summands p axis args a j h =
     let s = sides_at args 0 in
-    fold_fits p (parts p axis s (a 0) j) (All-list_below IsRepresentable (folded_count axis s) (λ i. part p (a 0 (member axis s j i))) (λ i _. part_fits p (a 0 (member axis s j i)) (h 0 (member axis s j i))))
+    let all = All-list_below IsRepresentable (folded_count axis s) (λ i. part p (a 0 (member axis s j i))) (λ i _. part_fits p (a 0 (member axis s j i)) (h 0 (member axis s j i))) in
+    fold_fits p (parts p axis s (a 0) j) all
 
 -- the k largest, or the k smallest
 turned_fits : (bend : Bend) (x : ℚ) → IsRepresentable x → IsRepresentable (outward bend (outward bend x))
@@ -167,7 +168,8 @@ fold_fraction_slopes Norm1 axis args sides is c ws none k e b l =
     let size : e < entries_of s = subst (λ i. e < entries_of (sides_at args i)) first l in
     difference_fits (w (group_of axis s e) (member_of axis s e * 2 + 0)) (w (group_of axis s e) (member_of axis s e * 2 + 1)) (number_fits ws _) (number_fits ws _)
     (group_fits (λ v. difference (v 0) (v 1)) 2 axis s (entries_of sides) w (groups_of_value axis args sides fold)
-    (λ g h i d. All-at (λ (y : ArgumentEntry). slope_stop (formed (m.slope args w y.argument y.entry)) ≡ None) (folded_count axis s) (λ i. record { argument = 0; entry = member axis s g i }) (entry_formed m args c w g (none g h)) i d) e size)
+    (λ g h i d. All-at (λ (y : ArgumentEntry). slope_stop (formed (m.slope args w y.argument y.entry)) ≡ None) (folded_count axis s)
+    (λ i. record { argument = 0; entry = member axis s g i }) (entry_formed m args c w g (none g h)) i d) e size)
 fold_fraction_slopes NormInf axis args sides is c ws none k e b l =
     let m = fold_meaning NormInf axis in
     let w = weights_of m args ws in
@@ -177,7 +179,8 @@ fold_fraction_slopes NormInf axis args sides is c ws none k e b l =
     let size : e < entries_of s = subst (λ i. e < entries_of (sides_at args i)) first l in
     difference_fits (w (group_of axis s e) (member_of axis s e * 2 + 0)) (w (group_of axis s e) (member_of axis s e * 2 + 1)) (number_fits ws _) (number_fits ws _)
     (group_fits (λ v. difference (v 0) (v 1)) 2 axis s (entries_of sides) w (groups_of_value axis args sides fold)
-    (λ g h i d. All-at (λ (y : ArgumentEntry). slope_stop (formed (m.slope args w y.argument y.entry)) ≡ None) (folded_count axis s) (λ i. record { argument = 0; entry = member axis s g i }) (entry_formed m args c w g (none g h)) i d) e size)
+    (λ g h i d. All-at (λ (y : ArgumentEntry). slope_stop (formed (m.slope args w y.argument y.entry)) ≡ None) (folded_count axis s)
+    (λ i. record { argument = 0; entry = member axis s g i }) (entry_formed m args c w g (none g h)) i d) e size)
 
 pub largest_fraction_slopes : (bend : Bend) (k : ℕ) → HasFractionSlopes (largest_meaning bend k)
 largest_fraction_slopes bend count args sides is c ws none k e b l = outward_fits bend (weights_of (largest_meaning bend count) args ws 0 e) (number_fits ws _)

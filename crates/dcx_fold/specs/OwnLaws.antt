@@ -44,7 +44,8 @@ module _ (axis : Axis) (args : List Sides) (sides : Sides) (is : fold_sides axis
   member_within : (k i : ℕ) → k < entries_of sides → i < n → k * n + i < entries_of s
   member_within k i b c =
       let fold = is_fold axis args sides is in
-      let all : entries_of s ≡ groups axis s * n = subst (λ r. entries_of r ≡ groups axis r * folded_count axis r) (sym (first_is axis args sides fold)) (all_members axis fold.from sides fold.sides) in
+      let all : entries_of s ≡ groups axis s * n =
+      subst (λ r. entries_of r ≡ groups axis r * folded_count axis r) (sym (first_is axis args sides fold)) (all_members axis fold.from sides fold.sides) in
       subst (λ m. k * n + i < m) (sym all) (among_members k i n (groups axis s) (group_within k b) c)
 
   within : (p : Fold) (k i : ℕ) → k < entries_of sides → i < n → unknown_of p n k i < unknowns p axis s

@@ -12,3 +12,4 @@ pub mod Listed
 pub mod Matrices
 pub mod Steps
 pub mod Passes
+pub mod Rewrites

@@ -47,7 +47,14 @@ fn push_run<L: Ledger>(
 ) -> Result<(), AllocError> {
     match session.program(alloc, setting, steps) {
         Ok(program) => {
-            let end = branch(alloc, session.problem(), &program, setting, MOST_PIVOTS, nodes);
+            let end = branch(
+                alloc,
+                session.problem(),
+                &program,
+                setting,
+                MOST_PIVOTS,
+                nodes,
+            );
             drop(program);
             let pushed = push_end(text, &end);
             drop(end);

@@ -10,3 +10,4 @@ pub mod Wholes
 pub mod WholeLaws
 pub mod Ranges
 pub mod RangeLaws
+pub mod Complete

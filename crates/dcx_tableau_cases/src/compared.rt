@@ -97,11 +97,13 @@ fn is_told<T: Tableau + Drop, U: Tableau + Drop>(
     let mut other = other?;
     match end_of(&mut one, &mut other, limit) {
         Some(LpEnd::PivotLimit { .. }) => return Ok(false),
-        Some(LpEnd::Wide {
-            pivots,
-            row,
-            column,
-        }) => {
+        Some(
+            LpEnd::Wide {
+                pivots,
+                row,
+                column,
+            },
+        ) => {
             let at = same_wide(&mut one, &mut other, row, column);
             tell_wide(rt, name, pivots, row, column, at)?
         }

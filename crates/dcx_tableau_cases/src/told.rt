@@ -35,6 +35,8 @@ pub(crate) fn tell_wide(
 ) -> Result<()> {
     let at = at.context("two first wide places")?;
     let (wide_row, wide_column) = (at.row, at.column);
-    println!(rt; "{name}: wide after {pivots} pivots, at row {row} column {column} first in row {wide_row} column {wide_column}")?;
+    println!(rt;
+        "{name}: wide after {pivots} pivots, at row {row} column {column} first in row {wide_row} column {wide_column}"
+    )?;
     Ok(())
 }

@@ -123,7 +123,7 @@ module _ (words : List (List ℕ)) (files : Files) where
       never_refused files command f.accepted f.settings r f.problem (λ refusing. f.continuous) (allowed_reading command f.accepted.work.problem f.name f.named) f.asked
       (short_of command f.name bytes f.named there few) (refuses words files command f.form r h)
 
-  refused_or_read : (r : Refusal) (command : Command) (sections : Sections) → IsRefusedRun words (Some files) r → ReadsSections words (Some files) command sections → ⊥
+  pub refused_or_read : (r : Refusal) (command : Command) (sections : Sections) → IsRefusedRun words (Some files) r → ReadsSections words (Some files) command sections → ⊥
   refused_or_read r command sections h k = refused_or_files r command k.files k.has.bytes k.has.are_told k.has.few h
 
   pub refused_or_migrated : (r : Refusal) (bytes : List ℕ) → IsRefusedRun words (Some files) r → IsMigrateRun words (Some files) bytes → ⊥

@@ -11,6 +11,7 @@ use Rattle.dcx_report.specs.declared.run.Run.TheVariants as run
 use Rattle.dcx_words.specs.Commands.{Command, check, certificate, certify, migrate, iis, range, command_of}
 use Rattle.dcx_words.specs.Laws.{is_warm_command}
 use Rattle.dcx_outcomes.proofs.Warm.{found_are_right}
+use Rattle.dcx_outcomes.proofs.Complete.{outcomes_are_complete}
 use Rattle.dcx_outcomes.proofs.FilterEnds.{filters_are_right}
 use Rattle.dcx_outcomes.proofs.WholeEnds.{wholes_are_right}
 use Rattle.dcx_outcomes.proofs.RangeEnds.{ranges_are_right}
@@ -48,6 +49,7 @@ solved_right words told old new r h = let w = accepted_work words told h.command
   warm = h.warm;
   tells = h.tells;
   right = found_are_right (is_warm_command h.command) h.accepted.work.problem (limit_of h.command) h.settings h.outcomes h.warm w.accepted h.are;
+  complete = outcomes_are_complete (is_warm_command h.command) h.accepted.work.problem (limit_of h.command) h.settings h.outcomes h.warm h.are;
 }
 
 branched_right : (words : List (List ℕ)) (told : Option Files) (old new : ℕ) (r : Run) → IsBranchedRun words told old new r → IsRightlyBranched words told r

@@ -51,7 +51,7 @@ one_view bytes script other h k =
     h.1.1.kept ∙ ap trimmed_all (k.1.1.spelled.only h.1.1.tree spelled) ∙ sym k.1.1.kept
 
 -- bytes that are accepted stand for the work that is accepted
-abbrev without_fault : (bytes : List ℕ) (a : Accepted) → Gives bytes (Ok a) → IsWithoutFault bytes
+abbrev pub without_fault : (bytes : List ℕ) (a : Accepted) → Gives bytes (Ok a) → IsWithoutFault bytes
 without_fault bytes a g = let h = acceptance bytes a g in
     record { script = h.script; spelled = h.spelled; work = a.work; stands_for = h.stands_for; accepted = h.judged.accepted }
 

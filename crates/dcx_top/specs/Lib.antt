@@ -10,3 +10,5 @@ pub mod OneRun
 pub mod Migrated
 pub mod Verdicts
 pub mod Ended
+pub mod SameReport
+pub mod ReadBack

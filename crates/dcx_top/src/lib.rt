@@ -18,5 +18,5 @@ mod status;
 mod whole;
 mod write;
 
-pub use command::run;
+pub use command::{run, without_words};
 pub use ended::Ended;

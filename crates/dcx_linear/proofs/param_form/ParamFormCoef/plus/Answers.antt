@@ -18,7 +18,7 @@ returns-in_err-sum c =
       inr (
         (c.in_ok-constant.constant, sym c.in_ok-constant.was ∙ c.add.ensures.answer),
         subst (λ ts. SumsTerms key_of has_zero sum_gives_term ts c.args.other.now.terms (Err passes)) c.into_vec-terms.ensures.items
-        (subst (λ ts. SumsTerms key_of has_zero sum_gives_term c.into_vec-terms.result.items ts (Err passes)) c.as_slice-other_terms.ensures.items h),
+            (subst (λ ts. SumsTerms key_of has_zero sum_gives_term c.into_vec-terms.result.items ts (Err passes)) c.as_slice-other_terms.ensures.items h),
       ),
     ))
     (c.in_err-sum.ensures {u = tt}))
