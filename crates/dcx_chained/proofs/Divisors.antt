@@ -1,12 +1,11 @@
 -- The common divisor of a row's numbers.
-use Rattle.std.proofs.Common.{◌≡◌, ℕ, ◌+◌, ◌<◌, ◌≤◌, List, [], ◌∷◌, length, map, ℤ, unsigned_abs, arith, inl, inr, zero, suc, sym, ap, ◌∙◌, subst}
+use Rattle.std.proofs.Common.{◌≡◌, ℕ, ◌+◌, ◌<◌, List, [], ◌∷◌, length, map, ℤ, unsigned_abs, arith, inl, inr, suc, sym, ap, ◌∙◌, subst}
 use Rattle.std.proofs.lemmas.Bool.{cases_eq, cases_lt}
 use Rattle.std.proofs.lemmas.List.{length-map}
 use native.Mathlib.Nat.{dvd-zero, eq-one_of_dvd-one}
 use Prim.Native.Nat.{◌∣◌}
 use Rattle.dcx_math.specs.Divisors.{gcd, gcd_of, divided}
 use Rattle.dcx_math.proofs.Divisors.{gcd-dvd_left, gcd-dvd_right, dvd-gcd, dvd_trans, dvd_antisymm}
-use Rattle.dcx_math.proofs.Primitive.{primitive_part}
 use Rattle.dcx_tab.specs.Rows.{Row, entry}
 use Rattle.dcx_tab.proofs.LineSteps.{entry-divided}
 use Rattle.dcx_tab.proofs.RowLaws.{gcd_of-dvd_entry}

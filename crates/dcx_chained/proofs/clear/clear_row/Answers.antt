@@ -1,10 +1,10 @@
 -- The mixed row is the cleared one, and its primitive part what the pivot makes of the row.
-use Rattle.std.proofs.Common.{arith, ◌≡◌, ◌<◌, ◌^◌, unsigned_abs, sym, ap, ◌∙◌, subst}
+use Rattle.std.proofs.Common.{arith, ◌<◌, ◌^◌, unsigned_abs, sym, ap, ◌∙◌, subst}
 use Rattle.dcx_math.proofs.Primitive.{primitive_part}
 use Rattle.dcx_tab.specs.Rows.{Row}
 use Rattle.dcx_tab.specs.Pivot.{turned}
 use Rattle.dcx_tab.proofs.LineSteps.{eliminated_some, small_where}
-use Rattle.dcx_links.specs.Matrix.{number_at, row_of}
+use Rattle.dcx_links.specs.Matrix.{row_of}
 use Rattle.dcx_chained.proofs.RowReads.{length-row_of, entry-row_of, row_same}
 use Rattle.dcx_chained.proofs.Listings.{cleared_row}
 use Rattle.dcx_chained.proofs.clear.clear_row.Goals as goal

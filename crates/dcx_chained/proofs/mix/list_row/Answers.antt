@@ -1,7 +1,6 @@
 -- The walk comes to the next number.
 use Rattle.std.proofs.Common.{rules, arith, ◌≡◌, ◌+◌, ◌<◌, length, set, refl, sym, ap, ◌∙◌, subst, Fits}
 use Rattle.std.specs.Int.{w32}
-use Rattle.dcx_links.specs.declared.walk.Entry.{Entry}
 use Rattle.dcx_links.specs.Matrix.{row_of}
 use Rattle.dcx_links.specs.Walks.{Walk, ComesNext, IsOver}
 use Rattle.dcx_tab.specs.Rows.{Row}

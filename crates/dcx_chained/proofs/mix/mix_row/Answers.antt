@@ -1,7 +1,6 @@
 -- The row is multiplied, and then the multiple of the listed numbers taken from it.
-use Rattle.std.proofs.Common.{rules, arith, ℕ, ◌≡◌, ◌<◌, ◌^◌, ◌*ℤ◌, unsigned_abs, sym, ap, ◌∙◌, subst, to_z-of_z, SFits}
+use Rattle.std.proofs.Common.{rules, arith, ◌<◌, ◌^◌, ◌*ℤ◌, unsigned_abs, ◌∙◌, subst, to_z-of_z, SFits}
 use Rattle.std.specs.Int.{w128}
-use Rattle.dcx_links.specs.Matrix.{number_at, row_of}
 use Rattle.dcx_chained.proofs.RowReads.{entry-row_of}
 use Rattle.dcx_chained.proofs.Listings.{mixed_entry, small_product, small_rest}
 use Rattle.dcx_chained.proofs.mix.mix_row.Goals as goal

@@ -1,10 +1,9 @@
 -- A divisor of 0 or 1 leaves the row as it is.
-use Rattle.std.proofs.Common.{arith, ◌≡◌, ◌∙◌, ap, sym, subst, unsigned_abs, map}
+use Rattle.std.proofs.Common.{arith, ◌∙◌, ap, subst, unsigned_abs, map}
 use Rattle.std.specs.Int.{w128}
 use Rattle.std.proofs.lemmas.Int.{ints, fits_signed_from_abs, to_z_pos}
 use Prim.Native.Nat.{◌∣◌}
 use Rattle.dcx_math.specs.Divisors.{divided, gcd_of}
-use Rattle.dcx_tab.specs.Rows.{Row}
 use Rattle.dcx_tab.proofs.LineSteps.{gcd_of-below, primitive_same}
 use Rattle.dcx_tab.proofs.RowLaws.{gcd_of-dvd_entry}
 use Rattle.dcx_links.specs.Matrix.{row_of}

@@ -1,5 +1,5 @@
 -- The divisor of one more number, and where it is 1.
-use Rattle.std.proofs.Common.{rules, arith, ◌≡◌, ◌+◌, ◌<◌, length, unsigned_abs, sym, ap, ◌∙◌, subst, to_z-of_z, SFits}
+use Rattle.std.proofs.Common.{rules, arith, ◌≡◌, ◌+◌, length, unsigned_abs, sym, ap, ◌∙◌, subst, to_z-of_z, SFits}
 use Rattle.std.specs.Int.{w128}
 use Rattle.dcx_math.specs.Divisors.{gcd}
 use Rattle.dcx_tab.specs.Rows.{Row}
