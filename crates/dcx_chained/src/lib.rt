@@ -17,6 +17,7 @@ mod factors;
 pub mod laws;
 mod mix;
 mod narrow;
+mod reduce;
 mod wide;
 mod words;
 

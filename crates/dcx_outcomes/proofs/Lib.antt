@@ -1,4 +1,4 @@
--- Lemmas of this crate.
+-- The lemmas by which the outcomes of settings are right, and one list.
 pub mod Named
 pub mod Placed
 pub mod Same

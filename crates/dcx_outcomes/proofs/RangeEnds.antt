@@ -85,7 +85,8 @@ ranged_there p name q m h = subst (λ (z : Program ParamForm). IsRanged p z name
 -- ---- all settings
 pub ranges_are_right : RangesAreRight
 ranges_are_right p name limit settings outcomes h =
-    are_right (TellsOf name limit) (λ (o : RangeOutcome). range_end o.end) (λ (o : RangeOutcome). o.place) p (λ s. HoldsOn p (setting_of p s) name) (λ s q r g. right_there p s (HoldsOn p (setting_of p s) name) r g.fitting g.holds) settings outcomes h
+    are_right (TellsOf name limit) (λ (o : RangeOutcome). range_end o.end) (λ (o : RangeOutcome). o.place) p (λ s. HoldsOn p (setting_of p s) name)
+    (λ s q r g. right_there p s (HoldsOn p (setting_of p s) name) r g.fitting g.holds) settings outcomes h
 
 module _ (p : Problem) (name : List ℕ) (limit : ℕ) (s : Pairs) (q : Program Frac) where
   one_told : (x y : Result Ranged RangeStop) → TellsOf name limit p s q x → TellsOf name limit p s q y → AreOneRange x y

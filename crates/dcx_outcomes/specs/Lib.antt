@@ -1,4 +1,4 @@
--- What contracts cite.
+-- What contracts cite: the outcomes of settings, fresh, warm, whole, filtered or ranged, and what is right of them.
 pub mod Outcomes
 pub mod Warm
 pub mod Right

@@ -23,7 +23,8 @@ abbrev pub AreRightRanges : Problem → List ℕ → List Pairs → List RangeOu
 AreRightRanges p name settings outcomes = AllZip (λ s o. FindsRight p s (HoldsOn p (setting_of p s) name) (range_end o.end)) settings outcomes
 
 abbrev pub RangesAreRight : Type 0
-RangesAreRight = (p : Problem) (name : List ℕ) (limit : ℕ) (settings : List Pairs) (outcomes : List RangeOutcome) → AreRangeOutcomes p name limit settings outcomes → AreRightRanges p name settings outcomes
+RangesAreRight = (p : Problem) (name : List ℕ) (limit : ℕ) (settings : List Pairs) (outcomes : List RangeOutcome) → AreRangeOutcomes p name limit settings outcomes
+    → AreRightRanges p name settings outcomes
 
 -- memory did not run out at the setting
 abbrev pub HadMemory : RangeOutcome → Type 0
@@ -35,4 +36,5 @@ AreAlikeRanges os qs = AllZip (λ o q. HadMemory o → HadMemory q → o ≡ q) 
 
 -- settings have one list of outcomes
 abbrev pub RangesAreOne : Type 0
-RangesAreOne = (p : Problem) (name : List ℕ) (limit : ℕ) (settings : List Pairs) (os qs : List RangeOutcome) → AreRangeOutcomes p name limit settings os → AreRangeOutcomes p name limit settings qs → AreAlikeRanges os qs
+RangesAreOne = (p : Problem) (name : List ℕ) (limit : ℕ) (settings : List Pairs) (os qs : List RangeOutcome) → AreRangeOutcomes p name limit settings os → AreRangeOutcomes p name limit settings qs
+    → AreAlikeRanges os qs

@@ -114,7 +114,8 @@ module _ (p : Problem) (q : Program ParamForm) (r : Program Frac) (setting : Pai
   one_end e f h k =
       let same = programs_are_one (rows_of r) h.integer k.integer h.made k.made in
       let s = starts h.integer.rows h.integer.columns h.integer.objective h.integer.phase h.integer.form in
-      let once = ends_once (first_tableau h.integer).rows limit (first_tableau h.integer) h.last k.last e f s h.run (subst (λ (z : tab.Program). RunEnds limit (first_tableau z) k.last f) (sym same) k.run) in
+      let once = ends_once (first_tableau h.integer).rows limit (first_tableau h.integer) h.last k.last e f s h.run
+      (subst (λ (z : tab.Program). RunEnds limit (first_tableau z) k.last f) (sym same) k.run) in
       record { integer = same; last = once.0; end = once.1 }
 
   -- a run with an answer has no stop

@@ -28,7 +28,8 @@ some_left : (n : ℕ) (text : List ℕ) → n < length text → 0 < length (drop
 some_left n text h = omega (arith, h, length-drop {A = ℕ} n text)
 
 -- a front of the text is a front of the report that the text is
-pub ends_early : (old new : Option (List ℕ)) (risen : Type 0) (ended : Ended) (text : List ℕ) → text ≡ text_of ended.run → IsCutStatus risen ended → (n : ℕ) × (n < length text) × Appends old new (take n text) → Reports old new risen ended
+pub ends_early : (old new : Option (List ℕ)) (risen : Type 0) (ended : Ended) (text : List ℕ) → text ≡ text_of ended.run → IsCutStatus risen ended
+    → (n : ℕ) × (n < length text) × Appends old new (take n text) → Reports old new risen ended
 ends_early old new risen ended text e why h =
     let P : List ℕ → Type 0 = λ t. (n : ℕ) × (n < length t) × Appends old new (take n t) in
     let w : P (text_of ended.run) = subst P e h in

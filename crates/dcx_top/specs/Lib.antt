@@ -1,4 +1,4 @@
--- What contracts cite.
+-- What contracts cite: commands, files, runs with their causes, how they end, and which are right.
 pub mod Commands
 pub mod Files
 pub mod Stands
