@@ -37,7 +37,7 @@ names_shown [] [] e = refl
 names_shown [] (v ∷ vs) e = absurd cc
 names_shown (p ∷ ps) [] e = absurd cc
 names_shown (p ∷ ps) (v ∷ vs) e =
-    let first : (p.0, p.1.shape) ≡ (v.name, v.shape) = cc in
+    let first : ◌≡◌ {A = List ℕ × Shape} (p.0, p.1.shape) (v.name, v.shape) = cc in
     let rest : variables_of ps ≡ map (λ (w : Variable). (w.name, w.shape)) vs = cc in
     ap₂ ◌∷◌ (ap (λ (r : List ℕ × Shape). r.0) first) (names_shown ps vs rest)
 

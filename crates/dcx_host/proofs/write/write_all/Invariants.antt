@@ -1,7 +1,7 @@
 use Rattle.std.proofs.Common.{length, ◌-◌, ◌≤◌, take}
 use Rattle.std.specs.Io.KnownBytes.{Appends}
 use Rattle.dcx_host.specs.Pieces.{HandsRests}
-use Rattle.dcx_top.proofs.write.write_all.Given as goal
+use Rattle.dcx_host.proofs.write.write_all.Given as goal
 
 -- a front is written, the writes were handed the rests, and the count of faults has not fallen
 abbrev pub invariant-loop-done : goal.invariant-loop-done

@@ -1,9 +1,9 @@
 use Rattle.std.proofs.Common.{ℕ, arith, length-take, length-drop, zero-le, le_refl}
-use Rattle.dcx_top.proofs.Writing.{Appends_none, Appends_trans, fronts, hands_none, hands_more, hands_kept}
-use Rattle.dcx_top.proofs.write.write_all.Goals as goal
+use Rattle.dcx_host.proofs.Writing.{Appends_none, Appends_trans, fronts, hands_none, hands_more, hands_kept}
+use Rattle.dcx_host.proofs.write.write_all.Goals as goal
 
 pub loop-done-init : goal.loop-done-init
-loop-done-init g c = record { within = zero-le _; front = Appends_none _; rests = hands_none _ _; later = le_refl _ }
+loop-done-init g c = record { within = zero-le; front = Appends_none _; rests = hands_none _ _; later = le_refl _ }
 
 pub loop-done-preserved : goal.loop-done-preserved
 loop-done-preserved g c = record {

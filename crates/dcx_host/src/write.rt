@@ -1,10 +1,10 @@
-//! A report is written in as many calls as the sink wants.
+//! A text is written in as many calls as the sink wants.
 ghost use Rattle.std.specs.Prelude.{ℕ, ◌<◌, length, take, OnOk, OnErr, IsErrOf};
 ghost use Rattle.std.specs.Io.KnownBytes.{Appends};
 ghost use Rattle.dcx_host.specs.Faults.{Rose};
 ghost use Rattle.dcx_host.specs.Pieces.{HandsRests};
 
-use dcx_host::{Sink, SinkFault};
+use crate::{Sink, SinkFault};
 
 /// Hands the sink the whole rest at each call. After an `Err` a front is written, and something is left.
 pub fn write_all<K: Sink>(text: &[u8], sink: &mut K) -> Result<(), SinkFault>
