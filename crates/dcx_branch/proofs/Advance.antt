@@ -169,8 +169,9 @@ module _ (p : Problem) (q : Program Frac) (limit : ℕ) where
           ]
         ]
 
-    pub stopped : (qs : List Place) (ds : List Side) (best : Option ℚ) → qs ≡ places p.variables → ds ≡ old.sides.items → best ≡ found_value old.best → (e : NodeStop) → StopsTaking p q limit (box_bounds qs ds) best e →
-        StopsNext p q limit old.taken (stop_after (old.taken + 1) e)
+    pub stopped : (qs : List Place) (ds : List Side) (best : Option ℚ) → qs ≡ places p.variables → ds ≡ old.sides.items → best ≡ found_value old.best → (e : NodeStop)
+        → StopsTaking p q limit (box_bounds qs ds) best e
+        → StopsNext p q limit old.taken (stop_after (old.taken + 1) e)
     stopped qs ds best same_places same_sides same_best e h =
         let listed = subst (λ (xs : List Place). StopsTaking p q limit (box_bounds xs ds) best e) same_places h in
         let sided = subst (λ (xs : List Side). StopsTaking p q limit (box_bounds (places p.variables) xs) best e) same_sides listed in

@@ -18,7 +18,8 @@ use Rattle.dcx_graph.specs.Program.{Program}
 use Rattle.dcx_cache.specs.Programs.{SessionGives, IsUnformed, ProgramStops}
 use Rattle.dcx_cache.specs.Stops.{program_stop}
 use Rattle.dcx_cache.proofs.OneEnd.{one_program, program_apart, same_program, unfit}
-use Rattle.dcx_outcomes.specs.Asking.{EndsAt, node_place, IsAskedOutcome, AreAskedOutcomes, IsRightAt, FindsRight, AreOneEnd}
+use Rattle.dcx_outcomes.specs.Asking.{EndsAt, node_place, IsAskedOutcome, AreAskedOutcomes, IsRightAt, FindsRight, WantsMemory, IsSameEnd, AreOneEnd}
+use Rattle.dcx_outcomes.specs.Outcomes.{stop_place}
 use Rattle.dcx_outcomes.proofs.More.{one_taken}
 
 -- ---- lists
@@ -110,6 +111,9 @@ are_one {F} {E} Gives end place p memory Same one settings os qs h k =
     by s (Ok x) (Err e) h k n m = absurd (given_apart p s h.program e m h.fits h.gives k)
     by s (Err e) (Ok y) h k n m = absurd (given_apart p s k.program e n k.fits k.gives h)
     by s (Err e) (Err f) h k n m = same_stop p s e f n m h k
+
+    both : (o q : O) → place o ≡ node_place p (end o) → place q ≡ node_place p (end q) → IsSameEnd Same (end o) (end q) → Alike o q
+    both o q x y same = alike o q same (x ∙ same_place p Same (end o) (end q) same ∙ sym y)
 
 -- ---- answers
 -- what is found is right, and the setting fits

@@ -9,9 +9,16 @@ use Rattle.dcx_fit.specs.Fit.{FitsParameters}
 use Rattle.dcx_answer.specs.declared.filter_stop.FilterStop.{FilterStop}
 use Rattle.dcx_answer.specs.declared.filter_stop.FilterStop.TheVariants as filter
 use Rattle.dcx_answer.specs.declared.filtered.Filtered.{Filtered}
+use Rattle.dcx_answer.specs.declared.filtered.Filtered.TheVariants as found
+use Rattle.dcx_answer.specs.declared.filter_outcome.FilterEnd.{FilterEnd}
+use Rattle.dcx_answer.specs.declared.filter_outcome.FilterEnd.TheVariants as the
 use Rattle.dcx_answer.specs.declared.filter_outcome.FilterOutcome.{FilterOutcome}
+use Rattle.dcx_answer.specs.NodeStops.{filter_names_node}
 use Rattle.dcx_graph.specs.Program.{Program}
-use Rattle.dcx_iis.specs.Found.{IsRight}
+use Rattle.dcx_graph.specs.Answers.{IsSamePoint}
+use Rattle.dcx_iis.specs.Sets.{ConstraintSet, every_constraint, set_of}
+use Rattle.dcx_iis.specs.Steps.{IsReadIn, IsReadAt}
+use Rattle.dcx_iis.specs.Found.{IsRight, IsFound}
 use Rattle.dcx_iis.specs.Laws.{IsSameFiltered}
 use Rattle.dcx_cache.specs.Programs.{SessionGives}
 use Rattle.dcx_cache.proofs.Answered.{sound}
@@ -21,7 +28,9 @@ use Rattle.dcx_iis.proofs.OneFound.{found_is_one}
 use Rattle.dcx_outcomes.specs.Asking.{IsRightAt, AreOneEnd}
 use Rattle.dcx_outcomes.specs.Filters.{FilterGives, filter_end}
 use Rattle.dcx_outcomes.specs.FilterLaws.{FiltersAreRight, FiltersAreOne}
-use Rattle.dcx_outcomes.proofs.Asked.{are_right, are_one}
+use Rattle.dcx_outcomes.specs.Right.{IsPointFor}
+use Rattle.dcx_outcomes.proofs.Asked.{are_right, same_end, are_one}
+use Rattle.dcx_outcomes.proofs.Same.{same_point, same_multipliers}
 
 module _ (p : Problem) (limit : ℕ) (ok : IsAccepted p) (s : Pairs) (q : Program Frac) where
   -- what is found is right there
@@ -43,6 +52,27 @@ module _ (p : Problem) (limit : ℕ) (ok : IsAccepted p) (s : Pairs) (q : Progra
 pub filters_are_right : FiltersAreRight
 filters_are_right p limit settings outcomes ok h =
     are_right (FilterGives limit) (λ (o : FilterOutcome). filter_end o.end) (λ (o : FilterOutcome). o.place) p (λ s. IsRight p (setting_of p s)) (right_filter p limit ok) settings outcomes h
+
+-- ---- outcomes
+same_told : (x y : FilterEnd) → filter_end x ≡ filter_end y → x ≡ y
+same_told (the.Filtered a) (the.Filtered b) e = let same : a ≡ b = cc in ap the.Filtered same
+same_told (the.Filtered a) (the.Filter t) e = absurd cc
+same_told (the.Filtered a) (the.Stop t) e = absurd cc
+same_told (the.Filter s) (the.Filtered b) e = absurd cc
+same_told (the.Filter s) (the.Filter t) e = let same : s ≡ t = cc in ap the.Filter same
+same_told (the.Filter s) (the.Stop t) e = absurd cc
+same_told (the.Stop s) (the.Filtered b) e = absurd cc
+same_told (the.Stop s) (the.Filter t) e = absurd cc
+same_told (the.Stop s) (the.Stop t) e = let same : s ≡ t = cc in ap the.Stop same
+
+same_outcome : (o q : FilterOutcome) → IsSameEnd (λ (a b : Filtered). a ≡ b) (filter_end o.end) (filter_end q.end) → o.place ≡ q.place → o ≡ q
+same_outcome o q h f =
+    let e : o.end ≡ q.end = same_told o.end q.end (same_end (filter_end o.end) (filter_end q.end) h) in
+    λ i. record {
+      end = e i;
+      place = f i;
+      placed = is_prop→PathP (λ j. is_some (f j) ≡ filter_names_node (e j)) (λ j. hlevel props) o.placed q.placed i;
+    }
 
 pub filters_are_one : FiltersAreOne
 filters_are_one p limit settings os qs ok h k =

@@ -11,7 +11,10 @@ use Rattle.dcx_answer.specs.declared.not_ranged.NotRanged.{NotRanged}
 use Rattle.dcx_answer.specs.declared.ranged.Ranged.{Ranged}
 use Rattle.dcx_answer.specs.declared.range_stop.RangeStop.{RangeStop}
 use Rattle.dcx_answer.specs.declared.range_stop.RangeStop.TheVariants as range
+use Rattle.dcx_answer.specs.declared.range_outcome.RangeEnd.{RangeEnd}
+use Rattle.dcx_answer.specs.declared.range_outcome.RangeEnd.TheVariants as the
 use Rattle.dcx_answer.specs.declared.range_outcome.RangeOutcome.{RangeOutcome}
+use Rattle.dcx_answer.specs.NodeStops.{range_names_node}
 use Rattle.dcx_graph.specs.Program.{Program}
 use Rattle.dcx_graph.specs.Fixing.{FixGives}
 use Rattle.dcx_graph.proofs.OneWay.{one_affine}
@@ -27,7 +30,7 @@ use Rattle.dcx_range.proofs.OneRange.{ranges_are_one as one_range}
 use Rattle.dcx_outcomes.specs.Asking.{IsRightAt, AreOneEnd}
 use Rattle.dcx_outcomes.specs.Ranges.{IsKeptProgram, HasRange, LacksRange, TellsOf, range_end}
 use Rattle.dcx_outcomes.specs.RangeLaws.{RangeIsTold, RangesAreRight, RangesAreOne}
-use Rattle.dcx_outcomes.proofs.Asked.{are_right, are_one, right_there}
+use Rattle.dcx_outcomes.proofs.Asked.{are_right, same_end, are_one, right_there}
 
 -- ---- the program with affine coefficients
 same_ok : {A E : Type 0} (x y : A) → ◌≡◌ {A = Result A E} (Ok x) (Ok y) → x ≡ y
@@ -110,6 +113,27 @@ module _ (p : Problem) (name : List ℕ) (limit : ℕ) (s : Pairs) (q : Program 
   one_answer (Ok a) (Err e) h k n m = m (one_told (Ok a) (Err e) h k)
   one_answer (Err e) (Ok b) h k n m = n (one_told (Err e) (Ok b) h k)
   one_answer (Err e) (Err f) h k n m = one_told (Err e) (Err f) h k n m
+
+-- ---- outcomes
+same_told : (x y : RangeEnd) → range_end x ≡ range_end y → x ≡ y
+same_told (the.Ranged a) (the.Ranged b) e = let same : a ≡ b = cc in ap the.Ranged same
+same_told (the.Ranged a) (the.Range t) e = absurd cc
+same_told (the.Ranged a) (the.Stop t) e = absurd cc
+same_told (the.Range s) (the.Ranged b) e = absurd cc
+same_told (the.Range s) (the.Range t) e = let same : s ≡ t = cc in ap the.Range same
+same_told (the.Range s) (the.Stop t) e = absurd cc
+same_told (the.Stop s) (the.Ranged b) e = absurd cc
+same_told (the.Stop s) (the.Range t) e = absurd cc
+same_told (the.Stop s) (the.Stop t) e = let same : s ≡ t = cc in ap the.Stop same
+
+same_outcome : (o q : RangeOutcome) → IsSameEnd (λ (a b : Ranged). a ≡ b) (range_end o.end) (range_end q.end) → o.place ≡ q.place → o ≡ q
+same_outcome o q h f =
+    let e : o.end ≡ q.end = same_told o.end q.end (same_end (range_end o.end) (range_end q.end) h) in
+    λ i. record {
+      end = e i;
+      place = f i;
+      placed = is_prop→PathP (λ j. is_some (f j) ≡ range_names_node (e j)) (λ j. hlevel props) o.placed q.placed i;
+    }
 
 pub ranges_are_one : RangesAreOne
 ranges_are_one p name limit settings os qs h k =

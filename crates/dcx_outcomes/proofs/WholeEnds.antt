@@ -2,6 +2,7 @@
 use Rattle.std.proofs.Common.{◌≤◌, ℕ, [], length, Result, Ok, Err}
 use Rattle.std.specs.Prelude.{IfOk}
 use Rattle.dcx_frac.specs.declared.fraction.Frac.{Frac}
+use Rattle.dcx_frac.proofs.Parts.{value_injective}
 use Rattle.dcx_point.specs.Pairs.{Pairs}
 use Rattle.dcx_tree.specs.declared.problem.Problem.{Problem}
 use Rattle.dcx_tree.specs.Meaning.{IsAccepted, setting_of}
@@ -21,8 +22,9 @@ use Rattle.dcx_branch.proofs.Right.{runs_are_right}
 use Rattle.dcx_branch.proofs.OneRun.{runs_are_one}
 use Rattle.dcx_outcomes.specs.Asking.{IsRightAt, AreOneEnd}
 use Rattle.dcx_outcomes.specs.Wholes.{most_nodes, WholeGives, whole_end}
-use Rattle.dcx_outcomes.specs.WholeLaws.{SpeaksOf, IsRightWhole, WholesAreRight, WholesAreOne}
+use Rattle.dcx_outcomes.specs.WholeLaws.{SpeaksOf, IsRightWhole, IsSameWhole, IsSameOutcome, WholesAreRight, WholesAreOne}
 use Rattle.dcx_outcomes.proofs.Asked.{are_right, are_one}
+use Rattle.dcx_outcomes.proofs.Same.{same_point}
 
 -- the unknowns of the variables are among those of a session's program
 pub unknowns_there : (p : Problem) (setting : Pairs) (r : Program Frac) → SessionGives p setting (Ok r) → variable_unknowns p.variables ≤ length r.kinds
@@ -46,6 +48,13 @@ pub wholes_are_right : WholesAreRight
 wholes_are_right p limit settings outcomes ok h =
     are_right (WholeGives limit) (λ (o : WholeOutcome). whole_end o.end) (λ (o : WholeOutcome). o.place) p (IsRightWhole p) (right_whole p limit ok) settings outcomes h
 
+-- ---- one list
+same_whole : (p : Problem) (a b : WholeAnswer) → SpeaksOf p a → SpeaksOf p b → IsSameAnswer p a b → IsSameWhole a b
+same_whole p (answer.Optimal n x tree nodes) (answer.Optimal m y shown count) h k (number, point, run) = (value_injective n m number, same_point p x y h k point, run)
+same_whole p (answer.Optimal n x tree nodes) (answer.Infeasible shown count) h k e = absurd e
+same_whole p (answer.Infeasible tree nodes) (answer.Optimal m y shown count) h k e = absurd e
+same_whole p (answer.Infeasible tree nodes) (answer.Infeasible shown count) h k e = e
+
 -- a run over a program has one end
 one_answer : (p : Problem) (limit : ℕ) (s : Pairs) (q : Program Frac) (x y : Result WholeAnswer BranchStop) → FitsParameters p.parameters s → SessionGives p s (Ok q) → WholeGives limit p s q x → WholeGives limit p s q y →
     AreOneEnd branch.Memory (IsSameAnswer p) (Ok x) (Ok y)
@@ -56,4 +65,4 @@ one_answer p limit s q (Err e) (Err f) fits given h k n m = runs_are_one p q lim
 
 pub wholes_are_one : WholesAreOne
 wholes_are_one p limit settings os qs h k =
-    are_one (WholeGives limit) (λ (o : WholeOutcome). whole_end o.end) (λ (o : WholeOutcome). o.place) p branch.Memory (IsSameAnswer p) (one_answer p limit) settings os qs h k
+    are_one (WholeGives limit) (λ (o : WholeOutcome). whole_end o.end) (λ (o : WholeOutcome). o.place) p branch.Memory IsSameWhole IsSameOutcome (one_answer p limit) (λ o q e f. record { end = e; place = f }) settings os qs h k

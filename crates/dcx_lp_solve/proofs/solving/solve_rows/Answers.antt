@@ -1,3 +1,4 @@
+-- A stop of the run, or of making the program, is a stop of the rows.
 use Rattle.std.proofs.Common.{sym, subst}
 use Rattle.std.proofs.lemmas.Result.{IfOk-weaker}
 use Rattle.dcx_lp_answer.specs.Right.{IsRight}
