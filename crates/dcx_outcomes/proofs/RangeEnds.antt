@@ -1,6 +1,8 @@
 -- What holds of the outcomes of settings at which a parameter's range is told.
-use Rattle.std.proofs.Common.{◌≡◌, ℕ, List, [], Option, Some, None, Result, Ok, Err, refl, ap, subst}
+use Rattle.std.proofs.Common.{◌≡◌, ℕ, List, [], Option, Some, None, Result, Ok, Err, is_some, refl, ap, subst}
 use Rattle.std.specs.Prelude.{IfOk}
+use Rattle.std.proofs.Props.{props}
+use mathlib.Core.HLevel.{is_prop→PathP}
 use Rattle.dcx_frac.specs.declared.fraction.Frac.{Frac}
 use Rattle.dcx_point.specs.Pairs.{Pairs}
 use Rattle.dcx_tree.specs.declared.problem.Problem.{Problem}
@@ -27,7 +29,7 @@ use Rattle.dcx_range.specs.Laws.{AreOneRange}
 use Rattle.dcx_range.proofs.Named.{tells_once}
 use Rattle.dcx_range.proofs.Right.{ranges_are_right as right_told}
 use Rattle.dcx_range.proofs.OneRange.{ranges_are_one as one_range}
-use Rattle.dcx_outcomes.specs.Asking.{IsRightAt, AreOneEnd}
+use Rattle.dcx_outcomes.specs.Asking.{IsRightAt, IsSameEnd, AreOneEnd}
 use Rattle.dcx_outcomes.specs.Ranges.{IsKeptProgram, HasRange, LacksRange, TellsOf, range_end}
 use Rattle.dcx_outcomes.specs.RangeLaws.{RangeIsTold, RangesAreRight, RangesAreOne}
 use Rattle.dcx_outcomes.proofs.Asked.{are_right, same_end, are_one, right_there}
@@ -137,4 +139,4 @@ same_outcome o q h f =
 
 pub ranges_are_one : RangesAreOne
 ranges_are_one p name limit settings os qs h k =
-    are_one (TellsOf name limit) (λ (o : RangeOutcome). range_end o.end) (λ (o : RangeOutcome). o.place) p range.Memory (λ (a b : Ranged). a ≡ b) (λ s q x y fits given. one_answer p name limit s q x y) settings os qs h k
+    are_one (TellsOf name limit) (λ (o : RangeOutcome). range_end o.end) (λ (o : RangeOutcome). o.place) p range.Memory (λ (a b : Ranged). a ≡ b) (λ (o q : RangeOutcome). o ≡ q) (λ s q x y fits given. one_answer p name limit s q x y) same_outcome settings os qs h k

@@ -56,13 +56,12 @@ same_whole p (answer.Infeasible tree nodes) (answer.Optimal m y shown count) h k
 same_whole p (answer.Infeasible tree nodes) (answer.Infeasible shown count) h k e = e
 
 -- a run over a program has one end
-one_answer : (p : Problem) (limit : ℕ) (s : Pairs) (q : Program Frac) (x y : Result WholeAnswer BranchStop) → FitsParameters p.parameters s → SessionGives p s (Ok q) → WholeGives limit p s q x → WholeGives limit p s q y →
-    AreOneEnd branch.Memory (IsSameAnswer p) (Ok x) (Ok y)
-one_answer p limit s q (Ok a) (Ok b) fits given h k n m = runs_are_one p q limit most_nodes (Ok a) (Ok b) h k
-one_answer p limit s q (Ok a) (Err e) fits given h k n m = m (runs_are_one p q limit most_nodes (Ok a) (Err e) h k)
-one_answer p limit s q (Err e) (Ok b) fits given h k n m = n (runs_are_one p q limit most_nodes (Err e) (Ok b) h k)
-one_answer p limit s q (Err e) (Err f) fits given h k n m = runs_are_one p q limit most_nodes (Err e) (Err f) h k n m
+one_answer : (p : Problem) (limit : ℕ) (s : Pairs) (q : Program Frac) (x y : Result WholeAnswer BranchStop) → WholeGives limit p s q x → WholeGives limit p s q y → AreOneEnd branch.Memory IsSameWhole (Ok x) (Ok y)
+one_answer p limit s q (Ok a) (Ok b) h k n m = same_whole p a b (speaks p q limit a h) (speaks p q limit b k) (runs_are_one p q limit most_nodes (Ok a) (Ok b) h k)
+one_answer p limit s q (Ok a) (Err e) h k n m = m (runs_are_one p q limit most_nodes (Ok a) (Err e) h k)
+one_answer p limit s q (Err e) (Ok b) h k n m = n (runs_are_one p q limit most_nodes (Err e) (Ok b) h k)
+one_answer p limit s q (Err e) (Err f) h k n m = runs_are_one p q limit most_nodes (Err e) (Err f) h k n m
 
 pub wholes_are_one : WholesAreOne
 wholes_are_one p limit settings os qs h k =
-    are_one (WholeGives limit) (λ (o : WholeOutcome). whole_end o.end) (λ (o : WholeOutcome). o.place) p branch.Memory IsSameWhole IsSameOutcome (one_answer p limit) (λ o q e f. record { end = e; place = f }) settings os qs h k
+    are_one (WholeGives limit) (λ (o : WholeOutcome). whole_end o.end) (λ (o : WholeOutcome). o.place) p branch.Memory IsSameWhole IsSameOutcome (λ s q x y fits given. one_answer p limit s q x y) (λ o q e f. record { end = e; place = f }) settings os qs h k

@@ -17,7 +17,7 @@ use Rattle.dcx_top.proofs.OneSettings.{one_settings}
 module _ (words : List (List ℕ)) (files : Files) where
   -- the outcomes of one problem at the same settings
   alike_at : (command : Command) (a : Accepted) (ss ts : List Pairs) (os qs : List FilterOutcome) → GivesProblem (Some files) command a → AreSettingsOf (Some files) command a.work ss → AreSettingsOf (Some files) command a.work ts →
-      AreFilterOutcomes a.work.problem (limit_of command) ss os → AreFilterOutcomes a.work.problem (limit_of command) ts qs → AreAlikeFilters a.work.problem os qs
+      AreFilterOutcomes a.work.problem (limit_of command) ss os → AreFilterOutcomes a.work.problem (limit_of command) ts qs → AreAlikeFilters os qs
   alike_at command a ss ts os qs gives asked also h k =
       filters_are_one a.work.problem (limit_of command) ss os qs (acceptance gives.bytes a gives.gives).judged.accepted h
       (subst (λ (x : List Pairs). AreFilterOutcomes a.work.problem (limit_of command) x qs) (sym (one_settings files command a.work ss ts asked also)) k)
