@@ -1,0 +1,5 @@
+-- The counter is that of the ledger.
+use Rattle.dcx_listing.proofs.branched.branch_line.Given as goal
+
+abbrev pub ghosts-line_with : goal.ghosts-line_with
+ghosts-line_with a = record { name = a.blank.name; parts = a.blank.parts }
