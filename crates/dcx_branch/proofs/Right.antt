@@ -1,6 +1,6 @@
 -- A run of nodes ends right: what is known of each state to which it comes, and what the last one shows.
 use Rattle.std.proofs.Common.{◌≡◌, inl, inr, ℕ, zero, suc, List, [], ◌∷◌, ◌++◌, Some, None, refl, sym, subst}
-use Rattle.std.specs.Prelude.{ℤ, pos, ◌+ℤ◌}
+use Rattle.std.specs.Prelude.{pos, ◌+ℤ◌}
 use Rattle.std.proofs.lemmas.Option.{none-some, same_Some}
 use Rattle.dcx_math.proofs.Orders.{≤ℚ_trans, ≤ℚ_antisym, ≤ℚ-from_≡}
 use Rattle.dcx_frac.specs.declared.fraction.Frac.{Frac}

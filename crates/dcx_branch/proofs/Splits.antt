@@ -1,5 +1,5 @@
 -- The numbers of an answer's unknowns are fractions or the negatives of such, so an integer just below one fits 128 bits, and so does the next.
-use Rattle.std.proofs.Common.{◌≡◌, ℕ, zero, suc, ◌+◌, ◌≤◌, arith, List, [], ◌∷◌, map, inl, inr, refl, sym, ap, ap₂, ◌∙◌, subst, pos}
+use Rattle.std.proofs.Common.{◌≡◌, ◌≢◌, ℕ, zero, suc, ◌+◌, ◌≤◌, arith, List, [], ◌∷◌, map, inl, inr, refl, sym, ap, ap₂, ◌∙◌, subst, pos}
 use Rattle.std.specs.Prelude.{ℤ, negsuc, ◌+ℤ◌, neg_ℤ, unsigned_abs}
 use Rattle.std.specs.Int.{int_div_euclid}
 use Rattle.std.proofs.lemmas.Int.{ints}
@@ -64,7 +64,7 @@ pub record FitBoth (n : ℤ) : Type 0 where
 
 below_room : (f : Frac) (n : ℤ) → IsBetween (value f) n → HasRoom n
 below_room f n h =
-    let some = λ e. between_not_whole n (num_of f) (value f) h (one_whole f e) in
+    let some : den_of f ≢ pos 1 = λ e. between_not_whole n (num_of f) (value f) h (one_whole f e) in
     subst HasRoom (one_between (int_div_euclid (num_of f) (den_of f)) n (value f) (divided_between f some) h) (divided_room f some)
 
 opposite_next : (n : ℤ) → neg_ℤ (n +ℤ pos 1) +ℤ pos 1 ≡ neg_ℤ n
