@@ -20,7 +20,7 @@ from dcx.values import Entries
 TOP = Path(__file__).resolve().parents[2]
 DATA = TOP / "crates" / "dcx_cases" / "data"
 # Words of cases that are no commands of the program: what they give is no report.
-LISTINGS = {"gather", "rows", "map"}
+LISTINGS = {"gather", "rows", "map", "branch"}
 KINDS = {
     "usage", "refused", "fault", "memory", "check", "solved", "iis", "range", "trial", "certificate", "certified",
     "certificate refused",
