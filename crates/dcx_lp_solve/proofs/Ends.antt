@@ -13,6 +13,7 @@ use Rattle.dcx_simplex.specs.Finished.{IsFinished}
 use Rattle.dcx_simplex.specs.Reading.{IsRead}
 use Rattle.dcx_chained.specs.declared.chained.Chained.{Chained}
 use Rattle.dcx_chained.specs.Tables.{table_of}
+use Rattle.dcx_lp_answer.specs.Right.{IsRight}
 use Rattle.dcx_answer.specs.declared.site.Site.{Site}
 use Rattle.dcx_answer.specs.declared.site.Site.TheVariants as sites
 use Rattle.dcx_std.specs.declared.stop.RowStop.{RowStop}
@@ -75,14 +76,15 @@ finished limit q t (ends.PivotLimit n) (inr (inr h)) run = let no = h.2 in cc
 
 -- what is read there solves the program
 pub read_solved : (limit : ℕ) (q : Program) (c : Chained) (e : LpEnd) → RunEnds limit (first_tableau q) (table_of c) e → (r : Result Solved SolveStop) →
-    IfOk r (λ s. s.program ≡ q) → IfOk r (λ s. s.tableau ≡ c) → IfOk r (λ s. IsRead q.rows q.columns (table_of c) e s.answer) → IfOk r (IsRunSolved limit q)
-read_solved limit q c e run (Ok s) program tableau read = record {
+    IfOk r (λ s. s.program ≡ q) → IfOk r (λ s. s.tableau ≡ c) → IfOk r (λ s. IsRead q.rows q.columns (table_of c) e s.answer) → IfOk r (λ s. IsRight q s.answer) → IfOk r (IsRunSolved limit q)
+read_solved limit q c e run (Ok s) program tableau read right = record {
   same = program;
   end = e;
   run = subst (λ t. RunEnds limit (first_tableau q) (table_of t) e) (sym tableau) run;
   read = subst (λ t. IsRead q.rows q.columns (table_of t) e s.answer) (sym tableau) read;
+  right = right;
 }
-read_solved limit q c e run (Err stop) program tableau read = tt
+read_solved limit q c e run (Err stop) program tableau read right = tt
 
 -- ---- rows that have no scaled program
 pub row_stops : (limit : ℕ) (given : GivenRows) (e : RowStop) → IsStopOf given e → Stops limit given (rows_stop e)

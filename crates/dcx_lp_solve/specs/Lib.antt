@@ -1,5 +1,4 @@
 -- What contracts cite.
 pub mod Solved
-pub mod Right
 pub mod Stops
 pub mod OneSolution

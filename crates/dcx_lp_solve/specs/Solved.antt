@@ -4,6 +4,7 @@ use Rattle.dcx_tab.specs.declared.program.Program.{Program}
 use Rattle.dcx_tab.specs.Table.{Table}
 use Rattle.dcx_tab.specs.First.{first_tableau}
 use Rattle.dcx_chained.specs.Tables.{table_of}
+use Rattle.dcx_lp_answer.specs.Right.{IsRight}
 use Rattle.dcx_simplex.specs.declared.run.LpEnd.{LpEnd}
 use Rattle.dcx_simplex.specs.declared.run.LpEnd.TheVariants as ends
 use Rattle.dcx_simplex.specs.Whole.{RunEnds}
@@ -18,12 +19,13 @@ use Rattle.dcx_lp_solve.specs.declared.stop.SolveStop.{SolveStop}
 use Rattle.dcx_lp_solve.specs.declared.stop.SolveStop.TheVariants as stops
 
 -- ---- the run on a scaled program
--- it ends at the tableau that is kept, and the answer has the numbers of that end
+-- it ends at the tableau that is kept, and the answer has the numbers of that end and is right
 pub record IsRunSolved (limit : ℕ) (program : Program) (s : Solved) : Type 0 where
   pub same : s.program ≡ program
   pub end : LpEnd
   pub run : RunEnds limit (first_tableau program) (table_of s.tableau) end
   pub read : IsRead program.rows program.columns (table_of s.tableau) end s.answer
+  pub right : IsRight program s.answer
 
 -- it ends so, at some tableau
 pub record EndsAt (limit : ℕ) (program : Program) (end : LpEnd) : Type 0 where

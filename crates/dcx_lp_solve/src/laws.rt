@@ -1,13 +1,7 @@
 //! What holds of all rows that are solved, or stopped.
 //!
 //! Each function is a law: its clause is a statement about all rows, and the body is empty.
-ghost use Rattle.dcx_lp_solve.specs.Right.{AnswersAreRight};
 ghost use Rattle.dcx_lp_solve.specs.OneSolution.{AnswersAreOne, SolvedOrStopped, StopsAreOne, FewPivots};
-
-/// The answer of rows that are solved, which is read at the end of the run, is right for their scaled program.
-pub fn answers_are_right()
-    ensures { AnswersAreRight }
-{}
 
 /// Rows have one solution under a limit: one program, one tableau at the end, and one answer.
 pub fn answers_are_one()

@@ -2,8 +2,7 @@
 //!
 //! | what must hold | where |
 //! |---|---|
-//! | the answer has the numbers of the last basis of the run on the scaled program of the rows | `solve_rows`, `specs/Solved.antt`: `IsSolved` |
-//! | an answer that is read so is right for the scaled program | `laws::answers_are_right`, `solve_rows` |
+//! | the answer is right for the scaled program of the rows, and has the numbers of the last basis of the run on it | `solve_rows`, `specs/Solved.antt`: `IsSolved` |
 //! | the tableau that is handed out is the one from which the answer is read | `solve_rows`, `IsSolved` |
 //! | rows stop where they have no scaled program, and else exactly where the run ends at a pivot that passes 128 bits or at the limit | `solve_rows`, `specs/Solved.antt`: `Stops` |
 //! | rows have one program, one tableau at the end and one answer under a limit | `laws::answers_are_one` |

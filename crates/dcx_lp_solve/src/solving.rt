@@ -94,7 +94,6 @@ fn run(alloc: Global, program: Program, limit: u64) -> Result<Solved, SolveStop>
 /// the site of a pivot, and `PivotLimit`, exactly where the run of Bland's rule ends so. `Memory` where there is none.
 pub fn solve_rows(alloc: Global, rows: &Rows<Frac>, limit: u64) -> Result<Solved, SolveStop>
     ensures solved { IfOk result (IsSolved limit (given rows.now.kinds rows.now.rows rows.now.objective)) }
-    ensures right { IfOk result (λ s. IsRight s.program s.answer) }
     ensures stops { IfErr result (Stops limit (given rows.now.kinds rows.now.rows rows.now.objective)) }
 {
     match integer_rows(alloc, rows) {

@@ -17,7 +17,7 @@ returns-in-Optimal c =
     record {
       solved = read_solved c.args.limit c.args.program c.solve-end.new.tableau c.solve-end.result
           (subst (λ t. RunEnds c.args.limit t u c.solve-end.result) (c.in-Ok.ensures {u = tt}) c.solve-end.ensures.run)
-          c.read.result c.read.ensures.program c.read.ensures.tableau c.read.ensures.read;
+          c.read.result c.read.ensures.program c.read.ensures.tableau c.read.ensures.read c.read.ensures.right;
       stops = memory_stops (RunStops c.args.limit c.args.program) tt c.read.result c.read.ensures.stops;
     }
 

@@ -1,15 +1,8 @@
 use Rattle.std.proofs.Common.{sym, subst}
-use Rattle.std.proofs.lemmas.Result.{IfOk-weaker}
-use Rattle.dcx_lp_answer.specs.Right.{IsRight}
 use Rattle.dcx_std.specs.GivenRows.{given}
-use Rattle.dcx_lp_solve.specs.Solved.{IsRunSolved, Stops}
-use Rattle.dcx_lp_solve.proofs.Right.{run_right}
+use Rattle.dcx_lp_solve.specs.Solved.{Stops}
 use Rattle.dcx_lp_solve.proofs.Ends.{result_stops, row_stops}
 use Rattle.dcx_lp_solve.proofs.solving.solve_rows.Goals as goal
-
-pub returns-in-Ok-clause-right : goal.returns-in-Ok-clause-right
-returns-in-Ok-clause-right c =
-    IfOk-weaker c.run.result (IsRunSolved c.args.limit c.in-Ok.program) (λ s. IsRight s.program s.answer) (run_right c.args.limit c.in-Ok.program) c.run.ensures.solved
 
 pub returns-in-Ok-clause-stops : goal.returns-in-Ok-clause-stops
 returns-in-Ok-clause-stops c =
