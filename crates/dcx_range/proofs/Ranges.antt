@@ -39,7 +39,6 @@ use Rattle.dcx_lp_solve.specs.declared.solving.Solved.{Solved}
 use Rattle.dcx_lp_solve.specs.declared.stop.SolveStop.{SolveStop}
 use Rattle.dcx_lp_solve.specs.declared.stop.SolveStop.TheVariants as solves
 use Rattle.dcx_lp_solve.specs.Solved.{IsSolved, Stops}
-use Rattle.dcx_lp_solve.proofs.Right.{answers_are_right}
 use Rattle.dcx_unknowns.specs.Unknowns.{point_at}
 use Rattle.dcx_postsolve.specs.Programs.{multipliers_of}
 use Rattle.dcx_graph.specs.Program.{Program}
@@ -123,7 +122,7 @@ module _ (p : Problem) (setting : Pairs) (name : List ℕ) (m : Program ParamFor
 
     pub has_no_point : HasKinds (rows_of r) → s.answer.status ≡ status.Infeasible → HasNoPoint p (setting_of p setting)
     has_no_point known e =
-        let right = subst (λ (t : LpStatus). IsRightForRowsAs t (rows_of r) s.program s.answer) e (shown_of (rows_of r) s.program known (scaled_program (rows_of r) s.program is.made) s.answer (answers_are_right limit (rows_of r) s is)) in
+        let right = subst (λ (t : LpStatus). IsRightForRowsAs t (rows_of r) s.program s.answer) e (shown_of (rows_of r) s.program known (scaled_program (rows_of r) s.program is.made) s.answer is.solved.right) in
         record {
           multipliers = multipliers_of (convex_problem p) (multiplier_at s.program.columns s.answer);
           gap = value s.answer.number;
@@ -134,7 +133,7 @@ module _ (p : Problem) (setting : Pairs) (name : List ℕ) (m : Program ParamFor
     has_no_least known e =
         let x = unknowns_at s.program.columns (numbers s.answer.columns) in
         let d = unknowns_at s.program.columns (numbers s.answer.ray) in
-        let right = subst (λ (t : LpStatus). IsRightForRowsAs t (rows_of r) s.program s.answer) e (shown_of (rows_of r) s.program known (scaled_program (rows_of r) s.program is.made) s.answer (answers_are_right limit (rows_of r) s is)) in
+        let right = subst (λ (t : LpStatus). IsRightForRowsAs t (rows_of r) s.program s.answer) e (shown_of (rows_of r) s.program known (scaled_program (rows_of r) s.program is.made) s.answer is.solved.right) in
         record {
           point = point_at p.variables x;
           ray = point_at p.variables d;
